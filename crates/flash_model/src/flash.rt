@@ -1,0 +1,74 @@
+// The trait of a flash.
+ghost use Rattle.std.specs.Prelude.{◌≡◌, ◌↔◌, ℕ, ◌+◌, ◌*◌, ◌<◌, ◌≤◌, length, replicate, Result, OnOk, IsErr};
+ghost use Rattle.base_model.specs.Bytes.{part, put_at};
+ghost use Rattle.record_model.specs.Flash.{FlashState, OnlyReads, AsksChange, IsErased, next_count};
+
+/// The flash failed.
+#[derive(Clone, Copy, Debug, PartialEq, Eq)]
+pub struct FlashFailed;
+
+/// Flash memory: bytes that are read at any place, programmed once, and erased by whole sectors.
+///
+/// A change is a call of `program` or `erase`. One that answers `Ok` stands. One that fails, or that power cuts, may
+/// leave any bytes in its range; all other bytes stay. A change that is asked for when no more can be counted fails and
+/// alters nothing. That a real flash behaves so is a premise.
+pub trait Flash {
+    /// Whether a flash of this type tells its content: clauses on content hold where it does.
+    ghost tells: { Type 0 };
+
+    /// What is seen of it.
+    ghost state: { Self → FlashState };
+
+    /// When a read fails, by the flash before it.
+    ghost read_fails: { Self → Type 0 };
+
+    /// When a change fails, by the flash before and after it.
+    ghost change_fails: { Self → Self → Type 0 };
+
+    /// The size in bytes, the same for good.
+    fn size(&self) -> u64
+        ensures { result ≡ (state self.now).size };
+
+    /// The size of a sector in bytes, the same for good.
+    fn sector_size(&self) -> u32
+        ensures { result ≡ (state self.now).sector_size };
+
+    /// Reads the bytes from `at` on. After a failure `buf` may hold anything.
+    fn read(&mut self, at: u64, buf: &mut [u8]) -> Result<(), FlashFailed>
+        requires { at + length buf.old ≤ (state self.old).size }
+        ensures bytes { OnOk result (tells → buf.new ≡ part (state self.old).told.image at (length buf.old)) }
+        ensures stays { OnlyReads tells (state self.old) (state self.new) result }
+        ensures counted { (state self.new).reads ≡ next_count (state self.old).reads }
+        ensures fails { IsErr result ↔ read_fails self.old };
+
+    /// Programs erased bytes from `at` on.
+    fn program(&mut self, at: u64, bytes: &[u8]) -> Result<(), FlashFailed>
+        requires some { 0 < length bytes.now }
+        requires within { at + length bytes.now ≤ (state self.old).size }
+        requires erased { tells → IsErased (state self.old).told.image at (length bytes.now) }
+        ensures bytes { OnOk result (tells → (state self.new).told.image ≡ put_at (state self.old).told.image at bytes.now) }
+        ensures change { AsksChange tells at (length bytes.now) (state self.old) (state self.new) result }
+        ensures fails { IsErr result ↔ change_fails self.old self.new };
+
+    /// Makes every byte of a sector 0xFF.
+    fn erase(&mut self, sector: u32) -> Result<(), FlashFailed>
+        requires { sector * (state self.old).sector_size + (state self.old).sector_size ≤ (state self.old).size }
+        ensures bytes { OnOk result (tells → (state self.new).told.image
+            ≡ put_at (state self.old).told.image (sector * (state self.old).sector_size) (replicate (state self.old).sector_size 0xFF)) }
+        ensures change { AsksChange tells (sector * (state self.old).sector_size) (state self.old).sector_size (state self.old) (state self.new) result }
+        ensures fails { IsErr result ↔ change_fails self.old self.new };
+
+    /// The number of changes that were asked for so far, whatever they answered, up to 2^64 - 1.
+    fn steps(&self) -> u64
+        ensures { result ≡ (state self.now).steps };
+
+    /// Ends a loss of power. No byte, count or past image changes.
+    fn restart(&mut self)
+        ensures { state self.new ≡ state self.old };
+
+    /// An image has the flash's size.
+    ghost sized: { (flash : Self) → tells → length (state flash).told.image ≡ (state flash).size };
+
+    /// Each change so far is told.
+    ghost counted: { (flash : Self) → tells → length (state flash).told.past ≡ (state flash).steps };
+}

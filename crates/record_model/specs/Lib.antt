@@ -1,0 +1,4 @@
+pub mod Flash
+pub mod Records
+pub mod RecordMap
+pub mod History
