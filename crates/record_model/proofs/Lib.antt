@@ -1,0 +1,4 @@
+pub mod CrashLemmas
+pub mod HistoryLemmas
+pub mod SelectionLemmas
+pub mod SlotLemmas

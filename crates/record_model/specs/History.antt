@@ -1,6 +1,6 @@
 -- The history of a run: its commands with their answers and the flash steps at which they ended, the maps that they
 -- make one after another, and what power lost at any step shows.
-use Rattle.std.specs.Prelude.{◌≡◌, ℕ, ◌≤◌, ◌⊎◌, Bool, true, false, nat_le, MatchBool, if◌then◌else◌, List, [], ◌∷◌, length, Option, Some, None}
+use Rattle.std.specs.Prelude.{◌≡◌, ℕ, ◌≤◌, ◌⊎◌, Bool, true, false, nat_le, MatchBool, if◌then◌else◌, List, [], ◌∷◌, length, Some, None}
 use Rattle.record_model.specs.Flash.{Told, CrashImage, IsLater, image_at}
 use Rattle.record_model.specs.Records.{Stored}
 use Rattle.record_model.specs.RecordMap.{Command, Refusal, refusal_of, after}

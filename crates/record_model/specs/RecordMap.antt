@@ -1,5 +1,5 @@
 -- The record map: what the commands on records make of it, and when each is refused. It knows no flash.
-use Rattle.std.specs.Prelude.{◌≡◌, ℕ, ◌+◌, ◌-◌, ◌^◌, Bool, true, false, ◌==◌, nat_lt, if◌then◌else◌, List, Option, Some, None, is_some, is_none}
+use Rattle.std.specs.Prelude.{ℕ, ◌+◌, ◌-◌, ◌^◌, Bool, false, ◌==◌, nat_lt, if◌then◌else◌, List, Option, Some, None, is_none}
 use Rattle.std.specs.FinMap.{get, insert, len}
 use Rattle.record_model.specs.Records.{Stored, is_reserved}
 

@@ -1,10 +1,19 @@
 -- The records of an image. Slot k is the slot_size bytes from k * slot_size on: a head, the body from byte 32 on, and
 -- the tail mark as the last byte.
-use Rattle.std.specs.Prelude.{◌≡◌, ℕ, zero, suc, ◌+◌, ◌-◌, ◌*◌, ◌^◌, ◌<◌, ◌≤◌, ◌⊎◌, Bool, true, false, ◌==◌, ◌&&◌, not, nat_lt, nat_le, if◌then◌else◌, List, [], ◌∷◌, ◌++◌, Option, Some, None}
+use Rattle.std.specs.Prelude.{◌≡◌, ℕ, zero, suc, ◌+◌, ◌-◌, ◌*◌, ◌^◌, ◌<◌, ◌≤◌, Bool, true, ◌==◌, ◌&&◌, not, nat_lt, nat_le, if◌then◌else◌, List, [], ◌∷◌, length, replicate, Option, Some, None}
 use Rattle.std.specs.Ordering.{nat_cmp}
 use Rattle.std.specs.FinMap.{FinMap, empty, get, insert}
-use Rattle.base_model.specs.Bytes.{part, number_at}
-use Rattle.record_model.specs.declared.head.Head.{Head}
+use Rattle.base_model.specs.Bytes.{part, number_at, spelled, joined, SameOutside}
+
+-- the head of a slot, its first 20 bytes as numbers: the gate at 0, the kill mark at 1, the format at 2, the generation
+-- at 4, the identifier at 8, and at 16 the length of the body in bytes
+pub record Head : Type 0 where
+  pub gate : ℕ
+  pub kill : ℕ
+  pub format : ℕ
+  pub generation : ℕ
+  pub id : ℕ
+  pub len : ℕ
 
 -- the head at a place
 unfoldable pub head_at : List ℕ → ℕ → Head
@@ -20,6 +29,14 @@ head_at image place = record {
 -- the tail mark of the slot at a place
 unfoldable pub tail_at : List ℕ → ℕ → ℕ → ℕ
 tail_at image place slot_size = number_at image (place + (slot_size - 1)) 1
+
+-- bytes 2 to 19 of a slot with this head: format, generation, identifier and length
+unfoldable pub head_fields : Head → List ℕ
+head_fields head = joined (spelled 2 head.format ∷ spelled 4 head.generation ∷ spelled 8 head.id ∷ spelled 4 head.len ∷ [])
+
+-- the 32 bytes that a slot with this head begins with
+unfoldable pub head_bytes : Head → List ℕ
+head_bytes head = joined (spelled 1 head.gate ∷ spelled 1 head.kill ∷ head_fields head ∷ replicate 12 0xFF ∷ [])
 
 -- identifiers that no record has: the first and the last number of 64 bits
 unfoldable pub is_reserved : ℕ → Bool
@@ -81,6 +98,21 @@ pub record IsChosen (entry : ℕ → Option Entry) (n k : ℕ) (chosen : Entry) 
   pub greatest : (j : ℕ) (other : Entry) → j < n → entry j ≡ Some other → other.id ≡ chosen.id → other.generation ≤ chosen.generation
   pub lowest : (j : ℕ) (other : Entry) → j < k → entry j ≡ Some other → other.id ≡ chosen.id → other.generation < chosen.generation
 
+-- the image differs from the first one only in slot j, which is free in it
+pub record DiffersInFreeSlot (slot_size j : ℕ) (first image : List ℕ) : Type 0 where
+  pub same : SameOutside (j * slot_size) slot_size first image
+  pub free : entry_at slot_size image j ≡ None
+
+-- slot k has all of a record but for its open gate
+pub record IsReady (slot_size k id generation : ℕ) (body image : List ℕ) : Type 0 where
+  pub kill : number_at image (k * slot_size + 1) 1 ≡ 0xFF
+  pub format : number_at image (k * slot_size + 2) 2 ≡ 1
+  pub its_generation : number_at image (k * slot_size + 4) 4 ≡ generation
+  pub its_id : number_at image (k * slot_size + 8) 8 ≡ id
+  pub len : number_at image (k * slot_size + 16) 4 ≡ length body
+  pub its_body : part image (k * slot_size + 32) (length body) ≡ body
+  pub tail : tail_at image (k * slot_size) slot_size ≡ 0xA5
+
 -- no two of the first n slots have one identifier
 abbrev pub AreSingle : (ℕ → Option Entry) → ℕ → Type 0
 AreSingle entry n =
@@ -90,11 +122,12 @@ AreSingle entry n =
 unfoldable pub HasNoSecondCopy : ℕ → ℕ → List ℕ → Type 0
 HasNoSecondCopy slot_size slots image = AreSingle (entry_at slot_size image) slots
 
+-- one for a free slot
+abbrev pub one_if_free : Option Entry → ℕ
+one_if_free None = 1
+one_if_free (Some entry) = 0
+
 -- how many of the first n slots are free
 unfoldable pub free_among : (ℕ → Option Entry) → ℕ → ℕ
 free_among entry zero = 0
 free_among entry (suc n) = one_if_free (entry n) + free_among entry n
-  where
-    one_if_free : Option Entry → ℕ
-    one_if_free None = 1
-    one_if_free (Some entry) = 0
