@@ -36,7 +36,7 @@ head_fields head = joined (spelled 2 head.format ∷ spelled 4 head.generation �
 
 -- the 32 bytes that a slot with this head begins with
 unfoldable pub head_bytes : Head → List ℕ
-head_bytes head = joined (spelled 1 head.gate ∷ spelled 1 head.kill ∷ head_fields head ∷ replicate 12 0xFF ∷ [])
+head_bytes head = joined ((head.gate ∷ head.kill ∷ []) ∷ head_fields head ∷ replicate 12 0xFF ∷ [])
 
 -- identifiers that no record has: the first and the last number of 64 bits
 unfoldable pub is_reserved : ℕ → Bool

@@ -1,0 +1,112 @@
+// The changes of a slot, one a call. Each makes at most the one change of the range that its clauses name.
+ghost use Rattle.std.specs.Prelude.{◌≡◌, ◌+◌, ◌-◌, ◌*◌, ◌<◌, ◌≤◌, [], ◌∷◌, length, replicate, OnOk};
+ghost use Rattle.base_model.specs.Bytes.{put_at};
+ghost use Rattle.record_model.specs.Flash.{AsksChange, IsErased};
+ghost use Rattle.record_model.specs.Records.{head_fields};
+ghost use Rattle.record_slots.specs.Slots.{Fits, numbers_of};
+
+use crate::Head;
+use crate::live::{GATE_OPEN, TAIL_MARK};
+use crate::places::{place_of, sector_of};
+use flash_model::{Flash, FlashFailed, Geometry};
+
+// Where the fields of a head begin that are programmed with it, and where they end.
+const FIELDS_AT: usize = 2;
+
+const FIELDS_END: usize = 20;
+
+const BODY_AT: u64 = 32;
+
+const PIECE_LEN: u64 = 256;
+
+/// Erases one sector of a slot.
+pub fn erase_one<F: Flash>(
+    flash: &mut F,
+    geometry: &Geometry,
+    slot: u32,
+    sector: u32,
+) -> Result<(), FlashFailed>
+    requires fits { Fits geometry.now (F.state flash.old) }
+    requires slot { slot < geometry.now.slots }
+    requires sector { sector < geometry.now.per_slot }
+
+    ensures bytes { OnOk result (F.tells → (F.state flash.new).told.image
+        ≡ put_at (F.state flash.old).told.image (slot * geometry.now.slot_size + sector * geometry.now.sector) (replicate geometry.now.sector 0xFF)) }
+    ensures change { AsksChange F.tells (slot * geometry.now.slot_size + sector * geometry.now.sector) geometry.now.sector
+        (F.state flash.old) (F.state flash.new) result }
+{
+    flash.erase(sector_of(geometry, slot, sector))
+}
+
+/// Programs format, generation, identifier and length of a head, bytes 2 to 19 of a slot. Its gate stays closed.
+pub fn put_head<F: Flash>(
+    flash: &mut F,
+    geometry: &Geometry,
+    slot: u32,
+    head: &Head,
+) -> Result<(), FlashFailed>
+    requires fits { Fits geometry.now (F.state flash.old) }
+    requires slot { slot < geometry.now.slots }
+    requires erased { F.tells → IsErased (F.state flash.old).told.image (slot * geometry.now.slot_size + 2) 18 }
+
+    ensures bytes { OnOk result (F.tells → (F.state flash.new).told.image
+        ≡ put_at (F.state flash.old).told.image (slot * geometry.now.slot_size + 2) (head_fields (numbers_of head.now))) }
+    ensures change { AsksChange F.tells (slot * geometry.now.slot_size + 2) 18 (F.state flash.old) (F.state flash.new) result }
+{
+    let bytes = head.encode();
+    let place = place_of(geometry, slot);
+    flash.program(place + 2, &bytes[FIELDS_AT..FIELDS_END])
+}
+
+/// Programs piece number `piece` of a body, up to 256 bytes from byte 32 + 256 * piece of a slot on.
+pub fn put_piece<F: Flash>(
+    flash: &mut F,
+    geometry: &Geometry,
+    slot: u32,
+    piece: u32,
+    bytes: &[u8],
+) -> Result<(), FlashFailed>
+    requires fits { Fits geometry.now (F.state flash.old) }
+    requires slot { slot < geometry.now.slots }
+    requires some { 0 < length bytes.now }
+    requires few { length bytes.now ≤ 256 }
+    requires room { 256 * piece + length bytes.now ≤ geometry.now.slot_size - 64 }
+    requires erased { F.tells → IsErased (F.state flash.old).told.image (slot * geometry.now.slot_size + 32 + 256 * piece) (length bytes.now) }
+
+    ensures bytes { OnOk result (F.tells → (F.state flash.new).told.image
+        ≡ put_at (F.state flash.old).told.image (slot * geometry.now.slot_size + 32 + 256 * piece) bytes.now) }
+    ensures change { AsksChange F.tells (slot * geometry.now.slot_size + 32 + 256 * piece) (length bytes.now)
+        (F.state flash.old) (F.state flash.new) result }
+{
+    let place = place_of(geometry, slot);
+    flash.program(place + BODY_AT + PIECE_LEN * u64::from(piece), bytes)
+}
+
+/// Programs the tail mark, the last byte of a slot.
+pub fn put_tail<F: Flash>(flash: &mut F, geometry: &Geometry, slot: u32) -> Result<(), FlashFailed>
+    requires fits { Fits geometry.now (F.state flash.old) }
+    requires slot { slot < geometry.now.slots }
+    requires erased { F.tells → IsErased (F.state flash.old).told.image (slot * geometry.now.slot_size + (geometry.now.slot_size - 1)) 1 }
+
+    ensures bytes { OnOk result (F.tells → (F.state flash.new).told.image
+        ≡ put_at (F.state flash.old).told.image (slot * geometry.now.slot_size + (geometry.now.slot_size - 1)) (0xA5 ∷ [])) }
+    ensures change { AsksChange F.tells (slot * geometry.now.slot_size + (geometry.now.slot_size - 1)) 1
+        (F.state flash.old) (F.state flash.new) result }
+{
+    let place = place_of(geometry, slot);
+    flash.program(place + (geometry.slot_size - 1), &[TAIL_MARK])
+}
+
+/// Opens the gate, the first byte of a slot.
+pub fn open_gate<F: Flash>(flash: &mut F, geometry: &Geometry, slot: u32) -> Result<(), FlashFailed>
+    requires fits { Fits geometry.now (F.state flash.old) }
+    requires slot { slot < geometry.now.slots }
+    requires erased { F.tells → IsErased (F.state flash.old).told.image (slot * geometry.now.slot_size) 1 }
+
+    ensures bytes { OnOk result (F.tells → (F.state flash.new).told.image
+        ≡ put_at (F.state flash.old).told.image (slot * geometry.now.slot_size) (0x5A ∷ [])) }
+    ensures change { AsksChange F.tells (slot * geometry.now.slot_size) 1 (F.state flash.old) (F.state flash.new) result }
+{
+    let place = place_of(geometry, slot);
+    flash.program(place, &[GATE_OPEN])
+}

@@ -1,0 +1,16 @@
+//! The slots of a record store: what a slot's head says, and the changes of a write, one a call.
+//!
+//! A slot begins with 32 bytes of head and ends with one byte, the tail mark; a record's body begins at byte 32. All
+//! numbers are little-endian.
+#![tactic(auto)]
+
+mod changes;
+mod head;
+mod live;
+mod places;
+mod reading;
+
+pub use changes::{erase_one, open_gate, put_head, put_piece, put_tail};
+pub use head::Head;
+pub use live::is_live;
+pub use reading::look;

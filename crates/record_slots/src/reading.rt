@@ -1,0 +1,32 @@
+// The look at a slot.
+ghost use Rattle.std.specs.Prelude.{◌≡◌, ◌+◌, ◌-◌, ◌*◌, ◌<◌, IfOk};
+ghost use Rattle.record_model.specs.Flash.{OnlyReads};
+ghost use Rattle.record_model.specs.Records.{head_at, tail_at};
+ghost use Rattle.record_slots.specs.Slots.{Fits, numbers_of};
+
+use crate::Head;
+use crate::places::place_of;
+use flash_model::{Flash, FlashFailed, Geometry};
+
+/// The head and the tail mark of a slot, by one read of each.
+pub fn look<F: Flash>(
+    flash: &mut F,
+    geometry: &Geometry,
+    slot: u32,
+) -> Result<(Head, u8), FlashFailed>
+    requires fits { Fits geometry.now (F.state flash.old) }
+    requires within { slot < geometry.now.slots }
+
+    ensures head { IfOk result (λ found. F.tells →
+        numbers_of found.0 ≡ head_at (F.state flash.old).told.image (slot * geometry.now.slot_size)) }
+    ensures tail { IfOk result (λ found. F.tells →
+        found.1 ≡ tail_at (F.state flash.old).told.image (slot * geometry.now.slot_size) geometry.now.slot_size) }
+    ensures stays { OnlyReads F.tells (F.state flash.old) (F.state flash.new) result }
+{
+    let place = place_of(geometry, slot);
+    let mut head = [0u8; 32];
+    flash.read(place, &mut head)?;
+    let mut tail = [0u8; 1];
+    flash.read(place + (geometry.slot_size - 1), &mut tail)?;
+    Ok((Head::decode(&head), tail[0]))
+}
