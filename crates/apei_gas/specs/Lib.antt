@@ -1,0 +1,4 @@
+pub mod Access
+pub mod Fields
+pub mod Layout
+pub mod Check
