@@ -1,4 +1,5 @@
 pub mod CrashLemmas
 pub mod HistoryLemmas
+pub mod MapLemmas
 pub mod SelectionLemmas
 pub mod SlotLemmas

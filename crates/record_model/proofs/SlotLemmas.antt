@@ -274,3 +274,16 @@ HasNoSecondCopy-opened size slots j first image opened some single same here new
             single k l one other h i (sym (entry_at-other size j k first image some same k_apart) ∙ at_k) (sym (entry_at-other size j l first image some same l_apart) ∙ at_l) equal
       ]
     ]
+
+-- nor does a change in a slot that stays free make one
+pub HasNoSecondCopy-free : (size slots j : ℕ) (first image : List ℕ) → 64 ≤ size → HasNoSecondCopy size slots first → DiffersInFreeSlot size j first image → HasNoSecondCopy size slots image
+unfolding HasNoSecondCopy
+HasNoSecondCopy-free size slots j first image some single differs k l one other h i at_k at_l equal =
+    elim (cases_eq k j) [
+      | inl k_is ↦ absurd (none-some one (sym differs.free ∙ ap (entry_at size image) (sym k_is) ∙ at_k))
+      | inr k_apart ↦ elim (cases_eq l j) [
+        | inl l_is ↦ absurd (none-some other (sym differs.free ∙ ap (entry_at size image) (sym l_is) ∙ at_l))
+        | inr l_apart ↦
+            single k l one other h i (sym (entry_at-other size j k first image some differs.same k_apart) ∙ at_k) (sym (entry_at-other size j l first image some differs.same l_apart) ∙ at_l) equal
+      ]
+    ]

@@ -1,8 +1,8 @@
 -- What is read of a slot and what is programmed into it, as the numbers of its head.
-use Rattle.std.proofs.Common.{◌≡◌, ℕ, zero, suc, ◌+◌, ◌-◌, ◌*◌, ◌<◌, ◌≤◌, List, [], ◌∷◌, length, get_or, take, drop, refl, sym, ap, subst, ◌∙◌, arith, lit≤}
+use Rattle.std.proofs.Common.{◌≡◌, ℕ, ◌+◌, ◌-◌, ◌<◌, List, [], ◌∷◌, length, get_or, take, drop, refl, ap, ◌∙◌, arith, lit≤}
 use Rattle.std.proofs.lemmas.List.{drop_more}
-use Rattle.base_model.specs.Bytes.{part, little, number_at, spelled, joined}
-use Rattle.base_model.proofs.BytesLemmas.{number_at-part, part-part}
+use Rattle.base_model.specs.Bytes.{part, little, number_at, spelled}
+use Rattle.base_model.proofs.BytesLemmas.{number_at-part}
 use Rattle.record_model.specs.Records.{Head, head_at, tail_at, head_bytes, head_fields}
 
 -- the number in one byte is the byte

@@ -1,5 +1,5 @@
 -- A slot's head as the numbers that the definitions speak of, and the flash that a geometry fits.
-use Rattle.std.specs.Prelude.{◌≡◌, ℕ, ◌*◌}
+use Rattle.std.specs.Prelude.{◌≡◌, ◌*◌}
 use Rattle.flash_model.specs.declared.geometry.Geometry.{Geometry}
 use Rattle.record_model.specs.Flash.{FlashState}
 use Rattle.record_model.specs.Records as records

@@ -1,8 +1,8 @@
 // The changes of a slot, one a call. Each makes at most the one change of the range that its clauses name.
 ghost use Rattle.std.specs.Prelude.{◌≡◌, ◌+◌, ◌-◌, ◌*◌, ◌<◌, ◌≤◌, [], ◌∷◌, length, replicate, OnOk};
-ghost use Rattle.base_model.specs.Bytes.{put_at};
+ghost use Rattle.base_model.specs.Bytes.{number_at, part, put_at};
 ghost use Rattle.record_model.specs.Flash.{AsksChange, IsErased};
-ghost use Rattle.record_model.specs.Records.{head_fields};
+ghost use Rattle.record_model.specs.Records.{head_fields, tail_at};
 ghost use Rattle.record_slots.specs.Slots.{Fits, numbers_of};
 
 use crate::Head;
@@ -32,6 +32,8 @@ pub fn erase_one<F: Flash>(
 
     ensures bytes { OnOk result (F.tells → (F.state flash.new).told.image
         ≡ put_at (F.state flash.old).told.image (slot * geometry.now.slot_size + sector * geometry.now.sector) (replicate geometry.now.sector 0xFF)) }
+    ensures stands { OnOk result (F.tells → IsErased (F.state flash.new).told.image
+        (slot * geometry.now.slot_size + sector * geometry.now.sector) geometry.now.sector) }
     ensures change { AsksChange F.tells (slot * geometry.now.slot_size + sector * geometry.now.sector) geometry.now.sector
         (F.state flash.old) (F.state flash.new) result }
 {
@@ -51,6 +53,8 @@ pub fn put_head<F: Flash>(
 
     ensures bytes { OnOk result (F.tells → (F.state flash.new).told.image
         ≡ put_at (F.state flash.old).told.image (slot * geometry.now.slot_size + 2) (head_fields (numbers_of head.now))) }
+    ensures stands { OnOk result (F.tells → part (F.state flash.new).told.image (slot * geometry.now.slot_size + 2) 18
+        ≡ head_fields (numbers_of head.now)) }
     ensures change { AsksChange F.tells (slot * geometry.now.slot_size + 2) 18 (F.state flash.old) (F.state flash.new) result }
 {
     let bytes = head.encode();
@@ -75,6 +79,8 @@ pub fn put_piece<F: Flash>(
 
     ensures bytes { OnOk result (F.tells → (F.state flash.new).told.image
         ≡ put_at (F.state flash.old).told.image (slot * geometry.now.slot_size + 32 + 256 * piece) bytes.now) }
+    ensures stands { OnOk result (F.tells → part (F.state flash.new).told.image
+        (slot * geometry.now.slot_size + 32 + 256 * piece) (length bytes.now) ≡ bytes.now) }
     ensures change { AsksChange F.tells (slot * geometry.now.slot_size + 32 + 256 * piece) (length bytes.now)
         (F.state flash.old) (F.state flash.new) result }
 {
@@ -90,6 +96,7 @@ pub fn put_tail<F: Flash>(flash: &mut F, geometry: &Geometry, slot: u32) -> Resu
 
     ensures bytes { OnOk result (F.tells → (F.state flash.new).told.image
         ≡ put_at (F.state flash.old).told.image (slot * geometry.now.slot_size + (geometry.now.slot_size - 1)) (0xA5 ∷ [])) }
+    ensures stands { OnOk result (F.tells → tail_at (F.state flash.new).told.image (slot * geometry.now.slot_size) geometry.now.slot_size ≡ 0xA5) }
     ensures change { AsksChange F.tells (slot * geometry.now.slot_size + (geometry.now.slot_size - 1)) 1
         (F.state flash.old) (F.state flash.new) result }
 {
@@ -105,6 +112,7 @@ pub fn open_gate<F: Flash>(flash: &mut F, geometry: &Geometry, slot: u32) -> Res
 
     ensures bytes { OnOk result (F.tells → (F.state flash.new).told.image
         ≡ put_at (F.state flash.old).told.image (slot * geometry.now.slot_size) (0x5A ∷ [])) }
+    ensures stands { OnOk result (F.tells → number_at (F.state flash.new).told.image (slot * geometry.now.slot_size) 1 ≡ 0x5A) }
     ensures change { AsksChange F.tells (slot * geometry.now.slot_size) 1 (F.state flash.old) (F.state flash.new) result }
 {
     let place = place_of(geometry, slot);

@@ -1,5 +1,4 @@
-use Rattle.std.proofs.Common.{◌≡◌, ℕ, ◌<◌, length, sym, arith, slice_index_or}
-use Rattle.base_model.specs.Bytes.{number_at}
+use Rattle.std.proofs.Common.{sym, arith}
 use Rattle.record_model.specs.Records.{head_at}
 use Rattle.record_slots.proofs.Heads.{number_at-byte}
 use Rattle.record_slots.proofs.head.Head.decode.Goals as goal

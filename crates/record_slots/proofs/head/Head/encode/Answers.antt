@@ -1,4 +1,4 @@
-use Rattle.std.proofs.Common.{◌∙◌, ap, refl, List, ℕ}
+use Rattle.std.proofs.Common.{◌∙◌, ap, List, ℕ}
 use Rattle.base_model.specs.Bytes.{put_at, spelled}
 use Rattle.record_model.specs.Records.{head_bytes, head_fields}
 use Rattle.record_slots.proofs.head.Head.encode.Goals as goal

@@ -1,0 +1,31 @@
+-- What was programmed or erased stands there.
+use Rattle.std.proofs.Common.{◌≡◌, ℕ, ◌+◌, ◌-◌, ◌≤◌, List, [], ◌∷◌, length, replicate, refl, ap, subst, ◌∙◌, arith}
+use Rattle.std.proofs.lemmas.List.{length-replicate}
+use Rattle.base_model.specs.Bytes.{part, little, number_at, put_at, spelled}
+use Rattle.base_model.proofs.BytesLemmas.{part-put_at}
+use Rattle.record_model.specs.Flash.{IsErased}
+use Rattle.record_model.specs.Records.{Head, head_fields, tail_at}
+
+-- bytes of this many stand at their place
+pub stands_at : (old new : List ℕ) (place len : ℕ) (others : List ℕ) → length others ≡ len → place + len ≤ length old → new ≡ put_at old place others
+    → part new place len ≡ others
+stands_at old new place len others size fits is =
+    ap (λ (xs : List ℕ). part xs place len) is
+    ∙ subst (λ (n : ℕ). part (put_at old place others) place n ≡ others) size (part-put_at old place others (omega arith))
+
+pub erased_at : (old new : List ℕ) (place len : ℕ) → place + len ≤ length old → new ≡ put_at old place (replicate len 0xFF) → IsErased new place len
+erased_at old new place len fits is = stands_at old new place len (replicate len 0xFF) (length-replicate len 0xFF) fits is
+
+-- a byte stands as the number that it is
+pub byte_at_place : (old new : List ℕ) (place byte : ℕ) → place + 1 ≤ length old → new ≡ put_at old place (byte ∷ []) → number_at new place 1 ≡ byte
+unfolding number_at
+byte_at_place old new place byte fits is = ap little (stands_at old new place 1 (byte ∷ []) refl fits is) ∙ (omega arith)
+
+pub tail_at_place : (old new : List ℕ) (place size byte : ℕ) → place + (size - 1) + 1 ≤ length old → new ≡ put_at old (place + (size - 1)) (byte ∷ []) → tail_at new place size ≡ byte
+unfolding tail_at
+tail_at_place old new place size byte fits is = byte_at_place old new (place + (size - 1)) byte fits is
+
+-- the fields of a head are 18 bytes
+pub length-head_fields : (head : Head) → length (head_fields head) ≡ 18
+unfolding head_fields spelled
+length-head_fields head = refl

@@ -1,0 +1,4 @@
+pub mod Slot
+pub mod Store
+pub mod Surveys
+pub mod Answers
