@@ -152,19 +152,19 @@ AsksChange-follows at bytes old new result within steps small follows fails =
 -- an Ok did the change
 image-by : {T E : Type 0} (fate : Fate) (at : ℕ) (bytes : List ℕ) (old new : Simulation) (result : Result T E)
     → MayFollow fate old at bytes new → IsErr result ↔ FailsBy fate old new
-    → OnOk result (Unit {0} → new.told.image ≡ put_at old.told.image at bytes)
+    → OnOk result (new.told.image ≡ put_at old.told.image at bytes)
 image-by fate at bytes old new (Err e) follows fails = tt
 image-by Uncounted at bytes old new (Ok x) follows fails = let failed = fails.1 tt in (cc)
 image-by Unpowered at bytes old new (Ok x) follows fails = let failed = fails.1 tt in (cc)
 image-by (Reaches (Some tear)) at bytes old new (Ok x) follows fails = let failed = fails.1 tt in (cc)
-image-by (Reaches None) at bytes old new (Ok x) (inl follows) fails = λ _. ap (λ (flash : Simulation). flash.told.image) follows
+image-by (Reaches None) at bytes old new (Ok x) (inl follows) fails = ap (λ (flash : Simulation). flash.told.image) follows
 image-by (Reaches None) at bytes old new (Ok x) (inr follows) fails =
     let rose : new.starved ≡ old.starved + 1 = ap (λ (flash : Simulation). flash.starved) follows in
     let failed : false ≡ true = fails.1 (omega arith) in (cc)
 
 pub image-follows : {T E : Type 0} (at : ℕ) (bytes : List ℕ) (old new : Simulation) (result : Result T E)
     → MayFollow (fate_of old) old at bytes new → IsErr result ↔ ChangeFails old new
-    → OnOk result (Unit {0} → new.told.image ≡ put_at old.told.image at bytes)
+    → OnOk result (new.told.image ≡ put_at old.told.image at bytes)
 image-follows at bytes old new result follows fails = image-by (fate_of old) at bytes old new result follows fails
 
 -- what a result says that is known to be an error, or not to be one

@@ -1,5 +1,5 @@
 // What a change of a simulated flash puts into its range.
-ghost use Rattle.std.specs.Prelude.{◌≡◌, ◌+◌, ◌≤◌, length, Option};
+ghost use Rattle.std.specs.Prelude.{◌≡◌, ◌+◌, ◌≤◌, length, replicate, Option};
 ghost use Rattle.base_model.specs.Bytes.{put_at};
 
 use crate::Tear;
@@ -13,6 +13,14 @@ const MARK: u8 = 0xA5;
 pub(crate) enum Content<'a> {
     Bytes(&'a [u8]),
     Fill { byte: u8, len: usize },
+}
+
+// Fills a range of an image with one byte.
+fn fill(image: &mut [u8], at: usize, len: usize, byte: u8)
+    requires { at + len ≤ length image.old }
+    ensures { image.new ≡ put_at image.old at (replicate len byte) }
+{
+    image[at..at + len].fill(byte);
 }
 
 impl Content<'_> {
@@ -35,7 +43,7 @@ impl Content<'_> {
     {
         match self {
             Content::Bytes(bytes) => image[at..at + bytes.len()].copy_from_slice(bytes),
-            Content::Fill { byte, len } => image[at..at + len].fill(byte),
+            Content::Fill { byte, len } => fill(image, at, len, byte),
         }
     }
 
@@ -47,16 +55,8 @@ impl Content<'_> {
         match tear {
             None | Some(Tear::Whole) => self.put(image, at),
             Some(Tear::Nothing) => {}
-            Some(Tear::Zeros) => Content::Fill {
-                byte: ZERO,
-                len: self.len(),
-            }
-            .put(image, at),
-            Some(Tear::Marks) => Content::Fill {
-                byte: MARK,
-                len: self.len(),
-            }
-            .put(image, at),
+            Some(Tear::Zeros) => fill(image, at, self.len(), ZERO),
+            Some(Tear::Marks) => fill(image, at, self.len(), MARK),
         }
     }
 }

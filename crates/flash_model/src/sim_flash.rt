@@ -181,7 +181,7 @@ impl Flash for SimFlash {
 
     fn read(&mut self, at: u64, buf: &mut [u8]) -> Result<(), FlashFailed>
         requires { at + length buf.old ≤ length self.old.told.image }
-        ensures bytes { OnOk result (Unit {0} → buf.new ≡ part self.old.told.image at (length buf.old)) }
+        ensures bytes { OnOk result (buf.new ≡ part self.old.told.image at (length buf.old)) }
         ensures stays { OnlyReads (Unit {0}) (state_of self.old) (state_of self.new) result }
         ensures counted { self.new.reads ≡ next_count self.old.reads }
         ensures fails { IsErr result ↔ ReadFails self.old }
@@ -201,8 +201,8 @@ impl Flash for SimFlash {
     fn program(&mut self, at: u64, bytes: &[u8]) -> Result<(), FlashFailed>
         requires some { 0 < length bytes.now }
         requires within { at + length bytes.now ≤ length self.old.told.image }
-        requires erased { Unit {0} → IsErased self.old.told.image at (length bytes.now) }
-        ensures bytes { OnOk result (Unit {0} → self.new.told.image ≡ put_at self.old.told.image at bytes.now) }
+        requires erased { IsErased self.old.told.image at (length bytes.now) }
+        ensures bytes { OnOk result (self.new.told.image ≡ put_at self.old.told.image at bytes.now) }
         ensures change { AsksChange (Unit {0}) at (length bytes.now) (state_of self.old) (state_of self.new) result }
         ensures fails { IsErr result ↔ ChangeFails self.old self.new }
         ensures after { MayFollow (fate_of self.old) self.old at bytes.now self.new }
@@ -212,7 +212,7 @@ impl Flash for SimFlash {
 
     fn erase(&mut self, sector: u32) -> Result<(), FlashFailed>
         requires { sector * self.old.sector_size + self.old.sector_size ≤ length self.old.told.image }
-        ensures bytes { OnOk result (Unit {0} → self.new.told.image
+        ensures bytes { OnOk result (self.new.told.image
             ≡ put_at self.old.told.image (sector * self.old.sector_size) (replicate self.old.sector_size 0xFF)) }
         ensures change { AsksChange (Unit {0}) (sector * self.old.sector_size) self.old.sector_size (state_of self.old) (state_of self.new) result }
         ensures fails { IsErr result ↔ ChangeFails self.old self.new }

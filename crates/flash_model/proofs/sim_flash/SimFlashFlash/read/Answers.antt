@@ -5,5 +5,5 @@ use Rattle.flash_model.proofs.sim_flash.SimFlashFlash.read.Goals as goal
 pub returns-clause-bytes : goal.returns-clause-bytes
 returns-clause-bytes c =
     rw (← c.self.view_is)
-    (λ _. c.copy_from_slice.ensures.after
+    (c.copy_from_slice.ensures.after
     ∙ part-range c.self.inside.image.items c.deref-2.result.now c.args.at (length c.args.buf.now) (length c.args.buf.now) c.deref-2.ensures.value refl)
