@@ -1,1 +1,4 @@
 pub mod Limits
+pub mod Journal
+pub mod Content
+pub mod Simulation

@@ -1,8 +1,17 @@
 //! Flash memory as the store meets it: a trait for real flash, and a simulated one that can lose power in any change.
 #![tactic(auto)]
 
+mod content;
+mod cut;
+mod entry;
 mod flash;
 mod geometry;
+mod power;
+mod sim_flash;
+mod tear;
 
+pub use cut::Cut;
 pub use flash::{Flash, FlashFailed};
 pub use geometry::{BadGeometry, Geometry, erased};
+pub use sim_flash::SimFlash;
+pub use tear::Tear;

@@ -1,0 +1,214 @@
+-- What a change of a simulated flash leaves is what every flash owes.
+use Rattle.std.proofs.Common.{◌≡◌, ℕ, ◌+◌, ◌-◌, ◌^◌, ◌<◌, ◌≤◌, ◌⊎◌, inl, inr, ◌↔◌, true, false, List, [], ◌∷◌, length, replicate, Option, Some, None, Result, Ok, Err, is_err, IsErr, OnOk, OnErr, is_some, refl, sym, ap, subst, ◌∙◌, arith, length-append}
+use Rattle.std.proofs.lemmas.List.{length-replicate}
+use Rattle.base_model.specs.Bytes.{put_at, SameOutside}
+use Rattle.base_model.specs.Faults.{Rose}
+use Rattle.base_model.proofs.BytesLemmas.{SameOutside-refl, SameOutside-put_at}
+use Rattle.record_model.specs.Flash.{Told, Changed, MayChange, AsksChange, next_count}
+use Rattle.flash_model.specs.declared.tear.Tear.{Tear}
+use Rattle.flash_model.specs.declared.tear.Tear.TheVariants.{Nothing, Whole, Zeros, Marks}
+use Rattle.flash_model.specs.declared.power.Power.{Power}
+use Rattle.flash_model.specs.declared.power.Power.TheVariants.{On, Until, Lost}
+use Rattle.flash_model.specs.Simulation.{Simulation, Fate, Uncounted, Unpowered, Reaches, steps_of, state_of, tear_at, fate_under, fate_of, image_left, with_change, faults_after, after_starved, MayFollow, FailsBy, ChangeFails}
+
+-- the fate, by the count and the power
+pub fate_of-last : (flash : Simulation) → steps_of flash ≡ 2 ^ 64 - 1 → fate_of flash ≡ Uncounted
+unfolding fate_of
+fate_of-last flash last = grind arith
+
+pub fate_of-lost : (flash : Simulation) → (steps_of flash ≡ 2 ^ 64 - 1 → ⊥) → flash.power ≡ Lost → fate_of flash ≡ Unpowered
+unfolding fate_of
+fate_of-lost flash more lost = grind arith
+
+fate_under-powered : (power : Power) (tear : Option Tear) → (power ≡ Lost → ⊥) → fate_under power tear ≡ Reaches tear
+fate_under-powered On tear powered = refl
+fate_under-powered (Until cut) tear powered = refl
+fate_under-powered Lost tear powered = absurd (powered refl)
+
+pub fate_of-powered : (flash : Simulation) → (steps_of flash ≡ 2 ^ 64 - 1 → ⊥) → (flash.power ≡ Lost → ⊥)
+    → fate_of flash ≡ Reaches (tear_at flash.power flash.failing (steps_of flash))
+unfolding fate_of
+fate_of-powered flash more powered =
+    let e = fate_under-powered flash.power (tear_at flash.power flash.failing (steps_of flash)) powered in grind (arith, e)
+
+-- whatever a change left, it left in its range
+pub SameOutside-image_left : (tear : Option Tear) (image : List ℕ) (at : ℕ) (bytes : List ℕ) → at + length bytes ≤ length image
+    → SameOutside at (length bytes) image (image_left tear image at bytes)
+SameOutside-image_left None image at bytes within = SameOutside-put_at image at bytes within
+SameOutside-image_left (Some Nothing) image at bytes within = SameOutside-refl at (length bytes) image
+SameOutside-image_left (Some Whole) image at bytes within = SameOutside-put_at image at bytes within
+SameOutside-image_left (Some Zeros) image at bytes within =
+    let size = length-replicate (length bytes) 0x00 in
+    let inside : at + length (replicate (length bytes) 0x00) ≤ length image = omega (arith, size) in
+    subst (λ (n : ℕ). SameOutside at n image (put_at image at (replicate (length bytes) 0x00))) size
+    (SameOutside-put_at image at (replicate (length bytes) 0x00) inside)
+SameOutside-image_left (Some Marks) image at bytes within =
+    let size = length-replicate (length bytes) 0xA5 in
+    let inside : at + length (replicate (length bytes) 0xA5) ≤ length image = omega (arith, size) in
+    subst (λ (n : ℕ). SameOutside at n image (put_at image at (replicate (length bytes) 0xA5))) size
+    (SameOutside-put_at image at (replicate (length bytes) 0xA5) inside)
+
+-- a change is told by its range
+Changed-with_change : (old new : Told) (at len : ℕ) (image : List ℕ) → new ≡ with_change old at len image → SameOutside at len old.image image → Changed at len old new
+Changed-with_change old new at len image is_new same = record {
+  past = ap (λ (told : Told). told.past) is_new;
+  image = subst (λ (now : List ℕ). SameOutside at len old.image now) (sym (ap (λ (told : Told). told.image) is_new)) same;
+}
+
+same_length : (old new : Told) (at len : ℕ) → Changed at len old new → length new.image ≡ length old.image
+same_length old new at len changed = changed.image.same_length
+
+-- what a failed call for a change owes
+AsksChange-failed : {T E : Type 0} (at len : ℕ) (old new : Simulation) (result : Result T E) → IsErr result
+    → MayChange at len old.told new.told → length new.told.image ≡ length old.told.image → new.sector_size ≡ old.sector_size
+    → steps_of new ≡ next_count (steps_of old) → new.reads ≡ old.reads → old.faults < 2 ^ 64 → new.faults ≡ next_count old.faults
+    → AsksChange (Unit {0}) at len (state_of old) (state_of new) result
+AsksChange-failed at len old new (Ok x) failed told size sector steps reads small faults = (cc)
+AsksChange-failed at len old new (Err e) failed told size sector steps reads small faults = record {
+  told = λ _. told;
+  size = size;
+  sector_size = sector;
+  steps = steps;
+  reads = reads;
+  cause = record { never_falls = omega (arith, faults); ok = tt; err = rose old.faults new.faults small faults };
+  counted = tt;
+  done = tt;
+}
+  where
+    rose : (before after : ℕ) → before < 2 ^ 64 → after ≡ next_count before → Rose before after
+    rose before after small is_next = grind arith
+
+-- what a whole change owes
+AsksChange-done : {T E : Type 0} (at len : ℕ) (old new : Simulation) (result : Result T E) → (IsErr result → ⊥)
+    → Changed at len old.told new.told → new.sector_size ≡ old.sector_size
+    → steps_of new ≡ next_count (steps_of old) → new.reads ≡ old.reads → new.faults ≡ old.faults
+    → AsksChange (Unit {0}) at len (state_of old) (state_of new) result
+AsksChange-done at len old new (Err e) succeeded changed sector steps reads faults = absurd (succeeded refl)
+AsksChange-done at len old new (Ok x) succeeded changed sector steps reads faults = record {
+  told = λ _. inr (inl changed);
+  size = changed.image.same_length;
+  sector_size = sector;
+  steps = steps;
+  reads = reads;
+  cause = record { never_falls = omega (arith, faults); ok = faults; err = tt };
+  counted = ap length changed.past ∙ length-append old.told.past (record { before = old.told.image; at = at; len = len } ∷ []);
+  done = λ _. changed;
+}
+
+AsksChange-starved : {T E : Type 0} (at len : ℕ) (old new : Simulation) (result : Result T E) → IsErr result
+    → steps_of new ≡ next_count (steps_of old) → old.faults < 2 ^ 64 → new ≡ after_starved old
+    → AsksChange (Unit {0}) at len (state_of old) (state_of new) result
+AsksChange-starved at len old new result failed steps small follows =
+    AsksChange-failed at len old new result failed
+    (inr (inr (Changed-with_change old.told new.told 0 0 old.told.image (ap (λ (flash : Simulation). flash.told) follows) (SameOutside-refl 0 0 old.told.image))))
+    (ap (λ (flash : Simulation). length flash.told.image) follows)
+    (ap (λ (flash : Simulation). flash.sector_size) follows) steps (ap (λ (flash : Simulation). flash.reads) follows) small
+    (ap (λ (flash : Simulation). flash.faults) follows)
+
+-- whatever its fate
+AsksChange-by : {T E : Type 0} (fate : Fate) (at : ℕ) (bytes : List ℕ) (old new : Simulation) (result : Result T E)
+    → at + length bytes ≤ length old.told.image → steps_of new ≡ next_count (steps_of old) → old.faults < 2 ^ 64
+    → MayFollow fate old at bytes new → IsErr result ↔ FailsBy fate old new
+    → AsksChange (Unit {0}) at (length bytes) (state_of old) (state_of new) result
+AsksChange-by Uncounted at bytes old new result within steps small follows fails =
+    AsksChange-failed at (length bytes) old new result (fails.1 tt)
+    (inl (ap (λ (flash : Simulation). flash.told) follows)) (ap (λ (flash : Simulation). length flash.told.image) follows)
+    (ap (λ (flash : Simulation). flash.sector_size) follows) steps (ap (λ (flash : Simulation). flash.reads) follows) small
+    (ap (λ (flash : Simulation). flash.faults) follows)
+AsksChange-by Unpowered at bytes old new result within steps small follows fails =
+    AsksChange-failed at (length bytes) old new result (fails.1 tt)
+    (inr (inr (Changed-with_change old.told new.told 0 0 old.told.image (ap (λ (flash : Simulation). flash.told) follows) (SameOutside-refl 0 0 old.told.image))))
+    (ap (λ (flash : Simulation). length flash.told.image) follows)
+    (ap (λ (flash : Simulation). flash.sector_size) follows) steps (ap (λ (flash : Simulation). flash.reads) follows) small
+    (ap (λ (flash : Simulation). flash.faults) follows)
+AsksChange-by (Reaches None) at bytes old new result within steps small (inl follows) fails =
+    AsksChange-done at (length bytes) old new result
+    (λ failed. let rose : old.starved < new.starved = fails.0 failed in
+    let same : new.starved ≡ old.starved = ap (λ (flash : Simulation). flash.starved) follows in absurd (omega arith))
+    (Changed-with_change old.told new.told at (length bytes) (image_left None old.told.image at bytes)
+    (ap (λ (flash : Simulation). flash.told) follows) (SameOutside-image_left None old.told.image at bytes within))
+    (ap (λ (flash : Simulation). flash.sector_size) follows) steps (ap (λ (flash : Simulation). flash.reads) follows)
+    (ap (λ (flash : Simulation). flash.faults) follows)
+AsksChange-by (Reaches (Some tear)) at bytes old new result within steps small (inl follows) fails =
+    let changed = Changed-with_change old.told new.told at (length bytes) (image_left (Some tear) old.told.image at bytes)
+    (ap (λ (flash : Simulation). flash.told) follows) (SameOutside-image_left (Some tear) old.told.image at bytes within) in
+    AsksChange-failed at (length bytes) old new result (fails.1 tt)
+    (inr (inl changed)) changed.image.same_length
+    (ap (λ (flash : Simulation). flash.sector_size) follows) steps (ap (λ (flash : Simulation). flash.reads) follows) small
+    (ap (λ (flash : Simulation). flash.faults) follows)
+AsksChange-by (Reaches None) at bytes old new result within steps small (inr follows) fails =
+    let rose : new.starved ≡ old.starved + 1 = ap (λ (flash : Simulation). flash.starved) follows in
+    AsksChange-starved at (length bytes) old new result (fails.1 (omega arith)) steps small follows
+AsksChange-by (Reaches (Some tear)) at bytes old new result within steps small (inr follows) fails =
+    AsksChange-starved at (length bytes) old new result (fails.1 tt) steps small follows
+
+pub AsksChange-follows : {T E : Type 0} (at : ℕ) (bytes : List ℕ) (old new : Simulation) (result : Result T E)
+    → at + length bytes ≤ length old.told.image → steps_of new ≡ next_count (steps_of old) → old.faults < 2 ^ 64
+    → MayFollow (fate_of old) old at bytes new → IsErr result ↔ ChangeFails old new
+    → AsksChange (Unit {0}) at (length bytes) (state_of old) (state_of new) result
+AsksChange-follows at bytes old new result within steps small follows fails =
+    AsksChange-by (fate_of old) at bytes old new result within steps small follows fails
+
+-- an Ok did the change
+image-by : {T E : Type 0} (fate : Fate) (at : ℕ) (bytes : List ℕ) (old new : Simulation) (result : Result T E)
+    → MayFollow fate old at bytes new → IsErr result ↔ FailsBy fate old new
+    → OnOk result (new.told.image ≡ put_at old.told.image at bytes)
+image-by fate at bytes old new (Err e) follows fails = tt
+image-by Uncounted at bytes old new (Ok x) follows fails = let failed = fails.1 tt in (cc)
+image-by Unpowered at bytes old new (Ok x) follows fails = let failed = fails.1 tt in (cc)
+image-by (Reaches (Some tear)) at bytes old new (Ok x) follows fails = let failed = fails.1 tt in (cc)
+image-by (Reaches None) at bytes old new (Ok x) (inl follows) fails = ap (λ (flash : Simulation). flash.told.image) follows
+image-by (Reaches None) at bytes old new (Ok x) (inr follows) fails =
+    let rose : new.starved ≡ old.starved + 1 = ap (λ (flash : Simulation). flash.starved) follows in
+    let failed : false ≡ true = fails.1 (omega arith) in (cc)
+
+pub image-follows : {T E : Type 0} (at : ℕ) (bytes : List ℕ) (old new : Simulation) (result : Result T E)
+    → MayFollow (fate_of old) old at bytes new → IsErr result ↔ ChangeFails old new
+    → OnOk result (new.told.image ≡ put_at old.told.image at bytes)
+image-follows at bytes old new result follows fails = image-by (fate_of old) at bytes old new result follows fails
+
+-- what a result says that is known to be an error, or not to be one
+pub at_err : {T E P : Type 0} (result : Result T E) → IsErr result → OnErr result P → P
+at_err (Err e) failed holds = holds
+at_err (Ok x) failed holds = (cc)
+
+pub at_ok : {T E P : Type 0} (result : Result T E) → is_err result ≡ false → OnOk result P → P
+at_ok (Ok x) succeeded holds = holds
+at_ok (Err e) succeeded holds = (cc)
+
+-- a change fails where it can't be counted, without power, and where it is torn
+pub ChangeFails-last : (old new : Simulation) → steps_of old ≡ 2 ^ 64 - 1 → ChangeFails old new
+ChangeFails-last old new last = rw (fate_of-last old last) tt
+
+pub ChangeFails-lost : (old new : Simulation) → (steps_of old ≡ 2 ^ 64 - 1 → ⊥) → old.power ≡ Lost → ChangeFails old new
+ChangeFails-lost old new more lost = rw (fate_of-lost old more lost) tt
+
+FailsBy-torn : (tear : Option Tear) (old new : Simulation) → is_some tear ≡ true → FailsBy (Reaches tear) old new
+FailsBy-torn (Some tear) old new torn = tt
+FailsBy-torn None old new torn = (cc)
+
+FailsBy-starved : (tear : Option Tear) (old new : Simulation) → old.starved < new.starved → FailsBy (Reaches tear) old new
+FailsBy-starved (Some tear) old new rose = tt
+FailsBy-starved None old new rose = rose
+
+-- one that reaches its range fails where it is torn or starved
+pub ChangeFails-reaches : (old new : Simulation) (tear : Option Tear) → fate_of old ≡ Reaches tear
+    → (is_some tear ≡ true) ⊎ (old.starved < new.starved) → ChangeFails old new
+ChangeFails-reaches old new tear fate (inl torn) = rw fate (FailsBy-torn tear old new torn)
+ChangeFails-reaches old new tear fate (inr rose) = rw fate (FailsBy-starved tear old new rose)
+
+FailsBy-whole : (tear : Option Tear) (old new : Simulation) → is_some tear ≡ false → new.starved ≡ old.starved → FailsBy (Reaches tear) old new → ⊥
+FailsBy-whole (Some tear) old new whole same fails = (cc)
+FailsBy-whole None old new whole same fails = let rose : old.starved < new.starved = fails in absurd (omega arith)
+
+pub ChangeFails-whole : (old new : Simulation) (tear : Option Tear) → fate_of old ≡ Reaches tear → is_some tear ≡ false
+    → new.starved ≡ old.starved → ChangeFails old new → ⊥
+ChangeFails-whole old new tear fate whole same fails = FailsBy-whole tear old new whole same (rw fate at fails)
+
+pub faults_after-torn : (tear : Option Tear) (faults : ℕ) → is_some tear ≡ true → faults_after tear faults ≡ next_count faults
+faults_after-torn (Some tear) faults torn = refl
+faults_after-torn None faults torn = (cc)
+
+pub faults_after-whole : (tear : Option Tear) (faults : ℕ) → is_some tear ≡ false → faults_after tear faults ≡ faults
+faults_after-whole (Some tear) faults whole = (cc)
+faults_after-whole None faults whole = refl

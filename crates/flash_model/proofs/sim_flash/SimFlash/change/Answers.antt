@@ -1,0 +1,175 @@
+use Rattle.std.proofs.Common.{◌≡◌, ℕ, ◌≤◌, true, false, List, [], ◌∷◌, ◌++◌, subst, ap, is_some, ◌+◌, ◌-◌, ◌^◌, length, refl, sym, ◌∙◌, arith, inl, inr}
+use Rattle.std.proofs.lemmas.List.{with_items_is}
+use Rattle.base_model.specs.Bytes.{SameOutside}
+use Rattle.flash_model.specs.Content.{bytes_of}
+use Rattle.flash_model.specs.Journal.{Noted, first_changes}
+use Rattle.flash_model.specs.contracts.sim_flash.SimFlash.{the_view}
+use Rattle.flash_model.specs.declared.tear.Tear.{Tear}
+use Rattle.flash_model.specs.declared.power.Power.TheVariants.{Lost}
+use Rattle.flash_model.specs.Simulation.{steps_of, tear_at, image_left}
+use Rattle.flash_model.proofs.Telling.{length-first_changes, first_changes-unnoted, first_changes-noted, AreBelow-more, AreBelow-append, part-range}
+use Rattle.flash_model.proofs.Changes.{SameOutside-image_left, fate_of-last, fate_of-lost, fate_of-powered, at_err, at_ok, ChangeFails-last, ChangeFails-lost, ChangeFails-reaches, ChangeFails-whole, faults_after-torn, faults_after-whole}
+use Rattle.flash_model.proofs.sim_flash.SimFlash.change.Goals as goal
+
+pub returns-then-self-clause-after : goal.returns-then-self-clause-after
+returns-then-self-clause-after c =
+    let steps = length-first_changes c.self.inside.journal.items c.self.inside.steps c.self.inside.image.items in
+    let fate = fate_of-last (the_view c.self.inside) (steps ∙ c.if-self.true) in
+    rw (← c.self.view_is, fate, c.next_count-self-inside.ensures) refl
+
+pub returns-then-self-clause-fails : goal.returns-then-self-clause-fails
+returns-then-self-clause-fails c =
+    let steps = length-first_changes c.self.inside.journal.items c.self.inside.steps c.self.inside.image.items in
+    rw (← c.self.view_is) (λ _. ChangeFails-last _ _ (steps ∙ c.if-self.true), λ _. refl)
+
+pub invariant_of-self-then-is_lost : goal.invariant_of-self-then-is_lost
+invariant_of-self-then-is_lost c = (AreBelow-more _ _ c.self.invariant.0, omega arith)
+
+pub returns-then-is_lost-clause-after : goal.returns-then-is_lost-clause-after
+returns-then-is_lost-clause-after c =
+    let steps = length-first_changes c.self.inside.journal.items c.self.inside.steps c.self.inside.image.items in
+    let more = λ (e : steps_of (the_view c.self.inside) ≡ 2 ^ 64 - 1). c.if-self.false (sym steps ∙ e) in
+    let fate = fate_of-lost (the_view c.self.inside) more (c.is_lost.ensures.0 c.if-is_lost.true) in
+    let past = first_changes-unnoted c.self.inside.journal.items c.self.inside.steps c.self.inside.image.items c.self.invariant.0 in
+    rw (← c.self.view_is, fate, past, c.next_count-self-inside-then-is_lost.ensures) refl
+
+pub returns-then-is_lost-clause-fails : goal.returns-then-is_lost-clause-fails
+returns-then-is_lost-clause-fails c =
+    let steps = length-first_changes c.self.inside.journal.items c.self.inside.steps c.self.inside.image.items in
+    let more = λ (e : steps_of (the_view c.self.inside) ≡ 2 ^ 64 - 1). c.if-self.false (sym steps ∙ e) in
+    rw (← c.self.view_is) (λ _. ChangeFails-lost _ _ more (c.is_lost.ensures.0 c.if-is_lost.true), λ _. refl)
+
+pub invariant_of-self-then-is_err : goal.invariant_of-self-then-is_err
+invariant_of-self-then-is_err c =
+    let same : c.note-noted.new.journal.items ≡ c.self.inside.journal.items = at_err c.note-noted.result (sym c.is_err.ensures.value ∙ c.if-is_err.true) c.note-noted.ensures.err in
+    let starved : c.self.inside.starved ≤ c.self.inside.steps = c.self.invariant.1 in
+    (rw same (AreBelow-more _ _ c.self.invariant.0), omega arith)
+
+pub returns-then-is_err-clause-after : goal.returns-then-is_err-clause-after
+returns-then-is_err-clause-after c =
+    let steps = length-first_changes c.self.inside.journal.items c.self.inside.steps c.self.inside.image.items in
+    let more = λ (e : steps_of (the_view c.self.inside) ≡ 2 ^ 64 - 1). c.if-self.false (sym steps ∙ e) in
+    let powered = λ (lost : c.self.inside.power ≡ Lost). absurd (let e : true ≡ false = sym (c.is_lost.ensures.1 lost) ∙ c.if-is_lost.false in cc) in
+    let fate = fate_of-powered (the_view c.self.inside) more powered in
+    let same : c.note-noted.new.journal.items ≡ c.self.inside.journal.items = at_err c.note-noted.result (sym c.is_err.ensures.value ∙ c.if-is_err.true) c.note-noted.ensures.err in
+    let past = first_changes-unnoted c.self.inside.journal.items c.self.inside.steps c.self.inside.image.items c.self.invariant.0 in
+    rw (← c.self.view_is, fate) (inr (rw (same, past, steps, c.after-self-inside.ensures, c.next_count-self-inside-then-is_err.ensures) refl))
+
+pub returns-then-is_err-clause-fails : goal.returns-then-is_err-clause-fails
+returns-then-is_err-clause-fails c =
+    let steps = length-first_changes c.self.inside.journal.items c.self.inside.steps c.self.inside.image.items in
+    let more = λ (e : steps_of (the_view c.self.inside) ≡ 2 ^ 64 - 1). c.if-self.false (sym steps ∙ e) in
+    let powered = λ (lost : c.self.inside.power ≡ Lost). absurd (let e : true ≡ false = sym (c.is_lost.ensures.1 lost) ∙ c.if-is_lost.false in cc) in
+    let fate = fate_of-powered (the_view c.self.inside) more powered in
+    rw (← c.self.view_is) (λ _. ChangeFails-reaches _ _ _ fate (inr (omega arith)), λ _. refl)
+
+pub invariant_of-self-then-is_some : goal.invariant_of-self-then-is_some
+invariant_of-self-then-is_some c =
+    let noted = at_ok c.note-noted.result (sym c.is_err.ensures.value ∙ c.if-is_err.false) c.note-noted.ensures.ok in
+    let starved : c.self.inside.starved ≤ c.self.inside.steps = c.self.invariant.1 in
+    (rw noted (AreBelow-append _ _ c.self.invariant.0), omega arith)
+
+pub returns-then-is_some-clause-after : goal.returns-then-is_some-clause-after
+returns-then-is_some-clause-after c =
+    let steps = length-first_changes c.self.inside.journal.items c.self.inside.steps c.self.inside.image.items in
+    let more = λ (e : steps_of (the_view c.self.inside) ≡ 2 ^ 64 - 1). c.if-self.false (sym steps ∙ e) in
+    let powered = λ (lost : c.self.inside.power ≡ Lost). absurd (let e : true ≡ false = sym (c.is_lost.ensures.1 lost) ∙ c.if-is_lost.false in cc) in
+    let fate = fate_of-powered (the_view c.self.inside) more powered in
+    let noted = at_ok c.note-noted.result (sym c.is_err.ensures.value ∙ c.if-is_err.false) c.note-noted.ensures.ok in
+    let tear : tear_at c.self.inside.power c.self.inside.failing.items c.self.inside.steps ≡ c.tear_at-tear.result = sym (c.tear_at-tear.ensures ∙ ap (λ (failing : List (ℕ × Tear)). tear_at c.self.inside.power failing c.self.inside.steps) c.deref.ensures.value) in
+    let written = with_items_is c.self.inside.image c.leave.new.image (c.leave.auto.image ∙ c.deref_mut.ensures.len) in
+    let left : c.leave.new.image ≡ image_left c.tear_at-tear.result c.self.inside.image.items c.args.at (bytes_of c.args.content) =
+    c.leave.ensures ∙ ap (λ (image : List ℕ). image_left c.tear_at-tear.result image c.args.at (bytes_of c.args.content)) c.deref_mut.ensures.value in
+    let within : c.args.at + length (bytes_of c.args.content) ≤ length c.self.inside.image.items = rw (← c.self.view_is) at c.requires in
+    let replaced = part-range c.self.inside.image.items c.deref-2.result.now c.args.at c.len.result (length (bytes_of c.args.content)) c.deref-2.ensures.value c.len.ensures in
+    let past : first_changes c.note-noted.new.journal.items (c.self.inside.steps + 1) c.leave.new.image
+    ≡ first_changes c.self.inside.journal.items c.self.inside.steps c.self.inside.image.items
+    ++ (record { before = c.self.inside.image.items; at = c.args.at; len = length (bytes_of c.args.content) }) ∷ [] =
+    ap (λ (journal : List Noted). first_changes journal (c.self.inside.steps + 1) c.leave.new.image) noted
+    ∙ first_changes-noted c.self.inside.journal.items c.self.inside.steps c.args.at (length (bytes_of c.args.content)) c.self.inside.image.items c.leave.new.image
+    _ c.self.invariant.0 within replaced
+    (subst (λ (image : List ℕ). SameOutside c.args.at (length (bytes_of c.args.content)) c.self.inside.image.items image) (sym left)
+    (SameOutside-image_left c.tear_at-tear.result c.self.inside.image.items c.args.at (bytes_of c.args.content) within)) in
+    let faults = faults_after-torn c.tear_at-tear.result c.self.inside.faults (sym c.is_some.ensures ∙ c.if-is_some.true) in
+    rw (← c.self.view_is, fate) (inl (rw (written, past, steps, tear, left, c.after-self-inside.ensures, c.next_count-self-inside-then-is_some.ensures, faults) refl))
+
+pub returns-then-is_some-clause-fails : goal.returns-then-is_some-clause-fails
+returns-then-is_some-clause-fails c =
+    let steps = length-first_changes c.self.inside.journal.items c.self.inside.steps c.self.inside.image.items in
+    let more = λ (e : steps_of (the_view c.self.inside) ≡ 2 ^ 64 - 1). c.if-self.false (sym steps ∙ e) in
+    let powered = λ (lost : c.self.inside.power ≡ Lost). absurd (let e : true ≡ false = sym (c.is_lost.ensures.1 lost) ∙ c.if-is_lost.false in cc) in
+    let fate = fate_of-powered (the_view c.self.inside) more powered in
+    let tear : tear_at c.self.inside.power c.self.inside.failing.items c.self.inside.steps ≡ c.tear_at-tear.result = sym (c.tear_at-tear.ensures ∙ ap (λ (failing : List (ℕ × Tear)). tear_at c.self.inside.power failing c.self.inside.steps) c.deref.ensures.value) in
+    let torn : is_some (tear_at c.self.inside.power c.self.inside.failing.items c.self.inside.steps) ≡ true = ap is_some tear ∙ sym c.is_some.ensures ∙ c.if-is_some.true in
+    rw (← c.self.view_is) (λ _. ChangeFails-reaches _ _ _ fate (inl (rw steps torn)), λ _. refl)
+
+pub invariant_of-self-else-is_some : goal.invariant_of-self-else-is_some
+invariant_of-self-else-is_some c =
+    let noted = at_ok c.note-noted.result (sym c.is_err.ensures.value ∙ c.if-is_err.false) c.note-noted.ensures.ok in
+    let starved : c.self.inside.starved ≤ c.self.inside.steps = c.self.invariant.1 in
+    (rw noted (AreBelow-append _ _ c.self.invariant.0), omega arith)
+
+pub returns-clause-after : goal.returns-clause-after
+returns-clause-after c =
+    let steps = length-first_changes c.self.inside.journal.items c.self.inside.steps c.self.inside.image.items in
+    let more = λ (e : steps_of (the_view c.self.inside) ≡ 2 ^ 64 - 1). c.if-self.false (sym steps ∙ e) in
+    let powered = λ (lost : c.self.inside.power ≡ Lost). absurd (let e : true ≡ false = sym (c.is_lost.ensures.1 lost) ∙ c.if-is_lost.false in cc) in
+    let fate = fate_of-powered (the_view c.self.inside) more powered in
+    let noted = at_ok c.note-noted.result (sym c.is_err.ensures.value ∙ c.if-is_err.false) c.note-noted.ensures.ok in
+    let tear : tear_at c.self.inside.power c.self.inside.failing.items c.self.inside.steps ≡ c.tear_at-tear.result = sym (c.tear_at-tear.ensures ∙ ap (λ (failing : List (ℕ × Tear)). tear_at c.self.inside.power failing c.self.inside.steps) c.deref.ensures.value) in
+    let written = with_items_is c.self.inside.image c.leave.new.image (c.leave.auto.image ∙ c.deref_mut.ensures.len) in
+    let left : c.leave.new.image ≡ image_left c.tear_at-tear.result c.self.inside.image.items c.args.at (bytes_of c.args.content) =
+    c.leave.ensures ∙ ap (λ (image : List ℕ). image_left c.tear_at-tear.result image c.args.at (bytes_of c.args.content)) c.deref_mut.ensures.value in
+    let within : c.args.at + length (bytes_of c.args.content) ≤ length c.self.inside.image.items = rw (← c.self.view_is) at c.requires in
+    let replaced = part-range c.self.inside.image.items c.deref-2.result.now c.args.at c.len.result (length (bytes_of c.args.content)) c.deref-2.ensures.value c.len.ensures in
+    let past : first_changes c.note-noted.new.journal.items (c.self.inside.steps + 1) c.leave.new.image
+    ≡ first_changes c.self.inside.journal.items c.self.inside.steps c.self.inside.image.items
+    ++ (record { before = c.self.inside.image.items; at = c.args.at; len = length (bytes_of c.args.content) }) ∷ [] =
+    ap (λ (journal : List Noted). first_changes journal (c.self.inside.steps + 1) c.leave.new.image) noted
+    ∙ first_changes-noted c.self.inside.journal.items c.self.inside.steps c.args.at (length (bytes_of c.args.content)) c.self.inside.image.items c.leave.new.image
+    _ c.self.invariant.0 within replaced
+    (subst (λ (image : List ℕ). SameOutside c.args.at (length (bytes_of c.args.content)) c.self.inside.image.items image) (sym left)
+    (SameOutside-image_left c.tear_at-tear.result c.self.inside.image.items c.args.at (bytes_of c.args.content) within)) in
+    let faults = faults_after-whole c.tear_at-tear.result c.self.inside.faults (sym c.is_some.ensures ∙ c.if-is_some.false) in
+    rw (← c.self.view_is, fate) (inl (rw (written, past, steps, tear, left, c.after-self-inside.ensures, faults) refl))
+
+pub returns-clause-fails : goal.returns-clause-fails
+returns-clause-fails c =
+    let steps = length-first_changes c.self.inside.journal.items c.self.inside.steps c.self.inside.image.items in
+    let more = λ (e : steps_of (the_view c.self.inside) ≡ 2 ^ 64 - 1). c.if-self.false (sym steps ∙ e) in
+    let powered = λ (lost : c.self.inside.power ≡ Lost). absurd (let e : true ≡ false = sym (c.is_lost.ensures.1 lost) ∙ c.if-is_lost.false in cc) in
+    let fate = fate_of-powered (the_view c.self.inside) more powered in
+    let tear : tear_at c.self.inside.power c.self.inside.failing.items c.self.inside.steps ≡ c.tear_at-tear.result = sym (c.tear_at-tear.ensures ∙ ap (λ (failing : List (ℕ × Tear)). tear_at c.self.inside.power failing c.self.inside.steps) c.deref.ensures.value) in
+    let whole : is_some (tear_at c.self.inside.power c.self.inside.failing.items c.self.inside.steps) ≡ false = ap is_some tear ∙ sym c.is_some.ensures ∙ c.if-is_some.false in
+    rw (← c.self.view_is) (λ failed. cc, λ fails. absurd (ChangeFails-whole _ _ _ fate (rw steps whole) refl fails))
+
+pub returns-then-self-clause-counted : goal.returns-then-self-clause-counted
+returns-then-self-clause-counted c =
+    let old = length-first_changes c.self.inside.journal.items c.self.inside.steps c.self.inside.image.items in
+    rw (← c.self.view_is, old) (omega arith)
+
+pub returns-then-is_lost-clause-counted : goal.returns-then-is_lost-clause-counted
+returns-then-is_lost-clause-counted c =
+    let old = length-first_changes c.self.inside.journal.items c.self.inside.steps c.self.inside.image.items in
+    let new = length-first_changes c.self.inside.journal.items (c.self.inside.steps + 1) c.self.inside.image.items in
+    rw (← c.self.view_is, old, new) (omega arith)
+
+pub returns-then-is_err-clause-counted : goal.returns-then-is_err-clause-counted
+returns-then-is_err-clause-counted c =
+    let old = length-first_changes c.self.inside.journal.items c.self.inside.steps c.self.inside.image.items in
+    let new = length-first_changes c.note-noted.new.journal.items (c.self.inside.steps + 1) c.self.inside.image.items in
+    rw (← c.self.view_is, old, new) (omega arith)
+
+pub returns-then-is_some-clause-counted : goal.returns-then-is_some-clause-counted
+returns-then-is_some-clause-counted c =
+    let old = length-first_changes c.self.inside.journal.items c.self.inside.steps c.self.inside.image.items in
+    let written = with_items_is c.self.inside.image c.leave.new.image (c.leave.auto.image ∙ c.deref_mut.ensures.len) in
+    let new = length-first_changes c.note-noted.new.journal.items (c.self.inside.steps + 1) c.leave.new.image in
+    rw (← c.self.view_is, written, old, new) (omega arith)
+
+pub returns-clause-counted : goal.returns-clause-counted
+returns-clause-counted c =
+    let old = length-first_changes c.self.inside.journal.items c.self.inside.steps c.self.inside.image.items in
+    let written = with_items_is c.self.inside.image c.leave.new.image (c.leave.auto.image ∙ c.deref_mut.ensures.len) in
+    let new = length-first_changes c.note-noted.new.journal.items (c.self.inside.steps + 1) c.leave.new.image in
+    rw (← c.self.view_is, written, old, new) (omega arith)

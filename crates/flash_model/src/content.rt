@@ -1,0 +1,62 @@
+// What a change of a simulated flash puts into its range.
+ghost use Rattle.std.specs.Prelude.{◌≡◌, ◌+◌, ◌≤◌, length, replicate, Option};
+ghost use Rattle.base_model.specs.Bytes.{put_at};
+
+use crate::Tear;
+
+const ZERO: u8 = 0x00;
+
+const MARK: u8 = 0xA5;
+
+/// Bytes, or one byte many times.
+#[derive(Clone, Copy)]
+pub(crate) enum Content<'a> {
+    Bytes(&'a [u8]),
+    Fill { byte: u8, len: usize },
+}
+
+// Fills a range of an image with one byte.
+fn fill(image: &mut [u8], at: usize, len: usize, byte: u8)
+    requires { at + len ≤ length image.old }
+    ensures { image.new ≡ put_at image.old at (replicate len byte) }
+{
+    image[at..at + len].fill(byte);
+}
+
+impl Content<'_> {
+    ghost use Rattle.flash_model.specs.Content.{bytes_of};
+    ghost use Rattle.flash_model.specs.Simulation.{image_left};
+
+    pub(crate) fn len(self) -> usize
+        ensures { result ≡ length (bytes_of self.entry) }
+    {
+        match self {
+            Content::Bytes(bytes) => bytes.len(),
+            Content::Fill { byte: _, len } => len,
+        }
+    }
+
+    // Puts it into an image from a place on.
+    fn put(self, image: &mut [u8], at: usize)
+        requires { at + length (bytes_of self) ≤ length image.old }
+        ensures { image.new ≡ put_at image.old at (bytes_of self.entry) }
+    {
+        match self {
+            Content::Bytes(bytes) => image[at..at + bytes.len()].copy_from_slice(bytes),
+            Content::Fill { byte, len } => fill(image, at, len, byte),
+        }
+    }
+
+    /// Leaves in an image what a change to this leaves, torn so or whole.
+    pub(crate) fn leave(self, tear: Option<Tear>, image: &mut [u8], at: usize)
+        requires { at + length (bytes_of self) ≤ length image.old }
+        ensures { image.new ≡ image_left tear image.old at (bytes_of self.entry) }
+    {
+        match tear {
+            None | Some(Tear::Whole) => self.put(image, at),
+            Some(Tear::Nothing) => {}
+            Some(Tear::Zeros) => fill(image, at, self.len(), ZERO),
+            Some(Tear::Marks) => fill(image, at, self.len(), MARK),
+        }
+    }
+}

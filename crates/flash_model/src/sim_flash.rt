@@ -1,0 +1,242 @@
+// A flash in memory.
+ghost use Rattle.std.specs.Prelude.{◌≡◌, ◌↔◌, ℕ, ◌+◌, ◌*◌, ◌^◌, ◌<◌, ◌≤◌, [], ◌∷◌, ◌++◌, length, replicate, Result, OnOk, OnErr, is_err, IsErr};
+ghost use Rattle.base_model.specs.Bytes.{part, put_at};
+ghost use Rattle.record_model.specs.Flash.{FlashState, OnlyReads, AsksChange, IsErased, next_count};
+
+use crate::content::Content;
+use crate::entry::{Entry, note};
+use crate::power::Power;
+use crate::{Cut, Flash, FlashFailed, Tear};
+use std::alloc::Global;
+use std::marker::Model;
+
+const ERASED: u8 = 0xFF;
+
+/// A flash in memory that fails where it is told to.
+///
+/// It keeps a journal of the bytes that its changes replaced, in memory that it asks for as it grows. A change that finds
+/// none fails, changes nothing, and counts. So does one that is asked for while power is lost. From a cut on every call
+/// fails until `restart`.
+#[derive(Drop)]
+pub struct SimFlash {
+    alloc: Global,
+    sector: u32,
+    image: Vec<u8>,
+    journal: Vec<Entry>,
+    power: Power,
+    failing: Vec<(u64, Tear)>,
+    failing_reads: Vec<u64>,
+    steps: u64,
+    reads: u64,
+    faults: u64,
+    starved: u64,
+}
+
+impl Model for SimFlash {
+    ghost use Rattle.std.specs.Prelude.{◌≤◌};
+    ghost use Rattle.flash_model.specs.Journal.{told_by, AreBelow};
+    ghost use Rattle.flash_model.specs.Simulation.{Simulation};
+
+    ghost Value = { Simulation };
+
+    ghost view = { λ flash. record {
+      told = told_by flash.journal.items flash.steps flash.image.items;
+      sector_size = flash.sector;
+      power = flash.power;
+      failing = flash.failing.items;
+      failing_reads = flash.failing_reads.items;
+      reads = flash.reads;
+      faults = flash.faults;
+      starved = flash.starved;
+    } };
+
+    ghost invariant = { λ flash. AreBelow flash.steps flash.journal.items × (flash.starved ≤ flash.steps) };
+}
+
+// A count that stands still at the last value of its type.
+fn next_count(count: u64) -> u64
+    ensures { result ≡ next_count count }
+{
+    count.saturating_add(1)
+}
+
+impl SimFlash {
+    ghost use Rattle.flash_model.specs.Content.{bytes_of};
+    ghost use Rattle.flash_model.specs.Simulation.{first_power, steps_of, fate_of, MayFollow, ChangeFails};
+
+    /// A flash with these bytes, with sectors of `sector` bytes from the first one on. Bytes behind the last whole sector
+    /// are never erased. Power is lost in the change of `cut`. The changes numbered in `failing`, from 0, fail and leave
+    /// what is said there, by the first that has the number; where `cut` is at the same step, its tear counts. The
+    /// reads numbered in `failing_reads`, from 0, fail.
+    pub fn new(
+        alloc: Global,
+        sector: u32,
+        image: Vec<u8>,
+        cut: Option<Cut>,
+        failing: Vec<(u64, Tear)>,
+        failing_reads: Vec<u64>,
+    ) -> SimFlash
+        ensures made { result ≡ record {
+          told = record { past = []; image = image.items };
+          sector_size = sector;
+          power = first_power cut;
+          failing = failing.items;
+          failing_reads = failing_reads.items;
+          reads = 0;
+          faults = 0;
+          starved = 0;
+        } }
+        ensures tells { ⟦<SimFlash as Flash>⟧.tells }
+    {
+        SimFlash {
+            alloc,
+            sector,
+            image,
+            journal: Vec::new(alloc),
+            power: Power::new(cut),
+            failing,
+            failing_reads,
+            steps: 0,
+            reads: 0,
+            faults: 0,
+            starved: 0,
+        }
+    }
+
+    /// The number of changes that found no memory for their journal entry.
+    pub fn starved(&self) -> u64
+        ensures { result ≡ self.now.starved }
+    {
+        self.starved
+    }
+
+    /// The image.
+    pub fn image(&self) -> &[u8]
+        ensures { result.now ≡ self.now.told.image }
+    {
+        &self.image
+    }
+
+    // Makes one change of the range that the content fills from `at` on.
+    fn change(&mut self, at: usize, content: Content) -> Result<(), FlashFailed>
+        requires { at + length (bytes_of content) ≤ length self.old.told.image }
+        ensures after { MayFollow (fate_of self.old) self.old at (bytes_of content.entry) self.new }
+        ensures fails { IsErr result ↔ ChangeFails self.old self.new }
+        ensures counted { steps_of self.new ≡ next_count (steps_of self.old) }
+        ensures faults { self.old.faults < 2 ^ 64 }
+    {
+        if self.steps == u64::MAX {
+            self.faults = next_count(self.faults);
+            return Err(FlashFailed);
+        }
+        if self.power.is_lost() {
+            self.steps += 1;
+            self.faults = next_count(self.faults);
+            return Err(FlashFailed);
+        }
+        let step = self.steps;
+        let tear = self.power.tear_at(&self.failing, step);
+        let noted = note(
+            &mut self.journal,
+            self.alloc,
+            step,
+            at,
+            &self.image[at..at + content.len()],
+        );
+        self.power = self.power.after(step);
+        self.steps += 1;
+        if noted.is_err() {
+            self.starved += 1;
+            self.faults = next_count(self.faults);
+            return Err(FlashFailed);
+        }
+        content.leave(tear, &mut self.image, at);
+        if tear.is_some() {
+            self.faults = next_count(self.faults);
+            return Err(FlashFailed);
+        }
+        Ok(())
+    }
+}
+
+impl Flash for SimFlash {
+    ghost use Rattle.std.specs.Prelude.{refl};
+    ghost use Rattle.flash_model.specs.Simulation.{state_of, fate_of, MayFollow, ReadFails, ChangeFails, after_read, power_restored};
+
+    ghost tells = { Unit {0} };
+
+    ghost state = { state_of };
+
+    ghost read_fails = { ReadFails };
+
+    ghost change_fails = { ChangeFails };
+
+    fn size(&self) -> u64 {
+        self.image.len() as u64
+    }
+
+    fn sector_size(&self) -> u32 {
+        self.sector
+    }
+
+    fn read(&mut self, at: u64, buf: &mut [u8]) -> Result<(), FlashFailed>
+        requires { at + length buf.old ≤ length self.old.told.image }
+        ensures bytes { OnOk result (buf.new ≡ part self.old.told.image at (length buf.old)) }
+        ensures stays { OnlyReads (Unit {0}) (state_of self.old) (state_of self.new) result }
+        ensures counted { self.new.reads ≡ next_count self.old.reads }
+        ensures fails { IsErr result ↔ ReadFails self.old }
+        ensures after { self.new ≡ after_read (is_err result) self.old }
+    {
+        let fails = self.power.is_lost() || self.failing_reads.contains(&self.reads);
+        self.reads = next_count(self.reads);
+        if fails {
+            self.faults = next_count(self.faults);
+            return Err(FlashFailed);
+        }
+        let at = at as usize;
+        buf.copy_from_slice(&self.image[at..at + buf.len()]);
+        Ok(())
+    }
+
+    fn program(&mut self, at: u64, bytes: &[u8]) -> Result<(), FlashFailed>
+        requires some { 0 < length bytes.now }
+        requires within { at + length bytes.now ≤ length self.old.told.image }
+        requires erased { IsErased self.old.told.image at (length bytes.now) }
+        ensures bytes { OnOk result (self.new.told.image ≡ put_at self.old.told.image at bytes.now) }
+        ensures change { AsksChange (Unit {0}) at (length bytes.now) (state_of self.old) (state_of self.new) result }
+        ensures fails { IsErr result ↔ ChangeFails self.old self.new }
+        ensures after { MayFollow (fate_of self.old) self.old at bytes.now self.new }
+    {
+        self.change(at as usize, Content::Bytes(bytes))
+    }
+
+    fn erase(&mut self, sector: u32) -> Result<(), FlashFailed>
+        requires { sector * self.old.sector_size + self.old.sector_size ≤ length self.old.told.image }
+        ensures bytes { OnOk result (self.new.told.image
+            ≡ put_at self.old.told.image (sector * self.old.sector_size) (replicate self.old.sector_size 0xFF)) }
+        ensures change { AsksChange (Unit {0}) (sector * self.old.sector_size) self.old.sector_size (state_of self.old) (state_of self.new) result }
+        ensures fails { IsErr result ↔ ChangeFails self.old self.new }
+        ensures after { MayFollow (fate_of self.old) self.old (sector * self.old.sector_size) (replicate self.old.sector_size 0xFF) self.new }
+    {
+        let len = self.sector as usize;
+        self.change(sector as usize * len, Content::Fill { byte: ERASED, len })
+    }
+
+    fn steps(&self) -> u64 {
+        self.steps
+    }
+
+    fn restart(&mut self)
+        ensures same { state_of self.new ≡ state_of self.old }
+        ensures power { self.new ≡ record self.old { power = power_restored self.old.power } }
+    {
+        self.power = self.power.restored();
+    }
+
+    ghost sized = { λ flash _. refl };
+
+    ghost counted = { λ flash _. refl };
+}
+
+#[cfg(test)]
+mod tests;
