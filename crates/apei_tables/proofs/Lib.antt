@@ -1,0 +1,3 @@
+pub mod Parts
+mod Spelling
+mod Finding
