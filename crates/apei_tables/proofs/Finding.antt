@@ -14,7 +14,7 @@ use Rattle.apei_tables.specs.Layout.{spelling, IsHeader}
 use Rattle.apei_tables.specs.Tables.{IsSealed, IsTable, FindsTable, Finds, Refuses, refusal}
 use Rattle.apei_tables.proofs.Spelling.{same_header}
 
-part-take : (at m n : ℕ) (bytes : List ℕ) → at + m ≤ n → part (take n bytes) at m ≡ part bytes at m
+pub part-take : (at m n : ℕ) (bytes : List ℕ) → at + m ≤ n → part (take n bytes) at m ≡ part bytes at m
 unfolding part
 part-take at m n bytes h = part-part bytes 0 n at m h ∙ ap (λ (k : ℕ). part bytes k m) (zero-add at)
 
@@ -51,10 +51,10 @@ begins_by bytes signature size four =
     (starts_is Decides-eqb bytes signature (starts_with nat_eq bytes signature) refl).1 (drop 4 bytes) same
 
 -- the front of a table that stands first
-part-front : (bytes table rest : List ℕ) (at n : ℕ) → bytes ≡ table ++ rest → at + n ≤ length table → part bytes at n ≡ part table at n
+pub part-front : (bytes table rest : List ℕ) (at n : ℕ) → bytes ≡ table ++ rest → at + n ≤ length table → part bytes at n ≡ part table at n
 part-front bytes table rest at n same h = ap (λ (xs : List ℕ). part xs at n) same ∙ part-append_left table rest at n h
 
-size-front : (bytes table rest : List ℕ) → bytes ≡ table ++ rest → IsSealed table → number_at bytes 4 4 ≡ length table
+pub size-front : (bytes table rest : List ℕ) → bytes ≡ table ++ rest → IsSealed table → number_at bytes 4 4 ≡ length table
 unfolding number_at
 size-front bytes table rest same seal =
     let room : 4 + 4 ≤ length table = let h = seal.size in omega arith in
@@ -71,7 +71,7 @@ signature-front bytes table rest header same is_table size =
     ∙ take_at header.signature _ 4 size
 
 -- nothing is refused where such a table stands first
-none_refused : (signature : List ℕ) (fixed : ℕ) (bytes : List ℕ) (header : Header) (table rest : List ℕ) →
+pub none_refused : (signature : List ℕ) (fixed : ℕ) (bytes : List ℕ) (header : Header) (table rest : List ℕ) →
     bytes ≡ table ++ rest → IsHeader header → IsTable header table → header.signature ≡ signature → fixed ≤ length table → refusal signature fixed bytes ≡ None
 none_refused signature fixed bytes header table rest same fits is_table wanted long =
     let fields : length header.signature ≡ 4 = fits.signature in

@@ -1,3 +1,3 @@
 pub mod Parts
-mod Spelling
-mod Finding
+pub mod Spelling
+pub mod Finding

@@ -36,6 +36,13 @@ part-two bytes at h =
     ∙ ap (λ (k : ℕ). get_or bytes at 0 ∷ take 1 (drop k bytes)) next
     ∙ ap (λ (xs : List ℕ). get_or bytes at 0 ∷ take 1 xs) (drop-cons bytes (at + 1) 0 there)
 
+-- a byte and those behind it
+pub part-cons : (bytes : List ℕ) (at n : ℕ) → at < length bytes → part bytes at (suc n) ≡ get_or bytes at 0 ∷ part bytes (at + 1) n
+unfolding part
+part-cons bytes at n here =
+    let next : suc at ≡ at + 1 = omega arith in
+    ap (take (suc n)) (drop-cons bytes at 0 here) ∙ ap (λ (k : ℕ). get_or bytes at 0 ∷ take n (drop k bytes)) next
+
 -- bytes with these fields put from a place on, one after another
 abbrev pub put_fields : List ℕ → List ℕ → ℕ → List (List ℕ) → List ℕ
 put_fields [] bytes at fields = bytes

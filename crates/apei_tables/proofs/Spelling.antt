@@ -1,7 +1,7 @@
 -- A header is its 36 bytes.
 use Rattle.std.proofs.Common.{◌≡◌, ℕ, ◌<◌, ◌≤◌, ◌^◌, List, [], ◌∷◌, length, map, get_or, refl, sym, ap, ◌∙◌, arith, append-nil}
-use Rattle.base_model.specs.Bytes.{part, number_at, little, put_at, joined, AreBytes}
-use Rattle.base_model.proofs.BytesLemmas.{spelled-number_at, little-spelled, length-spelled}
+use Rattle.base_model.specs.Bytes.{part, number_at, little, put_at, joined, total, AreBytes}
+use Rattle.base_model.proofs.BytesLemmas.{spelled-number_at, little-spelled, length-spelled, length-joined}
 use Rattle.apei_tables.specs.declared.headers.Header.{Header}
 use Rattle.apei_tables.specs.Layout.{fields, spelling, IsHeader}
 use Rattle.apei_tables.proofs.Parts.{parts, joined-parts, parts-joined, part-two, put_fields, put_fields-joined}
@@ -78,6 +78,10 @@ same_header a b fits_a fits_b same =
     sym (of_fields-fields a fits_a)
     ∙ ap of_fields (sym (fields-spelling a fits_a) ∙ ap (parts sizes 0) same ∙ fields-spelling b fits_b)
     ∙ of_fields-fields b fits_b
+
+pub length-spelling : (header : Header) → IsHeader header → length (spelling header) ≡ 36
+unfolding spelling
+length-spelling header fits = length-joined (fields header) ∙ ap total (sizes-fields header (has_sizes header fits))
 
 -- its fields, put one after another
 pub put-spelling : (out : List ℕ) (header : Header) → HasSizes header → 36 ≤ length out → put_fields sizes out 0 (fields header) ≡ put_at out 0 (spelling header)
