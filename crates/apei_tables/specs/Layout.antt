@@ -20,6 +20,13 @@ fields header =
 unfoldable pub spelling : Header → List ℕ
 spelling header = joined (fields header)
 
+-- the parts that are no numbers have their lengths
+pub record HasSizes (header : Header) : Type 0 where
+  pub signature : length header.signature ≡ 4
+  pub oem_id : length header.oem_id ≡ 6
+  pub oem_table_id : length header.oem_table_id ≡ 8
+  pub creator_id : length header.creator_id ≡ 4
+
 -- each part has its length, and each number fits its field
 pub record IsHeader (header : Header) : Type 0 where
   pub signature : length header.signature ≡ 4

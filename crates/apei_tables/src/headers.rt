@@ -1,7 +1,7 @@
 // The 36 bytes that an ACPI table begins with.
 ghost use Rattle.std.specs.Prelude.{◌≡◌, ◌≤◌, ℕ, List, ◌++◌, length, IfOk};
 ghost use Rattle.base_model.specs.Bytes.{part, number_at, put_at};
-ghost use Rattle.apei_tables.specs.Layout.{spelling, IsHeader};
+ghost use Rattle.apei_tables.specs.Layout.{spelling, HasSizes, IsHeader};
 ghost use Rattle.apei_tables.specs.Tables.{IsTable, FindsTable, Finds, Refuses};
 
 use crate::bytes::{array_at, begins_with, put_array, sum_of};
@@ -111,7 +111,8 @@ impl Header {
     /// Writes its 36 bytes to the front of `out`.
     pub fn put(&self, out: &mut [u8])
         requires { 36 ≤ length out.old }
-        ensures { out.new ≡ put_at out.old 0 (spelling self.now) }
+        ensures written { out.new ≡ put_at out.old 0 (spelling self.now) }
+        ensures sizes { HasSizes self.now }
     {
         put_array(out, 0, &self.signature);
         put_u32(out, 4, self.length);
