@@ -1,1 +1,1 @@
-mod Spelling
+pub mod Spelling

@@ -1,0 +1,4 @@
+mod Listing
+mod EntryBytes
+mod TableBytes
+mod Finding
