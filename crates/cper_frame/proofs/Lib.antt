@@ -1,0 +1,6 @@
+pub mod Checks
+pub mod Laws
+pub mod Sound
+pub mod Complete
+pub mod Whole
+pub mod Writes

@@ -1,0 +1,14 @@
+//! Common Platform Error Records (UEFI 2.8 Appendix N): a record's bytes and its meaning, both ways, and records in a stream.
+#![tactic(auto)]
+
+mod error;
+mod heads;
+mod mark;
+mod record;
+mod writer;
+
+pub use error::{FrameError, NoRoom};
+pub use heads::{RecordHead, SectionHead};
+pub use mark::stamp;
+pub use record::{Record, Section, one_end};
+pub use writer::RecordWriter;
