@@ -21,7 +21,7 @@ pub Ok-placed : (n len : ℕ) (bad : Option ℕ) → placed n bad ≡ Ok len →
 Ok-placed n len None h = (refl, cc)
 Ok-placed n len (Some k) h = absurd (cc)
 
-record Judged (limit have s e count n : ℕ) (bad : Option ℕ) (m : ℕ) : Type 0 where
+pub record Judged (limit have s e count n : ℕ) (bad : Option ℕ) (m : ℕ) : Type 0 where
   pub start : s ≡ signature
   pub end : e ≡ 2 ^ 32 - 1
   pub heads : bodies_from count ≤ n

@@ -3,4 +3,6 @@ pub mod Laws
 pub mod Sound
 pub mod Complete
 pub mod Whole
+pub mod Streams
+pub mod Readers
 pub mod Writes

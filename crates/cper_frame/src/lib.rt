@@ -2,13 +2,17 @@
 #![tactic(auto)]
 
 mod error;
+mod fed;
 mod heads;
 mod mark;
+mod reader;
 mod record;
 mod writer;
 
 pub use error::{FrameError, NoRoom};
+pub use fed::Fed;
 pub use heads::{RecordHead, SectionHead};
 pub use mark::stamp;
+pub use reader::FrameReader;
 pub use record::{Record, Section, one_end};
 pub use writer::RecordWriter;

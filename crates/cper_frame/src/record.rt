@@ -2,7 +2,7 @@
 ghost use Rattle.std.specs.Prelude.{◌≡◌, ℕ, ◌+◌, ◌-◌, ◌*◌, ◌^◌, ◌<◌, ◌≤◌, ◌++◌, List, [], length, take, Ok, Err, Some, slice_get, IfOk, IsOkAnd, MatchResult};
 ghost use Rattle.base_model.specs.Bytes.{part};
 ghost use Rattle.cper_frame.specs.Grammar.{RecordValue, IsRecord};
-ghost use Rattle.cper_frame.specs.Reading.{checked, misplaced, misplaced_from, is_misplaced};
+ghost use Rattle.cper_frame.specs.Reading.{checked, misplaced, misplaced_from, is_misplaced, record_of, IsWhole};
 ghost use Rattle.cper_frame.specs.Sections.{value_of};
 
 use crate::error::FrameError;
@@ -142,6 +142,15 @@ impl<'a> Record<'a> {
             }
             Err(error) => Err(error),
         }
+    }
+
+    /// The record that the bytes are.
+    pub(crate) fn whole(bytes: &'a [u8]) -> Record<'a>
+        requires { IsWhole bytes.now }
+        ensures value { result ≡ record_of bytes.now }
+        ensures record { IsRecord result bytes.now }
+    {
+        Record { bytes }
     }
 
     /// What its header says.
