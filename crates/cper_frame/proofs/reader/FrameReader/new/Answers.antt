@@ -1,0 +1,11 @@
+use Rattle.std.proofs.Common.{ℕ, List, ◌<◌, ◌^◌, sym, subst, arith}
+use Rattle.std.specs.Prelude.{vec_capacity}
+use Rattle.cper_frame.specs.Stream.{IsReader}
+use Rattle.cper_frame.proofs.Readers.{empty}
+use Rattle.cper_frame.proofs.reader.FrameReader.new.Goals as goal
+
+pub invariant_of-result : goal.invariant_of-result
+invariant_of-result c =
+    let short : c.args.limit < 2 ^ 32 = omega arith in
+    subst (λ (xs : List ℕ). IsReader c.args.limit xs (vec_capacity c.in-Ok.held) 128) (sym c.in-Ok.ensures.items)
+    (empty c.args.limit (vec_capacity c.in-Ok.held) c.requires short c.in-Ok.ensures.exact)

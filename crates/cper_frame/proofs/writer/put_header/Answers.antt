@@ -1,0 +1,10 @@
+use Rattle.std.proofs.Common.{subst, sym}
+use Rattle.apei_fields.specs.Writing.{Wrote}
+use Rattle.apei_fields.proofs.Puts.{wrote_then, joined-append}
+use Rattle.cper_frame.specs.Grammar.{header_front, header_back}
+use Rattle.cper_frame.proofs.writer.put_header.Goals as goal
+
+pub returns-clause-wrote : goal.returns-clause-wrote
+returns-clause-wrote c =
+    subst (Wrote c.args.out.now c.put_back.new.out 0 128) (sym (joined-append (header_front c.args.head.now c.args.sections 0) (header_back c.args.head.now)))
+    (wrote_then c.args.out.now c.put_front.new.out c.put_back.new.out 0 24 128 _ _ c.put_front.ensures.wrote c.put_back.ensures.wrote)

@@ -1,0 +1,5 @@
+pub mod Grammar
+pub mod Reading
+pub mod Sections
+pub mod Writer
+pub mod Stream

@@ -1,0 +1,109 @@
+-- Records in a stream, however it is cut into pieces.
+use Rattle.std.specs.Prelude.{◌≡◌, ℕ, ◌+◌, ◌-◌, ◌≤◌, List, [], ◌++◌, length, take, All, Option, Some, None, Result, Ok, Err, Bool, true, false, cond, if◌then◌else◌, min, ◌==◌, ◌<◌, ◌^◌}
+use Rattle.base_model.specs.Bytes.{joined}
+use Rattle.cper_frame.specs.declared.error.FrameError.{FrameError}
+use Rattle.cper_frame.specs.declared.error.FrameError.TheVariants.{Need, Start, End, Length, Section, Limit}
+use Rattle.cper_frame.specs.declared.fed.Fed.{Fed}
+use Rattle.cper_frame.specs.Grammar.{RecordValue, IsRecord}
+use Rattle.cper_frame.specs.Reading.{checked, record_of}
+
+-- a reader: the greatest record that it takes, the bytes of the record so far, and the error that it answers for good
+pub record Reader : Type 0 where
+  pub limit : ℕ
+  pub held : List ℕ
+  pub failed : Option FrameError
+
+-- too few bytes, and no refusal
+abbrev pub is_need : FrameError → Bool
+is_need (Need more) = true
+is_need Start = false
+is_need End = false
+is_need (Length found) = false
+is_need (Section index) = false
+is_need (Limit found) = false
+
+-- what is left of the record, where it isn't whole
+abbrev pub missing_of : FrameError → ℕ
+missing_of (Need more) = more
+missing_of Start = 0
+missing_of End = 0
+missing_of (Length found) = 0
+missing_of (Section index) = 0
+missing_of (Limit found) = 0
+
+abbrev pub wanted : Result ℕ FrameError → ℕ
+wanted (Ok len) = 0
+wanted (Err error) = missing_of error
+
+-- the reader with an error
+abbrev pub failing : Reader → FrameError → Reader
+failing reader error = record { limit = reader.limit; held = []; failed = Some error }
+
+abbrev pub holding : Reader → List ℕ → Reader
+holding reader held = record { limit = reader.limit; held = held; failed = None }
+
+-- what a reader makes of the record's bytes and a piece that follows them, where they are so judged: it takes the piece up to
+-- the record's end, or all of it where the record isn't whole yet, or it fails
+abbrev pub taking : Reader → List ℕ → Result ℕ FrameError → Reader × Result Fed FrameError
+taking reader piece (Ok len) = (holding reader (take len (reader.held ++ piece)), Ok (record { taken = len - length reader.held; whole = true }))
+taking reader piece (Err error) =
+    if is_need error then (holding reader (reader.held ++ piece), Ok (record { taken = length piece; whole = false }))
+    else (failing reader error, Err error)
+
+abbrev pub feeding : Reader → List ℕ → Option FrameError → Reader × Result Fed FrameError
+feeding reader piece None = taking reader piece (checked reader.limit (reader.held ++ piece))
+feeding reader piece (Some error) = (reader, Err error)
+
+-- what a piece does
+abbrev pub fed : Reader → List ℕ → Reader × Result Fed FrameError
+fed reader piece = feeding reader piece reader.failed
+
+-- what a reader makes of the first bytes of a piece, as many as are wanted or there
+abbrev pub filled : Reader → List ℕ → ℕ → Result ℕ FrameError → Reader × Result ℕ FrameError
+filled reader held count (Ok len) = (holding reader held, Ok count)
+filled reader held count (Err error) = if is_need error then (holding reader held, Ok count) else (failing reader error, Err error)
+
+abbrev pub filling : Reader → List ℕ → Reader × Result ℕ FrameError
+filling reader piece =
+    let count = min (wanted (checked reader.limit reader.held)) (length piece) in
+    let held = reader.held ++ take count piece in
+    filled reader held count (checked reader.limit held)
+
+-- what is held is the beginning of a record that has its place, or one that is whole
+pub record IsReader (limit : ℕ) (held : List ℕ) (capacity missing : ℕ) : Type 0 where
+  pub header : 128 ≤ limit
+  pub short : limit < 2 ^ 32
+  pub room : limit ≤ capacity
+  pub within : length held + missing ≤ limit
+  pub state : checked limit held ≡ cond (missing == 0) (Ok (length held)) (Err (Need missing))
+
+-- the record that is whole
+abbrev pub framed : List ℕ → Result ℕ FrameError → Option RecordValue
+framed held (Ok len) = Some (record_of held)
+framed held (Err error) = None
+
+abbrev pub frame_of : Reader → Option RecordValue
+frame_of reader = framed reader.held (checked reader.limit reader.held)
+
+-- without the record that is whole
+abbrev pub dropped : Reader → Result ℕ FrameError → Reader
+dropped reader (Ok len) = record { limit = reader.limit; held = []; failed = reader.failed }
+dropped reader (Err error) = reader
+
+abbrev pub advanced : Reader → Reader
+advanced reader = dropped reader (checked reader.limit reader.held)
+
+-- a whole record of at most `limit` bytes
+pub record IsRecordWithin (limit : ℕ) (bytes : List ℕ) : Type 0 where
+  pub within : length bytes ≤ limit
+  pub is_record : (value : RecordValue) × IsRecord value bytes
+
+-- the stream is these records, and then a rest that is none: it is too short, or refused
+pub record Splits (limit : ℕ) (stream : List ℕ) (records : List (List ℕ)) (rest : List ℕ) (error : FrameError) : Type 0 where
+  pub whole : stream ≡ joined records ++ rest
+  pub each : All (IsRecordWithin limit) records
+  pub stops : checked limit rest ≡ Err error
+
+-- a rest that is only too short is no refusal
+abbrev pub refusal : FrameError → Option FrameError
+refusal error = if is_need error then None else Some error

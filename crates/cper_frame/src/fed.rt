@@ -1,0 +1,6 @@
+/// What a reader took of a piece, and whether a record is whole then.
+#[derive(Clone, Copy, Debug, PartialEq, Eq)]
+pub struct Fed {
+    pub taken: usize,
+    pub whole: bool,
+}

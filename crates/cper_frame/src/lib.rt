@@ -1,0 +1,18 @@
+//! Common Platform Error Records (UEFI 2.8 Appendix N): a record's bytes and its meaning, both ways, and records in a stream.
+#![tactic(auto)]
+
+mod error;
+mod fed;
+mod heads;
+mod mark;
+mod reader;
+mod record;
+mod writer;
+
+pub use error::{FrameError, NoRoom};
+pub use fed::Fed;
+pub use heads::{RecordHead, SectionHead};
+pub use mark::stamp;
+pub use reader::FrameReader;
+pub use record::{Record, Section, one_end};
+pub use writer::RecordWriter;

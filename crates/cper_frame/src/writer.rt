@@ -1,0 +1,167 @@
+// A record written section by section.
+ghost use Rattle.std.specs.Prelude.{◌≡◌, ℕ, ◌+◌, ◌*◌, ◌^◌, ◌<◌, ◌≤◌, ◌++◌, List, [], ◌∷◌, length, take, drop, IfOk, OnOk, OnErr, MatchResult};
+ghost use Rattle.base_model.specs.Bytes.{joined};
+ghost use Rattle.apei_fields.specs.Writing.{Wrote};
+ghost use Rattle.cper_frame.specs.declared.heads.RecordHead.{RecordHead as Head};
+ghost use Rattle.cper_frame.specs.Grammar.{header_front, header_back, header, descriptor_fields, IsRecordHead, IsSectionHead, IsRecord};
+ghost use Rattle.cper_frame.specs.Writer.{Given, written_record, room_of, used_by, announced_to, given_to, name_of, IsReady, IsUnchanged, IsWriting, FrontFits, BackFits};
+
+use crate::error::NoRoom;
+use crate::heads::{RecordHead, SectionHead};
+use crate::record::{DESCRIPTOR, HEADER, SIGNATURE_END};
+use apei_fields::{put_1, put_2, put_4, put_8, put_array, put_bytes, put_guid};
+
+/// Puts a header's fields up to the record length, which stays 0.
+fn put_front(out: &mut [u8], head: &RecordHead, sections: u16)
+    requires { 128 ≤ length out.old }
+    ensures wrote { Wrote out.old out.new 0 24 (joined (header_front head.now sections 0)) }
+    ensures fits { FrontFits head.now }
+{
+    let revision = put_array(out, 0, b"CPER");
+    let end = put_2(out, revision, head.revision);
+    let count = put_4(out, end, SIGNATURE_END);
+    let severity = put_2(out, count, sections);
+    let validation = put_4(out, severity, head.severity);
+    let length = put_4(out, validation, head.validation);
+    put_4(out, length, 0);
+}
+
+/// Puts a header's fields behind the record length.
+fn put_back(out: &mut [u8], head: &RecordHead)
+    requires { 128 ≤ length out.old }
+    ensures wrote { Wrote out.old out.new 24 128 (joined (header_back head.now)) }
+    ensures fits { BackFits head.now }
+{
+    let platform = put_8(out, 24, head.timestamp);
+    let partition = put_guid(out, platform, &head.platform);
+    let creator = put_guid(out, partition, &head.partition);
+    let notification = put_guid(out, creator, &head.creator);
+    let id = put_guid(out, notification, &head.notification);
+    let flags = put_8(out, id, head.id);
+    let persistence = put_4(out, flags, head.flags);
+    let reserved = put_array(out, persistence, &head.persistence);
+    put_array(out, reserved, &head.reserved);
+}
+
+/// Puts a header whose record length is 0.
+fn put_header(out: &mut [u8], head: &RecordHead, sections: u16)
+    requires { 128 ≤ length out.old }
+    ensures wrote { Wrote out.old out.new 0 128 (joined (header head.now sections 0)) }
+    ensures fits { IsRecordHead head.now }
+{
+    put_front(out, head, sections);
+    put_back(out, head);
+}
+
+/// Puts a descriptor.
+fn put_descriptor(out: &mut [u8], at: usize, head: &SectionHead, offset: u32, count: u32)
+    requires { at + 72 ≤ length out.old }
+    ensures wrote { Wrote out.old out.new at (at + 72) (joined (descriptor_fields head.now offset count)) }
+    ensures fits { IsSectionHead head.now }
+{
+    let length = put_4(out, at, offset);
+    let revision = put_4(out, length, count);
+    let validation = put_2(out, revision, head.revision);
+    let reserved = put_1(out, validation, head.validation);
+    let flags = put_1(out, reserved, head.reserved);
+    let kind = put_4(out, flags, head.flags);
+    let fru = put_guid(out, kind, &head.kind);
+    let severity = put_guid(out, fru, &head.fru);
+    let fru_text = put_4(out, severity, head.severity);
+    put_array(out, fru_text, &head.fru_text);
+}
+
+/// Writes a record into bytes: its header, then each section with its body, behind the descriptors and one after
+/// another. Offsets, lengths and the section count are its own.
+#[derive(Drop)]
+pub struct RecordWriter<'a> {
+    out: &'a mut [u8],
+    sections: u16,
+    done: u16,
+    end: usize,
+}
+
+impl<'a> RecordWriter<'a> {
+    /// Writes the header of a record of so many sections, where there is room for it and the descriptors.
+    ///
+    /// A caller who wants to know what the bytes are afterwards uses `start`: the checker doesn't follow a slice
+    /// that is lent inside a `Result`.
+    pub fn begin(
+        out: &'a mut [u8],
+        head: &RecordHead,
+        sections: u16,
+    ) -> Result<RecordWriter<'a>, NoRoom>
+        ensures refused { MatchResult result (λ w. 128 + 72 * sections ≤ length out.old) (λ e. (length out.old < 128 + 72 * sections) × (e.need ≡ 128 + 72 * sections)) }
+        ensures begun { IfOk result (λ w. IsReady w × IsWriting out.old head.now [] w) }
+    {
+        let need = HEADER + DESCRIPTOR * sections as usize;
+        if out.len() < need {
+            return Err(NoRoom { need: need as u64 });
+        }
+        Ok(RecordWriter::start(out, head, sections))
+    }
+
+    /// Writes the header of a record of so many sections. There is room for it and the descriptors.
+    pub fn start(out: &'a mut [u8], head: &RecordHead, sections: u16) -> RecordWriter<'a>
+        requires { 128 + 72 * sections ≤ length out.old }
+        ensures begun { IsWriting out.old head.now [] result }
+        ensures ready { IsReady result }
+        ensures used { used_by result ≡ 128 + 72 * sections }
+        ensures room { room_of result ≡ length out.old }
+        ensures announced { announced_to result ≡ sections }
+        ensures given { given_to result ≡ 0 }
+        ensures same_slice { name_of result ≡ out.entry.ghost_name }
+    {
+        put_header(out, head, sections);
+        RecordWriter {
+            out,
+            sections,
+            done: 0,
+            end: HEADER + DESCRIPTOR * sections as usize,
+        }
+    }
+
+    /// Writes a section. At most as many are written as were announced, and the record stays below 2^32 bytes.
+    pub fn section(&mut self, head: &SectionHead, body: &[u8]) -> Result<(), NoRoom>
+        requires ready { IsReady self.old }
+        requires left { given_to self.old < announced_to self.old }
+        requires short { used_by self.old + length body.now < 2 ^ 32 }
+        // The section is the next one of the record.
+        ensures written { OnOk result ((before : List ℕ) (head_of : Head) (given : List Given) → IsWriting before head_of given self.old
+            → IsWriting before head_of (given ++ record { head = head.now; body = body.now } ∷ []) self.new) }
+        ensures used { OnOk result (used_by self.new ≡ used_by self.old + length body.now) }
+        ensures given { OnOk result (given_to self.new ≡ given_to self.old + 1) }
+        // It is refused exactly where there is no room for its body.
+        ensures refused { MatchResult result (λ _. used_by self.old + length body.now ≤ room_of self.old)
+            (λ e. (room_of self.old < used_by self.old + length body.now) × (e.need ≡ used_by self.old + length body.now)) }
+        ensures unchanged { OnErr result (IsUnchanged self.old self.new) }
+        ensures ready { IsReady self.new }
+        ensures same { (announced_to self.new ≡ announced_to self.old) × (room_of self.new ≡ room_of self.old) }
+        ensures same_slice { name_of self.new ≡ name_of self.old }
+    {
+        let need = self.end + body.len();
+        if self.out.len() < need {
+            return Err(NoRoom { need: need as u64 });
+        }
+        let at = HEADER + DESCRIPTOR * self.done as usize;
+        put_descriptor(self.out, at, head, self.end as u32, body.len() as u32);
+        put_bytes(self.out, self.end, body);
+        self.end = need;
+        self.done += 1;
+        Ok(())
+    }
+
+    /// Writes the record length, and says it. Each announced section was written.
+    pub fn finish(self) -> usize
+        requires ready { IsReady self }
+        requires all { given_to self ≡ announced_to self }
+        // The first bytes are exactly the record of the head and the sections that were given.
+        ensures written { (before : List ℕ) (head : Head) (given : List Given) → IsWriting before head given self.entry
+            → IsRecord (written_record head given) (take result self.exit.0.now) × (drop result self.exit.0.now ≡ drop result before) }
+        ensures used { result ≡ used_by self.entry }
+    {
+        let RecordWriter { out, end, .. } = self;
+        put_4(out, 20, end as u32);
+        end
+    }
+}
