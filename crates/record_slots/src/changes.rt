@@ -6,7 +6,7 @@ ghost use Rattle.record_model.specs.Records.{head_fields, tail_at};
 ghost use Rattle.record_slots.specs.Slots.{Fits, numbers_of};
 
 use crate::Head;
-use crate::live::{GATE_OPEN, TAIL_MARK};
+use crate::live::{GATE_OPEN, KILLED, TAIL_MARK};
 use crate::places::{place_of, sector_of};
 use flash_model::{Flash, FlashFailed, Geometry};
 
@@ -16,6 +16,8 @@ const FIELDS_AT: usize = 2;
 const FIELDS_END: usize = 20;
 
 const BODY_AT: u64 = 32;
+
+const KILL_AT: u64 = 1;
 
 const PIECE_LEN: u64 = 256;
 
@@ -117,4 +119,19 @@ pub fn open_gate<F: Flash>(flash: &mut F, geometry: &Geometry, slot: u32) -> Res
 {
     let place = place_of(geometry, slot);
     flash.program(place, &[GATE_OPEN])
+}
+
+/// Kills a slot: programs its second byte to zero, so that it holds no record from then on.
+pub fn kill<F: Flash>(flash: &mut F, geometry: &Geometry, slot: u32) -> Result<(), FlashFailed>
+    requires fits { Fits geometry.now (F.state flash.old) }
+    requires slot { slot < geometry.now.slots }
+    requires erased { F.tells → IsErased (F.state flash.old).told.image (slot * geometry.now.slot_size + 1) 1 }
+
+    ensures bytes { OnOk result (F.tells → (F.state flash.new).told.image
+        ≡ put_at (F.state flash.old).told.image (slot * geometry.now.slot_size + 1) (0 ∷ [])) }
+    ensures stands { OnOk result (F.tells → number_at (F.state flash.new).told.image (slot * geometry.now.slot_size + 1) 1 ≡ 0) }
+    ensures change { AsksChange F.tells (slot * geometry.now.slot_size + 1) 1 (F.state flash.old) (F.state flash.new) result }
+{
+    let place = place_of(geometry, slot);
+    flash.program(place + KILL_AT, &[KILLED])
 }

@@ -10,7 +10,7 @@ mod live;
 mod places;
 mod reading;
 
-pub use changes::{erase_one, open_gate, put_head, put_piece, put_tail};
+pub use changes::{erase_one, kill, open_gate, put_head, put_piece, put_tail};
 pub use head::Head;
 pub use live::is_live;
 pub use reading::look;

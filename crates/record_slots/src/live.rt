@@ -15,6 +15,9 @@ pub const TAIL_MARK: u8 = 0xA5;
 /// The format of a slot.
 pub const FORMAT: u16 = 1;
 
+/// The kill mark of a slot that is killed.
+pub const KILLED: u8 = 0x00;
+
 const NOT_KILLED: u8 = 0xFF;
 
 const MIN_LEN: u32 = 128;
