@@ -2,17 +2,17 @@
 #![tactic(auto)]
 
 mod adapters;
+mod guid;
 mod in_memory;
 mod memory;
-mod guid;
 mod numbers;
 #[cfg(test)]
 mod stream_tests;
 mod streams;
 
 pub use adapters::{StdSink, StdSource};
+pub use guid::Guid;
 pub use in_memory::{MemSink, MemSource};
 pub use memory::Memory;
-pub use guid::Guid;
 pub use numbers::{get_u16, get_u32, get_u64, put_u16, put_u32, put_u64};
 pub use streams::{ReadFailed, Sink, SinkFault, Source, WriteFailed, write_all};

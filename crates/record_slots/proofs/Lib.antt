@@ -1,3 +1,4 @@
 pub mod Heads
+pub mod PlainLemmas
 pub mod Stands
 pub mod Within

@@ -8,9 +8,11 @@ mod changes;
 mod head;
 mod live;
 mod places;
+mod plain;
 mod reading;
 
 pub use changes::{erase_one, kill, open_gate, put_head, put_piece, put_tail};
 pub use head::Head;
 pub use live::is_live;
+pub use plain::{PlainRecord, find_record, record_at};
 pub use reading::look;

@@ -1,5 +1,5 @@
 // When a slot is live.
-ghost use Rattle.std.specs.Prelude.{◌≡◌};
+ghost use Rattle.std.specs.Prelude.{◌≡◌, ◌-◌, ◌≤◌, IsTrue};
 ghost use Rattle.record_model.specs.Records.{is_reserved, is_upright};
 ghost use Rattle.record_slots.specs.Slots.{numbers_of};
 
@@ -28,7 +28,8 @@ const OVERHEAD: u64 = 64;
 /// the tail mark is set, the length is 128 to the room of a slot, and the identifier is not the first or last number.
 #[tactic(auto, using(std::proofs::lemmas::Bool::Decides::nat_tests), unfolding(record_model::specs::Records::is_upright))]
 pub fn is_live(head: &Head, tail: u8, geometry: &Geometry) -> bool
-    ensures { result ≡ is_upright geometry.now.slot_size (numbers_of head.now) tail }
+    ensures live { result ≡ is_upright geometry.now.slot_size (numbers_of head.now) tail }
+    ensures room { IsTrue result → head.now.len ≤ geometry.now.slot_size - 64 }
 {
     if head.gate != GATE_OPEN || head.kill != NOT_KILLED {
         return false;

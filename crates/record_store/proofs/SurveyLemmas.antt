@@ -8,6 +8,7 @@ use Rattle.std.proofs.lemmas.Option.{none-some, same_Some, MatchOption-at_some, 
 use Rattle.base_model.specs.Bytes.{part}
 use Rattle.record_model.specs.Flash.{FlashState}
 use Rattle.record_model.specs.Records.{Head, Entry, Stored, head_at, tail_at, is_upright, entry_of, entry_at, selected, free_among, one_if_free}
+use Rattle.record_slots.proofs.PlainLemmas.{entry_at-when}
 use Rattle.record_model.proofs.SelectionLemmas.{get-none, get-some}
 use Rattle.record_store.specs.declared.survey.Survey.{Survey}
 use Rattle.record_store.specs.declared.survey.FreeSlot.{FreeSlot}
@@ -16,14 +17,6 @@ use Rattle.record_store.specs.Surveys.{is_of, has_id, found_or, first_free, IsSu
 -- the record of a slot, by its head and tail mark
 record_of : ℕ → List ℕ → ℕ → Head → Entry
 record_of size image k head = record { id = head.id; generation = head.generation; body = part image (k * size + 32) head.len }
-
-entry_when : (size k : ℕ) (image : List ℕ) (head : Head) (tail : ℕ) (b : Bool) → head ≡ head_at image (k * size) → tail ≡ tail_at image (k * size) size → is_upright size head tail ≡ b
-    → entry_at size image k ≡ cond {A = Option Entry} b (Some (record_of size image k head)) None
-unfolding entry_at entry_of record_of
-entry_when size k image head tail b is_head is_tail up =
-    ap (λ (h : Head). entry_of size image (k * size) h (tail_at image (k * size) size)) (sym is_head)
-    ∙ ap (λ (t : ℕ). entry_of size image (k * size) head t) (sym is_tail)
-    ∙ ap (λ (c : Bool). cond {A = Option Entry} c (Some (record { id = head.id; generation = head.generation; body = part image (k * size + 32) head.len })) None) up
 
 found_or-live : (o : Option ℕ) (e : Entry) (n : ℕ) → found_or o (Some e) n ≡ o
 found_or-live None e n = refl
@@ -36,7 +29,7 @@ pub IsSurvey-live : (size id n : ℕ) (image : List ℕ) (before : Survey) (head
 unfolding has_id free_among first_free record_of
 IsSurvey-live size id n image before head tail is_head is_tail up so_far =
     let f = entry_at size image in
-    let here : entry_at size image n ≡ Some (record_of size image n head) = entry_when size n image head tail true is_head is_tail up in
+    let here : entry_at size image n ≡ Some (record_of size image n head) = entry_at-when size n image head tail true is_head is_tail up in
     let same : first_free (entry_at size image) (suc n) ≡ first_free (entry_at size image) n =
     ap (λ (o : Option Entry). found_or (first_free (entry_at size image) n) o n) here ∙ found_or-live (first_free (entry_at size image) n) (record_of size image n head) n in
     let grown : free_among (entry_at size image) (suc n) ≡ 0 + free_among (entry_at size image) n = ap (λ (o : Option Entry). one_if_free o + free_among (entry_at size image) n) here in
@@ -62,7 +55,7 @@ pub IsSurvey-free : (size id n : ℕ) (image : List ℕ) (before : Survey) (head
     → IsSurvey size id (n + 1) image (record { is_stored = before.is_stored; free = before.free + 1; first = first })
 unfolding has_id free_among first_free record_of
 IsSurvey-free size id n image before head tail first is_head is_tail up so_far is_first =
-    let here : entry_at size image n ≡ None = entry_when size n image head tail false is_head is_tail up in
+    let here : entry_at size image n ≡ None = entry_at-when size n image head tail false is_head is_tail up in
     let grown : free_among (entry_at size image) (suc n) ≡ 1 + free_among (entry_at size image) n = ap (λ (o : Option Entry). one_if_free o + free_among (entry_at size image) n) here in
     let before_free = so_far.free in
     let next : IsSurvey size id (suc n) image (record { is_stored = before.is_stored; free = before.free + 1; first = first }) = record {

@@ -16,6 +16,7 @@ pub enum ScanError {
 }
 
 /// A flash that is refused, handed back.
+#[derive(Drop)]
 pub struct StoreRefused<F> {
     pub why: ScanError,
     pub flash: F,

@@ -10,3 +10,6 @@ mod writing;
 
 pub use errors::{ScanError, StoreError, StoreRefused};
 pub use store::Store;
+
+#[cfg(test)]
+mod tests;

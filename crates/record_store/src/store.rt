@@ -15,6 +15,7 @@ use std::alloc::Global;
 use std::marker::Model;
 
 /// A record store on a flash.
+#[derive(Drop)]
 pub struct Store<F: Flash> {
     flash: F,
     geometry: Geometry,
