@@ -1,0 +1,4 @@
+pub mod Calls
+pub mod Windows
+pub mod RamState
+pub mod Reasons
