@@ -1,0 +1,5 @@
+pub mod LineLemmas
+pub mod ReadLemmas
+pub mod PlayLemmas
+pub mod RefusalLemmas
+pub mod RunLemmas

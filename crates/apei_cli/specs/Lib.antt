@@ -1,0 +1,9 @@
+pub mod Lines
+pub mod Script
+pub mod Replies
+pub mod Parsed
+pub mod Plays
+pub mod Records
+pub mod Refusals
+pub mod Statuses
+pub mod Runs

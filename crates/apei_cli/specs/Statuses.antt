@@ -1,0 +1,65 @@
+-- What each status of a run says of its script.
+use Rattle.std.specs.Prelude.{◌≡◌, ℕ, ◌+◌, List, [], ◌∷◌, ◌++◌, length}
+use Rattle.record_model.specs.Records.{Stored}
+use Rattle.record_model.specs.History.{Played, left_by_all}
+use Rattle.apei_cli.specs.Lines.{Line, lines_of, ended_lines_of, IsTooLong}
+use Rattle.apei_cli.specs.Script.{asked_by, IsBuilt}
+use Rattle.apei_cli.specs.Replies.{text_of}
+use Rattle.apei_cli.specs.Plays.{AreOf, PartlyWritten, WantsStored}
+use Rattle.apei_cli.specs.declared.status.Status.{Status}
+use Rattle.apei_cli.specs.declared.status.Status.TheVariants.{Done, BadWords, SourceFault, SinkFault, BadGeometry, TooLong, Memory, NotYet}
+
+-- the lines before one of the script were played, and what that line is
+pub record StopsAt (room : ℕ) (script : List ℕ) (commands : List Played) (number : ℕ) (line : Line) : Type 0 where
+  pub before : List Line
+  pub behind : List Line
+  pub lines : lines_of 0 script ≡ before ++ line ∷ behind
+  pub numbered : number ≡ length before + 1
+  pub played : AreOf room before commands
+
+-- the script was played to its end
+pub record PlaysAll (room : ℕ) (script rest : List ℕ) (commands : List Played) : Type 0 where
+  pub all_read : rest ≡ []
+  pub played : AreOf room (lines_of 0 script) commands
+
+-- the lines whose newline was taken from the source were played
+pub record PlaysTaken (room : ℕ) (script rest : List ℕ) (commands : List Played) : Type 0 where
+  pub taken : List ℕ
+  pub source : script ≡ taken ++ rest
+  pub played : AreOf room (ended_lines_of 0 taken) commands
+
+-- the first lines were played
+pub record PlaysSome (room : ℕ) (script : List ℕ) (commands : List Played) : Type 0 where
+  pub before : List Line
+  pub behind : List Line
+  pub lines : lines_of 0 script ≡ before ++ behind
+  pub played : AreOf room before commands
+
+pub record StopsTooLong (room : ℕ) (script : List ℕ) (commands : List Played) (number : ℕ) : Type 0 where
+  pub line : Line
+  pub stops : StopsAt room script commands number line
+  pub too_long : IsTooLong line
+
+-- the line is not built, or the flash tells that its identifier is stored; `stored` is the map at the start
+pub record StopsNotBuilt (told_flash : Type 0) (room slots : ℕ) (stored : Stored) (script : List ℕ) (commands : List Played) (number : ℕ) : Type 0 where
+  pub line : Line
+  pub stops : StopsAt room script commands number line
+  pub within : ¬ IsTooLong line
+  pub because : IsBuilt room (asked_by line.text) → told_flash → WantsStored (asked_by line.text) (left_by_all slots commands stored)
+
+-- the lines of the script that were played, by the status
+abbrev pub EndsBy : Type 0 → ℕ → ℕ → Stored → List ℕ → List ℕ → List Played → Status → Type 0
+EndsBy told_flash room slots stored script rest commands Done = PlaysAll room script rest commands
+EndsBy told_flash room slots stored script rest commands SourceFault = PlaysTaken room script rest commands
+EndsBy told_flash room slots stored script rest commands SinkFault = PlaysSome room script commands
+EndsBy told_flash room slots stored script rest commands (TooLong number) = StopsTooLong room script commands number
+EndsBy told_flash room slots stored script rest commands (NotYet number) = StopsNotBuilt told_flash room slots stored script commands number
+EndsBy told_flash room slots stored script rest commands BadWords = commands ≡ []
+EndsBy told_flash room slots stored script rest commands (BadGeometry sector per_slot number size) = commands ≡ []
+EndsBy told_flash room slots stored script rest commands Memory = commands ≡ []
+
+-- what was written in a run, by the status: the replies to its commands, and where the sink failed not the whole of the
+-- last one
+abbrev pub IsWritten : List Played → List ℕ → List ℕ → Status → Type 0
+IsWritten commands written written_now SinkFault = PartlyWritten commands written written_now
+IsWritten commands written written_now status = written_now ≡ written ++ text_of commands

@@ -1,0 +1,131 @@
+// The program's top call.
+ghost use Rattle.std.specs.Prelude.{◌≡◌, ℕ, ◌-◌, ◌≤◌, ◌↔◌, List, [], ◌∷◌, false, IsTrue};
+ghost use Rattle.apei_cli.specs.Runs.{SLOTS as slot_count, SLOT_SIZE, AreSim, IsDefault, TellsSingle, IsRun, IsAdmitted, HasSourceCause, HasSinkCause, ComesFirst};
+
+use crate::lines::{LineReader, LineStop};
+use crate::player::{Desk, PlayStop};
+use crate::status::Status;
+use apei_bytes::{Sink, Source};
+use flash_model::{Flash, Geometry};
+use record_store::{Store, StoreRefused};
+use std::alloc::Global;
+
+const SECTOR: u64 = 4096;
+
+const PER_SLOT: u64 = 2;
+
+const SLOTS: u64 = 32;
+
+// Whether the words are the program's: the one word `sim`.
+fn are_sim(words: &[String]) -> bool
+    ensures { IsTrue result ↔ AreSim words.now }
+{
+    match words {
+        [word] => word.as_str() == "sim",
+        _ => false,
+    }
+}
+
+// The geometry that is used.
+fn default_geometry() -> Geometry
+    ensures sector { result.sector ≡ 4096 }
+    ensures per_slot { result.per_slot ≡ 2 }
+    ensures slots { result.slots ≡ 32 }
+    ensures slot_size { result.slot_size ≡ 8192 }
+{
+    Geometry::new(SECTOR, PER_SLOT, SLOTS).unwrap()
+}
+
+// Plays the lines of a script, one after another, until it ends or a line stops it.
+fn play_script<I: Source, O: Sink, F: Flash>(
+    lines: &mut LineReader,
+    desk: &mut Desk,
+    store: &mut Store<F>,
+    script: &mut I,
+    out: &mut O,
+) -> Status
+    requires start { lines.old ≡ record { line = []; number = 0; end = 0; pending = []; at_end = false } }
+    requires room { desk.old.room ≡ 8128 }
+    requires slots { store.old.slots ≡ slot_count }
+    requires slot_size { store.old.slot_size ≡ SLOT_SIZE }
+    ensures run { IsRun I.tells O.tells (TellsSingle F.tells store.old.flash) (I.rest script.old) (I.rest script.new)
+        (O.written out.old) (O.written out.new) store.old.flash store.new.flash result }
+    ensures reads { ComesFirst result → ⊥ }
+    ensures source { HasSourceCause (I.faults script.old) (I.faults script.new) result }
+    ensures sink { HasSinkCause (O.faults out.old) (O.faults out.new) result }
+{
+    'lines: loop {
+        match lines.advance(script) {
+            Ok(true) => {}
+            Ok(false) => return Status::Done,
+            Err(LineStop::TooLong) => {
+                return Status::TooLong {
+                    line: lines.number() + 1,
+                };
+            }
+            Err(LineStop::SourceFault) => return Status::SourceFault,
+        }
+        match desk.play(store, lines.line(), out) {
+            Ok(()) => {}
+            Err(PlayStop::NotBuilt) => {
+                return Status::NotYet {
+                    line: lines.number(),
+                };
+            }
+            Err(PlayStop::SinkFault) => return Status::SinkFault,
+        }
+    }
+}
+
+/// Plays a script of `sim` on a flash, and writes the replies: the program's top call.
+///
+/// The words are tried first, then the geometry, which is the default one; then all the memory is taken, and then the
+/// lines are played one after another. The flash comes back.
+pub fn run<I: Source, O: Sink, F: Flash>(
+    alloc: Global,
+    words: &[String],
+    script: &mut I,
+    out: &mut O,
+    flash: F,
+) -> (Status, F)
+    // The commands that were played are the history of the flash, and their replies are what was written.
+    ensures run { IsRun I.tells O.tells (TellsSingle F.tells (F.state flash)) (I.rest script.old) (I.rest script.new)
+        (O.written out.old) (O.written out.new) (F.state flash) (F.state result.1) result.0 }
+
+    ensures admitted { IsAdmitted words.now (F.state flash) result.0 }
+
+    // Want of memory, and a refusal of the words or the geometry, leave all as it was.
+    ensures script_untouched { ComesFirst result.0 → script.new ≡ script.old }
+    ensures out_untouched { ComesFirst result.0 → out.new ≡ out.old }
+    ensures flash_untouched { ComesFirst result.0 → F.state result.1 ≡ F.state flash }
+
+    ensures source { HasSourceCause (I.faults script.old) (I.faults script.new) result.0 }
+    ensures sink { HasSinkCause (O.faults out.old) (O.faults out.new) result.0 }
+{
+    if !are_sim(words) {
+        return (Status::BadWords, flash);
+    }
+    let geometry = default_geometry();
+    let room = geometry.room();
+    let size = flash.size();
+    let mut store = match Store::attach(alloc, flash, geometry) {
+        Ok(store) => store,
+        Err(StoreRefused { why: _, flash }) => {
+            let status = Status::BadGeometry {
+                sector: SECTOR,
+                per_slot: PER_SLOT,
+                slots: SLOTS,
+                size,
+            };
+            return (status, flash);
+        }
+    };
+    let Ok(mut lines) = LineReader::new(alloc) else {
+        return (Status::Memory, store.into_flash());
+    };
+    let Ok(mut desk) = Desk::new(alloc, room) else {
+        return (Status::Memory, store.into_flash());
+    };
+    let status = play_script(&mut lines, &mut desk, &mut store, script, out);
+    (status, store.into_flash())
+}

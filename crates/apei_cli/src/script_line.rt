@@ -1,0 +1,78 @@
+// What a line of a script asks for.
+ghost use Rattle.std.specs.Prelude.{◌≡◌, ℕ, ◌+◌, ◌*◌, ◌<◌, ◌≤◌, ◌↔◌, List, length, take, IsTrue, MatchOption};
+ghost use Rattle.hex.specs.Hex.{decode_of};
+ghost use Rattle.apei_cli.specs.Script.{asked_by_hex, write, not_built, IsPlain, marked};
+ghost use Rattle.apei_cli.specs.Parsed.{IsParsed};
+
+use apei_bytes::{get_u16, get_u32};
+use hex::decode_to_slice;
+
+/// A line of a script.
+#[derive(Clone, Copy)]
+pub enum ScriptLine<'a> {
+    /// An empty line or a comment.
+    Blank,
+    /// A record is to be written. Whether the text is hexadecimal shows when it is decoded.
+    Write { hex: &'a [u8] },
+    /// A line that is not built.
+    Other,
+}
+
+impl ScriptLine<'_> {
+    /// The line with this text.
+    pub fn parse(text: &[u8]) -> ScriptLine<'_>
+        ensures { IsParsed text.now result }
+    {
+        if text.is_empty() || text[0] == b'#' {
+            return ScriptLine::Blank;
+        }
+        match text.strip_prefix(b"write ") {
+            Some(hex) => ScriptLine::Write { hex },
+            None => ScriptLine::Other,
+        }
+    }
+}
+
+/// Decodes hexadecimal text into the first bytes of `out`, and answers how many they are: `None` where it isn't one or
+/// more pairs of digits.
+pub fn decode(hex: &[u8], out: &mut [u8]) -> Option<usize>
+    requires { length hex.now ≤ 2 * length out.old }
+    ensures { MatchOption result
+        (asked_by_hex (decode_of hex.now) ≡ not_built)
+        (λ n. (n ≤ length out.new) × (asked_by_hex (decode_of hex.now) ≡ write (take n out.new))) }
+{
+    let count = hex.len() / 2;
+    if count == 0 {
+        return None;
+    }
+    match decode_to_slice(hex, &mut out[..count]) {
+        Ok(()) => Some(count),
+        Err(_) => None,
+    }
+}
+
+// The length of a record's header.
+const HEADER: usize = 128;
+
+const SIGNATURE_END: u32 = 0xFFFF_FFFF;
+
+/// Whether these bytes are a record without sections that fills them.
+pub fn is_plain(bytes: &[u8]) -> bool
+    ensures { IsTrue result ↔ IsPlain bytes.now }
+{
+    if bytes.len() < HEADER || !bytes.starts_with(b"CPER") {
+        return false;
+    }
+    if get_u32(bytes, 6) != SIGNATURE_END || get_u16(bytes, 10) != 0 {
+        return false;
+    }
+    get_u32(bytes, 20) as usize == bytes.len()
+}
+
+/// Marks a record as persistent: its persistence information begins with "ER".
+pub fn stamp(bytes: &mut [u8])
+    requires { 110 ≤ length bytes.old }
+    ensures { bytes.new ≡ marked bytes.old }
+{
+    bytes[108..110].copy_from_slice(b"ER");
+}

@@ -1,0 +1,69 @@
+// How a run of the program ends.
+use std::fmt;
+
+/// How a run ends.
+#[derive(Clone, Copy, Debug, PartialEq, Eq)]
+pub enum Status {
+    /// The script was read to its end.
+    Done,
+    /// The words are not of the program's form.
+    BadWords,
+    /// A read of the script failed.
+    SourceFault,
+    /// A write of a reply failed.
+    SinkFault,
+    /// The geometry is outside its limits, or it is not the flash's, which has this size in bytes.
+    BadGeometry {
+        sector: u64,
+        per_slot: u64,
+        slots: u64,
+        size: u64,
+    },
+    /// The line with this number, from 1, or the script up to its end is too long.
+    TooLong {
+        line: u64,
+    },
+    /// There was no memory.
+    Memory,
+    /// The line with this number asks for what is not built yet.
+    NotYet {
+        line: u64,
+    },
+}
+
+impl Status {
+    /// The program's exit number.
+    pub fn number(&self) -> u8 {
+        match self {
+            Status::Done => 0,
+            Status::BadWords => 1,
+            Status::SourceFault => 3,
+            Status::SinkFault => 4,
+            Status::BadGeometry { .. } => 6,
+            Status::TooLong { .. } => 7,
+            Status::Memory => 8,
+            Status::NotYet { .. } => 9,
+        }
+    }
+}
+
+/// What the program says of it on standard error; nothing where it is done.
+impl fmt::Display for Status {
+    fn fmt<W: fmt::Write>(&self, f: &mut fmt::Formatter<W>) -> fmt::Result {
+        match self {
+            Status::Done => Ok(()),
+            Status::BadWords => write!(f, "apei: bad words"),
+            Status::SourceFault => write!(f, "apei: read failed"),
+            Status::SinkFault => write!(f, "apei: write failed"),
+            Status::BadGeometry {
+                sector,
+                per_slot,
+                slots,
+                size,
+            } => write!(f, "apei: bad geometry {sector} {per_slot} {slots} {size}"),
+            Status::TooLong { line } => write!(f, "apei: line {line} too long"),
+            Status::Memory => write!(f, "apei: out of memory"),
+            Status::NotYet { line } => write!(f, "apei: line {line} not built"),
+        }
+    }
+}
