@@ -1,0 +1,5 @@
+pub mod EntryLaws
+pub mod Walks
+pub mod Blocks
+pub mod Whole
+pub mod Writes

@@ -1,0 +1,108 @@
+-- What is read at the front of bytes, and why nothing is.
+use Rattle.std.specs.Prelude.{◌≡◌, ℕ, zero, suc, ◌+◌, ◌-◌, List, [], ◌∷◌, length, drop, Bool, ◌==◌, nat_lt, if◌then◌else◌, Result, Ok, Err}
+use Rattle.base_model.specs.Bytes.{part, number_at, AreBytes}
+use Rattle.ghes_block.specs.declared.entry.EntryHead.{EntryHead}
+use Rattle.ghes_block.specs.declared.error.BlockError.{BlockError}
+use Rattle.ghes_block.specs.declared.error.BlockError.TheVariants.{Need, NotPublished, RawOffset, Entry, Rest}
+pub use Rattle.ghes_block.specs.Grammar.{EntryValue, BlockValue, is_stamped}
+
+-- how long the head of the entry that stands first is, and the entry
+abbrev pub head_size : List ℕ → ℕ
+head_size bytes = if is_stamped (number_at bytes 20 2) then 72 else 64
+
+abbrev pub entry_size : List ℕ → ℕ
+entry_size bytes = head_size bytes + number_at bytes 24 4
+
+abbrev pub stamp_at : Bool → List ℕ → ℕ
+stamp_at stamped bytes = if stamped then number_at bytes 64 8 else 0
+
+-- the fields at their places in an entry
+abbrev pub entry_head_at : List ℕ → EntryHead
+entry_head_at bytes = record {
+  kind = part bytes 0 16;
+  severity = number_at bytes 16 4;
+  revision = number_at bytes 20 2;
+  validation = number_at bytes 22 1;
+  flags = number_at bytes 23 1;
+  fru = part bytes 28 16;
+  fru_text = part bytes 44 20;
+  stamp = stamp_at (is_stamped (number_at bytes 20 2)) bytes;
+}
+
+unfoldable pub first_entry : List ℕ → EntryValue
+first_entry bytes = record { head = entry_head_at bytes; body = part bytes (head_size bytes) (number_at bytes 24 4) }
+
+-- the entries of a block's data, as many as there are at most
+abbrev pub entries_in : ℕ → List ℕ → List EntryValue
+entries_in zero content = []
+entries_in (suc most) content = if length content == 0 then [] else first_entry content ∷ entries_in most (drop (entry_size content) content)
+
+-- how many entries there are, of which the next has this index and place, or the first fault
+abbrev pub counted : ℕ → ℕ → ℕ → List ℕ → Result ℕ BlockError
+counted zero index at content = Ok index
+counted (suc most) index at content =
+    if length content == 0 then Ok index
+    else if nat_lt (length content) 64 then Err (Rest (length content))
+    else if nat_lt (length content) (entry_size content) then Err (Entry index at)
+    else counted most (index + 1) (at + entry_size content) (drop (entry_size content) content)
+
+-- the numbers of a block's head
+abbrev pub status_at : List ℕ → ℕ
+status_at bytes = number_at bytes 0 4
+
+abbrev pub raw_offset : List ℕ → ℕ
+raw_offset bytes = number_at bytes 4 4
+
+abbrev pub raw_length : List ℕ → ℕ
+raw_length bytes = number_at bytes 8 4
+
+abbrev pub data_length : List ℕ → ℕ
+data_length bytes = number_at bytes 12 4
+
+abbrev pub data_of : List ℕ → List ℕ
+data_of bytes = part bytes 20 (data_length bytes)
+
+unfoldable pub entry_count : List ℕ → Result ℕ BlockError
+entry_count bytes = counted (length (data_of bytes)) 0 20 (data_of bytes)
+
+-- the block that the bytes are
+unfoldable pub block_of : List ℕ → BlockValue
+block_of bytes = record {
+  status = status_at bytes;
+  severity = number_at bytes 16 4;
+  entries = entries_in (length (data_of bytes)) (data_of bytes);
+  raw = part bytes (raw_offset bytes) (raw_length bytes);
+  size = length bytes;
+}
+
+-- the length where the entries have no fault
+abbrev pub finished : ℕ → Result ℕ BlockError → Result ℕ BlockError
+finished len (Ok count) = Ok len
+finished len (Err error) = Err error
+
+abbrev pub sized : ℕ → ℕ → Result ℕ BlockError → Result ℕ BlockError
+sized have len count = if nat_lt have len then Err (Need (len - have)) else finished len count
+
+-- the checks of a head, in their order
+unfoldable pub judged : ℕ → ℕ → ℕ → ℕ → ℕ → Result ℕ BlockError → Result ℕ BlockError
+judged have status offset raw data_len count =
+    if status == 0 then Err NotPublished
+    else if raw == 0 then sized have (20 + data_len) count
+    else if nat_lt offset (20 + data_len) then Err (RawOffset offset)
+    else sized have (offset + raw) count
+
+-- the length of the block that the bytes begin with, or the first check that fails
+unfoldable pub checked : List ℕ → Result ℕ BlockError
+checked bytes =
+    if nat_lt (length bytes) 20 then Err (Need (20 - length bytes))
+    else judged (length bytes) (status_at bytes) (raw_offset bytes) (raw_length bytes) (data_length bytes) (entry_count bytes)
+
+-- the bytes are one block, all of them
+abbrev pub IsWhole : List ℕ → Type 0
+IsWhole bytes = checked bytes ≡ Ok (length bytes)
+
+-- what is known of the bytes of a block that was read: they are all of it, and it has so many entries
+pub record IsReadBlock (bytes : List ℕ) (count : ℕ) : Type 0 where
+  pub whole : IsWhole bytes
+  pub counted_is : entry_count bytes ≡ Ok count
+  pub are_bytes : AreBytes bytes

@@ -1,0 +1,204 @@
+// A status block in bytes.
+ghost use Rattle.std.specs.Prelude.{◌≡◌, ℕ, ◌+◌, ◌-◌, ◌*◌, ◌^◌, ◌<◌, ◌≤◌, ◌++◌, List, [], length, take, Ok, Err, IfOk, IsOkAnd, MatchResult, MatchOption};
+ghost use Rattle.base_model.specs.Bytes.{part};
+ghost use Rattle.ghes_block.specs.Grammar.{BlockValue, IsBlock};
+ghost use Rattle.ghes_block.specs.Reading.{checked, counted, sized, entry_count};
+ghost use Rattle.ghes_block.specs.Entries.{value_of, place_of, IsPlace, EntryAt, RestAt};
+
+use crate::entry::{DataEntry, HEAD, size_of_entry};
+use crate::error::BlockError;
+use apei_bytes::get_u32;
+use apei_fields::bytes_at;
+use std::marker::Model;
+
+/// The bytes of a block's head.
+pub(crate) const HEADER: usize = 20;
+
+/// A block, as a part of the bytes that it was read from.
+#[derive(Drop)]
+pub struct Block<'a> {
+    bytes: &'a [u8],
+    entries: u32,
+}
+
+impl<'a> Model for Block<'a> {
+    ghost use Rattle.ghes_block.specs.Grammar.{BlockValue};
+
+    ghost Value = { BlockValue };
+
+    ghost use Rattle.ghes_block.specs.Reading.{block_of, IsReadBlock};
+
+    ghost view = { λ b. block_of b.bytes.now };
+
+    ghost invariant = { λ b. IsReadBlock b.bytes.now b.entries };
+}
+
+/// How many entries there are in a block's data.
+fn count_entries(content: &[u8]) -> Result<u32, BlockError>
+    requires { length content.now < 2 ^ 32 }
+    ensures { result ≡ counted (length content.now) 0 20 content.now }
+{
+    let mut at = 0;
+    let mut index: u32 = 0;
+    while at < content.len() {
+        let rest = &content[at..];
+        if rest.len() < HEAD {
+            return Err(BlockError::Rest {
+                bytes: rest.len() as u64,
+            });
+        }
+        let size = size_of_entry(rest);
+        if rest.len() < size {
+            return Err(BlockError::Entry {
+                index: u64::from(index),
+                at: (HEADER + at) as u64,
+            });
+        }
+        at += size;
+        index += 1;
+    }
+    Ok(index)
+}
+
+/// The length, where so many bytes are there, and the number of entries.
+fn sized_block(bytes: &[u8], size: u64, data_length: u32) -> Result<(usize, u32), BlockError>
+    requires { 20 + data_length ≤ size }
+    ensures { let count = counted (length (part bytes.now 20 data_length)) 0 20 (part bytes.now 20 data_length) in
+        MatchResult result (λ x. (sized (length bytes.now) size count ≡ Ok x.0) × (count ≡ Ok x.1)) (λ e. sized (length bytes.now) size count ≡ Err e) }
+{
+    let have = bytes.len() as u64;
+    if have < size {
+        return Err(BlockError::Need { more: size - have });
+    }
+    match count_entries(bytes_at(bytes, HEADER, data_length as usize)) {
+        Ok(count) => Ok((size as usize, count)),
+        Err(error) => Err(error),
+    }
+}
+
+/// The length of the block that the bytes begin with, and the number of its entries.
+fn checked_block(bytes: &[u8]) -> Result<(usize, u32), BlockError>
+    ensures { MatchResult result (λ x. (checked bytes.now ≡ Ok x.0) × (entry_count bytes.now ≡ Ok x.1)) (λ e. checked bytes.now ≡ Err e) }
+{
+    if bytes.len() < HEADER {
+        return Err(BlockError::Need {
+            more: (HEADER - bytes.len()) as u64,
+        });
+    }
+    if get_u32(bytes, 0) == 0 {
+        return Err(BlockError::NotPublished);
+    }
+    let raw_offset = get_u32(bytes, 4);
+    let raw_length = get_u32(bytes, 8);
+    let data_length = get_u32(bytes, 12);
+    let data_end = 20 + u64::from(data_length);
+    if raw_length == 0 {
+        return sized_block(bytes, data_end, data_length);
+    }
+    if u64::from(raw_offset) < data_end {
+        return Err(BlockError::RawOffset {
+            found: u64::from(raw_offset),
+        });
+    }
+    sized_block(
+        bytes,
+        u64::from(raw_offset) + u64::from(raw_length),
+        data_length,
+    )
+}
+
+impl<'a> Block<'a> {
+    /// Reads the block at the front of the bytes, and says how many bytes it has. More bytes may follow. The entries are
+    /// those of the data length, whatever the status says of their number.
+    pub fn decode(bytes: &'a [u8]) -> Result<(Block<'a>, usize), BlockError>
+        // What is found is a block.
+        ensures found { IfOk result (λ x. (x.1 ≤ length bytes.now) × IsBlock x.0 (take x.1 bytes.now)) }
+        // What is a block is found.
+        ensures only { (value : BlockValue) (n : ℕ) → n ≤ length bytes.now → IsBlock value (take n bytes.now) → IsOkAnd result (λ x. (x.0 ≡ value) × (x.1 ≡ n)) }
+        // The error is the first check that fails.
+        ensures exact { MatchResult result (λ x. checked bytes.now ≡ Ok x.1) (λ e. checked bytes.now ≡ Err e) }
+    {
+        match checked_block(bytes) {
+            Ok((length, entries)) => Ok((
+                Block {
+                    bytes: &bytes[..length],
+                    entries,
+                },
+                length,
+            )),
+            Err(error) => Err(error),
+        }
+    }
+
+    /// The whole block status. Bits 4 to 13 claim a number of entries, which may differ from `entries`.
+    pub fn status(&self) -> u32
+        ensures { result ≡ self.now.status }
+    {
+        get_u32(self.bytes, 0)
+    }
+
+    /// 0 recoverable, 1 fatal, 2 corrected, 3 none.
+    pub fn severity(&self) -> u32
+        ensures { result ≡ self.now.severity }
+    {
+        get_u32(self.bytes, 16)
+    }
+
+    /// How many bytes it has.
+    pub fn len(&self) -> u64
+        ensures { result ≡ self.now.size }
+    {
+        self.bytes.len() as u64
+    }
+
+    /// How many entries it has.
+    pub fn entries(&self) -> u32
+        ensures { result ≡ length self.now.entries }
+    {
+        let _ = self.bytes;
+        self.entries
+    }
+
+    /// Its raw data.
+    pub fn raw(&self) -> &'a [u8]
+        ensures { result.now ≡ self.now.raw }
+    {
+        let raw_length = get_u32(self.bytes, 8);
+        if raw_length == 0 {
+            return bytes_at(self.bytes, 0, 0);
+        }
+        bytes_at(
+            self.bytes,
+            get_u32(self.bytes, 4) as usize,
+            raw_length as usize,
+        )
+    }
+
+    /// What stands between a place and the entries' end.
+    fn rest_at(&self, at: u64) -> &'a [u8]
+        requires { IsPlace self.now.entries at }
+        ensures { RestAt self.now.entries at result.now }
+    {
+        let end = 20 + u64::from(get_u32(self.bytes, 12));
+        bytes_at(self.bytes, at as usize, (end - at) as usize)
+    }
+
+    /// The entry that begins at `at`, and the place of the next one; `None` at the end. `at` is 20 or was answered by
+    /// this call.
+    pub fn entry_at(&self, at: u64) -> Option<(DataEntry<'a>, u64)>
+        requires { IsPlace self.now.entries at }
+        ensures { MatchOption result (at ≡ place_of self.now.entries (length self.now.entries)) (λ x. EntryAt self.now.entries at x.1 (value_of x.0)) }
+    {
+        let rest = self.rest_at(at);
+        if rest.is_empty() {
+            return None;
+        }
+        let (entry, size) = DataEntry::read(rest);
+        Some((entry, at + size))
+    }
+}
+
+/// No block begins another, so where a block ends doesn't depend on what follows it.
+pub fn one_end()
+    ensures { (value other : BlockValue) (bytes more : List ℕ) → IsBlock value bytes → IsBlock other (bytes ++ more) → more ≡ [] }
+{}
