@@ -6,8 +6,10 @@ mod player;
 mod program;
 mod reply;
 mod script_line;
+mod sim;
 mod status;
 
 pub use program::run;
 pub use script_line::stamp;
+pub use sim::sim_flash;
 pub use status::Status;

@@ -26,8 +26,8 @@ fn are_sim(words: &[String]) -> bool
     }
 }
 
-// The geometry that is used.
-fn default_geometry() -> Geometry
+/// The geometry that is used: 32 slots of two sectors of 4,096 bytes.
+pub fn default_geometry() -> Geometry
     ensures sector { result.sector ≡ 4096 }
     ensures per_slot { result.per_slot ≡ 2 }
     ensures slots { result.slots ≡ 32 }

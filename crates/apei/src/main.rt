@@ -1,0 +1,45 @@
+//! Plays a script of a machine's error record store on a simulated flash: `apei sim` reads the script from standard
+//! input and writes the replies to standard output.
+#![tactic(auto)]
+
+use apei_bytes::{StdSink, StdSource};
+use apei_cli::{Status, run, sim_flash};
+use std::env;
+use std::io::ErrorKind;
+use std::process::ExitCode;
+
+fn main(rt: HostRuntime) -> ExitCode {
+    let status = play(&rt);
+    if status != Status::Done {
+        // Where standard error is closed nothing can be said.
+        let _ = eprintln!(rt; "{status}");
+    }
+    ExitCode::from(status.number())
+}
+
+// Plays standard input, by the words behind the program's name.
+fn play(rt: &HostRuntime) -> Status {
+    let words = match words(rt) {
+        Ok(words) => words,
+        Err(status) => return status,
+    };
+    let Ok(flash) = sim_flash(rt.alloc()) else {
+        return Status::Memory;
+    };
+    let mut script = StdSource::new(rt.stdin());
+    let mut out = StdSink::new(rt.stdout());
+    let (status, _) = run(rt.alloc(), &words, &mut script, &mut out, flash);
+    status
+}
+
+// The words behind the program's name. One that is not UTF-8 is not of the program's form.
+fn words(rt: &HostRuntime) -> Result<Vec<String>, Status> {
+    match env::args(rt) {
+        Ok(words) => words
+            .skip(1)
+            .collect(rt.alloc())
+            .map_err(|_| Status::Memory),
+        Err(error) if error.kind() == ErrorKind::InvalidData => Err(Status::BadWords),
+        Err(_) => Err(Status::Memory),
+    }
+}
