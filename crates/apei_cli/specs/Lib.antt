@@ -7,3 +7,4 @@ pub mod Records
 pub mod Refusals
 pub mod Statuses
 pub mod Runs
+pub mod Numbers

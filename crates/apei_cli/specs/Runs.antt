@@ -67,3 +67,18 @@ HasSourceCause before after status = after ≡ before
 abbrev pub HasSinkCause : ℕ → ℕ → Status → Type 0
 HasSinkCause before after SinkFault = Rose before after
 HasSinkCause before after status = after ≡ before
+
+-- a run that ends by itself: the script was read to its end, there was no memory, or one of its lines stopped it
+abbrev pub EndsByItself : Status → Type 0
+EndsByItself Done = Unit {0}
+EndsByItself BadWords = ⊥
+EndsByItself SourceFault = ⊥
+EndsByItself SinkFault = ⊥
+EndsByItself (BadGeometry sector per_slot slots size) = ⊥
+EndsByItself (TooLong line) = Unit {0}
+EndsByItself Memory = Unit {0}
+EndsByItself (NotYet line) = Unit {0}
+
+-- with the program's words and geometry, where no fault of the source or the sink was counted, it ends by itself
+abbrev pub IsComplete : List (String Global) → FlashState → Type 0 → Type 0 → Status → Type 0
+IsComplete words flash source_rose sink_rose status = AreSim words → IsDefault flash → ¬ source_rose → ¬ sink_rose → EndsByItself status

@@ -1,6 +1,7 @@
 // The program's top call.
 ghost use Rattle.std.specs.Prelude.{◌≡◌, ℕ, ◌-◌, ◌≤◌, ◌↔◌, List, [], ◌∷◌, false, IsTrue};
-ghost use Rattle.apei_cli.specs.Runs.{SLOTS as slot_count, SLOT_SIZE, AreSim, IsDefault, TellsSingle, IsRun, IsAdmitted, HasSourceCause, HasSinkCause, ComesFirst};
+ghost use Rattle.base_model.specs.Faults.{Rose};
+ghost use Rattle.apei_cli.specs.Runs.{SLOTS as slot_count, SLOT_SIZE, AreSim, IsDefault, TellsSingle, IsRun, IsAdmitted, HasSourceCause, HasSinkCause, ComesFirst, IsComplete};
 
 use crate::lines::{LineReader, LineStop};
 use crate::player::{Desk, PlayStop};
@@ -101,6 +102,8 @@ pub fn run<I: Source, O: Sink, F: Flash>(
 
     ensures source { HasSourceCause (I.faults script.old) (I.faults script.new) result.0 }
     ensures sink { HasSinkCause (O.faults out.old) (O.faults out.new) result.0 }
+    ensures complete { IsComplete words.now (F.state flash) (Rose (I.faults script.old) (I.faults script.new))
+        (Rose (O.faults out.old) (O.faults out.new)) result.0 }
 {
     if !are_sim(words) {
         return (Status::BadWords, flash);

@@ -1,4 +1,6 @@
 // How a run of the program ends.
+ghost use Rattle.std.specs.Prelude.{◌≡◌};
+
 use std::fmt;
 
 /// How a run ends.
@@ -32,8 +34,12 @@ pub enum Status {
 }
 
 impl Status {
+    ghost use Rattle.apei_cli.specs.Numbers.{number_of};
+
     /// The program's exit number.
-    pub fn number(&self) -> u8 {
+    pub fn number(&self) -> u8
+        ensures { result ≡ number_of self.now }
+    {
         match self {
             Status::Done => 0,
             Status::BadWords => 1,
