@@ -18,7 +18,8 @@ pub const FORMAT: u16 = 1;
 /// The kill mark of a slot that is killed.
 pub const KILLED: u8 = 0x00;
 
-const NOT_KILLED: u8 = 0xFF;
+/// The kill mark of a slot that is not killed.
+pub const NOT_KILLED: u8 = 0xFF;
 
 const MIN_LEN: u32 = 128;
 

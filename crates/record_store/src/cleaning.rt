@@ -9,9 +9,7 @@ ghost use Rattle.record_slots.specs.Slots.{Fits};
 ghost use Rattle.record_store.specs.Slot.{Keeps, StaysFree, TakesSteps};
 
 use flash_model::{Flash, FlashFailed, Geometry};
-use record_slots::erase_one;
-
-const TAIL_MARK: u8 = 0xA5;
+use record_slots::{TAIL_MARK, erase_one};
 
 /// Erases a free slot, whose tail mark is `tail`.
 pub fn clean<F: Flash>(

@@ -15,15 +15,9 @@ use crate::cleaning::clean;
 use crate::errors::StoreError;
 use crate::survey::{FreeSlot, Survey, survey_slots};
 use flash_model::{Flash, FlashFailed, Geometry};
-use record_slots::{Head, open_gate, put_head, put_piece, put_tail};
+use record_slots::{FORMAT, GATE_OPEN, Head, NOT_KILLED, open_gate, put_head, put_piece, put_tail};
 
 const PIECE_LEN: usize = 256;
-
-const GATE_OPEN: u8 = 0x5A;
-
-const NOT_KILLED: u8 = 0xFF;
-
-const FORMAT: u16 = 1;
 
 const FIRST_GENERATION: u32 = 1;
 
