@@ -1,0 +1,4 @@
+pub mod Structures
+pub mod Lengths
+pub mod Walks
+pub mod Hests

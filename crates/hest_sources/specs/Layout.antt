@@ -1,0 +1,147 @@
+-- The bytes of error source structures (ACPI 6.4, 18.3.2).
+use Rattle.std.specs.Prelude.{◌≡◌, ℕ, ◌+◌, ◌*◌, ◌^◌, ◌<◌, ◌≤◌, List, [], ◌∷◌, ◌++◌, length, Option, Some, None, false, ◌==◌, ◌||◌, nat_le, nat_lt, if◌then◌else◌, Result, Ok, Err}
+use Rattle.base_model.specs.Bytes.{part, number_at, spelled, joined}
+use Rattle.apei_gas.specs.declared.structure.Gas.{Gas}
+use Rattle.apei_gas.specs.Layout.{spelling, IsGas}
+use Rattle.hest_sources.specs.declared.sources.Ghes.{Ghes}
+use Rattle.hest_sources.specs.declared.sources.Ack.{Ack}
+use Rattle.hest_sources.specs.declared.sources.HestSource.{HestSource}
+use Rattle.hest_sources.specs.declared.sources.HestSource.TheVariants.{Ghes as Generic, Other}
+use Rattle.hest_sources.specs.declared.tables.HestError.{HestError}
+use Rattle.hest_sources.specs.declared.tables.HestError.TheVariants.{UnknownType, Cut}
+
+-- a source with a read acknowledgement is of type 10, one without of type 9
+abbrev pub type_of : Option Ack → ℕ
+type_of None = 9
+type_of (Some ack) = 10
+
+-- how many bytes a generic source has
+abbrev pub size_of : Option Ack → ℕ
+size_of None = 64
+size_of (Some ack) = 92
+
+-- the fields of a generic source, 64 bytes
+abbrev pub ghes_fields : Ghes → List (List ℕ)
+ghes_fields source =
+    spelled 2 (type_of source.ack)
+    ∷ spelled 2 source.id
+    ∷ spelled 2 source.related
+    ∷ spelled 1 source.flags
+    ∷ spelled 1 source.enabled
+    ∷ spelled 4 source.records
+    ∷ spelled 4 source.sections
+    ∷ spelled 4 source.raw
+    ∷ spelling source.status
+    ∷ source.notify
+    ∷ spelled 4 source.block_len
+    ∷ []
+
+-- and of its acknowledgement, 28 bytes
+abbrev pub ack_fields : Ack → List (List ℕ)
+ack_fields ack = spelling ack.register ∷ spelled 8 ack.preserve ∷ spelled 8 ack.write ∷ []
+
+abbrev pub ack_bytes : Option Ack → List ℕ
+ack_bytes None = []
+ack_bytes (Some ack) = joined (ack_fields ack)
+
+unfoldable pub ghes_bytes : Ghes → List ℕ
+ghes_bytes source = joined (ghes_fields source) ++ ack_bytes source.ack
+
+-- each number fits its field, and the notification has its length
+pub record IsAck (ack : Ack) : Type 0 where
+  pub register : IsGas ack.register
+  pub preserve : ack.preserve < 2 ^ 64
+  pub write : ack.write < 2 ^ 64
+
+abbrev pub AckFits : Option Ack → Type 0
+AckFits None = Unit {0}
+AckFits (Some ack) = IsAck ack
+
+pub record IsGhes (source : Ghes) : Type 0 where
+  pub id : source.id < 2 ^ 16
+  pub related : source.related < 2 ^ 16
+  pub flags : source.flags < 2 ^ 8
+  pub enabled : source.enabled < 2 ^ 8
+  pub records : source.records < 2 ^ 32
+  pub sections : source.sections < 2 ^ 32
+  pub raw : source.raw < 2 ^ 32
+  pub status : IsGas source.status
+  pub notify : length source.notify ≡ 28
+  pub block_len : source.block_len < 2 ^ 32
+  pub ack : AckFits source.ack
+
+-- the length of a structure with machine check banks, whose number stands at a place
+abbrev pub banked : ℕ → List ℕ → ℕ → ℕ → Result ℕ HestError
+banked at bytes fixed place = if nat_le (length bytes) place then Err (Cut at) else Ok (fixed + 28 * number_at bytes place 1)
+
+-- the length of a structure by its type: 0 machine check, 1 corrected machine check, 2 non-maskable interrupt, 6 to 8 PCI
+-- Express, 9 and 10 generic, 11 deferred machine check
+abbrev pub length_by_type : ℕ → ℕ → List ℕ → Result ℕ HestError
+length_by_type kind at bytes =
+    if kind == 0 then banked at bytes 40 32
+    else if (kind == 1) || (kind == 11) then banked at bytes 48 44
+    else if kind == 2 then Ok 20
+    else if kind == 6 then Ok 48
+    else if kind == 7 then Ok 44
+    else if kind == 8 then Ok 56
+    else if kind == 9 then Ok 64
+    else if kind == 10 then Ok 92
+    else Err (UnknownType at kind)
+
+-- a structure of a type that isn't generic, all of its bytes
+pub record IsOther (at kind place len : ℕ) (bytes : List ℕ) : Type 0 where
+  pub place_is : place ≡ at
+  pub len_is : len ≡ length bytes
+  pub head : 2 ≤ length bytes
+  pub kind_is : number_at bytes 0 2 ≡ kind
+  pub not_generic : ((kind == 9) || (kind == 10)) ≡ false
+  pub length_is : length_by_type kind at bytes ≡ Ok (length bytes)
+
+-- the bytes at a place are this source
+abbrev pub IsSource : ℕ → HestSource → List ℕ → Type 0
+IsSource at (Generic source) bytes = IsGhes source × (bytes ≡ ghes_bytes source)
+IsSource at (Other kind place len) bytes = IsOther at kind place len bytes
+
+-- these sources stand one after another, from a place on, and nothing behind them
+abbrev pub AreSources : ℕ → List HestSource → List ℕ → Type 0
+AreSources at [] bytes = bytes ≡ []
+AreSources at (source ∷ sources) bytes =
+    (front : List ℕ) × (rest : List ℕ) × (bytes ≡ front ++ rest) × IsSource at source front × AreSources (at + length front) sources rest
+
+-- the fields at their places
+abbrev pub gas_at : List ℕ → Gas
+gas_at bytes = record { space = number_at bytes 0 1; width = number_at bytes 1 1; offset = number_at bytes 2 1; access = number_at bytes 3 1; address = number_at bytes 4 8 }
+
+abbrev pub ack_at : List ℕ → Ack
+ack_at bytes = record { register = gas_at (part bytes 64 12); preserve = number_at bytes 76 8; write = number_at bytes 84 8 }
+
+abbrev pub ack_by_type : ℕ → List ℕ → Option Ack
+ack_by_type kind bytes = if kind == 10 then Some (ack_at bytes) else None
+
+abbrev pub front_at : List ℕ → Option Ack → Ghes
+front_at bytes ack = record {
+  id = number_at bytes 2 2;
+  related = number_at bytes 4 2;
+  flags = number_at bytes 6 1;
+  enabled = number_at bytes 7 1;
+  records = number_at bytes 8 4;
+  sections = number_at bytes 12 4;
+  raw = number_at bytes 16 4;
+  status = gas_at (part bytes 20 12);
+  notify = part bytes 32 28;
+  block_len = number_at bytes 60 4;
+  ack = ack;
+}
+
+unfoldable pub source_at : ℕ → List ℕ → ℕ → HestSource
+source_at at bytes len =
+    let kind = number_at bytes 0 2 in
+    if (kind == 9) || (kind == 10) then Generic (front_at bytes (ack_by_type kind bytes)) else Other kind at len
+
+-- the length of the structure at a place, or why there is none
+abbrev pub within : ℕ → List ℕ → Result ℕ HestError → Result ℕ HestError
+within at bytes (Ok len) = if nat_lt (length bytes) len then Err (Cut at) else Ok len
+within at bytes (Err error) = Err error
+
+unfoldable pub structure_length : ℕ → List ℕ → Result ℕ HestError
+structure_length at bytes = if nat_lt (length bytes) 2 then Err (Cut at) else within at bytes (length_by_type (number_at bytes 0 2) at bytes)

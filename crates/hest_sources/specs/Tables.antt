@@ -1,0 +1,39 @@
+-- What a Hardware Error Source Table is, and why bytes don't begin with one.
+use Rattle.std.specs.Prelude.{◌≡◌, ℕ, ◌≤◌, List, length, take, drop, codes, ◌==◌, if◌then◌else◌, Option, Some, None, Result, Ok, Err}
+use Rattle.base_model.specs.Bytes.{number_at}
+use Rattle.apei_tables.specs.declared.headers.Header.{Header}
+use Rattle.apei_tables.specs.declared.headers.TableError.{TableError}
+use Rattle.apei_tables.specs.Layout.{IsHeader}
+use Rattle.apei_tables.specs.Tables.{IsTable, refusal as table_refusal}
+use Rattle.hest_sources.specs.declared.sources.HestSource.{HestSource}
+use Rattle.hest_sources.specs.declared.tables.HestError.{HestError}
+use Rattle.hest_sources.specs.declared.tables.HestError.TheVariants.{Table, Count}
+use Rattle.hest_sources.specs.Layout.{AreSources}
+use Rattle.hest_sources.specs.Walk.{counted}
+
+abbrev pub signature : List ℕ
+signature = codes "HEST"
+
+-- a sealed table of this signature that has exactly the counted sources behind its first 40 bytes
+pub record IsHest (sources : List HestSource) (table : List ℕ) : Type 0 where
+  pub is_table : (header : Header) × IsHeader header × IsTable header table × (header.signature ≡ signature)
+  pub fixed : 40 ≤ length table
+  pub count : number_at table 36 4 ≡ length sources
+  pub sources_are : AreSources 40 sources (drop 40 table)
+
+-- the walk over the structures of a table
+abbrev pub walked : List ℕ → Result ℕ HestError
+walked table = counted (length table) 0 40 (drop 40 table)
+
+-- the count against the number that the walk found
+abbrev pub counted_wrong : ℕ → Result ℕ HestError → Option HestError
+counted_wrong declared (Ok found) = if declared == found then None else Some (Count declared found)
+counted_wrong declared (Err error) = Some error
+
+abbrev pub behind_header : List ℕ → Option TableError → Option HestError
+behind_header table None = counted_wrong (number_at table 36 4) (walked table)
+behind_header table (Some error) = Some (Table error)
+
+-- the first reason why bytes don't begin with such a table
+abbrev pub refusal : List ℕ → Option HestError
+refusal bytes = behind_header (take (number_at bytes 4 4) bytes) (table_refusal signature 40 bytes)
