@@ -8,6 +8,8 @@ mod reply;
 mod script_line;
 mod sim;
 mod status;
+#[cfg(test)]
+mod tests;
 
 pub use program::run;
 pub use script_line::stamp;
