@@ -3,3 +3,4 @@ pub mod ReadLemmas
 pub mod PlayLemmas
 pub mod RefusalLemmas
 pub mod RunLemmas
+pub mod CompleteLemmas

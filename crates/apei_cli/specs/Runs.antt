@@ -1,11 +1,14 @@
 -- What a run of the program over a script leaves.
-use Rattle.std.specs.Prelude.{◌≡◌, ℕ, List, [], ◌∷◌, map, codes, String, string_bytes}
+use Rattle.std.specs.Prelude.{◌≡◌, ◌⊎◌, ℕ, List, [], ◌∷◌, None, map, codes, String, string_bytes}
+use Rattle.std.specs.FinMap.{get, insert}
 use Rattle.std.specs.declared.alloc.Global.{Global}
 use Rattle.base_model.specs.Faults.{Rose}
 use Rattle.record_model.specs.Flash.{FlashState}
-use Rattle.record_model.specs.Records.{stored_in, HasNoSecondCopy}
+use Rattle.record_model.specs.Records.{Stored, stored_in, HasNoSecondCopy}
+use Rattle.record_model.specs.RecordMap.{Command, Write}
 use Rattle.record_model.specs.History.{Played}
-use Rattle.apei_cli.specs.Plays.{Plays}
+use Rattle.apei_cli.specs.Lines.{lines_of}
+use Rattle.apei_cli.specs.Plays.{Plays, ArePlayable, asked_by_all}
 use Rattle.apei_cli.specs.Statuses.{EndsBy, IsWritten}
 use Rattle.apei_cli.specs.declared.status.Status.{Status}
 use Rattle.apei_cli.specs.declared.status.Status.TheVariants.{Done, BadWords, SourceFault, SinkFault, BadGeometry, TooLong, Memory, NotYet}
@@ -82,3 +85,16 @@ EndsByItself (NotYet line) = Unit {0}
 -- with the program's words and geometry, where no fault of the source or the sink was counted, it ends by itself
 abbrev pub IsComplete : List (String Global) → FlashState → Type 0 → Type 0 → Status → Type 0
 IsComplete words flash source_rose sink_rose status = AreSim words → IsDefault flash → ¬ source_rose → ¬ sink_rose → EndsByItself status
+
+-- the commands write new identifiers: each is neither in the map nor one of those before it
+abbrev pub AreNew : List Command → Stored → Type 0
+AreNew [] stored = Unit {0}
+AreNew (Write id bytes ∷ rest) stored = (get stored id ≡ None) × AreNew rest (insert stored id (bytes, 1))
+
+-- with the program's words and geometry, where each line is built and within the lengths, and asks for a new
+-- identifier if for any, and where no fault of the source or the sink was counted, the script is read to its end
+abbrev pub IsDoneWhere : List (String Global) → FlashState → List ℕ → Type 0 → Type 0 → Status → Type 0
+IsDoneWhere words flash script source_rose sink_rose status =
+    AreSim words → IsDefault flash → ArePlayable ROOM (lines_of 0 script)
+    → AreNew (asked_by_all (lines_of 0 script)) (stored_in SLOT_SIZE SLOTS flash.told.image)
+    → ¬ source_rose → ¬ sink_rose → (status ≡ Done) ⊎ (status ≡ Memory)

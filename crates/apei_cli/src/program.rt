@@ -1,7 +1,7 @@
 // The program's top call.
 ghost use Rattle.std.specs.Prelude.{◌≡◌, ℕ, ◌-◌, ◌≤◌, ◌↔◌, List, [], ◌∷◌, false, IsTrue};
 ghost use Rattle.base_model.specs.Faults.{Rose};
-ghost use Rattle.apei_cli.specs.Runs.{SLOTS as slot_count, SLOT_SIZE, AreSim, IsDefault, TellsSingle, IsRun, IsAdmitted, HasSourceCause, HasSinkCause, ComesFirst, IsComplete};
+ghost use Rattle.apei_cli.specs.Runs.{SLOTS as slot_count, SLOT_SIZE, AreSim, IsDefault, TellsSingle, IsRun, IsAdmitted, HasSourceCause, HasSinkCause, ComesFirst, IsComplete, IsDoneWhere};
 
 use crate::lines::{LineReader, LineStop};
 use crate::player::{Desk, PlayStop};
@@ -104,6 +104,10 @@ pub fn run<I: Source, O: Sink, F: Flash>(
     ensures sink { HasSinkCause (O.faults out.old) (O.faults out.new) result.0 }
     ensures complete { IsComplete words.now (F.state flash) (Rose (I.faults script.old) (I.faults script.new))
         (Rose (O.faults out.old) (O.faults out.new)) result.0 }
+
+    // A script whose lines are all built and ask for new identifiers is read to its end, want of memory aside.
+    ensures done { I.tells → TellsSingle F.tells (F.state flash) → IsDoneWhere words.now (F.state flash) (I.rest script.old)
+        (Rose (I.faults script.old) (I.faults script.new)) (Rose (O.faults out.old) (O.faults out.new)) result.0 }
 {
     if !are_sim(words) {
         return (Status::BadWords, flash);
