@@ -7,6 +7,8 @@ mod heads;
 mod mark;
 mod reader;
 mod record;
+#[cfg(test)]
+mod tests;
 mod writer;
 
 pub use error::{FrameError, NoRoom};

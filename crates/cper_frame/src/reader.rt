@@ -64,6 +64,7 @@ impl FrameReader {
     pub fn feed(&mut self, piece: &[u8]) -> Result<Fed, FrameError>
         ensures reader { self.new ≡ (fed self.old piece.now).0 }
         ensures answer { result ≡ (fed self.old piece.now).1 }
+        ensures within { IfOk result (λ f. f.taken ≤ length piece.now) }
     {
         match self.failed {
             Some(error) => Err(error),

@@ -1,0 +1,207 @@
+ghost use Rattle.std.specs.Prelude.{◌+◌, ◌≤◌, ◌<◌, length};
+
+use crate::{
+    FrameError, FrameReader, Record, RecordHead, RecordWriter, SectionHead, one_end, stamp,
+};
+use apei_bytes::{Guid, put_u16, put_u32, put_u64};
+use std::test::Fail;
+
+/// A processor error section, as firmware stores its type.
+const KIND: [u8; 16] = [
+    0x14, 0x11, 0xbc, 0xa5, 0x64, 0x6f, 0xde, 0x4e, 0xb8, 0x63, 0x3e, 0x83, 0xed, 0x7c, 0x83, 0xb1,
+];
+
+/// Puts the header of a corrected record.
+fn put_plain<const N: usize>(bytes: &mut [u8; N], id: u64)
+    requires low { 128 ≤ N }
+    requires high { N < 1000 }
+{
+    bytes[..10].copy_from_slice(b"CPER\x01\x01\xff\xff\xff\xff");
+    put_u32(bytes, 12, 2);
+    put_u32(bytes, 20, N as u32);
+    put_u64(bytes, 96, id);
+}
+
+/// A record without sections.
+fn plain(id: u64) -> [u8; 128] {
+    let mut bytes = [0; 128];
+    put_plain(&mut bytes, id);
+    bytes
+}
+
+/// A record of two sections of 80 bytes.
+fn two_sections() -> [u8; 432] {
+    let mut bytes = [0; 432];
+    put_plain(&mut bytes, 7);
+    put_u16(&mut bytes, 10, 2);
+    put_u32(&mut bytes, 128, 272);
+    put_u32(&mut bytes, 200, 352);
+    for at in [128, 200] {
+        put_u32(&mut bytes, at + 4, 80);
+        put_u16(&mut bytes, at + 8, 0x0300);
+        bytes[at + 16..at + 32].copy_from_slice(&KIND);
+        put_u32(&mut bytes, at + 48, 2);
+    }
+    bytes[272..352].copy_from_slice(&[0x11; 80]);
+    bytes[352..].copy_from_slice(&[0x22; 80]);
+    bytes
+}
+
+fn head(id: u64) -> RecordHead {
+    let none = Guid::from_bytes([0; 16]);
+    RecordHead {
+        revision: 0x0101,
+        severity: 2,
+        validation: 0,
+        timestamp: 0,
+        platform: none,
+        partition: none,
+        creator: none,
+        notification: none,
+        id,
+        flags: 0,
+        persistence: [0; 8],
+        reserved: [0; 12],
+    }
+}
+
+fn section_head() -> SectionHead {
+    SectionHead {
+        revision: 0x0300,
+        validation: 0,
+        reserved: 0,
+        flags: 0,
+        kind: Guid::from_bytes(KIND),
+        fru: Guid::from_bytes([0; 16]),
+        severity: 2,
+        fru_text: [0; 20],
+    }
+}
+
+#[test]
+fn a_record_its_parts_and_its_prefixes(rt: HostRuntime) -> Result<(), Fail> {
+    one_end();
+    let bytes = two_sections();
+    match Record::decode(&bytes) {
+        Ok((record, length)) => {
+            assert_eq!(rt; length, 432);
+            assert!(rt; record.head() == head(7));
+            assert!(rt; record.sections() == 2);
+            let second = record.section(1);
+            assert!(rt; second.head == section_head());
+            assert_eq!(rt; second.offset, 352);
+            assert_eq!(rt; second.body, [0x22; 80].as_slice());
+        }
+        Err(_) => return Err("refused".into()),
+    }
+    for n in 0..432 {
+        let whole = if n < 128 { 128 } else { 432 };
+        let more = (whole - n) as u64;
+        assert!(rt; Record::decode(&bytes[..n]).err() == Some(FrameError::Need { more }));
+    }
+    Ok(())
+}
+
+/// The error for the record of two sections with one number changed.
+fn refused(at: usize, value: u32) -> Option<FrameError>
+    requires { at + 4 ≤ 432 }
+{
+    let mut bytes = two_sections();
+    put_u32(&mut bytes, at, value);
+    Record::decode(&bytes).err()
+}
+
+#[test]
+fn the_first_refusal(rt: HostRuntime) {
+    let cases = [
+        (refused(0, 0), FrameError::Start),
+        (refused(6, 0x7fff_ffff), FrameError::End),
+        (refused(20, 271), FrameError::Length { found: 271 }),
+        (refused(20, 433), FrameError::Need { more: 1 }),
+        (refused(128, 271), FrameError::Section { index: 0 }),
+        // A length that would wrap to a place inside the record.
+        (refused(204, 0xffff_ff00), FrameError::Section { index: 1 }),
+        (refused(204, 81), FrameError::Section { index: 1 }),
+    ];
+    for (answer, wanted) in cases {
+        assert!(rt; answer == Some(wanted));
+    }
+}
+
+/// Writes the record of two sections, where a third call finds no room between them.
+fn write(out: &mut [u8]) -> Option<usize>
+    requires { 400 ≤ length out.old }
+{
+    let mut writer = RecordWriter::start(out, &head(7), 2);
+    if writer.section(&section_head(), &[0x11; 80]).is_err() {
+        return None;
+    }
+    if writer.section(&section_head(), &[0; 100]).is_ok() {
+        return None;
+    }
+    if writer.section(&section_head(), &[0x22; 80]).is_err() {
+        return None;
+    }
+    Some(writer.finish())
+}
+
+#[test]
+fn what_is_written(rt: HostRuntime) {
+    let mut out = [0xee; 440];
+    assert!(rt; RecordWriter::begin(&mut [0; 271], &head(7), 2).is_err());
+    assert!(rt; write(&mut out) == Some(432));
+    assert!(rt; out.starts_with(&two_sections()));
+    assert!(rt; out.ends_with(&[0xee; 8]));
+    stamp(&mut out);
+    assert!(rt; out[108] == b'E' && out[109] == b'R');
+}
+
+fn place(bytes: &mut [u8], at: usize, id: u64)
+    requires { at + 128 ≤ length bytes.old }
+{
+    bytes[at..at + 128].copy_from_slice(&plain(id));
+}
+
+/// How many records of 128 bytes, with identifiers from 1 on, a reader finds in the pieces.
+fn count_in(reader: &mut FrameReader, pieces: [&[u8]; 2]) -> u64 {
+    let mut count: u64 = 0;
+    for piece in pieces {
+        let mut rest = piece;
+        for _ in 0..4u8 {
+            let Ok(fed) = reader.feed(rest) else {
+                return 0;
+            };
+            rest = &rest[fed.taken..];
+            if let Some(record) = reader.frame() {
+                if record.head().id == count.wrapping_add(1) {
+                    count = count.wrapping_add(1);
+                }
+            }
+            reader.advance();
+        }
+    }
+    count
+}
+
+#[test]
+fn records_in_any_pieces(rt: HostRuntime) -> Result<(), Fail> {
+    let mut stream = [0; 384];
+    place(&mut stream, 0, 1);
+    place(&mut stream, 128, 2);
+    place(&mut stream, 256, 3);
+    for cut in 0..=384 {
+        let mut reader = FrameReader::new(rt.alloc(), 128).map_err(|_| Fail::from("no memory"))?;
+        let (front, rest) = stream.split_at(cut);
+        assert!(rt; count_in(&mut reader, [front, rest]) == 3);
+    }
+    let mut reader = FrameReader::new(rt.alloc(), 128).map_err(|_| Fail::from("no memory"))?;
+    for (at, byte) in plain(1).iter().enumerate() {
+        let fed = reader.feed(&[*byte]).map_err(|_| Fail::from("refused"))?;
+        assert_eq!(rt; fed.whole, at == 127);
+    }
+    let long = two_sections();
+    reader.advance();
+    assert!(rt; reader.feed(&long).err() == Some(FrameError::Limit { found: 432 }));
+    assert!(rt; reader.feed(&plain(1)).err() == Some(FrameError::Limit { found: 432 }));
+    Ok(())
+}
