@@ -1,5 +1,5 @@
 // The entries of one action, in table order.
-ghost use Rattle.std.specs.Prelude.{◌≡◌, ◌<◌, ◌≤◌, ◌↔◌, IsTrue, Some, slice_get, length, drop, count_by};
+ghost use Rattle.std.specs.Prelude.{◌≡◌, ◌^◌, ◌<◌, ◌≤◌, ◌↔◌, IsTrue, Some, slice_get, length, drop, count_by};
 ghost use Rattle.erst_entries.specs.Programs.{program_of, entries_of, has_action};
 
 use crate::entries::Entry;
@@ -45,7 +45,8 @@ impl<'a> Program<'a> {
 
     /// How many entries it has.
     pub fn len(&self) -> usize
-        ensures { result ≡ length self.now.entries }
+        ensures count { result ≡ length self.now.entries }
+        ensures bound { result < 2 ^ 63 }
     {
         self.len
     }

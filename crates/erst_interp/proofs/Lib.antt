@@ -1,0 +1,3 @@
+pub mod Rules
+mod KindLemmas
+mod Walking

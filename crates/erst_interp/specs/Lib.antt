@@ -1,0 +1,5 @@
+pub mod Instructions
+pub mod Configurations
+pub mod Accesses
+pub mod Steps
+pub mod Runs

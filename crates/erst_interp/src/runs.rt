@@ -1,0 +1,57 @@
+// A run of a program.
+ghost use Rattle.std.specs.Prelude.{◌≡◌};
+ghost use Rattle.erst_interp.specs.Runs.{Run, may_be_empty};
+
+use crate::budgets::Budget;
+use crate::configurations::{Configuration, Task};
+use crate::steps::execute;
+use crate::stops::RunStop;
+use apei_space::Space;
+use erst_entries::Program;
+
+/// Runs a program on a space: its answer is the last result, or the value that it was given where there was none. It
+/// takes steps from the budget, one for each instruction, one for each further comparison of STALL_WHILE_TRUE, and one
+/// for each 64 bytes or part of 64 that MOVE_DATA moves.
+#[tactic(auto, using(crate::proofs::Rules::runs))]
+pub fn run<S: Space>(
+    program: &Program<'_>,
+    given: u64,
+    budget: &mut Budget,
+    space: &mut S,
+) -> Result<u64, RunStop>
+    ensures { Run S.allows program.now given budget.old (S.state space.old) result budget.new (S.state space.new) }
+{
+    let len = program.len();
+    let action = program.action();
+    if len == 0 && !may_be_empty(action) {
+        return Err(RunStop::NoAction {
+            code: u64::from(action),
+        });
+    }
+    let mut at = Configuration::begin();
+    while at.place < len {
+        let entry = program.entry(at.place);
+        if !budget.take(1) {
+            return Err(RunStop::Budget);
+        }
+        let task = Task {
+            entry,
+            given,
+            len,
+            at,
+        };
+        match execute(&task, budget, space) {
+            Ok(next) => at = next,
+            Err(stop) => return Err(stop),
+        }
+    }
+    Ok(at.result.unwrap_or(given))
+}
+
+/// Whether a table may leave an action without entries: BEGIN_WRITE_OPERATION, BEGIN_READ_OPERATION,
+/// BEGIN_CLEAR_OPERATION, END_OPERATION and BEGIN_DUMMY_WRITE_OPERATION.
+fn may_be_empty(action: u8) -> bool
+    ensures { result ≡ may_be_empty action }
+{
+    matches!(action, 0x0 | 0x1 | 0x2 | 0x3 | 0xb)
+}
