@@ -4,6 +4,8 @@
 mod block;
 mod entry;
 mod error;
+#[cfg(test)]
+mod tests;
 mod writer;
 
 pub use block::{Block, one_end};

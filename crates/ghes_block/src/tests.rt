@@ -1,0 +1,161 @@
+ghost use Rattle.std.specs.Prelude.{◌≡◌, ◌+◌, ◌≤◌, length};
+
+use crate::{Block, BlockError, BlockWriter, EntryHead, one_end};
+use apei_bytes::{Guid, put_u16, put_u32, put_u64};
+
+/// A processor error section, as firmware stores its type.
+const KIND: [u8; 16] = [
+    0x14, 0x11, 0xbc, 0xa5, 0x64, 0x6f, 0xde, 0x4e, 0xb8, 0x63, 0x3e, 0x83, 0xed, 0x7c, 0x83, 0xb1,
+];
+
+/// Puts the head of a block with an uncorrectable error and two entries.
+fn put_head(bytes: &mut [u8], raw_offset: u32, data_length: u32)
+    requires { 20 ≤ length bytes.old }
+{
+    put_u32(bytes, 0, 0x21);
+    put_u32(bytes, 4, raw_offset);
+    put_u32(bytes, 8, 4);
+    put_u32(bytes, 12, data_length);
+}
+
+/// Puts an entry of revision 3 with a timestamp of 5 and four bytes, and one of revision 2 without data.
+fn put_entries(bytes: &mut [u8])
+    requires { 160 ≤ length bytes.old }
+{
+    bytes[20..36].copy_from_slice(&KIND);
+    put_u16(bytes, 40, 0x0300);
+    put_u32(bytes, 44, 4);
+    put_u64(bytes, 84, 5);
+    bytes[92..96].copy_from_slice(&[0xaa, 0xbb, 0xcc, 0xdd]);
+    bytes[96..112].copy_from_slice(&KIND);
+    put_u16(bytes, 116, 0x0201);
+}
+
+/// A block of two entries with raw data right behind them.
+fn two_entries() -> [u8; 164] {
+    let mut bytes = [0; 164];
+    put_head(&mut bytes, 160, 140);
+    put_entries(&mut bytes);
+    put_u32(&mut bytes, 160, 0x0403_0201);
+    bytes
+}
+
+/// The same with ten bytes more behind the entries.
+fn ten_bytes_left() -> [u8; 174] {
+    let mut bytes = [0; 174];
+    put_head(&mut bytes, 170, 150);
+    put_entries(&mut bytes);
+    put_u32(&mut bytes, 170, 0x0403_0201);
+    bytes
+}
+
+fn head(revision: u16, stamp: u64) -> EntryHead
+    ensures { (result.revision ≡ revision) × (result.stamp ≡ stamp) }
+{
+    EntryHead {
+        kind: Guid::from_bytes(KIND),
+        severity: 0,
+        revision,
+        validation: 0,
+        flags: 0,
+        fru: Guid::from_bytes([0; 16]),
+        fru_text: [0; 20],
+        stamp,
+    }
+}
+
+#[test]
+fn a_block_and_its_prefixes(rt: HostRuntime) -> Result<(), std::test::Fail> {
+    one_end();
+    let bytes = two_entries();
+    match Block::decode(&bytes) {
+        Ok((block, length)) => {
+            assert!(rt; length == 164);
+            assert!(rt; block.status() == 33);
+            assert!(rt; block.severity() == 0);
+            assert!(rt; block.len() == 164);
+            assert!(rt; block.entries() == 2);
+            assert!(rt; block.raw() == [1, 2, 3, 4].as_slice());
+        }
+        Err(_) => return Err("refused".into()),
+    }
+    for n in 0..164 {
+        let whole = if n < 20 { 20 } else { 164 };
+        let more = (whole - n) as u64;
+        assert!(rt; Block::decode(&bytes[..n]).err() == Some(BlockError::Need { more }));
+    }
+    Ok(())
+}
+
+/// The error for the block of two entries with one number changed.
+fn refused(at: usize, value: u32) -> Option<BlockError>
+    requires { at + 4 ≤ 164 }
+{
+    let mut bytes = two_entries();
+    put_u32(&mut bytes, at, value);
+    Block::decode(&bytes).err()
+}
+
+/// A block of 148 bytes whose one entry claims almost 2^32 bytes of data.
+fn length_that_would_wrap() -> Option<BlockError> {
+    let mut bytes = [0; 148];
+    put_u32(&mut bytes, 0, 0x12);
+    put_u32(&mut bytes, 12, 128);
+    put_u32(&mut bytes, 44, u32::MAX - 63);
+    Block::decode(&bytes).err()
+}
+
+#[test]
+fn the_first_refusal(rt: HostRuntime) {
+    let cases = [
+        (
+            Block::decode(&ten_bytes_left()).err(),
+            BlockError::Rest { bytes: 10 },
+        ),
+        (
+            length_that_would_wrap(),
+            BlockError::Entry { index: 0, at: 20 },
+        ),
+        (refused(0, 0), BlockError::NotPublished),
+        (refused(4, 159), BlockError::RawOffset { found: 159 }),
+        // An offset and a length whose sum is above 2^32.
+        (
+            refused(4, u32::MAX),
+            BlockError::Need {
+                more: 4_294_967_299 - 164,
+            },
+        ),
+        (refused(120, 1), BlockError::Entry { index: 1, at: 96 }),
+    ];
+    for (answer, wanted) in cases {
+        assert!(rt; answer == Some(wanted));
+    }
+}
+
+/// Writes the block of two entries.
+fn write(out: &mut [u8]) -> Option<usize>
+    requires { 20 ≤ length out.old }
+{
+    let mut writer = BlockWriter::start(out, 0x21, 0);
+    if writer
+        .entry(&head(0x0300, 5), &[0xaa, 0xbb, 0xcc, 0xdd])
+        .is_err()
+    {
+        return None;
+    }
+    if writer.entry(&head(0x0201, 0), &[]).is_err() {
+        return None;
+    }
+    writer.finish(&[1, 2, 3, 4]).ok()
+}
+
+#[test]
+fn what_is_written(rt: HostRuntime) {
+    let mut out = [0xee; 170];
+    assert!(rt; BlockWriter::begin(&mut [0; 19], 1, 0).is_err());
+    assert!(rt; write(&mut out) == Some(164));
+    assert!(rt; out.starts_with(&two_entries()));
+    assert!(rt; out.ends_with(&[0xee; 6]));
+    let mut short = [0; 163];
+    assert!(rt; write(&mut short) == None);
+}
