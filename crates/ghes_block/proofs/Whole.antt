@@ -285,3 +285,7 @@ rest_is bytes at entries rest small fits p e =
           let t = p.there (omega arith) in
           subst (λ (xs : List ℕ). (64 ≤ length xs) × (entry_size xs ≤ length xs) × EntryAt entries at (at + entry_size xs) (first_entry xs)) (sym e) (t.long, t.fits, t.entry_at);
     }
+
+-- the first place
+pub first_place : (entries : List EntryValue) → IsPlace entries 20
+first_place entries = record { index = 0; within = omega arith; place = sym (ap (λ (xs : List ℕ). 20 + length xs) entries_bytes-nil) }

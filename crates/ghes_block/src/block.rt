@@ -1,5 +1,5 @@
 // A status block in bytes.
-ghost use Rattle.std.specs.Prelude.{◌≡◌, ℕ, ◌+◌, ◌-◌, ◌*◌, ◌^◌, ◌<◌, ◌≤◌, ◌++◌, List, [], length, take, Ok, Err, IfOk, IsOkAnd, MatchResult, MatchOption};
+ghost use Rattle.std.specs.Prelude.{◌≡◌, ℕ, ◌+◌, ◌-◌, ◌*◌, ◌^◌, ◌<◌, ◌≤◌, ◌++◌, List, [], length, take, Ok, Err, IfOk, IfSome, IsOkAnd, MatchResult, MatchOption};
 ghost use Rattle.base_model.specs.Bytes.{part};
 ghost use Rattle.ghes_block.specs.Grammar.{BlockValue, IsBlock};
 ghost use Rattle.ghes_block.specs.Reading.{checked, counted, sized, entry_count};
@@ -117,6 +117,8 @@ impl<'a> Block<'a> {
         ensures only { (value : BlockValue) (n : ℕ) → n ≤ length bytes.now → IsBlock value (take n bytes.now) → IsOkAnd result (λ x. (x.0 ≡ value) × (x.1 ≡ n)) }
         // The error is the first check that fails.
         ensures exact { MatchResult result (λ x. checked bytes.now ≡ Ok x.1) (λ e. checked bytes.now ≡ Err e) }
+        // The first entry, or the end, is at 20.
+        ensures first { IfOk result (λ x. IsPlace x.0.entries 20) }
     {
         match checked_block(bytes) {
             Ok((length, entries)) => Ok((
@@ -187,7 +189,8 @@ impl<'a> Block<'a> {
     /// this call.
     pub fn entry_at(&self, at: u64) -> Option<(DataEntry<'a>, u64)>
         requires { IsPlace self.now.entries at }
-        ensures { MatchOption result (at ≡ place_of self.now.entries (length self.now.entries)) (λ x. EntryAt self.now.entries at x.1 (value_of x.0)) }
+        ensures found { MatchOption result (at ≡ place_of self.now.entries (length self.now.entries)) (λ x. EntryAt self.now.entries at x.1 (value_of x.0)) }
+        ensures next { IfSome result (λ x. IsPlace self.now.entries x.1) }
     {
         let rest = self.rest_at(at);
         if rest.is_empty() {

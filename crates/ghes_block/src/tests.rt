@@ -76,6 +76,17 @@ fn a_block_and_its_prefixes(rt: HostRuntime) -> Result<(), std::test::Fail> {
             assert!(rt; block.len() == 164);
             assert!(rt; block.entries() == 2);
             assert!(rt; block.raw() == [1, 2, 3, 4].as_slice());
+            let Some((first, next)) = block.entry_at(20) else {
+                return Err("the first entry is missing".into());
+            };
+            let Some((second, end)) = block.entry_at(next) else {
+                return Err("the second entry is missing".into());
+            };
+            assert!(rt; first.head == head(0x0300, 5));
+            assert!(rt; first.body == [0xaa, 0xbb, 0xcc, 0xdd].as_slice());
+            assert!(rt; second.head == head(0x0201, 0));
+            assert!(rt; next == 96 && end == 160);
+            assert!(rt; block.entry_at(end).is_none());
         }
         Err(_) => return Err("refused".into()),
     }
