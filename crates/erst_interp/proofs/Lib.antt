@@ -1,3 +1,4 @@
 pub mod Rules
 mod KindLemmas
 mod Walking
+mod Consequences

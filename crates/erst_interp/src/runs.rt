@@ -1,19 +1,37 @@
 // A run of a program.
-ghost use Rattle.std.specs.Prelude.{◌≡◌};
+ghost use Rattle.std.specs.Prelude.{◌≡◌, ◌≤◌, ℕ, Err};
+ghost use Rattle.base_model.specs.Faults.{Rose};
 ghost use Rattle.erst_interp.specs.Runs.{Run, may_be_empty};
 
 use crate::budgets::Budget;
 use crate::configurations::{Configuration, Task};
 use crate::steps::execute;
 use crate::stops::RunStop;
-use apei_space::Space;
+use apei_space::{Space, SpaceFault};
 use erst_entries::Program;
 
 /// Runs a program on a space: its answer is the last result, or the value that it was given where there was none. It
 /// takes steps from the budget, one for each instruction, one for each further comparison of STALL_WHILE_TRUE, and one
 /// for each 64 bytes or part of 64 that MOVE_DATA moves.
-#[tactic(auto, using(crate::proofs::Rules::runs))]
 pub fn run<S: Space>(
+    program: &Program<'_>,
+    given: u64,
+    budget: &mut Budget,
+    space: &mut S,
+) -> Result<u64, RunStop>
+    ensures run { Run S.allows program.now given budget.old (S.state space.old) result budget.new (S.state space.new) }
+
+    // So it only spends steps, and a device's fault is answered only where the space's count of faults rose.
+    ensures spends { budget.new ≤ budget.old }
+    ensures never_falls { S.faults (S.state space.old) ≤ S.faults (S.state space.new) }
+    ensures device { (index : ℕ) → result ≡ Err (RunStop.Space index SpaceFault.Device) → Rose (S.faults (S.state space.old)) (S.faults (S.state space.new)) }
+{
+    walk(program, given, budget, space)
+}
+
+/// The run itself.
+#[tactic(auto, using(crate::proofs::Rules::runs))]
+fn walk<S: Space>(
     program: &Program<'_>,
     given: u64,
     budget: &mut Budget,

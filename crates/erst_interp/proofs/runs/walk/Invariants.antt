@@ -1,5 +1,5 @@
 use Rattle.erst_interp.specs.Runs.{Walk, HasProgram}
-use Rattle.erst_interp.proofs.runs.run.Given as goal
+use Rattle.erst_interp.proofs.runs.walk.Given as goal
 
 abbrev pub invariant-loop-at : goal.invariant-loop-at
 invariant-loop-at g l = record {
