@@ -1,15 +1,16 @@
 -- What the killing of a slot leaves, and what power lost in it may leave.
-use Rattle.std.proofs.Common.{◌≡◌, ◌≢◌, ◌⊎◌, ℕ, ◌+◌, ◌-◌, ◌*◌, ◌≤◌, Bool, true, false, cond, List, [], ◌∷◌, length, replicate, Option, Some, None, refl, sym, ap, ◌∙◌, arith, inl, inr}
+use Rattle.std.proofs.Common.{◌≡◌, ◌≢◌, ◌⊎◌, ℕ, ◌+◌, ◌-◌, ◌*◌, ◌<◌, ◌≤◌, Bool, true, false, cond, List, [], ◌∷◌, length, replicate, Option, Some, None, refl, sym, ap, ◌∙◌, arith, inl, inr}
 use Rattle.std.proofs.lemmas.Bool.{cases_eq, leb-true, eqb-true, and_parts}
 use Rattle.std.specs.Prelude.{not}
 use Rattle.std.proofs.lemmas.Option.{none-some}
 use Rattle.base_model.specs.Bytes.{part, little, number_at, SameOutside}
 use Rattle.base_model.proofs.BytesLemmas.{length-part, number_at-before, number_at-after, part-after, SameOutside-wider}
 use Rattle.record_model.specs.Flash.{IsErased}
-use Rattle.record_model.specs.Records.{Head, head_at, tail_at, is_upright, is_reserved, Entry, entry_of, entry_at, stored_in, IsChosen}
+use Rattle.std.specs.FinMap.{remove}
+use Rattle.record_model.specs.Records.{Head, head_at, tail_at, is_upright, is_reserved, Entry, entry_of, entry_at, stored_in, selected, IsChosen, HasNoSecondCopy}
 use Rattle.record_model.proofs.SlotLemmas.{entry_at-other, tail_at-after}
 use Rattle.record_model.proofs.SelectionLemmas.{selected-same}
-use Rattle.record_recovery.proofs.ChosenLemmas.{selected-without}
+use Rattle.record_recovery.proofs.ChosenLemmas.{selected-without, selected-cleared}
 
 -- an upright slot is not killed
 upright_kill : (size : ℕ) (head : Head) (tail : ℕ) → is_upright size head tail ≡ true → head.kill ≡ 0xFF
@@ -133,3 +134,31 @@ kill_keeps size slots j k old new lost c some same is chosen key apart = elim (k
   ])
   | inr gone ↦ selected-without (entry_at size old) (entry_at size new) slots j k lost c (λ i other. kill_other size j i old new some same other) gone is chosen key apart
 ]
+
+-- the killing of the only slot of an identifier clears it, and power lost in it leaves the records from before or after
+pub kill_clears : (size slots j : ℕ) (old new : List ℕ) (e : Entry) → 64 ≤ size → j < slots → HasNoSecondCopy size slots old → SameOutside (j * size + 1) 1 old new → entry_at size old j ≡ Some e
+    → (stored_in size slots new ≡ stored_in size slots old) ⊎ (stored_in size slots new ≡ remove (stored_in size slots old) e.id)
+unfolding stored_in HasNoSecondCopy
+kill_clears size slots j old new e some within single same is = elim (kill_leaves size j old new e some same is) [
+  | inl stays ↦ inl (selected-same (entry_at size old) (entry_at size new) slots (λ i h. elim (cases_eq i j) [
+    | inl here ↦ ap (entry_at size new) here ∙ stays ∙ ap (entry_at size old) (sym here)
+    | inr other ↦ kill_other size j i old new some same other
+  ]))
+  | inr gone ↦ inr (cleared gone)
+]
+  where
+    cleared : entry_at size new j ≡ None → selected (entry_at size new) slots ≡ remove (selected (entry_at size old) slots) e.id
+    cleared gone =
+        selected-cleared (entry_at size old) (entry_at size new) slots j e (λ i other. kill_other size j i old new some same other) is gone
+        (λ k x h at_k equal. single k j x e h within at_k is equal)
+
+-- once its kill mark is 0 it is cleared
+pub killed_is_cleared : (size slots j : ℕ) (old new : List ℕ) (e : Entry) → 64 ≤ size → j < slots → HasNoSecondCopy size slots old → SameOutside (j * size + 1) 1 old new → entry_at size old j ≡ Some e
+    → number_at new (j * size + 1) 1 ≡ 0 → stored_in size slots new ≡ remove (stored_in size slots old) e.id
+unfolding stored_in HasNoSecondCopy
+killed_is_cleared size slots j old new e some within single same is mark =
+    selected-cleared (entry_at size old) (entry_at size new) slots j e (λ i other. kill_other size j i old new some same other) is
+    (free_by_kill size j new (λ erased. not_erased (sym mark ∙ erased))) (λ k x h at_k equal. single k j x e h within at_k is equal)
+  where
+    not_erased : ◌≡◌ {A = ℕ} 0 0xFF → ⊥
+    not_erased e = omega arith

@@ -5,7 +5,8 @@ use Rattle.record_model.specs.Flash.{FlashState}
 use Rattle.record_model.specs.Records.{entry_at}
 use Rattle.record_recovery.specs.declared.found.Found.{Found}
 use Rattle.record_recovery.specs.Listed.{AreListed, AreSlots, IsIndex, HoldsIds}
-use Rattle.record_recovery.specs.Recovered.{KeepsRecords, IsSettled}
+use Rattle.record_recovery.specs.Recovered.{KeepsRecords}
+use Rattle.record_recovery.specs.Settling.{IsSettled}
 
 -- the first n slots were looked at, and nothing was changed
 pub record HasListed (tells : Type 0) (slots slot_size n : ℕ) (first found : Found) (held : List (Option ℕ)) (old now : FlashState) : Type 0 where

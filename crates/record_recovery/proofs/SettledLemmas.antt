@@ -10,7 +10,8 @@ use Rattle.record_model.proofs.SlotLemmas.{slots_apart}
 use Rattle.record_recovery.specs.declared.found.Found.{Found}
 use Rattle.record_recovery.specs.declared.found.SlotOf.{SlotOf}
 use Rattle.record_recovery.specs.Listed.{AreListed, AreSlots, IsIndex, id_in, free_slots, with_free}
-use Rattle.record_recovery.specs.Recovered.{KeepsRecords, HasRecord, IsSettled, IsRecovered}
+use Rattle.record_recovery.specs.Recovered.{KeepsRecords, IsRecovered}
+use Rattle.record_recovery.specs.Settling.{HasRecord, IsSettled}
 use Rattle.record_recovery.proofs.ChosenLemmas.{IsChosen-without}
 use Rattle.record_recovery.proofs.ListedLemmas.{same_index}
 use Rattle.record_recovery.proofs.KillLemmas.{free_by_kill, kill_other, kill_keeps, kill_erased}

@@ -3,11 +3,13 @@
 #![tactic(auto)]
 
 mod found;
+mod laws;
 mod listing;
 mod scanning;
 mod settling;
 
 pub use found::{Found, SlotOf};
+pub use laws::{chosen_is_stored, listed_is_stored};
 pub use scanning::{ScanError, rescan, scan};
 
 #[cfg(test)]

@@ -6,7 +6,8 @@ ghost use Rattle.record_model.specs.Flash.{FlashState};
 ghost use Rattle.record_model.specs.Records.{entry_at};
 ghost use Rattle.record_slots.specs.Slots.{Fits};
 ghost use Rattle.record_recovery.specs.Listed.{AreListed, AreSlots, IsIndex, HoldsIds, id_in};
-ghost use Rattle.record_recovery.specs.Recovered.{HasRecord, IsSettled, KeepsRecords, KeepsShape};
+ghost use Rattle.record_recovery.specs.Recovered.{KeepsRecords, KeepsShape};
+ghost use Rattle.record_recovery.specs.Settling.{HasRecord, IsSettled};
 
 use crate::listing::MAX_SLOTS;
 use crate::{Found, SlotOf};
