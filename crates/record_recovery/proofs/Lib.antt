@@ -1,0 +1,6 @@
+pub mod ChosenLemmas
+pub mod ListedLemmas
+pub mod KillLemmas
+pub mod PutLemmas
+pub mod SettledLemmas
+pub mod Passes

@@ -1,0 +1,40 @@
+-- How far each pass of a scan has come.
+use Rattle.std.proofs.Common.{◌≡◌, ℕ, ◌≤◌, List, Option, vec_len}
+use Rattle.std.specs.Prelude.{vec_capacity}
+use Rattle.record_model.specs.Flash.{FlashState}
+use Rattle.record_model.specs.Records.{entry_at}
+use Rattle.record_recovery.specs.declared.found.Found.{Found}
+use Rattle.record_recovery.specs.Listed.{AreListed, AreSlots, IsIndex, HoldsIds}
+use Rattle.record_recovery.specs.Recovered.{KeepsRecords}
+use Rattle.record_recovery.specs.Settling.{IsSettled}
+
+-- the first n slots were looked at, and nothing was changed
+pub record HasListed (tells : Type 0) (slots slot_size n : ℕ) (first found : Found) (held : List (Option ℕ)) (old now : FlashState) : Type 0 where
+  pub index : IsIndex slots slot_size found.ids.items found.places.items
+  pub few : vec_len found.ids ≤ n
+  pub ids : vec_capacity found.ids ≡ vec_capacity first.ids
+  pub places : vec_capacity found.places ≡ vec_capacity first.places
+  pub free : found.free ≡ first.free
+  pub told : tells → now.told ≡ old.told
+  pub flash_size : now.size ≡ old.size
+  pub sector_size : now.sector_size ≡ old.sector_size
+  pub steps : now.steps ≡ old.steps
+  pub reads : old.reads ≤ now.reads
+  pub faults : now.faults ≡ old.faults
+  pub listed : tells → AreListed (entry_at slot_size old.told.image) n found.ids.items found.places.items
+  pub each_held : tells → HoldsIds (entry_at slot_size old.told.image) n held
+
+-- the first n slots were settled, and the records kept
+pub record HasSettled (tells : Type 0) (slots slot_size n : ℕ) (first found : Found) (old now : FlashState) : Type 0 where
+  pub ids : found.ids ≡ first.ids
+  pub places : found.places ≡ first.places
+  pub few : vec_len found.free ≤ n
+  pub capacity : vec_capacity found.free ≡ vec_capacity first.free
+  pub free : AreSlots n found.free.items
+  pub index : IsIndex slots slot_size found.ids.items found.places.items
+  pub flash_size : now.size ≡ old.size
+  pub sector_size : now.sector_size ≡ old.sector_size
+  pub reads : old.reads ≤ now.reads
+  pub faults : now.faults ≡ old.faults
+  pub crash : tells → KeepsRecords slot_size slots old.told now.told
+  pub settled : tells → IsSettled slot_size slots n old now found

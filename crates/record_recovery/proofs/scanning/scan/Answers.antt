@@ -1,0 +1,8 @@
+use Rattle.record_recovery.proofs.SettledLemmas.{KeepsRecords-none}
+use Rattle.record_recovery.proofs.scanning.scan.Goals as goal
+
+pub returns-then-size-clause-crash : goal.returns-then-size-clause-crash
+returns-then-size-clause-crash g c tells = KeepsRecords-none c.args.geometry.now.slot_size c.args.geometry.now.slots (g.F.Flash.state c.args.flash.now).told
+
+pub returns-in_err-found-clause-crash : goal.returns-in_err-found-clause-crash
+returns-in_err-found-clause-crash g c tells = KeepsRecords-none c.args.geometry.now.slot_size c.args.geometry.now.slots (g.F.Flash.state c.args.flash.now).told

@@ -1,0 +1,46 @@
+use Rattle.std.proofs.Common.{◌≤◌, refl, sym, ◌∙◌, arith}
+use Rattle.record_recovery.proofs.SettledLemmas.{settled_free, settled_kept, settled_killed, kill_can, kill_crash, KeepsRecords-none}
+use Rattle.record_recovery.proofs.settling.settle_slot.Goals as goal
+
+pub returns-in_default-clause-settled : goal.returns-in_default-clause-settled
+returns-in_default-clause-settled g c tells start had =
+    settled_free c.args.geometry.now.slot_size c.args.geometry.now.slots c.args.slot start (g.F.Flash.state c.args.flash.now) c.args.found.now _ refl refl
+    c.push_reserved.ensures.items (sym c.in_default.is ∙ c.requires.id tells) had
+
+pub returns-in_default-clause-crash : goal.returns-in_default-clause-crash
+returns-in_default-clause-crash g c tells listed = KeepsRecords-none c.args.geometry.now.slot_size c.args.geometry.now.slots (g.F.Flash.state c.args.flash.now).told
+
+pub returns-then-has_record-clause-settled : goal.returns-then-has_record-clause-settled
+returns-then-has_record-clause-settled g c tells start had =
+    settled_kept c.args.geometry.now.slot_size c.args.geometry.now.slots c.args.slot c.in-Some.id start (g.F.Flash.state c.args.flash.now) c.args.found.now
+    (sym c.in-Some.is ∙ c.requires.id tells) c.if-has_record.ensures had
+
+pub returns-then-has_record-clause-crash : goal.returns-then-has_record-clause-crash
+returns-then-has_record-clause-crash g c tells listed = KeepsRecords-none c.args.geometry.now.slot_size c.args.geometry.now.slots (g.F.Flash.state c.args.flash.now).told
+
+pub kill-requires-clause-erased : goal.kill-requires-clause-erased
+kill-requires-clause-erased g c tells =
+    let least : 512 ≤ c.args.geometry.now.slot_size = c.args.geometry.now.least_slot in
+    kill_can c.args.geometry.now.slot_size c.args.geometry.now.slots c.args.slot c.in-Some.id (g.F.Flash.state c.args.flash.now).told.image
+    (sym c.in-Some.is ∙ c.requires.id tells) (omega arith) c.requires.slot (g.met.F.Flash.sized c.args.flash.now tells ∙ c.requires.fits.size)
+
+pub returns-in_err-kill-clause-crash : goal.returns-in_err-kill-clause-crash
+returns-in_err-kill-clause-crash g c tells listed =
+    let least : 512 ≤ c.args.geometry.now.slot_size = c.args.geometry.now.least_slot in
+    kill_crash c.args.geometry.now.slot_size c.args.geometry.now.slots c.args.slot c.in-Some.id (g.F.Flash.state c.args.flash.now).told (g.F.Flash.state c.kill.new.flash).told
+    c.args.found.now.ids.items c.args.found.now.places.items (omega arith) c.requires.slot c.requires.index.paired
+    (sym c.in-Some.is ∙ c.requires.id tells) c.if-has_record.ensures (c.kill.ensures.change.told tells) listed
+
+pub returns-clause-settled : goal.returns-clause-settled
+returns-clause-settled g c tells start had =
+    let least : 512 ≤ c.args.geometry.now.slot_size = c.args.geometry.now.least_slot in
+    settled_killed c.args.geometry.now.slot_size c.args.geometry.now.slots c.args.slot c.in-Some.id start (g.F.Flash.state c.args.flash.now) (g.F.Flash.state c.kill.new.flash)
+    c.args.found.now _ (omega arith) refl refl c.push_reserved-2.ensures.items (c.in_ok-kill.ensures.change.done tells) (c.in_ok-kill.ensures.stands tells)
+    c.in_ok-kill.ensures.change.counted (sym c.in-Some.is ∙ c.requires.id tells) c.if-has_record.ensures had
+
+pub returns-clause-crash : goal.returns-clause-crash
+returns-clause-crash g c tells listed =
+    let least : 512 ≤ c.args.geometry.now.slot_size = c.args.geometry.now.least_slot in
+    kill_crash c.args.geometry.now.slot_size c.args.geometry.now.slots c.args.slot c.in-Some.id (g.F.Flash.state c.args.flash.now).told (g.F.Flash.state c.kill.new.flash).told
+    c.args.found.now.ids.items c.args.found.now.places.items (omega arith) c.requires.slot c.requires.index.paired
+    (sym c.in-Some.is ∙ c.requires.id tells) c.if-has_record.ensures (c.kill.ensures.change.told tells) listed

@@ -1,0 +1,29 @@
+-- What a scan leaves.
+use Rattle.std.specs.Prelude.{◌≡◌, ℕ, ◌+◌, ◌≤◌, Result}
+use Rattle.base_model.specs.Faults.{HasCause}
+use Rattle.record_model.specs.Flash.{Told, FlashState, Leaves}
+use Rattle.record_model.specs.Records.{entry_at, stored_in, free_among, HasNoSecondCopy}
+use Rattle.record_recovery.specs.declared.found.Found.{Found}
+use Rattle.record_recovery.specs.Listed.{AreListed, free_slots}
+
+-- power lost on the way leaves the records of the image at the start
+abbrev pub KeepsRecords : ℕ → ℕ → Told → Told → Type 0
+KeepsRecords slot_size slots old new =
+    Leaves old new (λ image. stored_in slot_size slots image ≡ stored_in slot_size slots old.image)
+
+-- what was found are the records of the old image with their places, which are those of the new one too; there no other
+-- slot has a record, and each slot that lost one took one change
+pub record IsRecovered (slot_size slots : ℕ) (old new : FlashState) (found : Found) : Type 0 where
+  pub before : AreListed (entry_at slot_size old.told.image) slots found.ids.items found.places.items
+  pub after : AreListed (entry_at slot_size new.told.image) slots found.ids.items found.places.items
+  pub single : HasNoSecondCopy slot_size slots new.told.image
+  pub free : found.free.items ≡ free_slots (entry_at slot_size new.told.image) slots
+  pub steps : new.steps + free_among (entry_at slot_size old.told.image) slots
+      ≡ old.steps + free_among (entry_at slot_size new.told.image) slots
+
+-- of a flash that was read and changed the size and the size of its sectors stay, and a failure has its cause
+pub record KeepsShape {T E : Type 0} (old new : FlashState) (result : Result T E) : Type 0 where
+  pub size : new.size ≡ old.size
+  pub sector_size : new.sector_size ≡ old.sector_size
+  pub reads : old.reads ≤ new.reads
+  pub cause : HasCause old.faults new.faults result

@@ -1,0 +1,120 @@
+// A scan of all slots.
+ghost use Rattle.std.specs.Prelude.{◌≡◌, ◌≤◌, OnOk, OnErr, IfOk, IfErr};
+ghost use Rattle.record_slots.specs.Slots.{Fits};
+ghost use Rattle.record_recovery.specs.Answers.{IsAnswer};
+ghost use Rattle.record_recovery.specs.Listed.{AreSlots, IsIndex};
+ghost use Rattle.record_recovery.specs.Recovered.{IsRecovered, KeepsRecords, KeepsShape};
+ghost use Rattle.record_recovery.specs.Rooms.{IsEmpty, HasRoom, SameRoom};
+ghost use Rattle.record_recovery.specs.declared.scanning.ScanError.TheVariants.{Flash, Memory};
+
+use crate::Found;
+use crate::listing::{MAX_SLOTS, list_slots};
+use crate::settling::settle_slots;
+use flash_model::{Flash, FlashFailed, Geometry};
+use std::alloc::{AllocError, Global};
+
+/// Why a scan finds nothing.
+#[derive(Clone, Copy, Debug, PartialEq, Eq)]
+pub enum ScanError {
+    /// The flash has this size and this sector size, in bytes, and not the geometry's.
+    Size { found: u64, sector: u32 },
+    /// The flash failed.
+    Flash,
+    /// There was no memory.
+    Memory,
+}
+
+impl From<FlashFailed> for ScanError {
+    ghost from_gives = { λ _ error. error ≡ Flash };
+
+    fn from(_: FlashFailed) -> Self {
+        ScanError::Flash
+    }
+}
+
+impl From<AllocError> for ScanError {
+    ghost from_gives = { λ _ error. error ≡ Memory };
+
+    fn from(_: AllocError) -> Self {
+        ScanError::Memory
+    }
+}
+
+/// Finds the records of a flash by one look at the head and the tail mark of each slot, and kills every live slot that is
+/// not its identifier's record, in rising order of slots, by one change each. The record of an identifier is that of the
+/// greatest generation, in the lower slot at a tie.
+///
+/// Power lost on the way, or a flash that fails, leaves the records of the flash as they were.
+pub fn scan<F: Flash>(alloc: Global, flash: &mut F, geometry: &Geometry) -> Result<Found, ScanError>
+    ensures answer { IsAnswer geometry.now (F.state flash.old) (F.state flash.new) result }
+    ensures recovered { IfOk result (λ found. F.tells → IsRecovered geometry.now.slot_size geometry.now.slots
+        (F.state flash.old) (F.state flash.new) found) }
+    ensures crash { F.tells → KeepsRecords geometry.now.slot_size geometry.now.slots (F.state flash.old).told (F.state flash.new).told }
+    ensures index { IfOk result (λ found. IsIndex geometry.now.slots geometry.now.slot_size found.ids.items found.places.items) }
+    ensures free { IfOk result (λ found. AreSlots geometry.now.slots found.free.items) }
+    ensures room { IfOk result (HasRoom geometry.now.slots) }
+    ensures size { (F.state flash.new).size ≡ (F.state flash.old).size }
+    ensures sector_size { (F.state flash.new).sector_size ≡ (F.state flash.old).sector_size }
+    ensures reads { (F.state flash.old).reads ≤ (F.state flash.new).reads }
+{
+    let size = flash.size();
+    let sector = flash.sector_size();
+    if size != geometry.size() || u64::from(sector) != geometry.sector {
+        return Err(ScanError::Size {
+            found: size,
+            sector,
+        });
+    }
+    let mut found = Found::with_room(alloc, geometry.slots as usize)?;
+    recover(&mut found, flash, geometry)?;
+    Ok(found)
+}
+
+/// Does what `scan` does in the memory of what an earlier scan found. Where the flash fails, nothing is found.
+pub fn rescan<F: Flash>(
+    found: &mut Found,
+    flash: &mut F,
+    geometry: &Geometry,
+) -> Result<(), ScanError>
+    requires fits { Fits geometry.now (F.state flash.old) }
+    requires room { HasRoom geometry.now.slots found.old }
+    ensures error { IfErr result (λ error. error ≡ ScanError.Flash) }
+    ensures recovered { OnOk result (F.tells → IsRecovered geometry.now.slot_size geometry.now.slots
+        (F.state flash.old) (F.state flash.new) found.new) }
+    ensures emptied { OnErr result (IsEmpty found.new) }
+    ensures crash { F.tells → KeepsRecords geometry.now.slot_size geometry.now.slots (F.state flash.old).told (F.state flash.new).told }
+    ensures index { IsIndex geometry.now.slots geometry.now.slot_size found.new.ids.items found.new.places.items }
+    ensures free { AreSlots geometry.now.slots found.new.free.items }
+    ensures room { SameRoom found.old found.new }
+    ensures shape { KeepsShape (F.state flash.old) (F.state flash.new) result }
+{
+    found.clear();
+    if recover(found, flash, geometry).is_err() {
+        found.clear();
+        return Err(ScanError::Flash);
+    }
+    Ok(())
+}
+
+// Both passes, from nothing found.
+fn recover<F: Flash>(
+    found: &mut Found,
+    flash: &mut F,
+    geometry: &Geometry,
+) -> Result<(), FlashFailed>
+    requires fits { Fits geometry.now (F.state flash.old) }
+    requires empty { IsEmpty found.old }
+    requires room { HasRoom geometry.now.slots found.old }
+    ensures recovered { OnOk result (F.tells → IsRecovered geometry.now.slot_size geometry.now.slots
+        (F.state flash.old) (F.state flash.new) found.new) }
+    ensures crash { F.tells → KeepsRecords geometry.now.slot_size geometry.now.slots (F.state flash.old).told (F.state flash.new).told }
+    ensures index { IsIndex geometry.now.slots geometry.now.slot_size found.new.ids.items found.new.places.items }
+    ensures free { OnOk result (AreSlots geometry.now.slots found.new.free.items) }
+    ensures room { SameRoom found.old found.new }
+    ensures shape { KeepsShape (F.state flash.old) (F.state flash.new) result }
+{
+    let mut held = [None; MAX_SLOTS];
+    list_slots(found, &mut held, flash, geometry)?;
+    settle_slots(found, &held, flash, geometry)?;
+    Ok(())
+}
