@@ -1,0 +1,38 @@
+//! Work for the scripts in `bench/`: `apei_bench JOB TIMES` does one job many times, and prints what it counted.
+#![tactic(auto)]
+
+mod frames;
+mod programs;
+
+use std::alloc::Global;
+use std::env;
+use std::process::ExitCode;
+
+fn main(rt: HostRuntime) -> ExitCode {
+    match counted(&rt) {
+        Some(count) => {
+            let _ = println!(rt; "{count}");
+            ExitCode::SUCCESS
+        }
+        None => ExitCode::FAILURE,
+    }
+}
+
+// What the job that the words ask for counted; `None` where they ask for none, or it could not be done.
+fn counted(rt: &HostRuntime) -> Option<u64> {
+    let words: Vec<String> = env::args(rt).ok()?.skip(1).collect(rt.alloc()).ok()?;
+    match words.as_slice() {
+        [job, times] => done(rt.alloc(), job.as_str(), times.as_str().parse().ok()?),
+        _ => None,
+    }
+}
+
+fn done(alloc: Global, job: &str, times: u64) -> Option<u64> {
+    match job {
+        "goto" => programs::go_round(alloc, times),
+        "move" => programs::move_bytes(alloc, times),
+        "records" => frames::read_records(alloc, times),
+        "blocks" => frames::walk_blocks(times),
+        _ => None,
+    }
+}
