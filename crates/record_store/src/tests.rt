@@ -37,6 +37,7 @@ fn has_record(store: &Store<SimFlash>, id: u64) -> Result<bool, Fail> {
 }
 
 #[test]
+#[tactic(auto, using(std::proofs::lemmas::Bool::Decides::nat_tests), unfolding(record_model::specs::Records::is_reserved))]
 fn records_are_stored_until_one_slot_is_left(rt: HostRuntime) -> Result<(), Fail> {
     let alloc = rt.alloc();
     let mut store = store_on(alloc, None, Vec::new(alloc))?;
@@ -53,6 +54,7 @@ fn records_are_stored_until_one_slot_is_left(rt: HostRuntime) -> Result<(), Fail
 }
 
 #[test]
+#[tactic(auto, using(std::proofs::lemmas::Bool::Decides::nat_tests), unfolding(record_model::specs::Records::is_reserved))]
 fn a_cut_at_any_step_leaves_the_record_or_none(rt: HostRuntime) -> Result<(), Fail> {
     let alloc = rt.alloc();
     for step in 0..6u64 {
@@ -66,6 +68,7 @@ fn a_cut_at_any_step_leaves_the_record_or_none(rt: HostRuntime) -> Result<(), Fa
 }
 
 #[test]
+#[tactic(auto, using(std::proofs::lemmas::Bool::Decides::nat_tests), unfolding(record_model::specs::Records::is_reserved))]
 fn after_a_change_that_failed_the_next_write_works(rt: HostRuntime) -> Result<(), Fail> {
     let alloc = rt.alloc();
     for step in 0..6u64 {
