@@ -5,4 +5,5 @@ pub mod Complete
 pub mod Whole
 pub mod Streams
 pub mod Readers
+pub mod Cuts
 pub mod Writes

@@ -105,7 +105,7 @@ filled_less limit held piece capacity missing count is e less =
     ∙ ap (filled reader (held ++ take count piece) count) after
 
 -- what a result can be
-data Cases (r : Result ℕ FrameError) : Type 0 where
+pub data Cases (r : Result ℕ FrameError) : Type 0 where
   at_ok : (n : ℕ) → r ≡ Ok n → Cases r
   at_need : (w : ℕ) → r ≡ Err (Need w) → Cases r
   at_err : (e : FrameError) → r ≡ Err e → is_need e ≡ false → Cases r
@@ -118,7 +118,7 @@ error_cases (Length found) = at_err (Length found) refl refl
 error_cases (Section index) = at_err (Section index) refl refl
 error_cases (Limit found) = at_err (Limit found) refl refl
 
-cases : (r : Result ℕ FrameError) → Cases r
+pub cases : (r : Result ℕ FrameError) → Cases r
 cases (Ok n) = at_ok n refl
 cases (Err e) = error_cases e
 

@@ -101,7 +101,7 @@ never_placed : (len : ℕ) (bad : Option ℕ) (w : ℕ) → placed len bad ≡ E
 never_placed len bad w h = let a = waits-placed len bad in let b : waits (placed len bad) ≡ true = ap waits h in cc
 
 -- a header that is right, of a record that isn't there yet
-record Partial (limit have s e n len : ℕ) : Type 0 where
+pub record Partial (limit have s e n len : ℕ) : Type 0 where
   pub start : s ≡ signature
   pub end : e ≡ 2 ^ 32 - 1
   pub heads : bodies_from n ≤ len
@@ -149,12 +149,12 @@ complete_placed limit have s e n len bad start end heads within there =
     ∙ cond-false (nat_lt have len) (Err (Need (len - have))) _ (le-ltb have len there)
 
 -- what is missing: of the header, or of the record
-data Missing (limit : ℕ) (bytes : List ℕ) (w : ℕ) : Type 0 where
+pub data Missing (limit : ℕ) (bytes : List ℕ) (w : ℕ) : Type 0 where
   of_header : length bytes < 128 → w ≡ 128 - length bytes → Missing limit bytes w
   of_record : 128 ≤ length bytes → Partial limit (length bytes) (number_at bytes 0 4) (number_at bytes 6 4) (section_count bytes) (record_length bytes)
       → record_length bytes - length bytes ≡ w → Missing limit bytes w
 
-missing : (limit : ℕ) (bytes : List ℕ) (w : ℕ) → checked limit bytes ≡ Err (Need w) → Missing limit bytes w
+pub missing : (limit : ℕ) (bytes : List ℕ) (w : ℕ) → checked limit bytes ≡ Err (Need w) → Missing limit bytes w
 unfolding checked
 missing limit bytes w h = elim (cases_Bool (nat_lt (length bytes) 128)) [
   | inl short ↦

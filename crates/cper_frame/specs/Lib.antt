@@ -3,3 +3,4 @@ pub mod Reading
 pub mod Sections
 pub mod Writer
 pub mod Stream
+pub mod Pieces

@@ -107,3 +107,21 @@ pub record Splits (limit : ℕ) (stream : List ℕ) (records : List (List ℕ)) 
 -- a rest that is only too short is no refusal
 abbrev pub refusal : FrameError → Option FrameError
 refusal error = if is_need error then None else Some error
+
+-- a reader that is in the midst of a record
+pub record Waits (reader : Reader) : Type 0 where
+  pub sound : reader.failed ≡ None
+  pub missing : (more : ℕ) × (0 < more) × (checked reader.limit reader.held ≡ Err (Need more))
+
+-- the stream so far is these records, and what is held
+pub record Going (limit : ℕ) (stream : List ℕ) (records : List (List ℕ)) (held : List ℕ) : Type 0 where
+  pub whole : stream ≡ joined records ++ held
+  pub each : All (IsRecordWithin limit) records
+
+-- the stream so far is these records, and a rest that is refused
+pub record Refused (limit : ℕ) (stream : List ℕ) (records : List (List ℕ)) (error : FrameError) : Type 0 where
+  pub rest : List ℕ
+  pub whole : stream ≡ joined records ++ rest
+  pub each : All (IsRecordWithin limit) records
+  pub stops : checked limit rest ≡ Err error
+  pub no_need : is_need error ≡ false

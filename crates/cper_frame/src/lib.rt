@@ -5,6 +5,7 @@ mod error;
 mod fed;
 mod heads;
 mod mark;
+mod pieces;
 mod reader;
 mod record;
 #[cfg(test)]
@@ -15,6 +16,7 @@ pub use error::{FrameError, NoRoom};
 pub use fed::Fed;
 pub use heads::{RecordHead, SectionHead};
 pub use mark::stamp;
+pub use pieces::{Frames, frames_in};
 pub use reader::FrameReader;
 pub use record::{Record, Section, one_end};
 pub use writer::RecordWriter;

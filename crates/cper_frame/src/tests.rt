@@ -1,7 +1,8 @@
 ghost use Rattle.std.specs.Prelude.{◌+◌, ◌≤◌, ◌<◌, length};
 
 use crate::{
-    FrameError, FrameReader, Record, RecordHead, RecordWriter, SectionHead, one_end, stamp,
+    FrameError, FrameReader, Record, RecordHead, RecordWriter, SectionHead, frames_in, one_end,
+    stamp,
 };
 use apei_bytes::{Guid, put_u16, put_u32, put_u64};
 use std::test::Fail;
@@ -203,5 +204,19 @@ fn records_in_any_pieces(rt: HostRuntime) -> Result<(), Fail> {
     reader.advance();
     assert!(rt; reader.feed(&long).err() == Some(FrameError::Limit { found: 432 }));
     assert!(rt; reader.feed(&plain(1)).err() == Some(FrameError::Limit { found: 432 }));
+    Ok(())
+}
+
+#[test]
+fn a_stream_in_one_call(rt: HostRuntime) -> Result<(), Fail> {
+    let mut pieces = Vec::new(rt.alloc());
+    for id in 1..3 {
+        pieces.push(Vec::from_slice(rt.alloc(), &plain(id))?)?;
+    }
+    let Ok(frames) = frames_in(rt.alloc(), 128, &pieces) else {
+        return Err("no memory".into());
+    };
+    assert!(rt; frames.records.len() == 2);
+    assert!(rt; frames.refused.is_none());
     Ok(())
 }
