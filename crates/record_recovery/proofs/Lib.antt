@@ -3,4 +3,6 @@ pub mod ListedLemmas
 pub mod KillLemmas
 pub mod PutLemmas
 pub mod SettledLemmas
+pub mod OpenedLemmas
+pub mod FreeLemmas
 pub mod Passes
