@@ -75,8 +75,10 @@ pub fn move_bytes(alloc: Global, times: u64) -> Option<u64> {
     ];
     let mut ram = memory(alloc)?;
     ram.write(Place::Memory(MEMORY), Width::B64, SOURCE).ok()?;
-    ram.write(Place::Memory(MEMORY + 8), Width::B64, TARGET).ok()?;
-    ram.write(Place::Memory(MEMORY + 16), Width::B64, LENGTH).ok()?;
+    ram.write(Place::Memory(MEMORY + 8), Width::B64, TARGET)
+        .ok()?;
+    ram.write(Place::Memory(MEMORY + 16), Width::B64, LENGTH)
+        .ok()?;
     let program = Program::of(&entries, ACTION);
     let mut done = 0u64;
     for _ in 0..times {
