@@ -5,7 +5,7 @@ use Rattle.std.proofs.lemmas.Bool.{cases_lt, le-leb, lt-leb}
 use Rattle.record_model.specs.Flash.{Told, IsLater, Leaves}
 use Rattle.record_model.specs.Records.{Stored}
 use Rattle.record_model.specs.RecordMap.{after}
-use Rattle.record_model.specs.History.{Played, IsAnswered, left_by, left_by_all, AreAnswered, EndInOrder, Shows, ShowsEach, IsHistory}
+use Rattle.record_model.specs.History.{Played, IsAnswered, cursor_after, cursor_left, left_by, left_by_all, AreAnswered, TakeSteps, ended_last, EndInOrder, Shows, ShowsEach, IsHistory}
 use Rattle.record_model.proofs.CrashLemmas.{IsLater-refl, IsLater-then, past_grows, image_at-later, image_at-now, CrashImage-earlier, CrashImage-now}
 
 on_true : (b : Bool) (P Q : Type 0) → b ≡ true → P → MatchBool b P Q
@@ -25,11 +25,23 @@ pub left_by_all-append : (slots : ℕ) (some more : List Played) (stored : Store
 left_by_all-append slots [] more stored = refl
 left_by_all-append slots (played ∷ rest) more stored = left_by_all-append slots rest more (left_by slots played stored)
 
-AreAnswered-append : (slots : ℕ) (some more : List Played) (stored : Stored)
-    → AreAnswered slots some stored → AreAnswered slots more (left_by_all slots some stored) → AreAnswered slots (some ++ more) stored
-AreAnswered-append slots [] more stored first second = second
-AreAnswered-append slots (played ∷ rest) more stored first second =
-    (first.0, AreAnswered-append slots rest more (left_by slots played stored) first.1 second)
+pub cursor_left-append : (some more : List Played) (cursor : ℕ) → cursor_left (some ++ more) cursor ≡ cursor_left more (cursor_left some cursor)
+cursor_left-append [] more cursor = refl
+cursor_left-append (played ∷ rest) more cursor = cursor_left-append rest more (cursor_after played.command played.answer cursor)
+
+AreAnswered-append : (slots cursor : ℕ) (some more : List Played) (stored : Stored)
+    → AreAnswered slots cursor some stored → AreAnswered slots (cursor_left some cursor) more (left_by_all slots some stored)
+    → AreAnswered slots cursor (some ++ more) stored
+AreAnswered-append slots cursor [] more stored first second = second
+AreAnswered-append slots cursor (played ∷ rest) more stored first second =
+    (first.0, AreAnswered-append slots (cursor_after played.command played.answer cursor) rest more (left_by slots played stored) first.1 second)
+
+pub TakeSteps-append : (per_slot slots from mid : ℕ) (some more : List Played) (stored : Stored) → ended_last from some ≡ mid
+    → TakeSteps per_slot slots from some stored → TakeSteps per_slot slots mid more (left_by_all slots some stored)
+    → TakeSteps per_slot slots from (some ++ more) stored
+TakeSteps-append per_slot slots from mid [] more stored last first second = subst (λ (n : ℕ). TakeSteps per_slot slots n more stored) (sym last) second
+TakeSteps-append per_slot slots from mid (played ∷ rest) more stored last first second =
+    (first.0, TakeSteps-append per_slot slots played.ended mid rest more (left_by slots played stored) last first.1 second)
 
 EndInOrder-earlier : (from start : ℕ) (played : List Played) (to : ℕ) → from ≤ start → EndInOrder start played to → EndInOrder from played to
 EndInOrder-earlier from start [] to h order = omega arith
@@ -86,8 +98,8 @@ Shows-after slots s from mid (played ∷ rest) more stored shown h order was =
     (Shows-after slots s played.ended mid rest more (left_by slots played stored) shown h order.1 was)
 
 -- nothing was played
-pub IsHistory-none : (slots : ℕ) (view : List ℕ → Stored) (told : Told) → IsHistory slots view told told []
-IsHistory-none slots view told = record {
+pub IsHistory-none : (slots cursor : ℕ) (view : List ℕ → Stored) (told : Told) → IsHistory slots cursor view told told []
+IsHistory-none slots cursor view told = record {
   later = IsLater-refl told;
   in_order = omega arith;
   answered = tt;
@@ -97,13 +109,13 @@ IsHistory-none slots view told = record {
 }
 
 -- one command, at whose every step power lost shows the map before it or what its Ok makes of it
-pub IsHistory-one : (slots : ℕ) (view : List ℕ → Stored) (old new : Told) (played : Played)
+pub IsHistory-one : (slots cursor : ℕ) (view : List ℕ → Stored) (old new : Told) (played : Played)
     → played.ended ≡ length new.past
-    → IsAnswered slots played.command played.answer played.taken (view old.image)
+    → IsAnswered slots cursor played.command played.answer played.taken (view old.image)
     → view new.image ≡ left_by slots played (view old.image)
     → Leaves old new (λ image. (view image ≡ view old.image) ⊎ (view image ≡ after slots played.command (view old.image)))
-    → IsHistory slots view old new (played ∷ [])
-IsHistory-one slots view old new played ended answered now leaves = record {
+    → IsHistory slots cursor view old new (played ∷ [])
+IsHistory-one slots cursor view old new played ended answered now leaves = record {
   later = leaves.later;
   in_order = let grown = past_grows old new leaves.later in (omega arith, omega arith);
   answered = (answered, tt);
@@ -116,14 +128,15 @@ IsHistory-one slots view old new played ended answered now leaves = record {
 }
 
 -- a history and then a history
-pub IsHistory-then : (slots : ℕ) (view : List ℕ → Stored) (old mid new : Told) (some more : List Played)
-    → IsHistory slots view old mid some → IsHistory slots view mid new more → IsHistory slots view old new (some ++ more)
-IsHistory-then slots view old mid new some more first second =
+pub IsHistory-then : (slots cursor : ℕ) (view : List ℕ → Stored) (old mid new : Told) (some more : List Played)
+    → IsHistory slots cursor view old mid some → IsHistory slots (cursor_left some cursor) view mid new more → IsHistory slots cursor view old new (some ++ more)
+IsHistory-then slots cursor view old mid new some more first second =
     let at_mid : view mid.image ≡ left_by_all slots some (view old.image) = first.now in
     record {
       later = IsLater-then old mid new first.later second.later;
       in_order = EndInOrder-append (length old.past) (length mid.past) (length new.past) some more first.in_order second.in_order;
-      answered = AreAnswered-append slots some more (view old.image) first.answered (subst (λ (m : Stored). AreAnswered slots more m) at_mid second.answered);
+      answered = AreAnswered-append slots cursor some more (view old.image) first.answered
+          (subst (λ (m : Stored). AreAnswered slots (cursor_left some cursor) more m) at_mid second.answered);
       now = second.now ∙ ap (left_by_all slots more) at_mid ∙ sym (left_by_all-append slots some more (view old.image));
       ends = ShowsEach-append slots view new some more (view old.image)
           (ShowsEach-later slots view mid new (length old.past) some (view old.image) second.later first.in_order first.ends)

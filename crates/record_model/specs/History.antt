@@ -1,13 +1,18 @@
 -- The history of a run: its commands with their answers and the flash steps at which they ended, the maps that they
 -- make one after another, and what power lost at any step shows.
-use Rattle.std.specs.Prelude.{◌≡◌, ℕ, ◌≤◌, ◌⊎◌, Bool, true, false, nat_le, MatchBool, if◌then◌else◌, List, [], ◌∷◌, length, Some, None}
+use Rattle.std.specs.Prelude.{◌≡◌, ◌≢◌, ℕ, ◌+◌, ◌≤◌, ◌⊎◌, Bool, true, false, nat_le, MatchBool, if◌then◌else◌, List, [], ◌∷◌, length, Option, Some, None}
+use Rattle.std.specs.FinMap.{get, len}
 use Rattle.record_model.specs.Flash.{Told, CrashImage, IsLater, image_at}
-use Rattle.record_model.specs.Records.{Stored}
-use Rattle.record_model.specs.RecordMap.{Command, Refusal, refusal_of, after}
+use Rattle.record_model.specs.Records.{Stored, is_reserved}
+use Rattle.record_model.specs.RecordMap.{Command, Write, WriteOversize, Clear, Read, Count, Next, Refusal, NotFound, IsNextAbove, refusal_of, after, changes_of}
 
--- how a command was answered: done, refused by the map, or failed by the flash
+-- how a command was answered: a write or clear is done, a read shows the record of an identifier, a count is a number,
+-- and next is an identifier or the end; a command may be refused by the map, or failed by the flash
 pub data Answer : Type 0 where
   Done : Answer
+  Shown : (id : ℕ) (bytes : List ℕ) → Answer
+  Counted : ℕ → Answer
+  Found : Option ℕ → Answer
   Refused : Refusal → Answer
   Hardware : Answer
 
@@ -18,11 +23,44 @@ pub record Played : Type 0 where
   pub taken : Bool
   pub ended : ℕ
 
+-- the identifier that a read names: 0 names the least one
+abbrev pub IsNamed : ℕ → ℕ → Stored → Type 0
+IsNamed id found stored = ((id ≢ 0) × (found ≡ id)) ⊎ ((id ≡ 0) × IsNextAbove 0 stored (Some found))
+
+-- what the map answers a command that it does not refuse, with the cursor of next at this identifier
+abbrev pub IsDone : Command → Answer → ℕ → Stored → Type 0
+IsDone (Write id bytes) Done cursor stored = Unit {0}
+IsDone (Clear id) Done cursor stored = Unit {0}
+IsDone (Read id) (Shown found bytes) cursor stored =
+    IsNamed id found stored × ((generation : ℕ) × (get stored found ≡ Some (bytes, generation)))
+IsDone Count (Counted n) cursor stored = n ≡ len stored
+IsDone Next (Found found) cursor stored = IsNextAbove cursor stored found
+IsDone command answer cursor stored = ⊥
+
+-- a command asks the store, and so may meet a flash that fails
+abbrev pub AsksStore : Command → Type 0
+AsksStore (Write id bytes) = is_reserved id ≡ false
+AsksStore (WriteOversize size room) = ⊥
+AsksStore (Clear id) = is_reserved id ≡ false
+AsksStore (Read id) = Unit {0}
+AsksStore Count = Unit {0}
+AsksStore Next = Unit {0}
+
 -- the answer that a map with this many slots gives. A command that the flash failed is in or out of the map
-abbrev pub IsAnswered : ℕ → Command → Answer → Bool → Stored → Type 0
-IsAnswered slots command Done taken stored = (refusal_of slots command stored ≡ None) × (taken ≡ true)
-IsAnswered slots command (Refused refusal) taken stored = (refusal_of slots command stored ≡ Some refusal) × (taken ≡ false)
-IsAnswered slots command Hardware taken stored = Unit {0}
+abbrev pub IsAnswered : ℕ → ℕ → Command → Answer → Bool → Stored → Type 0
+IsAnswered slots cursor command (Refused refusal) taken stored = (refusal_of slots command stored ≡ Some refusal) × (taken ≡ false)
+IsAnswered slots cursor command Hardware taken stored = AsksStore command
+IsAnswered slots cursor command answer taken stored =
+    (refusal_of slots command stored ≡ None) × IsDone command answer cursor stored × (taken ≡ true)
+
+-- the cursor after a command: the identifier that was shown or found, and the start after the end or after a read of what
+-- is not there
+abbrev pub cursor_after : Command → Answer → ℕ → ℕ
+cursor_after command (Shown id bytes) cursor = id
+cursor_after command (Found (Some id)) cursor = id
+cursor_after command (Found None) cursor = 0
+cursor_after (Read id) (Refused NotFound) cursor = 0
+cursor_after command answer cursor = cursor
 
 -- the map that a played command leaves
 abbrev pub left_by : ℕ → Played → Stored → Stored
@@ -33,11 +71,29 @@ abbrev pub left_by_all : ℕ → List Played → Stored → Stored
 left_by_all slots [] stored = stored
 left_by_all slots (played ∷ rest) stored = left_by_all slots rest (left_by slots played stored)
 
--- each command is answered by the map that the ones before it leave
-abbrev pub AreAnswered : ℕ → List Played → Stored → Type 0
-AreAnswered slots [] stored = Unit {0}
-AreAnswered slots (played ∷ rest) stored =
-    IsAnswered slots played.command played.answer played.taken stored × AreAnswered slots rest (left_by slots played stored)
+-- the cursor that they leave
+abbrev pub cursor_left : List Played → ℕ → ℕ
+cursor_left [] cursor = cursor
+cursor_left (played ∷ rest) cursor = cursor_left rest (cursor_after played.command played.answer cursor)
+
+-- each command is answered by the map and the cursor that the ones before it leave
+abbrev pub AreAnswered : ℕ → ℕ → List Played → Stored → Type 0
+AreAnswered slots cursor [] stored = Unit {0}
+AreAnswered slots cursor (played ∷ rest) stored =
+    IsAnswered slots cursor played.command played.answer played.taken stored
+    × AreAnswered slots (cursor_after played.command played.answer cursor) rest (left_by slots played stored)
+
+-- the step at which the last of some commands ended, that began at a step
+abbrev pub ended_last : ℕ → List Played → ℕ
+ended_last from [] = from
+ended_last from (played ∷ rest) = ended_last played.ended rest
+
+-- each command takes exactly the flash steps that the map gives it, from a step on
+abbrev pub TakeSteps : ℕ → ℕ → ℕ → List Played → Stored → Type 0
+TakeSteps per_slot slots from [] stored = Unit {0}
+TakeSteps per_slot slots from (played ∷ rest) stored =
+    (played.ended ≡ from + changes_of per_slot slots played.command stored)
+    × TakeSteps per_slot slots played.ended rest (left_by slots played stored)
 
 -- the commands end one after another, between these steps
 abbrev pub EndInOrder : ℕ → List Played → ℕ → Type 0
@@ -58,13 +114,13 @@ ShowsEach slots view told [] stored = Unit {0}
 ShowsEach slots view told (played ∷ rest) stored =
     (view (image_at told played.ended) ≡ left_by slots played stored) × ShowsEach slots view told rest (left_by slots played stored)
 
--- These are the commands that led from old to new, over a map with this many slots; `view` is the map that an image
--- shows. The answers are the map's, and power lost at any step on the way shows a prefix of the commands that has each
--- one that had ended.
-pub record IsHistory (slots : ℕ) (view : List ℕ → Stored) (old new : Told) (commands : List Played) : Type 0 where
+-- These are the commands that led from old to new, over a map with this many slots and from this cursor; `view` is the
+-- map that an image shows. The answers are the map's, and power lost at any step on the way shows a prefix of the
+-- commands that has each one that had ended.
+pub record IsHistory (slots cursor : ℕ) (view : List ℕ → Stored) (old new : Told) (commands : List Played) : Type 0 where
   pub later : IsLater old new
   pub in_order : EndInOrder (length old.past) commands (length new.past)
-  pub answered : AreAnswered slots commands (view old.image)
+  pub answered : AreAnswered slots cursor commands (view old.image)
   pub now : view new.image ≡ left_by_all slots commands (view old.image)
   pub ends : ShowsEach slots view new commands (view old.image)
   pub crash : (s : ℕ) (image : List ℕ) → length old.past ≤ s → CrashImage new s image → Shows slots s commands (view old.image) (view image)

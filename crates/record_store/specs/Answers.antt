@@ -1,31 +1,165 @@
--- What each answer of a write says.
-use Rattle.std.specs.Prelude.{◌≡◌, ℕ, ◌+◌, ◌-◌, ◌<◌, ◌≤◌, List, Option, Some, None, Result, Ok, Err, is_some, true}
-use Rattle.std.specs.FinMap.{get, insert, len}
+-- What each answer of a store says.
+use Rattle.std.specs.Prelude.{◌≡◌, ℕ, ◌+◌, ◌<◌, ◌≤◌, ◌⊎◌, Bool, true, false, is_some, List, ◌++◌, length, drop, Option, Some, None, Result, Ok, Err}
+use Rattle.std.specs.FinMap.{get, len}
 use Rattle.base_model.specs.Faults.{Rose}
-use Rattle.record_model.specs.RecordMap.{Command, Write, Refusal, NoSpace as no_space, refusal_of, after}
-use Rattle.record_store.specs.Store.{StoreView, stored}
+use Rattle.flash_model.specs.declared.geometry.Geometry.{Geometry}
+use Rattle.record_model.specs.Flash.{FlashState, Leaves, next_count}
+use Rattle.record_model.specs.Records.{Stored, stored_in, HasNoSecondCopy}
+use Rattle.record_model.specs.RecordMap.{Command, Write, Clear, Read, Count, Next, Refusal, Failed, NoSpace as no_space, NotFound as not_found, Empty as empty, IsNextAbove, LAST_GENERATION, refusal_of, after, changes_of}
+use Rattle.record_slots.specs.Slots.{Fits}
+use Rattle.record_recovery.specs.declared.scanning.ScanError.{ScanError}
+use Rattle.record_recovery.specs.declared.scanning.ScanError.TheVariants.{Size, Flash as flash_failed, Memory}
+use Rattle.record_store.specs.Store.{StoreView, Pending, Idle, Writing, Clearing, stored, map_after, pending_after, IsReady, IsInDoubt}
 use Rattle.record_store.specs.declared.errors.StoreError.{StoreError}
-use Rattle.record_store.specs.declared.errors.StoreError.TheVariants.{NoSpace, Stored, Flash}
-
--- an error of a write: no space and a stored identifier exactly by the map, and then nothing was changed
-abbrev pub IsRefused : StoreView → StoreView → ℕ → List ℕ → StoreError → Type 0
-IsRefused old new id bytes (NoSpace free) =
-    (refusal_of old.slots (Write id bytes) (stored old) ≡ Some no_space) × (get (stored old) id ≡ None)
-    × (free + len (stored old) ≡ old.slots) × (new.flash.told ≡ old.flash.told)
-IsRefused old new id bytes (Stored found) =
-    (found ≡ id) × (is_some (get (stored old) id) ≡ true) × (new.flash.told ≡ old.flash.told)
-IsRefused old new id bytes Flash = Unit {0}
-
--- the answer of a write: Ok exactly where the map takes it as a new identifier
-abbrev pub IsAnswer : StoreView → StoreView → ℕ → List ℕ → Result (Unit {0}) StoreError → Type 0
-IsAnswer old new id bytes (Ok done) =
-    (refusal_of old.slots (Write id bytes) (stored old) ≡ None) × (get (stored old) id ≡ None)
-    × (stored new ≡ after old.slots (Write id bytes) (stored old))
-IsAnswer old new id bytes (Err error) = IsRefused old new id bytes error
+use Rattle.record_store.specs.declared.errors.StoreError.TheVariants.{NoSpace, LastGeneration, NotFound, Empty, Flash, Small}
 
 -- a fault is answered only where the flash's count of faults rose, and every other answer leaves it
-abbrev pub HasFaultsOf : ℕ → ℕ → Result (Unit {0}) StoreError → Type 0
+abbrev pub HasFaultsOf : {T : Type 0} → ℕ → ℕ → Result T StoreError → Type 0
 HasFaultsOf before after (Ok done) = after ≡ before
 HasFaultsOf before after (Err (NoSpace free)) = after ≡ before
-HasFaultsOf before after (Err (Stored id)) = after ≡ before
+HasFaultsOf before after (Err (LastGeneration id)) = after ≡ before
+HasFaultsOf before after (Err NotFound) = after ≡ before
+HasFaultsOf before after (Err Empty) = after ≡ before
 HasFaultsOf before after (Err Flash) = (before ≤ after) × Rose before after
+HasFaultsOf before after (Err (Small need)) = after ≡ before
+
+-- after a fault the store is in doubt, and after every other answer of a whole command it is not
+abbrev pub HasDoubtOf : {T : Type 0} → StoreView → Result T StoreError → Type 0
+HasDoubtOf store (Ok done) = IsReady store
+HasDoubtOf store (Err (NoSpace free)) = IsReady store
+HasDoubtOf store (Err (LastGeneration id)) = IsReady store
+HasDoubtOf store (Err NotFound) = IsReady store
+HasDoubtOf store (Err Empty) = IsReady store
+HasDoubtOf store (Err Flash) = IsInDoubt store
+HasDoubtOf store (Err (Small need)) = IsReady store
+
+-- an error of a write: exactly by the map, which it leaves
+abbrev pub RefusesWrite : StoreView → StoreView → ℕ → List ℕ → StoreError → Type 0
+RefusesWrite old new id bytes (NoSpace free) =
+    (refusal_of old.slots (Write id bytes) (stored old) ≡ Some no_space) × (free + len (stored old) ≡ old.slots) × (stored new ≡ stored old)
+RefusesWrite old new id bytes (LastGeneration found) =
+    (refusal_of old.slots (Write id bytes) (stored old) ≡ Some Failed) × (found ≡ id)
+    × ((body : List ℕ) × (get (stored old) id ≡ Some (body, LAST_GENERATION))) × (stored new ≡ stored old)
+RefusesWrite old new id bytes NotFound = ⊥
+RefusesWrite old new id bytes Empty = ⊥
+RefusesWrite old new id bytes Flash = Unit {0}
+RefusesWrite old new id bytes (Small need) = ⊥
+
+-- an error of a clear
+abbrev pub RefusesClear : StoreView → StoreView → ℕ → StoreError → Type 0
+RefusesClear old new id (NoSpace free) = ⊥
+RefusesClear old new id (LastGeneration found) = ⊥
+RefusesClear old new id NotFound = (refusal_of old.slots (Clear id) (stored old) ≡ Some not_found) × (stored new ≡ stored old)
+RefusesClear old new id Empty = ⊥
+RefusesClear old new id Flash = Unit {0}
+RefusesClear old new id (Small need) = ⊥
+
+-- the answer of a whole write or clear: Ok exactly where the map takes it
+abbrev pub AnswersWrite : StoreView → StoreView → ℕ → List ℕ → Result (Unit {0}) StoreError → Type 0
+AnswersWrite old new id bytes (Ok done) =
+    (refusal_of old.slots (Write id bytes) (stored old) ≡ None) × (stored new ≡ after old.slots (Write id bytes) (stored old))
+AnswersWrite old new id bytes (Err error) = RefusesWrite old new id bytes error
+
+abbrev pub AnswersClear : StoreView → StoreView → ℕ → Result (Unit {0}) StoreError → Type 0
+AnswersClear old new id (Ok done) =
+    (refusal_of old.slots (Clear id) (stored old) ≡ None) × (stored new ≡ after old.slots (Clear id) (stored old))
+AnswersClear old new id (Err error) = RefusesClear old new id error
+
+-- the answer of a start: what is pending is the whole command, and the map is as it was
+abbrev pub StartsWrite : StoreView → StoreView → ℕ → List ℕ → Result (Unit {0}) StoreError → Type 0
+StartsWrite old new id bytes (Ok done) =
+    (refusal_of old.slots (Write id bytes) (stored old) ≡ None)
+    × (new.pending ≡ Writing id bytes (is_some (get (stored old) id)) 0)
+StartsWrite old new id bytes (Err error) = RefusesWrite old new id bytes error
+
+abbrev pub StartsClear : StoreView → StoreView → ℕ → Result (Unit {0}) StoreError → Type 0
+StartsClear old new id (Ok done) =
+    (refusal_of old.slots (Clear id) (stored old) ≡ None) × (new.pending ≡ Clearing id)
+StartsClear old new id (Err error) = RefusesClear old new id error
+
+-- whether a store is in doubt after a start; where it is not, what is pending is what the start says
+abbrev pub HasDoubtAtStart : StoreView → Result (Unit {0}) StoreError → Type 0
+HasDoubtAtStart store (Ok done) = store.in_doubt ≡ false
+HasDoubtAtStart store (Err error) = HasDoubtOf {T = Unit {0}} store (Err error)
+
+-- one change was made: the map and what is pending are those after it, and true is answered at the last one. One that the
+-- flash failed leaves the map as before it or as after it, and nothing pending
+abbrev pub IsStep : StoreView → StoreView → Result Bool StoreError → Type 0
+IsStep old new (Ok last) = (stored new ≡ map_after old.per_slot old.pending (stored old))
+IsStep old new (Err Flash) = (stored new ≡ stored old) ⊎ (stored new ≡ map_after old.per_slot old.pending (stored old))
+IsStep old new (Err (NoSpace free)) = ⊥
+IsStep old new (Err (LastGeneration id)) = ⊥
+IsStep old new (Err NotFound) = ⊥
+IsStep old new (Err Empty) = ⊥
+IsStep old new (Err (Small need)) = ⊥
+
+abbrev pub HasStepped : StoreView → StoreView → Result Bool StoreError → Type 0
+HasStepped old new (Ok last) =
+    (new.in_doubt ≡ false) × (new.pending ≡ pending_after old.per_slot old.pending) × ((last ≡ true) ⊎ (last ≡ false × (new.pending ≡ Idle → ⊥)))
+    × (last ≡ true → new.pending ≡ Idle)
+HasStepped old new (Err error) = IsInDoubt new
+
+-- the answers of the calls that only look
+abbrev pub AnswersRead : StoreView → ℕ → List ℕ → List ℕ → Result ℕ StoreError → Type 0
+AnswersRead old id before now (Ok size) =
+    (body : List ℕ) × ((generation : ℕ) × (get (stored old) id ≡ Some (body, generation)))
+    × (size ≡ length body) × (now ≡ body ++ drop size before)
+AnswersRead old id before now (Err Empty) = (refusal_of old.slots (Read id) (stored old) ≡ Some empty) × (now ≡ before)
+AnswersRead old id before now (Err NotFound) = (refusal_of old.slots (Read id) (stored old) ≡ Some not_found) × (now ≡ before)
+AnswersRead old id before now (Err (Small need)) =
+    ((body : List ℕ) × ((generation : ℕ) × (get (stored old) id ≡ Some (body, generation))) × (need ≡ length body))
+    × (length before < need) × (now ≡ before)
+AnswersRead old id before now (Err Flash) = now ≡ before
+AnswersRead old id before now (Err (NoSpace free)) = ⊥
+AnswersRead old id before now (Err (LastGeneration found)) = ⊥
+
+abbrev pub AnswersLength : StoreView → ℕ → Result ℕ StoreError → Type 0
+AnswersLength old id (Ok size) = (body : List ℕ) × ((generation : ℕ) × (get (stored old) id ≡ Some (body, generation))) × (size ≡ length body)
+AnswersLength old id (Err NotFound) = get (stored old) id ≡ None
+AnswersLength old id (Err Flash) = Unit {0}
+AnswersLength old id (Err Empty) = ⊥
+AnswersLength old id (Err (Small need)) = ⊥
+AnswersLength old id (Err (NoSpace free)) = ⊥
+AnswersLength old id (Err (LastGeneration found)) = ⊥
+
+-- a fault is the only error of some calls
+abbrev pub FailsByFlash : {T : Type 0} → Result T StoreError → Type 0
+FailsByFlash (Ok done) = Unit {0}
+FailsByFlash (Err error) = error ≡ Flash
+
+-- why a flash is refused, with what it was and what is handed back
+abbrev pub RefusesFlash : Geometry → FlashState → FlashState → ScanError → Type 0
+RefusesFlash geometry old back (Size found sector) =
+    (Fits geometry old → ⊥) × (found ≡ old.size) × (sector ≡ old.sector_size) × (back ≡ old)
+RefusesFlash geometry old back flash_failed = Fits geometry old × (old.faults ≤ back.faults) × Rose old.faults back.faults
+RefusesFlash geometry old back Memory = Fits geometry old × (back ≡ old)
+
+-- what holds of every answer but a fault
+abbrev pub UnlessFlash : {T : Type 0} → Result T StoreError → Type 0 → Type 0
+UnlessFlash (Ok done) P = P
+UnlessFlash (Err (NoSpace free)) P = P
+UnlessFlash (Err (LastGeneration id)) P = P
+UnlessFlash (Err NotFound) P = P
+UnlessFlash (Err Empty) P = P
+UnlessFlash (Err Flash) P = Unit {0}
+UnlessFlash (Err (Small need)) P = P
+
+-- a store that knows its records answered a command, and its flash took exactly the changes that the map gives it
+abbrev pub TakesExactly : {T : Type 0} → StoreView → StoreView → Command → Result T StoreError → Type 0
+TakesExactly old new command result = old.in_doubt ≡ false
+    → UnlessFlash result (new.flash.steps ≡ old.flash.steps + changes_of old.per_slot old.slots command (stored old))
+
+-- the flash of a store that knows its records was at most read
+pub record OnlyReadsFlash (old new : FlashState) (tells : Type 0) : Type 0 where
+  pub told : tells → new.told ≡ old.told
+  pub steps : new.steps ≡ old.steps
+
+-- a store that knows its records answers by itself: it is left as it was, and so is its flash
+abbrev pub AnswersByItself : {T : Type 0} → StoreView → StoreView → Result T StoreError → Type 0
+AnswersByItself old new (Ok done) = new ≡ old
+AnswersByItself old new (Err NotFound) = new ≡ old
+AnswersByItself old new (Err (NoSpace free)) = ⊥
+AnswersByItself old new (Err (LastGeneration id)) = ⊥
+AnswersByItself old new (Err Empty) = ⊥
+AnswersByItself old new (Err Flash) = ⊥
+AnswersByItself old new (Err (Small need)) = ⊥

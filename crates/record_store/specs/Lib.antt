@@ -1,4 +1,3 @@
-pub mod Slot
 pub mod Store
-pub mod Surveys
 pub mod Answers
+pub mod Index

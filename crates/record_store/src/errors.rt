@@ -3,17 +3,7 @@ ghost use Rattle.std.specs.Prelude.{◌≡◌};
 ghost use Rattle.record_store.specs.declared.errors.StoreError.TheVariants.{Flash};
 
 use flash_model::FlashFailed;
-
-/// Why a flash is refused.
-#[derive(Clone, Copy, Debug, PartialEq, Eq)]
-pub enum ScanError {
-    /// The flash has this size and this sector size, in bytes, and not the geometry's.
-    Size { found: u64, sector: u32 },
-    /// The flash failed.
-    Flash,
-    /// There was no memory.
-    Memory,
-}
+use record_recovery::ScanError;
 
 /// A flash that is refused, handed back.
 #[derive(Drop)]
@@ -27,10 +17,16 @@ pub struct StoreRefused<F> {
 pub enum StoreError {
     /// Too few slots are free.
     NoSpace { free: u32 },
+    /// The stored record has the last generation. It can be cleared, and not replaced.
+    LastGeneration { id: u64 },
+    /// The identifier is not stored.
+    NotFound,
+    /// No identifier is stored.
+    Empty,
     /// The flash failed.
     Flash,
-    /// The identifier is stored.
-    Stored { id: u64 },
+    /// The record has this many bytes, and the buffer fewer.
+    Small { need: u32 },
 }
 
 impl From<FlashFailed> for StoreError {

@@ -2,14 +2,9 @@
 //! of the flash, or within one, leaves the records from before the command or those after it.
 #![tactic(auto)]
 
-mod cleaning;
 mod errors;
 mod store;
-mod survey;
-mod writing;
 
-pub use errors::{ScanError, StoreError, StoreRefused};
+pub use errors::{StoreError, StoreRefused};
+pub use record_recovery::ScanError;
 pub use store::Store;
-
-#[cfg(test)]
-mod tests;
