@@ -3,3 +3,4 @@ pub mod HistoryLemmas
 pub mod MapLemmas
 pub mod SelectionLemmas
 pub mod SlotLemmas
+pub mod SizeLemmas

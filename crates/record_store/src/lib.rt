@@ -3,6 +3,7 @@
 #![tactic(auto)]
 
 mod errors;
+mod index;
 mod store;
 
 pub use errors::{StoreError, StoreRefused};

@@ -1,0 +1,4 @@
+pub mod FreeListLemmas
+pub mod CountLemmas
+pub mod IndexLemmas
+pub mod AnswerLemmas
