@@ -4,3 +4,4 @@ pub mod MapLemmas
 pub mod SelectionLemmas
 pub mod SlotLemmas
 pub mod SizeLemmas
+pub mod RefusalLemmas
