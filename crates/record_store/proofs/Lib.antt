@@ -2,3 +2,5 @@ pub mod FreeListLemmas
 pub mod CountLemmas
 pub mod IndexLemmas
 pub mod AnswerLemmas
+pub mod ChangeLemmas
+pub mod ScanLemmas
