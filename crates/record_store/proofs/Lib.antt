@@ -4,3 +4,4 @@ pub mod IndexLemmas
 pub mod AnswerLemmas
 pub mod ChangeLemmas
 pub mod ScanLemmas
+pub mod WalkLemmas

@@ -1,3 +1,4 @@
 pub mod Store
 pub mod Answers
 pub mod Index
+pub mod Walk

@@ -4,8 +4,10 @@
 
 mod errors;
 mod index;
+mod laws;
 mod store;
 
 pub use errors::{StoreError, StoreRefused};
+pub use laws::a_walk_finds_each_identifier;
 pub use record_recovery::ScanError;
 pub use store::Store;
