@@ -5,3 +5,4 @@ pub mod SelectionLemmas
 pub mod SlotLemmas
 pub mod SizeLemmas
 pub mod RefusalLemmas
+pub mod SpareLemmas

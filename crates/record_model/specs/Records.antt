@@ -1,8 +1,8 @@
 -- The records of an image. Slot k is the slot_size bytes from k * slot_size on: a head, the body from byte 32 on, and
 -- the tail mark as the last byte.
-use Rattle.std.specs.Prelude.{◌≡◌, ℕ, zero, suc, ◌+◌, ◌-◌, ◌*◌, ◌^◌, ◌<◌, ◌≤◌, Bool, true, ◌==◌, ◌&&◌, not, nat_lt, nat_le, if◌then◌else◌, List, [], ◌∷◌, length, replicate, Option, Some, None}
+use Rattle.std.specs.Prelude.{◌≡◌, ◌⊎◌, ℕ, zero, suc, ◌+◌, ◌-◌, ◌*◌, ◌^◌, ◌<◌, ◌≤◌, Bool, true, ◌==◌, ◌&&◌, not, nat_lt, nat_le, if◌then◌else◌, List, [], ◌∷◌, length, replicate, Option, Some, None}
 use Rattle.std.specs.Ordering.{nat_cmp}
-use Rattle.std.specs.FinMap.{FinMap, empty, get, insert}
+use Rattle.std.specs.FinMap.{FinMap, empty, get, insert, len}
 use Rattle.base_model.specs.Bytes.{part, number_at, spelled, joined, SameOutside}
 
 -- the head of a slot, its first 20 bytes as numbers: the gate at 0, the kill mark at 1, the format at 2, the generation
@@ -131,3 +131,20 @@ one_if_free (Some entry) = 0
 unfoldable pub free_among : (ℕ → Option Entry) → ℕ → ℕ
 free_among entry zero = 0
 free_among entry (suc n) = one_if_free (entry n) + free_among entry n
+
+-- each of the first n slots has the record that it had, or none
+abbrev pub LosesOnly : (ℕ → Option Entry) → (ℕ → Option Entry) → ℕ → Type 0
+LosesOnly entry other n = (k : ℕ) → k < n → (other k ≡ entry k) ⊎ (other k ≡ None)
+
+-- the slots but for slot j, which is free
+unfoldable pub without : (ℕ → Option Entry) → ℕ → ℕ → Option Entry
+without entry j k = if k == j then None else entry k
+
+-- no two of the first n slots but for a spare one have one identifier: at most one of them is a second copy
+pub record IsNearlySingle (entry : ℕ → Option Entry) (n : ℕ) : Type 0 where
+  pub spare : ℕ
+  pub single : AreSingle (without entry spare) n
+
+-- how many live slots are not their identifier's record
+unfoldable pub second_copies : ℕ → ℕ → List ℕ → ℕ
+second_copies slot_size slots image = slots - free_among (entry_at slot_size image) slots - len (stored_in slot_size slots image)
