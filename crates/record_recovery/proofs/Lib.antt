@@ -3,6 +3,8 @@ pub mod ListedLemmas
 pub mod KillLemmas
 pub mod PutLemmas
 pub mod SettledLemmas
+pub mod LostLemmas
+pub mod StepsLemmas
 pub mod OpenedLemmas
 pub mod FreeLemmas
 pub mod Passes

@@ -5,7 +5,7 @@ use Rattle.record_model.specs.Flash.{FlashState}
 use Rattle.record_model.specs.Records.{entry_at}
 use Rattle.record_recovery.specs.declared.found.Found.{Found}
 use Rattle.record_recovery.specs.Listed.{AreListed, AreSlots, IsIndex, HoldsIds}
-use Rattle.record_recovery.specs.Recovered.{KeepsRecords}
+use Rattle.record_recovery.specs.Recovered.{KeepsRecords, OnlyFreesSlots}
 use Rattle.record_recovery.specs.Settling.{IsSettled}
 
 -- the first n slots were looked at, and nothing was changed
@@ -37,4 +37,5 @@ pub record HasSettled (tells : Type 0) (slots slot_size n : ℕ) (first found : 
   pub reads : old.reads ≤ now.reads
   pub faults : now.faults ≡ old.faults
   pub crash : tells → KeepsRecords slot_size slots old.told now.told
+  pub lost : tells → OnlyFreesSlots slot_size slots old.told now.told
   pub settled : tells → IsSettled slot_size slots n old now found

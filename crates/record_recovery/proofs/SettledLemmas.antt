@@ -221,7 +221,7 @@ held_none : (o : Option Entry) → None ≡ id_in o → o ≡ None
 held_none None is = refl
 held_none (Some e) is = absurd (none-some e.id is)
 
-held_some : (o : Option Entry) (id : ℕ) → Some id ≡ id_in o → (e : Entry) × (o ≡ Some e) × (e.id ≡ id)
+pub held_some : (o : Option Entry) (id : ℕ) → Some id ≡ id_in o → (e : Entry) × (o ≡ Some e) × (e.id ≡ id)
 held_some None id is = absurd (none-some id (sym is))
 held_some (Some e) id is = (e, refl, sym (same_Some id e.id is))
 

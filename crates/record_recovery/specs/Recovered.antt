@@ -2,7 +2,7 @@
 use Rattle.std.specs.Prelude.{◌≡◌, ℕ, ◌+◌, ◌≤◌, Result}
 use Rattle.base_model.specs.Faults.{HasCause}
 use Rattle.record_model.specs.Flash.{Told, FlashState, Leaves}
-use Rattle.record_model.specs.Records.{entry_at, stored_in, free_among, HasNoSecondCopy}
+use Rattle.record_model.specs.Records.{entry_at, stored_in, free_among, HasNoSecondCopy, LosesOnly}
 use Rattle.record_recovery.specs.declared.found.Found.{Found}
 use Rattle.record_recovery.specs.Listed.{AreListed, free_slots}
 
@@ -10,6 +10,11 @@ use Rattle.record_recovery.specs.Listed.{AreListed, free_slots}
 abbrev pub KeepsRecords : ℕ → ℕ → Told → Told → Type 0
 KeepsRecords slot_size slots old new =
     Leaves old new (λ image. stored_in slot_size slots image ≡ stored_in slot_size slots old.image)
+
+-- power lost on the way leaves in each slot the record that it had at the start, or none
+abbrev pub OnlyFreesSlots : ℕ → ℕ → Told → Told → Type 0
+OnlyFreesSlots slot_size slots old new =
+    Leaves old new (λ image. LosesOnly (entry_at slot_size old.image) (entry_at slot_size image) slots)
 
 -- what was found are the records of the old image with their places, which are those of the new one too; there no other
 -- slot has a record, and each slot that lost one took one change

@@ -6,7 +6,7 @@ ghost use Rattle.record_model.specs.Flash.{FlashState};
 ghost use Rattle.record_model.specs.Records.{entry_at};
 ghost use Rattle.record_slots.specs.Slots.{Fits};
 ghost use Rattle.record_recovery.specs.Listed.{AreListed, AreSlots, IsIndex, HoldsIds, id_in};
-ghost use Rattle.record_recovery.specs.Recovered.{KeepsRecords, KeepsShape};
+ghost use Rattle.record_recovery.specs.Recovered.{KeepsRecords, OnlyFreesSlots, KeepsShape};
 ghost use Rattle.record_recovery.specs.Settling.{HasRecord, IsSettled};
 
 use crate::listing::MAX_SLOTS;
@@ -33,6 +33,7 @@ pub fn settle_slots<F: Flash>(
     ensures settled { OnOk result (F.tells → IsSettled geometry.now.slot_size geometry.now.slots geometry.now.slots
         (F.state flash.old) (F.state flash.new) found.new) }
     ensures crash { F.tells → KeepsRecords geometry.now.slot_size geometry.now.slots (F.state flash.old).told (F.state flash.new).told }
+    ensures lost { F.tells → OnlyFreesSlots geometry.now.slot_size geometry.now.slots (F.state flash.old).told (F.state flash.new).told }
     ensures ids { found.new.ids ≡ found.old.ids }
     ensures places { found.new.places ≡ found.old.places }
     ensures free { AreSlots geometry.now.slots found.new.free.items }
@@ -68,6 +69,7 @@ fn settle_slot<F: Flash>(
     ensures crash { F.tells → AreListed (entry_at geometry.now.slot_size (F.state flash.old).told.image)
         geometry.now.slots found.old.ids.items found.old.places.items
         → KeepsRecords geometry.now.slot_size geometry.now.slots (F.state flash.old).told (F.state flash.new).told }
+    ensures lost { F.tells → OnlyFreesSlots geometry.now.slot_size geometry.now.slots (F.state flash.old).told (F.state flash.new).told }
     ensures ids { found.new.ids ≡ found.old.ids }
     ensures places { found.new.places ≡ found.old.places }
     ensures few { vec_len found.new.free ≤ slot + 1 }

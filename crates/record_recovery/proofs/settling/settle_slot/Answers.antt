@@ -1,4 +1,5 @@
 use Rattle.std.proofs.Common.{◌≤◌, refl, sym, ◌∙◌, arith}
+use Rattle.record_recovery.proofs.LostLemmas.{kill_lost, OnlyFreesSlots-none}
 use Rattle.record_recovery.proofs.SettledLemmas.{settled_free, settled_kept, settled_killed, kill_can, kill_crash, KeepsRecords-none}
 use Rattle.record_recovery.proofs.settling.settle_slot.Goals as goal
 
@@ -44,3 +45,21 @@ returns-clause-crash g c tells listed =
     kill_crash c.args.geometry.now.slot_size c.args.geometry.now.slots c.args.slot c.in-Some.id (g.F.Flash.state c.args.flash.now).told (g.F.Flash.state c.kill.new.flash).told
     c.args.found.now.ids.items c.args.found.now.places.items (omega arith) c.requires.slot c.requires.index.paired
     (sym c.in-Some.is ∙ c.requires.id tells) c.if-has_record.ensures (c.kill.ensures.change.told tells) listed
+
+pub returns-in_default-clause-lost : goal.returns-in_default-clause-lost
+returns-in_default-clause-lost g c tells = OnlyFreesSlots-none c.args.geometry.now.slot_size c.args.geometry.now.slots (g.F.Flash.state c.args.flash.now).told
+
+pub returns-then-has_record-clause-lost : goal.returns-then-has_record-clause-lost
+returns-then-has_record-clause-lost g c tells = OnlyFreesSlots-none c.args.geometry.now.slot_size c.args.geometry.now.slots (g.F.Flash.state c.args.flash.now).told
+
+pub returns-in_err-kill-clause-lost : goal.returns-in_err-kill-clause-lost
+returns-in_err-kill-clause-lost g c tells =
+    let least : 512 ≤ c.args.geometry.now.slot_size = c.args.geometry.now.least_slot in
+    kill_lost c.args.geometry.now.slot_size c.args.geometry.now.slots c.args.slot c.in-Some.id (g.F.Flash.state c.args.flash.now).told (g.F.Flash.state c.kill.new.flash).told
+    (omega arith) (sym c.in-Some.is ∙ c.requires.id tells) (c.kill.ensures.change.told tells)
+
+pub returns-clause-lost : goal.returns-clause-lost
+returns-clause-lost g c tells =
+    let least : 512 ≤ c.args.geometry.now.slot_size = c.args.geometry.now.least_slot in
+    kill_lost c.args.geometry.now.slot_size c.args.geometry.now.slots c.args.slot c.in-Some.id (g.F.Flash.state c.args.flash.now).told (g.F.Flash.state c.kill.new.flash).told
+    (omega arith) (sym c.in-Some.is ∙ c.requires.id tells) (c.kill.ensures.change.told tells)

@@ -1,4 +1,5 @@
 use Rattle.std.proofs.Common.{refl, ap, length, ◌∙◌, arith}
+use Rattle.record_recovery.proofs.LostLemmas.{OnlyFreesSlots-none, OnlyFreesSlots-then}
 use Rattle.record_recovery.proofs.SettledLemmas.{IsSettled-none, IsIndex-same, AreSlots-none, KeepsRecords-none, KeepsRecords-then}
 use Rattle.record_recovery.proofs.settling.settle_slots.Goals as goal
 
@@ -15,6 +16,7 @@ loop-slot-init g c = record {
   reads = omega arith;
   faults = refl;
   crash = λ tells. KeepsRecords-none c.args.geometry.now.slot_size c.args.geometry.now.slots (g.F.Flash.state c.args.flash.now).told;
+  lost = λ tells. OnlyFreesSlots-none c.args.geometry.now.slot_size c.args.geometry.now.slots (g.F.Flash.state c.args.flash.now).told;
   settled = λ tells.
       IsSettled-none c.args.geometry.now.slot_size c.args.geometry.now.slots (g.F.Flash.state c.args.flash.now) c.args.found.now c.requires.free (c.requires.listed tells);
 }
@@ -39,5 +41,13 @@ loop-slot-preserved g c = record {
   crash = λ tells.
       KeepsRecords-then c.args.geometry.now.slot_size c.args.geometry.now.slots (g.F.Flash.state c.args.flash.now).told (g.F.Flash.state c.loop-slot.flash).told (g.F.Flash.state c.settle_slot.new.flash).told
       (c.loop-slot.invariant.crash tells) (c.settle_slot.ensures.crash tells (c.loop-slot.invariant.settled tells).listed);
+  lost = λ tells.
+      OnlyFreesSlots-then c.args.geometry.now.slot_size c.args.geometry.now.slots (g.F.Flash.state c.args.flash.now).told (g.F.Flash.state c.loop-slot.flash).told (g.F.Flash.state c.settle_slot.new.flash).told
+      (c.loop-slot.invariant.lost tells) (c.settle_slot.ensures.lost tells);
   settled = λ tells. c.in_ok-settle_slot.ensures.settled tells (g.F.Flash.state c.args.flash.now) (c.loop-slot.invariant.settled tells);
 }
+
+pub returns-in_err-settle_slot-clause-lost : goal.returns-in_err-settle_slot-clause-lost
+returns-in_err-settle_slot-clause-lost g c tells =
+    OnlyFreesSlots-then c.args.geometry.now.slot_size c.args.geometry.now.slots (g.F.Flash.state c.args.flash.now).told (g.F.Flash.state c.loop-slot.flash).told (g.F.Flash.state c.settle_slot.new.flash).told
+    (c.loop-slot.invariant.lost tells) (c.settle_slot.ensures.lost tells)
