@@ -4,7 +4,7 @@ use Rattle.std.specs.Prelude.{is_some}
 use Rattle.std.specs.Ordering.{nat_cmp, eq_by_cmp}
 use Rattle.std.specs.FinMap.{get, insert, remove, len, len-empty, len-insert, get-remove}
 use Rattle.std.specs.Cmp.{nat_cmp_total}
-use Rattle.std.proofs.lemmas.Bool.{cases_eq, eq-eqb, ne_eqb}
+use Rattle.std.proofs.lemmas.Bool.{cases_lt, cases_eq, eq-eqb, ne_eqb}
 use Rattle.std.proofs.lemmas.Bool.Decides.{nat_tests}
 use Rattle.std.proofs.lemmas.Option.{none-some}
 use Rattle.base_model.specs.Bytes.{SameOutside}
@@ -149,32 +149,46 @@ len-selected entry (suc n) stored all =
     here None is so_far = so_far stored below_n
     here (Some e) is so_far = by_kept e (get (selected entry n) e.id) refl is so_far
 
--- without a slot there is at most one free slot more
-free_among-without : (entry : ℕ → Option Entry) (j n : ℕ)
-    → (n ≤ j → free_among (without entry j) n ≤ free_among entry n) × (free_among (without entry j) n ≤ free_among entry n + 1)
+-- without a slot that had a record there is one free slot more
+pub free_among-without : (entry : ℕ → Option Entry) (j n : ℕ)
+    → (n ≤ j → free_among (without entry j) n ≡ free_among entry n)
+    × (j < n → free_among (without entry j) n + one_if_free (entry j) ≡ free_among entry n + 1)
 unfolding free_among
-free_among-without entry j zero = (λ h. omega arith, omega arith)
+free_among-without entry j zero = (λ h. refl, λ h. absurd (omega arith))
 free_among-without entry j (suc n) = here (free_among-without entry j n)
   where
-    here : (n ≤ j → free_among (without entry j) n ≤ free_among entry n) × (free_among (without entry j) n ≤ free_among entry n + 1)
-        → (suc n ≤ j → one_if_free (without entry j n) + free_among (without entry j) n ≤ one_if_free (entry n) + free_among entry n)
-        × (one_if_free (without entry j n) + free_among (without entry j) n ≤ one_if_free (entry n) + free_among entry n + 1)
+    here : (n ≤ j → free_among (without entry j) n ≡ free_among entry n) × (j < n → free_among (without entry j) n + one_if_free (entry j) ≡ free_among entry n + 1)
+        → (suc n ≤ j → one_if_free (without entry j n) + free_among (without entry j) n ≡ one_if_free (entry n) + free_among entry n)
+        × (j < suc n → one_if_free (without entry j n) + free_among (without entry j) n + one_if_free (entry j) ≡ one_if_free (entry n) + free_among entry n + 1)
     here so_far = elim (cases_eq n j) [
       | inl last ↦
           let freed : one_if_free (without entry j n) ≡ 1 = ap one_if_free (without-here entry j n last) in
-          let before : free_among (without entry j) n ≤ free_among entry n = so_far.0 (omega arith) in
-          (λ h. omega arith, omega arith)
+          let mine : one_if_free (entry n) ≡ one_if_free (entry j) = ap (λ (k : ℕ). one_if_free (entry k)) last in
+          let before : free_among (without entry j) n ≡ free_among entry n = so_far.0 (omega arith) in
+          (λ h. absurd (omega arith), λ h. omega arith)
       | inr apart ↦
-          let same : one_if_free (without entry j n) ≡ one_if_free (entry n) = ap one_if_free (without-other entry j n apart) in
-          let most : free_among (without entry j) n ≤ free_among entry n + 1 = so_far.1 in
-          (λ h. let before : free_among (without entry j) n ≤ free_among entry n = so_far.0 (omega arith) in omega arith, omega arith)
+          let same : one_if_free (without entry j n) ≡ one_if_free (entry n) = ap one_if_free (without-other entry j n apart) in (
+            λ h. let before : free_among (without entry j) n ≡ free_among entry n = so_far.0 (omega arith) in omega arith,
+            λ h. let after : free_among (without entry j) n + one_if_free (entry j) ≡ free_among entry n + 1 = so_far.1 (omega arith) in omega arith,
+          )
     ]
+
+-- so at most one more
+free_among-without_at_most : (entry : ℕ → Option Entry) (j n : ℕ) → free_among (without entry j) n ≤ free_among entry n + 1
+free_among-without_at_most entry j n = elim (cases_lt j n) [
+  | inl within ↦
+      let more : free_among (without entry j) n + one_if_free (entry j) ≡ free_among entry n + 1 = (free_among-without entry j n).1 within in
+      omega arith
+  | inr past ↦
+      let same : free_among (without entry j) n ≡ free_among entry n = (free_among-without entry j n).0 past in
+      omega arith
+]
 
 -- free slots, identifiers and at most one second copy are the slots together
 pub free_among-nearly : (entry : ℕ → Option Entry) (n : ℕ) → IsNearlySingle entry n → n ≤ free_among entry n + len (selected entry n) + 1
 free_among-nearly entry n nearly =
     let all : free_among (without entry nearly.spare) n + len (selected (without entry nearly.spare) n) ≡ n = free_among-len (without entry nearly.spare) n nearly.single in
-    let free : free_among (without entry nearly.spare) n ≤ free_among entry n + 1 = (free_among-without entry nearly.spare n).1 in
+    let free : free_among (without entry nearly.spare) n ≤ free_among entry n + 1 = free_among-without_at_most entry nearly.spare n in
     let kept : len (selected (without entry nearly.spare) n) ≤ len (selected entry n) =
     len-selected (without entry nearly.spare) n (selected entry n) (λ k e h is. get-some entry n e.id k e h (without_some entry nearly.spare k e is).1 refl) in
     omega arith

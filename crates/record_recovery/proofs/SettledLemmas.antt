@@ -24,7 +24,7 @@ free_slots-same entry other (suc n) same =
     ap (λ (o : Option Entry). with_free o n (free_slots other n)) (same n (omega arith))
     ∙ ap (with_free (entry n) n) (free_slots-same entry other n (λ k h. same k (omega arith)))
 
-free_among-same : (entry other : ℕ → Option Entry) (n : ℕ) → ((k : ℕ) → k < n → other k ≡ entry k) → free_among other n ≡ free_among entry n
+pub free_among-same : (entry other : ℕ → Option Entry) (n : ℕ) → ((k : ℕ) → k < n → other k ≡ entry k) → free_among other n ≡ free_among entry n
 unfolding free_among
 free_among-same entry other zero same = refl
 free_among-same entry other (suc n) same =
@@ -80,7 +80,7 @@ IsSettled-stays size slots n start now found after ids places free mine had =
     }
 
 -- what the killing of a slot that is not its identifier's record needs and gives
-chosen_elsewhere : (size slots n : ℕ) (image : List ℕ) (ids : List ℕ) (places : List SlotOf) (e : Entry) → n < slots → length places ≡ length ids
+pub chosen_elsewhere : (size slots n : ℕ) (image : List ℕ) (ids : List ℕ) (places : List SlotOf) (e : Entry) → n < slots → length places ≡ length ids
     → AreListed (entry_at size image) slots ids places → entry_at size image n ≡ Some e
     → ((i : ℕ) (d : SlotOf) → i < length ids → get_or ids i 0 ≡ e.id → (get_or places i d).slot ≢ n)
     → (k : ℕ) × (c : Entry) × IsChosen (entry_at size image) slots k c × (c.id ≡ e.id) × (k ≢ n)

@@ -2,7 +2,7 @@
 use Rattle.std.specs.Prelude.{◌≡◌, ℕ, ◌+◌, ◌≤◌, Result}
 use Rattle.base_model.specs.Faults.{HasCause}
 use Rattle.record_model.specs.Flash.{Told, FlashState, Leaves}
-use Rattle.record_model.specs.Records.{entry_at, stored_in, free_among, HasNoSecondCopy, LosesOnly}
+use Rattle.record_model.specs.Records.{entry_at, stored_in, free_among, HasNoSecondCopy, LosesOnly, second_copies}
 use Rattle.record_recovery.specs.declared.found.Found.{Found}
 use Rattle.record_recovery.specs.Listed.{AreListed, free_slots}
 
@@ -15,6 +15,10 @@ KeepsRecords slot_size slots old new =
 abbrev pub OnlyFreesSlots : ℕ → ℕ → Told → Told → Type 0
 OnlyFreesSlots slot_size slots old new =
     Leaves old new (λ image. LosesOnly (entry_at slot_size old.image) (entry_at slot_size image) slots)
+
+-- no more changes were made than there were second copies
+abbrev pub ChangesFew : ℕ → ℕ → FlashState → FlashState → Type 0
+ChangesFew slot_size slots old new = new.steps ≤ old.steps + second_copies slot_size slots old.told.image
 
 -- what was found are the records of the old image with their places, which are those of the new one too; there no other
 -- slot has a record, and each slot that lost one took one change

@@ -1,7 +1,7 @@
 -- How far the second pass of a scan has come.
 use Rattle.std.specs.Prelude.{◌≡◌, ℕ, ◌+◌, ◌<◌, ◌≤◌, List, length, slice_index, slice_index_or, Some}
 use Rattle.record_model.specs.Flash.{FlashState}
-use Rattle.record_model.specs.Records.{Entry, entry_at, free_among}
+use Rattle.record_model.specs.Records.{Entry, entry_at, free_among, second_copies}
 use Rattle.record_recovery.specs.declared.found.Found.{Found}
 use Rattle.record_recovery.specs.declared.found.SlotOf.{SlotOf}
 use Rattle.record_recovery.specs.Listed.{AreListed, free_slots}
@@ -17,3 +17,8 @@ pub record IsSettled (slot_size slots n : ℕ) (old now : FlashState) (found : F
   pub rest : (k : ℕ) → n ≤ k → entry_at slot_size now.told.image k ≡ entry_at slot_size old.told.image k
   pub free : found.free.items ≡ free_slots (entry_at slot_size now.told.image) n
   pub steps : now.steps + free_among (entry_at slot_size old.told.image) n ≡ old.steps + free_among (entry_at slot_size now.told.image) n
+
+-- one change was made for each second copy that is one no more
+abbrev pub CountsCopies : ℕ → ℕ → FlashState → FlashState → Type 0
+CountsCopies slot_size slots old now =
+    now.steps + second_copies slot_size slots now.told.image ≡ old.steps + second_copies slot_size slots old.told.image
