@@ -6,7 +6,7 @@ use Rattle.record_model.specs.Records.{entry_at}
 use Rattle.record_recovery.specs.declared.found.Found.{Found}
 use Rattle.record_recovery.specs.Listed.{AreListed, AreSlots, IsIndex, HoldsIds}
 use Rattle.record_recovery.specs.Recovered.{KeepsRecords, OnlyFreesSlots}
-use Rattle.record_recovery.specs.Settling.{IsSettled}
+use Rattle.record_recovery.specs.Settling.{IsSettled, CountsCopies}
 
 -- the first n slots were looked at, and nothing was changed
 pub record HasListed (tells : Type 0) (slots slot_size n : ℕ) (first found : Found) (held : List (Option ℕ)) (old now : FlashState) : Type 0 where
@@ -38,4 +38,5 @@ pub record HasSettled (tells : Type 0) (slots slot_size n : ℕ) (first found : 
   pub faults : now.faults ≡ old.faults
   pub crash : tells → KeepsRecords slot_size slots old.told now.told
   pub lost : tells → OnlyFreesSlots slot_size slots old.told now.told
+  pub counted : tells → CountsCopies slot_size slots old now
   pub settled : tells → IsSettled slot_size slots n old now found

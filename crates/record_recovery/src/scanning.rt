@@ -3,7 +3,7 @@ ghost use Rattle.std.specs.Prelude.{◌≡◌, ◌≤◌, OnOk, OnErr, IfOk, IfE
 ghost use Rattle.record_slots.specs.Slots.{Fits};
 ghost use Rattle.record_recovery.specs.Answers.{IsAnswer};
 ghost use Rattle.record_recovery.specs.Listed.{AreSlots, IsIndex};
-ghost use Rattle.record_recovery.specs.Recovered.{IsRecovered, KeepsRecords, OnlyFreesSlots, KeepsShape};
+ghost use Rattle.record_recovery.specs.Recovered.{IsRecovered, KeepsRecords, OnlyFreesSlots, ChangesFew, KeepsShape};
 ghost use Rattle.record_recovery.specs.Rooms.{IsEmpty, HasRoom, SameRoom};
 ghost use Rattle.record_recovery.specs.declared.scanning.ScanError.TheVariants.{Flash, Memory};
 
@@ -51,6 +51,7 @@ pub fn scan<F: Flash>(alloc: Global, flash: &mut F, geometry: &Geometry) -> Resu
         (F.state flash.old) (F.state flash.new) found) }
     ensures crash { F.tells → KeepsRecords geometry.now.slot_size geometry.now.slots (F.state flash.old).told (F.state flash.new).told }
     ensures lost { F.tells → OnlyFreesSlots geometry.now.slot_size geometry.now.slots (F.state flash.old).told (F.state flash.new).told }
+    ensures changes { F.tells → ChangesFew geometry.now.slot_size geometry.now.slots (F.state flash.old) (F.state flash.new) }
     ensures index { IfOk result (λ found. IsIndex geometry.now.slots geometry.now.slot_size found.ids.items found.places.items) }
     ensures few { IfOk result (λ found. length found.ids.items ≤ geometry.now.slots) }
     ensures free { IfOk result (λ found. AreSlots geometry.now.slots found.free.items) }
@@ -86,6 +87,7 @@ pub fn rescan<F: Flash>(
     ensures emptied { OnErr result (IsEmpty found.new) }
     ensures crash { F.tells → KeepsRecords geometry.now.slot_size geometry.now.slots (F.state flash.old).told (F.state flash.new).told }
     ensures lost { F.tells → OnlyFreesSlots geometry.now.slot_size geometry.now.slots (F.state flash.old).told (F.state flash.new).told }
+    ensures changes { F.tells → ChangesFew geometry.now.slot_size geometry.now.slots (F.state flash.old) (F.state flash.new) }
     ensures index { IsIndex geometry.now.slots geometry.now.slot_size found.new.ids.items found.new.places.items }
     ensures few { length found.new.ids.items ≤ geometry.now.slots }
     ensures free { AreSlots geometry.now.slots found.new.free.items }
@@ -113,6 +115,7 @@ fn recover<F: Flash>(
         (F.state flash.old) (F.state flash.new) found.new) }
     ensures crash { F.tells → KeepsRecords geometry.now.slot_size geometry.now.slots (F.state flash.old).told (F.state flash.new).told }
     ensures lost { F.tells → OnlyFreesSlots geometry.now.slot_size geometry.now.slots (F.state flash.old).told (F.state flash.new).told }
+    ensures changes { F.tells → ChangesFew geometry.now.slot_size geometry.now.slots (F.state flash.old) (F.state flash.new) }
     ensures index { IsIndex geometry.now.slots geometry.now.slot_size found.new.ids.items found.new.places.items }
     ensures few { OnOk result (length found.new.ids.items ≤ geometry.now.slots) }
     ensures free { OnOk result (AreSlots geometry.now.slots found.new.free.items) }

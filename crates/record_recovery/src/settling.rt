@@ -1,13 +1,13 @@
 // The second pass of a scan: the end of second copies. Each kill leaves the records of the flash, wherever power is lost
 // in it, since a slot that is not its identifier's record has no say in which records there are.
-ghost use Rattle.std.specs.Prelude.{◌≡◌, ◌≢◌, ℕ, ◌+◌, ◌<◌, ◌≤◌, [], length, slice_index, slice_index_or, MatchBool, OnOk, vec_len, vec_capacity};
+ghost use Rattle.std.specs.Prelude.{◌≡◌, ◌≢◌, ℕ, ◌+◌, ◌<◌, ◌≤◌, [], length, slice_index, slice_index_or, MatchBool, OnOk, OnErr, vec_len, vec_capacity};
 ghost use Rattle.std.specs.List.Sorted.{IsStrictlyIncreasing};
 ghost use Rattle.record_model.specs.Flash.{FlashState};
 ghost use Rattle.record_model.specs.Records.{entry_at};
 ghost use Rattle.record_slots.specs.Slots.{Fits};
 ghost use Rattle.record_recovery.specs.Listed.{AreListed, AreSlots, IsIndex, HoldsIds, id_in};
-ghost use Rattle.record_recovery.specs.Recovered.{KeepsRecords, OnlyFreesSlots, KeepsShape};
-ghost use Rattle.record_recovery.specs.Settling.{HasRecord, IsSettled};
+ghost use Rattle.record_recovery.specs.Recovered.{KeepsRecords, OnlyFreesSlots, ChangesFew, KeepsShape};
+ghost use Rattle.record_recovery.specs.Settling.{HasRecord, IsSettled, CountsCopies};
 
 use crate::listing::MAX_SLOTS;
 use crate::{Found, SlotOf};
@@ -34,6 +34,7 @@ pub fn settle_slots<F: Flash>(
         (F.state flash.old) (F.state flash.new) found.new) }
     ensures crash { F.tells → KeepsRecords geometry.now.slot_size geometry.now.slots (F.state flash.old).told (F.state flash.new).told }
     ensures lost { F.tells → OnlyFreesSlots geometry.now.slot_size geometry.now.slots (F.state flash.old).told (F.state flash.new).told }
+    ensures changes { F.tells → ChangesFew geometry.now.slot_size geometry.now.slots (F.state flash.old) (F.state flash.new) }
     ensures ids { found.new.ids ≡ found.old.ids }
     ensures places { found.new.places ≡ found.old.places }
     ensures free { AreSlots geometry.now.slots found.new.free.items }
@@ -70,6 +71,12 @@ fn settle_slot<F: Flash>(
         geometry.now.slots found.old.ids.items found.old.places.items
         → KeepsRecords geometry.now.slot_size geometry.now.slots (F.state flash.old).told (F.state flash.new).told }
     ensures lost { F.tells → OnlyFreesSlots geometry.now.slot_size geometry.now.slots (F.state flash.old).told (F.state flash.new).told }
+    ensures counted { OnOk result (F.tells → AreListed (entry_at geometry.now.slot_size (F.state flash.old).told.image)
+        geometry.now.slots found.old.ids.items found.old.places.items
+        → CountsCopies geometry.now.slot_size geometry.now.slots (F.state flash.old) (F.state flash.new)) }
+    ensures failed { OnErr result (F.tells → AreListed (entry_at geometry.now.slot_size (F.state flash.old).told.image)
+        geometry.now.slots found.old.ids.items found.old.places.items
+        → ChangesFew geometry.now.slot_size geometry.now.slots (F.state flash.old) (F.state flash.new)) }
     ensures ids { found.new.ids ≡ found.old.ids }
     ensures places { found.new.places ≡ found.old.places }
     ensures few { vec_len found.new.free ≤ slot + 1 }

@@ -1,4 +1,5 @@
 use Rattle.std.proofs.Common.{refl, ap, length, ◌∙◌, arith}
+use Rattle.record_recovery.proofs.StepsLemmas.{CountsCopies-then, ChangesFew-then, ChangesFew-counted}
 use Rattle.record_recovery.proofs.LostLemmas.{OnlyFreesSlots-none, OnlyFreesSlots-then}
 use Rattle.record_recovery.proofs.SettledLemmas.{IsSettled-none, IsIndex-same, AreSlots-none, KeepsRecords-none, KeepsRecords-then}
 use Rattle.record_recovery.proofs.settling.settle_slots.Goals as goal
@@ -17,6 +18,7 @@ loop-slot-init g c = record {
   faults = refl;
   crash = λ tells. KeepsRecords-none c.args.geometry.now.slot_size c.args.geometry.now.slots (g.F.Flash.state c.args.flash.now).told;
   lost = λ tells. OnlyFreesSlots-none c.args.geometry.now.slot_size c.args.geometry.now.slots (g.F.Flash.state c.args.flash.now).told;
+  counted = λ tells. refl;
   settled = λ tells.
       IsSettled-none c.args.geometry.now.slot_size c.args.geometry.now.slots (g.F.Flash.state c.args.flash.now) c.args.found.now c.requires.free (c.requires.listed tells);
 }
@@ -44,6 +46,9 @@ loop-slot-preserved g c = record {
   lost = λ tells.
       OnlyFreesSlots-then c.args.geometry.now.slot_size c.args.geometry.now.slots (g.F.Flash.state c.args.flash.now).told (g.F.Flash.state c.loop-slot.flash).told (g.F.Flash.state c.settle_slot.new.flash).told
       (c.loop-slot.invariant.lost tells) (c.settle_slot.ensures.lost tells);
+  counted = λ tells.
+      CountsCopies-then c.args.geometry.now.slot_size c.args.geometry.now.slots (g.F.Flash.state c.args.flash.now) (g.F.Flash.state c.loop-slot.flash) (g.F.Flash.state c.settle_slot.new.flash)
+      (c.loop-slot.invariant.counted tells) (c.in_ok-settle_slot.ensures.counted tells (c.loop-slot.invariant.settled tells).listed);
   settled = λ tells. c.in_ok-settle_slot.ensures.settled tells (g.F.Flash.state c.args.flash.now) (c.loop-slot.invariant.settled tells);
 }
 
@@ -51,3 +56,11 @@ pub returns-in_err-settle_slot-clause-lost : goal.returns-in_err-settle_slot-cla
 returns-in_err-settle_slot-clause-lost g c tells =
     OnlyFreesSlots-then c.args.geometry.now.slot_size c.args.geometry.now.slots (g.F.Flash.state c.args.flash.now).told (g.F.Flash.state c.loop-slot.flash).told (g.F.Flash.state c.settle_slot.new.flash).told
     (c.loop-slot.invariant.lost tells) (c.settle_slot.ensures.lost tells)
+
+pub returns-in_err-settle_slot-clause-changes : goal.returns-in_err-settle_slot-clause-changes
+returns-in_err-settle_slot-clause-changes g c tells =
+    ChangesFew-then c.args.geometry.now.slot_size c.args.geometry.now.slots (g.F.Flash.state c.args.flash.now) (g.F.Flash.state c.loop-slot.flash) (g.F.Flash.state c.settle_slot.new.flash)
+    (c.loop-slot.invariant.counted tells) (c.in_err-settle_slot.ensures.failed tells (c.loop-slot.invariant.settled tells).listed)
+
+pub returns-clause-changes : goal.returns-clause-changes
+returns-clause-changes g c tells = ChangesFew-counted c.args.geometry.now.slot_size c.args.geometry.now.slots (g.F.Flash.state c.args.flash.now) (g.F.Flash.state c.loop-slot.flash) (c.loop-slot.invariant.counted tells)
