@@ -7,7 +7,7 @@ use Rattle.record_model.specs.Flash.{Told, FlashState, Changed, next_count}
 use Rattle.record_model.specs.Records.{Entry, Stored, IsChosen, selected, entry_at, stored_in, free_among, one_if_free, HasNoSecondCopy, without, IsNearlySingle, second_copies}
 use Rattle.record_model.proofs.SelectionLemmas.{free_among-len}
 use Rattle.record_model.proofs.SizeLemmas.{free_among-len_at_most}
-use Rattle.record_model.proofs.SpareLemmas.{without-here, without-other, free_among-without, len-selected, second_copies-few}
+use Rattle.record_model.proofs.SpareLemmas.{without-here, without-other, free_among-without, len-selected, second_copies-none, second_copies-few}
 use Rattle.record_recovery.specs.declared.found.Found.{Found}
 use Rattle.record_recovery.specs.declared.found.SlotOf.{SlotOf}
 use Rattle.record_recovery.specs.Listed.{AreListed, id_in}
@@ -138,3 +138,11 @@ pub ChangesFew-from : (size slots : ℕ) (old mid new : FlashState) → mid.told
 ChangesFew-from size slots old mid new told steps few =
     let same : second_copies size slots mid.told.image ≡ second_copies size slots old.told.image = ap (λ (t : Told). second_copies size slots t.image) told in
     omega arith
+
+-- so at most one, where at most one is a second copy
+pub ChangesFew-nearly : (size slots : ℕ) (old new : FlashState) → ChangesFew size slots old new → IsNearlySingle (entry_at size old.told.image) slots → new.steps ≤ old.steps + 1
+ChangesFew-nearly size slots old new few nearly = let one = second_copies-few size slots old.told.image nearly in omega arith
+
+-- and none, where none is
+pub ChangesFew-single : (size slots : ℕ) (old new : FlashState) → ChangesFew size slots old new → HasNoSecondCopy size slots old.told.image → new.steps ≤ old.steps
+ChangesFew-single size slots old new few single = let none = second_copies-none size slots old.told.image single in omega arith

@@ -44,7 +44,8 @@ impl From<AllocError> for ScanError {
 /// not its identifier's record, in rising order of slots, by one change each. The record of an identifier is that of the
 /// greatest generation, in the lower slot at a tie.
 ///
-/// Power lost on the way, or a flash that fails, leaves the records of the flash as they were.
+/// Power lost on the way, or a flash that fails, leaves the records of the flash as they were, and each slot as it was
+/// or free.
 pub fn scan<F: Flash>(alloc: Global, flash: &mut F, geometry: &Geometry) -> Result<Found, ScanError>
     ensures answer { IsAnswer geometry.now (F.state flash.old) (F.state flash.new) result }
     ensures recovered { IfOk result (λ found. F.tells → IsRecovered geometry.now.slot_size geometry.now.slots
