@@ -5,3 +5,4 @@ pub mod AnswerLemmas
 pub mod ChangeLemmas
 pub mod ScanLemmas
 pub mod WalkLemmas
+pub mod StoredLemmas
