@@ -1,3 +1,5 @@
 pub mod Store
 pub mod Answers
 pub mod Index
+pub mod Slot
+pub mod Work

@@ -2,8 +2,11 @@
 //! of the flash, or within one, leaves the records from before the command or those after it.
 #![tactic(auto)]
 
+mod changes;
 mod errors;
+mod preparing;
 mod store;
+mod work;
 
 pub use errors::{StoreError, StoreRefused};
 pub use record_recovery::ScanError;
