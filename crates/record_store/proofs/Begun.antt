@@ -9,7 +9,7 @@ use Rattle.record_model.specs.Flash.{Told, Leaves, MayChange, IsErased}
 use Rattle.record_model.specs.Records.{Head, Entry, head_fields, entry_at, tail_at, is_reserved, DiffersInFreeSlot, IsReady}
 use Rattle.record_model.proofs.CrashLemmas.{Leaves-change}
 use Rattle.record_model.proofs.SlotLemmas.{erased_byte, IsErased-within, IsErased-before, IsErased-after, IsReady-gate, ready_opened, free_by_gate}
-use Rattle.record_store.specs.Slot.{Keeps, StaysFree, HasOpened, IsFreeOrOpened, IsBegun}
+use Rattle.record_store.specs.Slot.{Keeps, StaysFree, IsFilled, IsFreeOrOpened, IsBegun}
 use Rattle.record_store.proofs.KeepsLemmas.{StaysFree-gate, erased_gate}
 
 -- the numbers of the fields
@@ -142,7 +142,7 @@ opening_leaves size slot opened old new large least room reserved ready change =
 -- the gate is open
 pub opened_here : (size slot : ℕ) (opened : Entry) (old new : List ℕ) → 512 ≤ size → 128 ≤ length opened.body → length opened.body ≤ size - 64 → is_reserved opened.id ≡ false
     → IsReady size slot opened.id opened.generation opened.body old → SameOutside (slot * size) 1 old new → number_at new (slot * size) 1 ≡ 0x5A
-    → HasOpened size slot opened old new
+    → IsFilled size slot opened old new
 opened_here size slot opened old new large least room reserved ready same gate = record {
   same = SameOutside-wider (slot * size) 1 (slot * size) size old new (omega arith) (omega arith) same;
   here = ready_opened size slot opened.id opened.generation opened.body new

@@ -1,3 +1,4 @@
 pub mod KeepsLemmas
 pub mod Sectors
 pub mod Begun
+pub mod WorkLemmas

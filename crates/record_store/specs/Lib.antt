@@ -3,3 +3,4 @@ pub mod Answers
 pub mod Index
 pub mod Slot
 pub mod Work
+pub mod Kept

@@ -14,14 +14,14 @@ abbrev pub StaysFree : ℕ → ℕ → ℕ → ℕ → List ℕ → Type 0
 StaysFree place len slot_size slot image = (other : List ℕ) → SameOutside place len image other → entry_at slot_size other slot ≡ None
 
 -- the slot has this record
-pub record HasOpened (slot_size slot : ℕ) (opened : Entry) (first image : List ℕ) : Type 0 where
+pub record IsFilled (slot_size slot : ℕ) (opened : Entry) (first image : List ℕ) : Type 0 where
   pub same : SameOutside (slot * slot_size) slot_size first image
   pub here : entry_at slot_size image slot ≡ Some opened
 
 -- the image differs from the first one only in a slot, which is free or has this record
 abbrev pub IsFreeOrOpened : ℕ → ℕ → Entry → List ℕ → List ℕ → Type 0
 IsFreeOrOpened slot_size slot opened first image =
-    DiffersInFreeSlot slot_size slot first image ⊎ HasOpened slot_size slot opened first image
+    DiffersInFreeSlot slot_size slot first image ⊎ IsFilled slot_size slot opened first image
 
 -- one change of the flash was asked for, and nothing was read
 pub record IsOneChange {T E : Type 0} (old new : FlashState) (result : Result T E) : Type 0 where

@@ -1,5 +1,5 @@
 -- What is pending in a store, and what then stands in the slot that is filled.
-use Rattle.std.specs.Prelude.{◌≡◌, ℕ, false, ◌+◌, ◌-◌, ◌*◌, ◌<◌, ◌≤◌, List, length}
+use Rattle.std.specs.Prelude.{◌≡◌, ℕ, false, ◌+◌, ◌-◌, ◌*◌, ◌<◌, ◌≤◌, List, length, IfSome}
 use Rattle.flash_model.specs.declared.geometry.Geometry.{Geometry}
 use Rattle.record_model.specs.Flash.{IsErased}
 use Rattle.record_model.specs.Records.{Entry, is_reserved, IsReady as is_ready}
@@ -19,6 +19,7 @@ pub record IsDraft (geometry : Geometry) (draft : Draft) : Type 0 where
   pub slot : draft.slot < geometry.slots
   pub least : 128 ≤ draft.len
   pub most : draft.len ≤ geometry.slot_size - 64
+  pub replaced : IfSome draft.replaced (λ slot. slot < geometry.slots)
 
 -- a stage in the filling of a slot with a body of this length
 abbrev pub IsStage : Geometry → ℕ → Stage → Type 0

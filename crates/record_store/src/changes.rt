@@ -6,7 +6,7 @@ ghost use Rattle.std.specs.Prelude.{◌≡◌, ℕ, ◌+◌, ◌-◌, ◌*◌, �
 ghost use Rattle.record_model.specs.Flash.{Leaves, IsErased};
 ghost use Rattle.record_model.specs.Records.{entry_at};
 ghost use Rattle.record_slots.specs.Slots.{Fits};
-ghost use Rattle.record_store.specs.Slot.{Keeps, IsOneChange, IsCleanFromHead, IsCleanFromTail, IsBegun, HasOpened, IsFreeOrOpened};
+ghost use Rattle.record_store.specs.Slot.{Keeps, IsOneChange, IsCleanFromHead, IsCleanFromTail, IsBegun, IsFilled, IsFreeOrOpened};
 ghost use Rattle.record_store.specs.Work.{IsDraft, IsWhole, entry_in};
 
 use crate::work::Draft;
@@ -134,7 +134,7 @@ pub fn publish<F: Flash>(
     requires whole { F.tells → IsWhole geometry.now.slot_size draft.slot draft.id draft.generation body.now (F.state flash.old).told.image }
     ensures crash { F.tells → Leaves (F.state flash.old).told (F.state flash.new).told
         (IsFreeOrOpened geometry.now.slot_size draft.slot (entry_in draft body.now) (F.state flash.old).told.image) }
-    ensures opened { OnOk result (F.tells → HasOpened geometry.now.slot_size draft.slot (entry_in draft body.now)
+    ensures opened { OnOk result (F.tells → IsFilled geometry.now.slot_size draft.slot (entry_in draft body.now)
         (F.state flash.old).told.image (F.state flash.new).told.image) }
     ensures change { IsOneChange (F.state flash.old) (F.state flash.new) result }
 {
