@@ -100,10 +100,10 @@ prepared_made tells geometry found buffer draft stage next old new before is_dra
       pending = goes_on geometry.per_slot draft.id (made_at geometry.per_slot (pieces_of (length body)) stage) (made_at geometry.per_slot (pieces_of (length body)) next) body (is_some draft.replaced) low onward.made;
       knows = λ told. (
         (let known = knows told in
-        record {
-          slots = subst (λ (entry : ℕ → Option Entry). KnowsSlots entry geometry.slots found) (same told) known.slots;
-          draft_for = subst (λ (entry : ℕ → Option Entry). IsDraftFor entry geometry.slots draft) (same told) known.draft_for;
-        }),
+            record {
+              slots = subst (λ (entry : ℕ → Option Entry). KnowsSlots entry geometry.slots found) (same told) known.slots;
+              draft_for = subst (λ (entry : ℕ → Option Entry). IsDraftFor entry geometry.slots draft) (same told) known.draft_for;
+            }),
         onward.stands told,
       );
       made = λ told. same_stored size geometry.slots old.image new.image (same told)
@@ -416,3 +416,6 @@ cleared_made tells geometry before found buffer id slot old new within knows sam
 -- no other slot has an identifier that is to be cleared
 pub only_copy : (entry : ℕ → Option Entry) (slots id slot : ℕ) → slot < slots → AreSingle entry slots → HoldsId entry slot id → IsOnlyCopy entry slots slot id
 only_copy entry slots id slot within single held k e h at_k is = single k slot e held.held h within at_k held.here (is ∙ sym held.of_id)
+
+pub large_slot : (geometry : Geometry) → 64 ≤ geometry.slot_size
+large_slot geometry = omega (arith, geometry.least_slot)

@@ -11,7 +11,9 @@ ghost use Rattle.record_store.specs.Work.{IsDraft, IsWhole, entry_in};
 
 use crate::work::Draft;
 use flash_model::{Flash, FlashFailed, Geometry};
-use record_slots::{FORMAT, GATE_OPEN, Head, NOT_KILLED, erase_one, open_gate, put_head, put_piece, put_tail};
+use record_slots::{
+    FORMAT, GATE_OPEN, Head, NOT_KILLED, erase_one, open_gate, put_head, put_piece, put_tail,
+};
 
 /// The most bytes of a body that one change programs.
 pub const PIECE_LEN: usize = 256;
@@ -57,15 +59,15 @@ pub fn erase_from_tail<F: Flash>(
 pub fn put_draft<F: Flash>(
     flash: &mut F,
     geometry: &Geometry,
-    draft: Draft,
+    draft: &Draft,
     body: &[u8],
 ) -> Result<(), FlashFailed>
     requires fits { Fits geometry.now (F.state flash.old) }
-    requires slot { draft.slot < geometry.now.slots }
+    requires slot { draft.now.slot < geometry.now.slots }
     requires room { length body.now ≤ geometry.now.slot_size - 64 }
-    requires erased { F.tells → IsErased (F.state flash.old).told.image (draft.slot * geometry.now.slot_size) geometry.now.slot_size }
-    ensures kept { F.tells → Keeps geometry.now.slot_size draft.slot (F.state flash.old).told (F.state flash.new).told }
-    ensures begun { OnOk result (F.tells → IsBegun geometry.now.slot_size draft.slot draft.id draft.generation body.now 0 (F.state flash.new).told.image) }
+    requires erased { F.tells → IsErased (F.state flash.old).told.image (draft.now.slot * geometry.now.slot_size) geometry.now.slot_size }
+    ensures kept { F.tells → Keeps geometry.now.slot_size draft.now.slot (F.state flash.old).told (F.state flash.new).told }
+    ensures begun { OnOk result (F.tells → IsBegun geometry.now.slot_size draft.now.slot draft.now.id draft.now.generation body.now 0 (F.state flash.new).told.image) }
     ensures change { IsOneChange (F.state flash.old) (F.state flash.new) result }
 {
     let head = Head {
@@ -83,17 +85,17 @@ pub fn put_draft<F: Flash>(
 pub fn add_piece<F: Flash>(
     flash: &mut F,
     geometry: &Geometry,
-    draft: Draft,
+    draft: &Draft,
     piece: u32,
     body: &[u8],
 ) -> Result<(), FlashFailed>
     requires fits { Fits geometry.now (F.state flash.old) }
-    requires slot { draft.slot < geometry.now.slots }
+    requires slot { draft.now.slot < geometry.now.slots }
     requires room { length body.now ≤ geometry.now.slot_size - 64 }
     requires some { 256 * piece < length body.now }
-    requires begun { F.tells → IsBegun geometry.now.slot_size draft.slot draft.id draft.generation body.now (256 * piece) (F.state flash.old).told.image }
-    ensures kept { F.tells → Keeps geometry.now.slot_size draft.slot (F.state flash.old).told (F.state flash.new).told }
-    ensures begun { OnOk result (F.tells → IsBegun geometry.now.slot_size draft.slot draft.id draft.generation body.now
+    requires begun { F.tells → IsBegun geometry.now.slot_size draft.now.slot draft.now.id draft.now.generation body.now (256 * piece) (F.state flash.old).told.image }
+    ensures kept { F.tells → Keeps geometry.now.slot_size draft.now.slot (F.state flash.old).told (F.state flash.new).told }
+    ensures begun { OnOk result (F.tells → IsBegun geometry.now.slot_size draft.now.slot draft.now.id draft.now.generation body.now
         (min (256 * (piece + 1)) (length body.now)) (F.state flash.new).told.image) }
     ensures change { IsOneChange (F.state flash.old) (F.state flash.new) result }
 {
@@ -106,15 +108,15 @@ pub fn add_piece<F: Flash>(
 pub fn finish<F: Flash>(
     flash: &mut F,
     geometry: &Geometry,
-    draft: Draft,
+    draft: &Draft,
     body: &[u8],
 ) -> Result<(), FlashFailed>
     requires fits { Fits geometry.now (F.state flash.old) }
-    requires slot { draft.slot < geometry.now.slots }
+    requires slot { draft.now.slot < geometry.now.slots }
     requires room { length body.now ≤ geometry.now.slot_size - 64 }
-    requires begun { F.tells → IsBegun geometry.now.slot_size draft.slot draft.id draft.generation body.now (length body.now) (F.state flash.old).told.image }
-    ensures kept { F.tells → Keeps geometry.now.slot_size draft.slot (F.state flash.old).told (F.state flash.new).told }
-    ensures whole { OnOk result (F.tells → IsWhole geometry.now.slot_size draft.slot draft.id draft.generation body.now (F.state flash.new).told.image) }
+    requires begun { F.tells → IsBegun geometry.now.slot_size draft.now.slot draft.now.id draft.now.generation body.now (length body.now) (F.state flash.old).told.image }
+    ensures kept { F.tells → Keeps geometry.now.slot_size draft.now.slot (F.state flash.old).told (F.state flash.new).told }
+    ensures whole { OnOk result (F.tells → IsWhole geometry.now.slot_size draft.now.slot draft.now.id draft.now.generation body.now (F.state flash.new).told.image) }
     ensures change { IsOneChange (F.state flash.old) (F.state flash.new) result }
 {
     put_tail(flash, geometry, draft.slot)
@@ -125,16 +127,16 @@ pub fn finish<F: Flash>(
 pub fn publish<F: Flash>(
     flash: &mut F,
     geometry: &Geometry,
-    draft: Draft,
+    draft: &Draft,
     body: &[u8],
 ) -> Result<(), FlashFailed>
     requires fits { Fits geometry.now (F.state flash.old) }
-    requires draft { IsDraft geometry.now draft }
-    requires len { length body.now ≡ draft.len }
-    requires whole { F.tells → IsWhole geometry.now.slot_size draft.slot draft.id draft.generation body.now (F.state flash.old).told.image }
+    requires draft { IsDraft geometry.now draft.now }
+    requires len { length body.now ≡ draft.now.len }
+    requires whole { F.tells → IsWhole geometry.now.slot_size draft.now.slot draft.now.id draft.now.generation body.now (F.state flash.old).told.image }
     ensures crash { F.tells → Leaves (F.state flash.old).told (F.state flash.new).told
-        (IsFreeOrOpened geometry.now.slot_size draft.slot (entry_in draft body.now) (F.state flash.old).told.image) }
-    ensures opened { OnOk result (F.tells → IsFilled geometry.now.slot_size draft.slot (entry_in draft body.now)
+        (IsFreeOrOpened geometry.now.slot_size draft.now.slot (entry_in draft.now body.now) (F.state flash.old).told.image) }
+    ensures opened { OnOk result (F.tells → IsFilled geometry.now.slot_size draft.now.slot (entry_in draft.now body.now)
         (F.state flash.old).told.image (F.state flash.new).told.image) }
     ensures change { IsOneChange (F.state flash.old) (F.state flash.new) result }
 {

@@ -4,7 +4,9 @@
 
 mod changes;
 mod errors;
+mod index;
 mod preparing;
+mod stepping;
 mod store;
 mod work;
 

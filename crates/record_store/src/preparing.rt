@@ -13,19 +13,19 @@ use flash_model::{Flash, FlashFailed, Geometry};
 pub fn prepare<F: Flash>(
     flash: &mut F,
     geometry: &Geometry,
-    draft: Draft,
+    draft: &Draft,
     stage: Stage,
     body: &[u8],
 ) -> Result<Stage, FlashFailed>
     requires fits { Fits geometry.now (F.state flash.old) }
-    requires draft { IsDraft geometry.now draft }
-    requires len { length body.now ≡ draft.len }
+    requires draft { IsDraft geometry.now draft.now }
+    requires len { length body.now ≡ draft.now.len }
     requires stage { IsStage geometry.now (length body.now) stage }
     requires before { IsBeforeGate stage }
-    requires free { F.tells → entry_at geometry.now.slot_size (F.state flash.old).told.image draft.slot ≡ None }
-    requires stands { F.tells → StandsAt geometry.now draft body.now (F.state flash.old).told.image stage }
-    ensures kept { F.tells → Keeps geometry.now.slot_size draft.slot (F.state flash.old).told (F.state flash.new).told }
-    ensures next { IfOk result (IsNextStage F.tells geometry.now draft body.now (F.state flash.new).told.image stage) }
+    requires free { F.tells → entry_at geometry.now.slot_size (F.state flash.old).told.image draft.now.slot ≡ None }
+    requires stands { F.tells → StandsAt geometry.now draft.now body.now (F.state flash.old).told.image stage }
+    ensures kept { F.tells → Keeps geometry.now.slot_size draft.now.slot (F.state flash.old).told (F.state flash.new).told }
+    ensures next { IfOk result (IsNextStage F.tells geometry.now draft.now body.now (F.state flash.new).told.image stage) }
     ensures change { IsOneChange (F.state flash.old) (F.state flash.new) result }
 {
     match stage {

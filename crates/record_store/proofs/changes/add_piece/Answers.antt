@@ -15,7 +15,7 @@ put_piece-requires-clause-erased g c tells =
     let count = length_piece c.args.body.now start more (omega arith) in
     let image = (g.F.Flash.state c.args.flash.now).told.image in
     let size = c.args.geometry.now.slot_size in
-    let place = c.args.draft.slot * size + 32 + start in
+    let place = c.args.draft.now.slot * size + 32 + start in
     subst (λ (n : ℕ). IsErased image place n) (sym count)
     (IsErased-within image place (size - 32 - start) place more (c.requires.begun tells).rest (omega arith) (omega arith))
 
@@ -27,7 +27,7 @@ returns-clause-kept g c tells =
     let count = length_piece c.args.body.now start more (omega arith) in
     let size = c.args.geometry.now.slot_size in
     let least = c.args.geometry.now.least_slot in
-    let slot = c.args.draft.slot in
+    let slot = c.args.draft.now.slot in
     let n = length (take more (drop start c.args.body.now)) in
     let old = (g.F.Flash.state c.args.flash.now).told in
     let new = (g.F.Flash.state c.put_piece.new.flash).told in
@@ -43,15 +43,15 @@ returns-clause-begun g c =
     let count = length_piece c.args.body.now start more (omega arith) in
     let size = c.args.geometry.now.slot_size in
     let least = c.args.geometry.now.least_slot in
-    let slot = c.args.draft.slot in
+    let slot = c.args.draft.now.slot in
     let n = length (take more (drop start c.args.body.now)) in
     let old = (g.F.Flash.state c.args.flash.now).told in
     let new = (g.F.Flash.state c.put_piece.new.flash).told in
     let done : start + n ≡ min (256 * (c.args.piece + 1)) (length c.args.body.now) = omega arith in
     on_ok_weaker c.put_piece.result
     (λ stands tells.
-    subst (λ (k : ℕ). IsBegun size slot c.args.draft.id c.args.draft.generation c.args.body.now k new.image) done
-    (IsBegun-more size slot c.args.draft.id c.args.draft.generation c.args.body.now start n old.image new.image least (omega arith)
+    subst (λ (k : ℕ). IsBegun size slot c.args.draft.now.id c.args.draft.now.generation c.args.body.now k new.image) done
+    (IsBegun-more size slot c.args.draft.now.id c.args.draft.now.generation c.args.body.now start n old.image new.image least (omega arith)
     (c.requires.begun tells) (MayChange-same (slot * size + 32 + start) n old new (c.put_piece.ensures.change.told tells))
     (stands tells ∙ ap (λ (k : ℕ). take k (drop start c.args.body.now)) (sym count))))
     c.put_piece.ensures.stands

@@ -8,7 +8,7 @@ use Rattle.record_store.proofs.changes.publish.Goals as goal
 pub returns-clause-crash : goal.returns-clause-crash
 returns-clause-crash g c tells =
     let size = c.args.geometry.now.slot_size in
-    let draft = c.args.draft in
+    let draft = c.args.draft.now in
     let least = c.requires.draft.least in
     let most = c.requires.draft.most in
     opening_leaves size draft.slot (entry_in draft c.args.body.now) (g.F.Flash.state c.args.flash.now).told (g.F.Flash.state c.open_gate.new.flash).told
@@ -17,7 +17,7 @@ returns-clause-crash g c tells =
 pub returns-clause-opened : goal.returns-clause-opened
 returns-clause-opened g c =
     let size = c.args.geometry.now.slot_size in
-    let draft = c.args.draft in
+    let draft = c.args.draft.now in
     let least = c.requires.draft.least in
     let most = c.requires.draft.most in
     let old = (g.F.Flash.state c.args.flash.now).told in
