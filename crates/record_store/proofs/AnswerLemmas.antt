@@ -1,19 +1,20 @@
 -- What the kept lists answer, as the map of the records answers it.
-use Rattle.std.proofs.Common.{◌≡◌, ◌≢◌, ◌⊎◌, ℕ, ◌+◌, ◌<◌, ◌≤◌, Bool, true, false, List, length, get_or, Option, Some, None, refl, sym, ap, subst, ◌∙◌, arith, inl, inr}
+use Rattle.std.proofs.Common.{◌≡◌, ℕ, ◌<◌, ◌≤◌, true, List, length, get_or, Option, Some, None, refl, sym, ap, subst, ◌∙◌, arith, inl, inr}
 use Rattle.std.specs.Prelude.{Contains, is_some, IsSome}
-use Rattle.std.specs.FinMap.{get}
+use Rattle.std.specs.FinMap.{get, len}
 use Rattle.std.proofs.lemmas.List.{get_or_default}
-use Rattle.std.proofs.lemmas.Option.{none-some}
-use Rattle.std.proofs.lemmas.Bool.{cases_lt}
+use Rattle.std.proofs.lemmas.Option.{none-some, same_Some}
 use Rattle.erst_ids.specs.Next.{IsNextAfter}
-use Rattle.record_model.specs.Records.{Entry, IsChosen, selected}
-use Rattle.record_model.specs.RecordMap.{IsNextAbove, IsLeast}
+use Rattle.record_model.specs.Records.{Entry, selected}
+use Rattle.record_model.specs.RecordMap.{IsNextAbove}
 use Rattle.record_recovery.specs.declared.found.Found.{Found}
 use Rattle.record_recovery.specs.declared.found.SlotOf.{SlotOf}
 use Rattle.record_recovery.specs.Listed.{IsPlaceOf, AreListed, IsListed}
-use Rattle.record_recovery.proofs.ChosenLemmas.{chosen_or_none, get-chosen}
+use Rattle.record_recovery.proofs.ChosenLemmas.{chosen_or_none, get-chosen, get-no_slot}
 use Rattle.record_recovery.proofs.ListedLemmas.{get-listed, get-unlisted}
-use Rattle.record_store.specs.Index.{IsListOf, IsPlaceFound}
+use Rattle.record_recovery.proofs.FreeLemmas.{free_slots-are}
+use Rattle.record_store.specs.Index.{IsListing, IsListOf, IsPlaceFound, IsStoredAt}
+use Rattle.record_store.proofs.CountLemmas.{len_stored}
 
 -- what a list has stands at an index of it
 contains_at : (xs : List ℕ) (x : ℕ) → Contains xs x → IsListed xs x
@@ -63,3 +64,47 @@ next_stored entry slots cursor found (Some id) list next = record {
       let least : id ≤ get_or found.ids.items listed.0 0 = next.2 listed.0 listed.1 (omega arith) in
       omega arith;
 }
+
+-- the place that is found is that of the stored record
+pub place_stored : (entry : ℕ → Option Entry) (slots id : ℕ) (place : SlotOf) → IsPlaceOf entry slots id place → (body : List ℕ) × IsStoredAt entry slots id place body
+place_stored entry slots id place is =
+    let whole : is.chosen ≡ record { id = id; generation = place.generation; body = (is.chosen).body } =
+    λ i. record { id = is.of_id i; generation = is.generation i; body = (is.chosen).body } in
+    let stored : get (selected entry slots) id ≡ Some ((is.chosen).body, place.generation) =
+    ap (get (selected entry slots)) (sym is.of_id) ∙ get-chosen entry slots place.slot is.chosen is.is
+    ∙ ap (λ (g : ℕ). Some ((is.chosen).body, g)) is.generation in (
+      (is.chosen).body,
+      record {
+        slot = (is.is).within;
+        here = (is.is).here ∙ ap (λ (e : Entry). Some e) whole;
+        stored = stored;
+        len = is.len;
+      },
+    )
+
+-- where none is found, none is stored
+pub no_place_stored : (entry : ℕ → Option Entry) (slots id : ℕ) → IsPlaceFound entry slots id None → get (selected entry slots) id ≡ None
+no_place_stored entry slots id none = get-no_slot entry slots id none
+
+-- of what is stored the place is found
+pub stored_place : (entry : ℕ → Option Entry) (slots id : ℕ) (answer : Option SlotOf) (kept : List ℕ × ℕ) → IsPlaceFound entry slots id answer
+    → get (selected entry slots) id ≡ Some kept → (place : SlotOf) × (answer ≡ Some place) × IsStoredAt entry slots id place kept.0 × (place.generation ≡ kept.1)
+stored_place entry slots id None kept none is = absurd (none-some kept (sym (no_place_stored entry slots id none) ∙ is))
+stored_place entry slots id (Some place) kept found is =
+    let had = place_stored entry slots id place found in
+    let same : (had.0, place.generation) ≡ kept = same_Some _ _ (sym (had.1).stored ∙ is) in (
+      place,
+      refl,
+      subst (λ (body : List ℕ). IsStoredAt entry slots id place body) (ap (λ (p : List ℕ × ℕ). p.0) same) had.1,
+      ap (λ (p : List ℕ × ℕ). p.1) same,
+    )
+
+-- every slot that is listed as free has no record
+pub free_is_free : (entry : ℕ → Option Entry) (slots i : ℕ) (found : Found) → IsListOf entry slots found → i < length found.free.items
+    → (get_or found.free.items i 0 < slots) × (entry (get_or found.free.items i 0) ≡ None)
+free_is_free entry slots i found list within = free_slots-are entry slots (get_or found.free.items i 0) (subst (λ (xs : List ℕ). IsListed xs (get_or found.free.items i 0)) list.free (i, within, refl))
+
+-- a store whose lists have no identifier has no record
+pub none_stored : (entry : ℕ → Option Entry) (slots size : ℕ) (found : Found) → IsListing slots size found → IsListOf entry slots found
+    → length found.ids.items ≡ 0 → len (selected entry slots) ≡ 0
+none_stored entry slots size found listing list none = len_stored entry slots size found listing list ∙ none

@@ -1,5 +1,5 @@
 -- How many identifiers and how many free slots are listed.
-use Rattle.std.proofs.Common.{◌≡◌, ◌≢◌, ℕ, zero, suc, ◌+◌, ◌<◌, ◌≤◌, Bool, true, false, cond, nat_eq, List, [], ◌∷◌, ◌++◌, length, get_or, Option, Some, None, refl, sym, ap, ◌∙◌, arith, inl, inr}
+use Rattle.std.proofs.Common.{◌≡◌, ◌≢◌, ℕ, zero, suc, ◌+◌, ◌<◌, Bool, cond, nat_eq, List, [], ◌∷◌, length, get_or, Option, Some, None, refl, sym, ap, ◌∙◌, arith, inl, inr}
 use Rattle.std.specs.Ordering.{nat_cmp, eq_by_cmp}
 use Rattle.std.specs.FinMap.{get, remove, len, get-remove}
 use Rattle.std.specs.Cmp.{nat_cmp_total}
@@ -12,7 +12,7 @@ use Rattle.record_model.proofs.SelectionLemmas.{free_among-len}
 use Rattle.record_model.proofs.SizeLemmas.{free_among-len_at_most, len-removed, len_none}
 use Rattle.record_recovery.specs.declared.found.Found.{Found}
 use Rattle.record_recovery.specs.declared.found.SlotOf.{SlotOf}
-use Rattle.record_recovery.specs.Listed.{IsListed, AreListed, IsIndex, with_free, free_slots}
+use Rattle.record_recovery.specs.Listed.{IsListed, AreListed, with_free, free_slots}
 use Rattle.record_recovery.proofs.ListedLemmas.{get-listed, get-unlisted}
 use Rattle.record_recovery.proofs.FreeLemmas.{rising-tail, listed-cons, listed_above, free_slots-all}
 use Rattle.record_store.specs.Index.{IsListing, IsListOf}

@@ -1,15 +1,15 @@
 -- The list of free slots, as a slot joins or leaves it.
-use Rattle.std.proofs.Common.{◌≡◌, ◌⊎◌, ℕ, ◌+◌, ◌<◌, ◌≤◌, Bool, true, cond, List, length, get_or, Option, Some, None, Ok, Err, refl, sym, ap, subst, ◌∙◌, arith, inl, inr}
+use Rattle.std.proofs.Common.{◌≡◌, ℕ, ◌+◌, ◌<◌, ◌≤◌, Bool, true, cond, List, length, get_or, Option, Ok, Err, refl, sym, ap, subst, ◌∙◌, arith, inl, inr}
 use Rattle.std.specs.Prelude.{insert, remove}
 use Rattle.std.specs.Ordering.{nat_cmp}
 use Rattle.std.proofs.lemmas.Bool.{cases_lt}
 use Rattle.std.proofs.lemmas.Option.{none-some}
-use Rattle.std.proofs.lemmas.List.Edits.{length-insert, length-remove}
+use Rattle.std.proofs.lemmas.List.Edits.{length-insert}
 use Rattle.std.proofs.lemmas.List.Sorted.{searched}
 use Rattle.std.specs.List.Sorted.{IsStrictlyIncreasing, IsBinarySearchResult}
 use Rattle.erst_ids.proofs.RisingLemmas.{rising_le}
 use Rattle.record_model.specs.Records.{Entry}
-use Rattle.record_recovery.specs.Listed.{IsListed, AreSlots, free_slots}
+use Rattle.record_recovery.specs.Listed.{AreSlots, free_slots}
 use Rattle.record_recovery.proofs.ListedLemmas.{rising-insert}
 use Rattle.record_recovery.proofs.OpenedLemmas.{rising-remove}
 use Rattle.record_recovery.proofs.FreeLemmas.{remove_listed, insert_listed, length-rising, free_slots-are, free_slots-all, free_slots-opened, free_slots-freed}

@@ -1,14 +1,14 @@
 -- What each change makes of the lists that a store keeps.
-use Rattle.std.proofs.Common.{◌≡◌, ◌≢◌, ◌⊎◌, ℕ, ◌+◌, ◌<◌, ◌≤◌, Bool, true, cond, List, length, get_or, Option, Some, None, refl, sym, ap, subst, ◌∙◌, arith, inl, inr}
+use Rattle.std.proofs.Common.{◌≡◌, ◌≢◌, ◌⊎◌, ℕ, ◌+◌, ◌<◌, ◌≤◌, Bool, cond, List, length, get_or, Option, refl, sym, ap, subst, ◌∙◌, arith, inl, inr}
 use Rattle.std.specs.Prelude.{insert, remove, vec_len, vec_capacity}
 use Rattle.std.proofs.Math.ListN.{set}
 use Rattle.std.proofs.lemmas.Bool.{cases_lt, lt-ltb}
 use Rattle.std.proofs.lemmas.List.Edits.{length-remove, get_or-remove_below, get_or-remove_above}
 use Rattle.std.proofs.lemmas.Option.{same_Some}
-use Rattle.record_model.specs.Records.{Entry, IsChosen}
+use Rattle.record_model.specs.Records.{Entry}
 use Rattle.record_recovery.specs.declared.found.Found.{Found}
 use Rattle.record_recovery.specs.declared.found.SlotOf.{SlotOf}
-use Rattle.record_recovery.specs.Listed.{IsPlaceOf, AreListed, IsListed, AreSlots, IsIndex, IsWithin, free_slots}
+use Rattle.record_recovery.specs.Listed.{AreListed, AreSlots, IsIndex, IsWithin, free_slots}
 use Rattle.record_recovery.specs.Listing.{IsNewlyListed, IsListedAgain}
 use Rattle.record_recovery.proofs.ChosenLemmas.{IsChosen-unique}
 use Rattle.record_recovery.proofs.ListedLemmas.{IsPlaceIn}

@@ -1,6 +1,7 @@
 -- What a store keeps of its slots, in step with the image of its flash.
 use Rattle.std.specs.Prelude.{◌≡◌, ◌≢◌, ◌⊎◌, ℕ, ◌<◌, ◌≤◌, List, Option, Some, None, length, slice_index, slice_index_or, insert, remove}
-use Rattle.record_model.specs.Records.{Entry, IsChosen}
+use Rattle.std.specs.FinMap.{get}
+use Rattle.record_model.specs.Records.{Entry, IsChosen, selected}
 use Rattle.record_recovery.specs.declared.found.Found.{Found}
 use Rattle.record_recovery.specs.declared.found.SlotOf.{SlotOf}
 use Rattle.record_recovery.specs.Listed.{AreListed, IsPlaceOf, IsListed, IsIndex, AreSlots, free_slots}
@@ -68,3 +69,14 @@ abbrev pub IsTaken : List ℕ → List ℕ → ℕ → Type 0
 IsTaken old new slot =
     ((IsListed old slot → ⊥) × (new ≡ old))
     ⊎ ((at : ℕ) × (at < length old) × (slice_index old at ≡ slot) × (new ≡ remove old at))
+
+-- the record of an identifier is the whole entry of the slot at its place, and what the map of the slots has
+pub record IsStoredAt (entry : ℕ → Option Entry) (slots id : ℕ) (place : SlotOf) (body : List ℕ) : Type 0 where
+  pub slot : place.slot < slots
+  pub here : entry place.slot ≡ Some (record { id = id; generation = place.generation; body = body })
+  pub stored : get (selected entry slots) id ≡ Some (body, place.generation)
+  pub len : length body ≡ place.len
+
+-- but for slot j no two slots have one identifier
+abbrev pub AreSingleBut : (ℕ → Option Entry) → ℕ → ℕ → Type 0
+AreSingleBut entry slots j = (i k : ℕ) (one other : Entry) → i < slots → k < slots → i ≢ j → k ≢ j → entry i ≡ Some one → entry k ≡ Some other → one.id ≡ other.id → i ≡ k

@@ -4,3 +4,4 @@ pub mod Index
 pub mod Slot
 pub mod Work
 pub mod Kept
+pub mod Walk

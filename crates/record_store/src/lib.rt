@@ -5,11 +5,13 @@
 mod changes;
 mod errors;
 mod index;
+mod laws;
 mod preparing;
 mod stepping;
 mod store;
 mod work;
 
 pub use errors::{StoreError, StoreRefused};
+pub use laws::a_walk_finds_each_identifier;
 pub use record_recovery::ScanError;
 pub use store::Store;

@@ -1,4 +1,4 @@
-use Rattle.std.proofs.Common.{◌≡◌, ◌<◌, length, true, arith}
+use Rattle.std.proofs.Common.{◌<◌, length, arith}
 use Rattle.std.specs.Prelude.{is_ok, vec_capacity}
 use Rattle.record_store.proofs.FreeListLemmas.{freed_at}
 use Rattle.record_store.proofs.index.list_free.Goals as goal
