@@ -8,7 +8,7 @@ use Rattle.record_model.specs.RecordMap.{next_generation, pieces_of}
 use Rattle.record_slots.specs.Slots.{Fits}
 use Rattle.record_recovery.specs.declared.found.Found.{Found}
 use Rattle.record_store.specs.Index.{IsListing, IsListOf, IsOlderCopy}
-use Rattle.record_store.specs.Store.{Pending, Idle, Writing, Clearing, map_after, pending_after, changes_before_gate}
+use Rattle.record_store.specs.Store.{StoreView, Pending, Idle, Writing, Clearing, map_after, pending_after, changes_before_gate}
 use Rattle.record_store.specs.Work.{IsDraft, IsStage, made_at, StandsAt}
 use Rattle.record_store.specs.declared.work.Draft.{Draft}
 use Rattle.record_store.specs.declared.work.Work.{Work}
@@ -29,6 +29,12 @@ IsWork geometry Nothing = Unit {0}
 IsWork geometry (Write draft stage) = IsDraft geometry draft × IsStage geometry draft.len stage
 IsWork geometry (OldCopy id len slot) = slot < geometry.slots
 IsWork geometry (Clear id slot) = slot < geometry.slots
+
+abbrev pub is_nothing : Work → Bool
+is_nothing Nothing = true
+is_nothing (Write draft stage) = false
+is_nothing (OldCopy id len slot) = false
+is_nothing (Clear id slot) = false
 
 -- a change is to be made
 abbrev pub IsUnderWay : Work → Type 0
@@ -91,6 +97,18 @@ Knows geometry found buffer image (Write draft stage) =
     KnowsDraft geometry found image draft × StandsAt geometry draft (take draft.len buffer) image stage
 Knows geometry found buffer image (OldCopy id len slot) = KnowsOldCopy (entry_at geometry.slot_size image) geometry.slots found slot
 Knows geometry found buffer image (Clear id slot) = KnowsCleared (entry_at geometry.slot_size image) geometry.slots found id slot
+
+-- what is seen of a store
+abbrev pub view_of : Geometry → FlashState → Bool → Pending → StoreView
+view_of geometry flash in_doubt pending = record {
+  flash = flash;
+  sector = geometry.sector;
+  per_slot = geometry.per_slot;
+  slots = geometry.slots;
+  slot_size = geometry.slot_size;
+  in_doubt = in_doubt;
+  pending = pending;
+}
 
 -- what holds of a store between two calls
 pub record IsStore (tells : Type 0) (geometry : Geometry) (flash : FlashState) (found : Found) (buffer : List ℕ) (in_doubt : Bool) (work : Work) : Type 0 where

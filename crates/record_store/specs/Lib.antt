@@ -4,4 +4,6 @@ pub mod Index
 pub mod Slot
 pub mod Work
 pub mod Kept
+pub mod Finish
+pub mod Start
 pub mod Walk

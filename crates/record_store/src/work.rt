@@ -1,4 +1,6 @@
 // What a store has begun: the state between two changes of a write or a clear.
+ghost use Rattle.std.specs.Prelude.{◌≡◌};
+
 use erst_ids::RecordId;
 
 /// A record that is being written: its identifier, the free slot that it gets, its generation and its length in bytes, and
@@ -39,4 +41,15 @@ pub enum Work {
     OldCopy { id: RecordId, len: u32, slot: u32 },
     /// The clearing of an identifier, whose record is in this slot.
     Clear { id: RecordId, slot: u32 },
+}
+
+impl Work {
+    ghost use Rattle.record_store.specs.Kept.{is_nothing};
+
+    /// Whether nothing is pending.
+    pub fn is_nothing(&self) -> bool
+        ensures { result ≡ is_nothing self.now }
+    {
+        matches!(self, Work::Nothing)
+    }
 }
