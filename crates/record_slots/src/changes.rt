@@ -7,15 +7,13 @@ ghost use Rattle.record_slots.specs.Slots.{Fits, numbers_of};
 
 use crate::Head;
 use crate::live::{GATE_OPEN, KILLED, TAIL_MARK};
-use crate::places::{place_of, sector_of};
+use crate::places::{BODY_AT, place_of, sector_of};
 use flash_model::{Flash, FlashFailed, Geometry};
 
 // Where the fields of a head begin that are programmed with it, and where they end.
 const FIELDS_AT: usize = 2;
 
 const FIELDS_END: usize = 20;
-
-const BODY_AT: u64 = 32;
 
 const KILL_AT: u64 = 1;
 

@@ -6,10 +6,8 @@ ghost use Rattle.record_model.specs.Records.{head_at, tail_at};
 ghost use Rattle.record_slots.specs.Slots.{Fits, numbers_of};
 
 use crate::Head;
-use crate::places::place_of;
+use crate::places::{BODY_AT, place_of};
 use flash_model::{Flash, FlashFailed, Geometry};
-
-const BODY_AT: u64 = 32;
 
 /// The head and the tail mark of a slot, by one read of each.
 pub fn look<F: Flash>(
