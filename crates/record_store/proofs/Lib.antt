@@ -9,3 +9,5 @@ pub mod AnswerLemmas
 pub mod ChangeLemmas
 pub mod ScanLemmas
 pub mod WalkLemmas
+pub mod StartLemmas
+pub mod StoreLemmas

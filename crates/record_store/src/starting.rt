@@ -1,10 +1,9 @@
 // What a write begins with, and bytes at the start of a buffer.
-ghost use Rattle.std.specs.Prelude.{◌≡◌, ◌≢◌, ℕ, ◌+◌, ◌-◌, ◌*◌, ◌<◌, ◌≤◌, ◌++◌, length, take, drop, Option, None, MatchResult, OnOk};
+ghost use Rattle.std.specs.Prelude.{◌≡◌, ◌≢◌, ℕ, ◌+◌, ◌-◌, ◌*◌, ◌<◌, ◌≤◌, ◌++◌, length, take, drop, Option, None, Some, false, MatchResult, OnOk};
 ghost use Rattle.base_model.specs.Bytes.{part};
 ghost use Rattle.record_model.specs.Flash.{OnlyReads};
 ghost use Rattle.record_slots.specs.Slots.{Fits};
-ghost use Rattle.record_model.specs.Records.{Entry};
-ghost use Rattle.record_recovery.specs.Listed.{IsPlaceOf};
+ghost use Rattle.record_model.specs.Records.{Entry, is_reserved};
 ghost use Rattle.record_store.specs.Index.{IsListing, IsListOf, IsPlaceFound};
 ghost use Rattle.record_store.specs.Start.{StartsWith, IsRefusedBy};
 
@@ -28,7 +27,11 @@ pub fn draft_for(
     requires { IsListing geometry.now.slots geometry.now.slot_size found.now }
     ensures { MatchResult result (StartsWith geometry.now.slots found.now id len) (IsRefusedBy geometry.now.slots found.now id) }
 {
+    let number = id.get();
     match place_of(found, id) {
+        Some(place) if place.generation == u32::MAX => {
+            Err(StoreError::LastGeneration { id: number })
+        }
         Some(place) => draft_over(found, geometry, id, len, place),
         None => draft_of_new(found, geometry, id, len),
     }
@@ -43,18 +46,16 @@ fn draft_over(
     place: SlotOf,
 ) -> Result<Draft, StoreError>
     requires listing { IsListing geometry.now.slots geometry.now.slot_size found.now }
+    requires allowed { is_reserved id ≡ false }
     requires within { place.slot < geometry.now.slots }
-    requires place { (entry : ℕ → Option Entry) → IsListOf entry geometry.now.slots found.now → IsPlaceOf entry geometry.now.slots id place }
+    requires not_last { place.generation ≢ 4294967295 }
+    requires place { (entry : ℕ → Option Entry) → IsListOf entry geometry.now.slots found.now → IsPlaceFound entry geometry.now.slots id (Some place) }
     ensures { MatchResult result (StartsWith geometry.now.slots found.now id len) (IsRefusedBy geometry.now.slots found.now id) }
 {
-    if place.generation == u32::MAX {
-        return Err(StoreError::LastGeneration { id: id.get() });
-    }
     let free = found.free.len() as u32;
     if free < 1 {
         return Err(StoreError::NoSpace { free });
     }
-    prove!(id.get() != 0);
     Ok(Draft {
         id,
         slot: found.free[0],
@@ -72,6 +73,7 @@ fn draft_of_new(
     len: u32,
 ) -> Result<Draft, StoreError>
     requires listing { IsListing geometry.now.slots geometry.now.slot_size found.now }
+    requires allowed { is_reserved id ≡ false }
     requires new { (entry : ℕ → Option Entry) → IsListOf entry geometry.now.slots found.now → IsPlaceFound entry geometry.now.slots id None }
     ensures { MatchResult result (StartsWith geometry.now.slots found.now id len) (IsRefusedBy geometry.now.slots found.now id) }
 {

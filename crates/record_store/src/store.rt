@@ -116,16 +116,14 @@ impl<F: Flash> Store<F> {
         ensures cause { HasFaultsOf self.old.flash.faults self.new.flash.faults result }
     {
         self.settle()?;
-        match place_of(&self.found, id) {
-            Some(place) => {
-                self.work = Work::Clear {
-                    id,
-                    slot: place.slot,
-                };
-                Ok(())
-            }
-            None => Err(StoreError::NotFound),
-        }
+        let Some(place) = place_of(&self.found, id) else {
+            return Err(StoreError::NotFound);
+        };
+        self.work = Work::Clear {
+            id,
+            slot: place.slot,
+        };
+        Ok(())
     }
 
     /// Makes the next change of what is pending, and answers whether it was the last. It reads nothing of the flash.
@@ -301,10 +299,10 @@ impl<F: Flash> Store<F> {
         ensures cause { HasFaultsOf self.old.flash.faults self.new.flash.faults result }
     {
         self.settle()?;
-        match place_of(&self.found, id) {
-            Some(place) => Ok(place.len),
-            None => Err(StoreError::NotFound),
-        }
+        let Some(place) = place_of(&self.found, id) else {
+            return Err(StoreError::NotFound);
+        };
+        Ok(place.len)
     }
 
     /// Gives up what is pending and looks at the slots again, as an opening does.
