@@ -11,3 +11,4 @@ pub mod ScanLemmas
 pub mod WalkLemmas
 pub mod StartLemmas
 pub mod StoreLemmas
+pub mod FinishLemmas

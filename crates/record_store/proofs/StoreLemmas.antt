@@ -1,5 +1,5 @@
 -- What a store knows, in terms of what is seen of it.
-use Rattle.std.proofs.Common.{◌≡◌, ◌≢◌, ◌⊎◌, ℕ, ◌+◌, ◌-◌, ◌*◌, ◌^◌, ◌<◌, ◌≤◌, Bool, true, false, List, [], ◌++◌, length, take, drop, min, Option, Some, None, Result, Ok, Err, refl, sym, ap, subst, ◌∙◌, arith, inl, inr, length-append}
+use Rattle.std.proofs.Common.{◌≡◌, ◌≢◌, ◌⊎◌, ℕ, ◌+◌, ◌-◌, ◌*◌, ◌^◌, ◌<◌, ◌≤◌, Bool, true, false, List, [], ◌++◌, length, take, drop, min, Option, Some, None, Result, Ok, Err, refl, sym, ap, subst, ◌∙◌, arith, inl, inr, length-append, length-drop}
 use Rattle.std.specs.Prelude.{is_some}
 use Rattle.std.specs.FinMap.{get, len}
 use Rattle.std.proofs.lemmas.Bool.{cases_eq}
@@ -152,6 +152,15 @@ written_back n new items same is =
     take_front : (k : ℕ) (xs ys : List ℕ) → k ≡ length xs → take k (xs ++ ys) ≡ xs
     take_front k xs ys e = take-append-le k xs ys (omega arith) ∙ take_all k xs (omega arith)
 
+-- bytes at the start of a buffer leave its length
+pub new_length : (bytes new lent items : List ℕ) → new ≡ bytes ++ drop (length bytes) lent → lent ≡ items → length bytes ≤ length items → length new ≡ length items
+new_length bytes new lent items is same fits =
+    let first : length new ≡ length (bytes ++ drop (length bytes) lent) = ap (λ (xs : List ℕ). length xs) is in
+    let equal : length lent ≡ length items = ap (λ (xs : List ℕ). length xs) same in
+    let both = length-append bytes (drop (length bytes) lent) in
+    let rest = length-drop (length bytes) lent in
+    omega arith
+
 -- the stage with which the filling of a slot begins
 pub record IsFirst (tail : ℕ) (stage : Stage) : Type 0 where
   pub marked : tail ≡ 0xA5 → stage ≡ stages.EraseFromTail 0
@@ -234,18 +243,42 @@ begun_store tells geometry flash new found buffer written doubt work v id size t
     }
 
 -- what a write that has begun answers
-pub begun_answer : (now new : StoreView) (found : Found) (slots id size : ℕ) (bytes : List ℕ) (draft : Draft) → slots ≡ now.slots
+pub begun_answer : (now : StoreView) (found : Found) (slots id size : ℕ) (bytes : List ℕ) (draft : Draft) (pending : Pending) → slots ≡ now.slots
     → KnowsSlots (entry_at now.slot_size now.flash.told.image) now.slots found → StartsWith slots found id size draft
-    → new.pending ≡ Writing id bytes (is_some draft.replaced) 0
-    → (refusal_of now.slots (Write id bytes) (stored now) ≡ None) × (new.pending ≡ Writing id bytes (is_some (get (stored now) id)) 0)
-begun_answer now new found slots id size bytes draft is known starts pending =
+    → pending ≡ Writing id bytes (is_some draft.replaced) 0
+    → (refusal_of now.slots (Write id bytes) (stored now) ≡ None) × (pending ≡ Writing id bytes (is_some (get (stored now) id)) 0)
+begun_answer now found slots id size bytes draft pending is known starts is_pending =
     let map = sym (unfold_stored now.slot_size now.slots now.flash.told.image) in
     let at_now = subst (λ (n : ℕ). StartsWith n found id size draft) is starts in
     let takes = at_now.takes (entry_at now.slot_size now.flash.told.image) known in
     (
       subst (λ (s : Stored). refusal_of now.slots (Write id bytes) s ≡ None) map
           (subst (λ (n : ℕ). refusal_of now.slots (Write n bytes) (selected (entry_at now.slot_size now.flash.told.image) now.slots) ≡ None) starts.is_id (takes.accepted bytes)),
-      pending ∙ ap (λ (b : Bool). Writing id bytes b 0)
+      is_pending ∙ ap (λ (b : Bool). Writing id bytes b 0)
           (takes.replaces ∙ ap (λ (n : ℕ). is_some (get (selected (entry_at now.slot_size now.flash.told.image) now.slots) n)) starts.is_id
           ∙ ap (λ (s : Stored). is_some (get s id)) map),
     )
+
+-- a clearing has begun
+pub clearing_store : (tells : Type 0) (geometry : Geometry) (flash : FlashState) (found : Found) (buffer : List ℕ) (doubt : Bool) (work : Work) (v : StoreView) (id : ℕ) (place : SlotOf)
+    → IsStore tells geometry flash found buffer doubt work → view_of geometry flash doubt (pending_of geometry.per_slot buffer work) ≡ v → IsReady v
+    → place.slot < geometry.slots → ((entry : ℕ → Option Entry) → IsListOf entry geometry.slots found → IsPlaceFound entry geometry.slots id (Some place))
+    → IsStore tells geometry flash found buffer doubt (works.Clear id place.slot)
+clearing_store tells geometry flash found buffer doubt work v id place store is ready within here =
+    let certain : doubt ≡ false = ap (λ (u : StoreView). u.in_doubt) is ∙ ready.certain in
+    let idle = idle_work geometry.per_slot buffer work (ap (λ (u : StoreView). u.pending) is ∙ ready.idle) in
+    record {
+      fits = store.fits;
+      listing = store.listing;
+      room = store.room;
+      form = within;
+      certain = λ busy. certain;
+      knows = λ told sure.
+          let known : KnowsSlots (entry_at geometry.slot_size flash.told.image) geometry.slots found =
+          subst (λ (w : Work). Knows geometry found buffer flash.told.image w) idle (store.knows told certain) in
+          let had = place_stored (entry_at geometry.slot_size flash.told.image) geometry.slots id place (here (entry_at geometry.slot_size flash.told.image) known.list) in
+          record {
+            slots_known = known;
+            held = record { held = record { id = id; generation = place.generation; body = had.0 }; here = (had.1).here; of_id = refl };
+          };
+    }

@@ -99,8 +99,7 @@ impl<F: Flash> Store<F> {
         ensures cause { HasFaultsOf self.old.flash.faults self.new.flash.faults result }
     {
         self.settle()?;
-        self.begin_write(id, bytes)?;
-        Ok(())
+        self.begin_write(id, bytes)
     }
 
     /// Starts the clearing of an identifier, and makes no change of the map. A store in doubt first looks at its slots

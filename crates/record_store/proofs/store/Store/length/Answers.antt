@@ -6,7 +6,13 @@ use Rattle.record_store.proofs.StoreLemmas.{looked, of_old}
 use Rattle.record_store.proofs.store.Store.length.Goals as goal
 
 pub returns-in_default-clause-answer : goal.returns-in_default-clause-answer
-returns-in_default-clause-answer g c tells = ?
+returns-in_default-clause-answer g c tells =
+    let i = c.self.inside in
+    let now = c.settle.new.self in
+    let is = looked g.F.Flash.tells i.geometry (g.F.Flash.state i.flash) i.found i.buffer.items i.in_doubt i.work c.args.self.now now c.self.invariant c.self.view_is
+    c.in_ok-settle.ensures.doubt c.settle.ensures.kept c.settle.ensures.alike in
+    of_old g.F.Flash.tells c.args.self.now now i.found (λ (n : ℕ) (s : Stored). get s c.args.id ≡ None) is tells
+    (no_place_stored (entry_at now.slot_size now.flash.told.image) now.slots c.args.id (c.in_default.ensures.place (entry_at now.slot_size now.flash.told.image) now.slots (is.knows tells).list))
 
 pub returns-clause-answer : goal.returns-clause-answer
 returns-clause-answer g c tells =

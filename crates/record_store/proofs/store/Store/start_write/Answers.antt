@@ -1,13 +1,6 @@
-use Rattle.std.proofs.Common.{◌≡◌, Err, subst}
+use Rattle.std.proofs.Common.{◌≡◌}
 use Rattle.record_store.proofs.StoreLemmas.{kept_map, start_from}
 use Rattle.record_store.proofs.store.Store.start_write.Goals as goal
-
-pub returns-in_err-begin_write-clause-answer : goal.returns-in_err-begin_write-clause-answer
-returns-in_err-begin_write-clause-answer g c tells =
-    let same = kept_map c.args.self.now c.settle.new.self (c.settle.ensures.kept tells) c.settle.ensures.alike in
-    let a = c.in_err-begin_write.ensures.answer in
-    let b = c.from_residual-in_err-begin_write.ensures in
-    ?
 
 pub returns-clause-answer : goal.returns-clause-answer
 returns-clause-answer g c tells =
