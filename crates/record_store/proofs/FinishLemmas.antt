@@ -1,12 +1,18 @@
 -- The changes of a command, one after another.
 use Rattle.std.proofs.Common.{◌≡◌, ◌≢◌, ◌⊎◌, ℕ, ◌+◌, ◌-◌, ◌*◌, ◌/◌, ◌<◌, ◌≤◌, Bool, true, false, cond, nat_eq, List, length, Option, Some, None, Result, Ok, Err, refl, sym, ap, subst, ◌∙◌, arith, inl, inr}
-use Rattle.std.specs.Prelude.{nat_le}
+use Rattle.std.specs.Prelude.{nat_le, is_some, OnOk}
+use Rattle.std.specs.FinMap.{get}
 use Rattle.std.proofs.lemmas.Bool.{cases_eq, cases_lt, cond-true, cond-false, eq-eqb, ne_eqb, le-leb, lt-leb}
 use Rattle.record_model.specs.Flash.{Leaves}
 use Rattle.record_model.specs.Records.{Stored, stored_in}
-use Rattle.record_model.specs.RecordMap.{Write, Clear, made_by, pieces_of}
+use Rattle.record_model.specs.RecordMap.{Command, Write, Clear, Refusal, Failed, NoSpace as no_space, NotFound as not_found, refusal_of, after, changes_of, made_by, pieces_of}
+use Rattle.record_model.proofs.MapLemmas.{after-done}
+use Rattle.record_model.proofs.RefusalLemmas.{changes_of-refused, changes_of-new, changes_of-over, changes_of-clear}
 use Rattle.record_model.proofs.CrashLemmas.{Leaves-none, Leaves-weaker, Leaves-then, Leaves-exit}
 use Rattle.record_store.specs.Store.{StoreView, Pending, Idle, Writing, Clearing, stored, map_after, pending_after, changes_before_gate, changes_in_all, IsBusy, KeepsOrMakes, DividesAlike}
+use Rattle.record_store.specs.Answers.{FailsByFlash, AnswersWrite, AnswersClear, RefusesWrite, RefusesClear, UnlessFlash}
+use Rattle.record_store.specs.declared.errors.StoreError.{StoreError}
+use Rattle.record_store.specs.declared.errors.StoreError.TheVariants.{NoSpace, LastGeneration, NotFound, Empty, Flash, Small}
 use Rattle.record_store.specs.Finish.{IsUnfinished, changes_left, map_at_end, IsOnWay}
 
 -- something that is unfinished is pending
@@ -220,3 +226,110 @@ IsOnWay-more tells old mid new way pending goes_on per_slot gone = record {
   end = gone.end;
   crash = gone.crash;
 }
+
+-- a command that was refused, or failed before its first change
+pub kept_or_made : (old new : StoreView) (made : Stored) → Leaves old.flash.told new.flash.told (λ image. stored_in old.slot_size old.slots image ≡ stored old) → KeepsOrMakes old new made
+kept_or_made old new made kept =
+    Leaves-weaker old.flash.told new.flash.told (λ image. stored_in old.slot_size old.slots image ≡ stored old)
+    (λ image. (stored_in old.slot_size old.slots image ≡ stored old) ⊎ (stored_in old.slot_size old.slots image ≡ made)) kept (λ image same. inl same)
+
+-- a command that was begun, and then made
+pub begun_then : (old mid new : StoreView) (made end : Stored) → Leaves old.flash.told mid.flash.told (λ image. stored_in old.slot_size old.slots image ≡ stored old)
+    → DividesAlike old mid → end ≡ made → KeepsOrMakes mid new end → KeepsOrMakes old new made
+begun_then old mid new made end kept alike is makes =
+    Leaves-then old.flash.told mid.flash.told new.flash.told (λ image. (stored_in old.slot_size old.slots image ≡ stored old) ⊎ (stored_in old.slot_size old.slots image ≡ made))
+    (kept_or_made old mid made kept)
+    (Leaves-weaker mid.flash.told new.flash.told
+    (λ image. (stored_in mid.slot_size mid.slots image ≡ stored mid) ⊎ (stored_in mid.slot_size mid.slots image ≡ end))
+    (λ image. (stored_in old.slot_size old.slots image ≡ stored old) ⊎ (stored_in old.slot_size old.slots image ≡ made)) makes
+    (λ image either. elim either [
+      | inl same ↦ inl (alike_stored image ∙ same ∙ sym (alike_stored mid.flash.told.image) ∙ Leaves-exit old.flash.told mid.flash.told (λ x. stored_in old.slot_size old.slots x ≡ stored old) kept)
+      | inr ends ↦ inr (alike_stored image ∙ ends ∙ is)
+    ]))
+  where
+    alike_stored : (image : List ℕ) → stored_in old.slot_size old.slots image ≡ stored_in mid.slot_size mid.slots image
+    alike_stored image = ap (λ (n : ℕ). stored_in n old.slots image) (sym alike.slot_size) ∙ ap (λ (n : ℕ). stored_in mid.slot_size n image) (sym alike.slots)
+
+-- the map at the end of a write that has begun, or of a clear, is the one after the command
+pub write_end : (old mid : StoreView) (id : ℕ) (bytes : List ℕ) (replaces : Bool) → mid.pending ≡ Writing id bytes replaces 0 → stored mid ≡ stored old
+    → refusal_of old.slots (Write id bytes) (stored old) ≡ None → map_at_end mid.per_slot mid.pending (stored mid) ≡ after old.slots (Write id bytes) (stored old)
+write_end old mid id bytes replaces pending same taken =
+    ap (λ (p : Pending). map_at_end mid.per_slot p (stored mid)) pending
+    ∙ cond-true {A = Stored} (nat_le 0 (changes_before_gate mid.per_slot bytes)) (made_by (Write id bytes) (stored mid)) (stored mid) (le-leb 0 (changes_before_gate mid.per_slot bytes) (omega arith))
+    ∙ ap (made_by (Write id bytes)) same ∙ sym (after-done old.slots (Write id bytes) (stored old) taken)
+
+pub clear_end : (old mid : StoreView) (id : ℕ) → mid.pending ≡ Clearing id → stored mid ≡ stored old
+    → refusal_of old.slots (Clear id) (stored old) ≡ None → map_at_end mid.per_slot mid.pending (stored mid) ≡ after old.slots (Clear id) (stored old)
+clear_end old mid id pending same taken =
+    ap (λ (p : Pending). map_at_end mid.per_slot p (stored mid)) pending
+    ∙ ap (made_by (Clear id)) same ∙ sym (after-done old.slots (Clear id) (stored old) taken)
+
+-- the answers of what was made
+pub write_answers : (old new : StoreView) (id : ℕ) (bytes : List ℕ) (result : Result (Unit {0}) StoreError) → FailsByFlash result → refusal_of old.slots (Write id bytes) (stored old) ≡ None
+    → OnOk result (stored new ≡ after old.slots (Write id bytes) (stored old)) → AnswersWrite old new id bytes result
+write_answers old new id bytes (Ok done) fails taken made = (taken, made)
+write_answers old new id bytes (Err (NoSpace free)) fails taken made = absurd (cc)
+write_answers old new id bytes (Err (LastGeneration number)) fails taken made = absurd (cc)
+write_answers old new id bytes (Err NotFound) fails taken made = absurd (cc)
+write_answers old new id bytes (Err Empty) fails taken made = absurd (cc)
+write_answers old new id bytes (Err Flash) fails taken made = tt
+write_answers old new id bytes (Err (Small need)) fails taken made = absurd (cc)
+
+pub clear_answers : (old new : StoreView) (id : ℕ) (result : Result (Unit {0}) StoreError) → FailsByFlash result → refusal_of old.slots (Clear id) (stored old) ≡ None
+    → OnOk result (stored new ≡ after old.slots (Clear id) (stored old)) → AnswersClear old new id result
+clear_answers old new id (Ok done) fails taken made = (taken, made)
+clear_answers old new id (Err (NoSpace free)) fails taken made = absurd (cc)
+clear_answers old new id (Err (LastGeneration number)) fails taken made = absurd (cc)
+clear_answers old new id (Err NotFound) fails taken made = absurd (cc)
+clear_answers old new id (Err Empty) fails taken made = absurd (cc)
+clear_answers old new id (Err Flash) fails taken made = tt
+clear_answers old new id (Err (Small need)) fails taken made = absurd (cc)
+
+-- the changes of what was made
+pub unless_flash : (result : Result (Unit {0}) StoreError) (P : Type 0) → FailsByFlash result → OnOk result P → UnlessFlash result P
+unless_flash (Ok done) P fails ok = ok
+unless_flash (Err (NoSpace free)) P fails ok = absurd (cc)
+unless_flash (Err (LastGeneration number)) P fails ok = absurd (cc)
+unless_flash (Err NotFound) P fails ok = absurd (cc)
+unless_flash (Err Empty) P fails ok = absurd (cc)
+unless_flash (Err Flash) P fails ok = tt
+unless_flash (Err (Small need)) P fails ok = absurd (cc)
+
+-- a write that is refused makes no change, nor does a clear
+pub refused_steps : (old new : StoreView) (command : Command) (refusal : Refusal) → refusal_of old.slots command (stored old) ≡ Some refusal → new.flash.steps ≡ old.flash.steps
+    → new.flash.steps ≡ old.flash.steps + changes_of old.per_slot old.slots command (stored old)
+refused_steps old new command refusal refused same =
+    let none : changes_of old.per_slot old.slots command (stored old) ≡ 0 = changes_of-refused old.per_slot old.slots command (stored old) refusal refused in
+    omega arith
+
+pub write_refused_steps : (old new : StoreView) (id : ℕ) (bytes : List ℕ) (error : StoreError) → RefusesWrite old new id bytes error → new.flash.steps ≡ old.flash.steps
+    → UnlessFlash {T = Unit {0}} (Err error) (new.flash.steps ≡ old.flash.steps + changes_of old.per_slot old.slots (Write id bytes) (stored old))
+write_refused_steps old new id bytes (NoSpace free) refused same = refused_steps old new (Write id bytes) no_space refused.0 same
+write_refused_steps old new id bytes (LastGeneration number) refused same = refused_steps old new (Write id bytes) Failed refused.0 same
+write_refused_steps old new id bytes NotFound refused same = absurd refused
+write_refused_steps old new id bytes Empty refused same = absurd refused
+write_refused_steps old new id bytes Flash refused same = tt
+write_refused_steps old new id bytes (Small need) refused same = absurd refused
+
+pub clear_refused_steps : (old new : StoreView) (id : ℕ) (error : StoreError) → RefusesClear old new id error → new.flash.steps ≡ old.flash.steps
+    → UnlessFlash {T = Unit {0}} (Err error) (new.flash.steps ≡ old.flash.steps + changes_of old.per_slot old.slots (Clear id) (stored old))
+clear_refused_steps old new id (NoSpace free) refused same = absurd refused
+clear_refused_steps old new id (LastGeneration number) refused same = absurd refused
+clear_refused_steps old new id NotFound refused same = refused_steps old new (Clear id) not_found refused.0 same
+clear_refused_steps old new id Empty refused same = absurd refused
+clear_refused_steps old new id Flash refused same = tt
+clear_refused_steps old new id (Small need) refused same = absurd refused
+
+-- a write that is taken makes as many changes as are left once it has begun
+pub write_steps : (old mid : StoreView) (id : ℕ) (bytes : List ℕ) (kept : Option (List ℕ × ℕ)) → mid.per_slot ≡ old.per_slot → get (stored old) id ≡ kept → mid.pending ≡ Writing id bytes (is_some kept) 0
+    → refusal_of old.slots (Write id bytes) (stored old) ≡ None → changes_left mid.per_slot mid.pending ≡ changes_of old.per_slot old.slots (Write id bytes) (stored old)
+write_steps old mid id bytes kept alike is pending taken =
+    ap (changes_left mid.per_slot) pending ∙ ap (λ (n : ℕ). changes_left n (Writing id bytes (is_some kept) 0)) alike ∙ by_kept kept is
+  where
+    by_kept : (o : Option (List ℕ × ℕ)) → get (stored old) id ≡ o → changes_left old.per_slot (Writing id bytes (is_some o) 0) ≡ changes_of old.per_slot old.slots (Write id bytes) (stored old)
+    by_kept None none = (omega arith) ∙ sym (changes_of-new old.per_slot old.slots id bytes (stored old) taken none)
+    by_kept (Some x) some = (omega arith) ∙ sym (changes_of-over old.per_slot old.slots id bytes (stored old) x taken some)
+
+pub clear_steps : (old mid : StoreView) (id : ℕ) → mid.pending ≡ Clearing id → refusal_of old.slots (Clear id) (stored old) ≡ None
+    → changes_left mid.per_slot mid.pending ≡ changes_of old.per_slot old.slots (Clear id) (stored old)
+clear_steps old mid id pending taken = ap (changes_left mid.per_slot) pending ∙ sym (changes_of-clear old.per_slot old.slots id (stored old) taken)

@@ -177,9 +177,10 @@ impl<F: Flash> Store<F> {
         ensures alike { DividesAlike self.old self.new }
         ensures cause { HasFaultsOf self.old.flash.faults self.new.flash.faults result }
     {
-        self.start_write(id, bytes)?;
-        self.finish()?;
-        Ok(())
+        match self.start_write(id, bytes) {
+            Ok(()) => self.finish(),
+            Err(error) => Err(error),
+        }
     }
 
     /// Clears an identifier: its record is gone from then on.
@@ -192,9 +193,10 @@ impl<F: Flash> Store<F> {
         ensures alike { DividesAlike self.old self.new }
         ensures cause { HasFaultsOf self.old.flash.faults self.new.flash.faults result }
     {
-        self.start_clear(id)?;
-        self.finish()?;
-        Ok(())
+        match self.start_clear(id) {
+            Ok(()) => self.finish(),
+            Err(error) => Err(error),
+        }
     }
 
     /// Gives up what is pending. Where something was, the store is then in doubt.
