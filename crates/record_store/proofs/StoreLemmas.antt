@@ -1,14 +1,15 @@
 -- What a store knows, in terms of what is seen of it.
-use Rattle.std.proofs.Common.{◌≡◌, ◌≢◌, ◌⊎◌, ℕ, ◌+◌, ◌-◌, ◌*◌, ◌^◌, ◌<◌, ◌≤◌, Bool, true, false, List, [], ◌++◌, length, take, drop, min, Option, Some, None, Result, Ok, Err, refl, sym, ap, subst, ◌∙◌, arith, inl, inr, length-append, length-drop}
+use Rattle.std.proofs.Common.{◌≡◌, ◌≢◌, ◌⊎◌, ℕ, ◌+◌, ◌-◌, ◌*◌, ◌^◌, ◌<◌, ◌≤◌, Bool, true, false, cond, List, [], ◌++◌, length, take, drop, min, Option, Some, None, Result, Ok, Err, refl, sym, ap, subst, ◌∙◌, arith, inl, inr, length-append, length-drop}
 use Rattle.std.specs.Prelude.{is_some}
 use Rattle.std.specs.FinMap.{get, len}
-use Rattle.std.proofs.lemmas.Bool.{cases_eq}
+use Rattle.std.proofs.lemmas.Bool.{cases_eq, cases_lt}
+use Rattle.std.proofs.lemmas.Option.{none-some, same_Some}
 use Rattle.std.proofs.lemmas.List.{length-take, take_all, take-append-le}
 use Rattle.base_model.specs.Bytes.{part}
 use Rattle.base_model.proofs.BytesLemmas.{length-part}
 use Rattle.flash_model.specs.declared.geometry.Geometry.{Geometry}
 use Rattle.record_model.specs.Flash.{Told, FlashState, Leaves, IsErased}
-use Rattle.record_model.specs.Records.{Entry, Stored, entry_at, entry_of, head_at, tail_at, selected, stored_in, is_reserved, AreSingle, HasNoSecondCopy}
+use Rattle.record_model.specs.Records.{Entry, Stored, entry_at, entry_of, head_at, tail_at, selected, stored_in, is_reserved, is_upright, AreSingle, HasNoSecondCopy}
 use Rattle.record_model.specs.RecordMap.{Write, Clear, Read, Refusal, Failed, NoSpace as no_space, NotFound as not_found, Empty as empty, LAST_GENERATION, refusal_of, pieces_of}
 use Rattle.record_model.proofs.CrashLemmas.{Leaves-none, Leaves-weaker, Leaves-then, Leaves-exit}
 use Rattle.record_recovery.specs.declared.found.Found.{Found}
@@ -282,3 +283,28 @@ clearing_store tells geometry flash found buffer doubt work v id place store is 
             held = record { held = record { id = id; generation = place.generation; body = had.0 }; here = (had.1).here; of_id = refl };
           };
     }
+
+-- the body of a slot's record stands in the slot
+take_length : (n : ℕ) (xs : List ℕ) → take (length (take n xs)) xs ≡ take n xs
+take_length n xs = let front = length-take n xs in elim (cases_lt n (length xs)) [
+  | inl within ↦ ap (λ (k : ℕ). take k xs) (omega arith)
+  | inr past ↦ take_all (length (take n xs)) xs (omega arith) ∙ sym (take_all n xs past)
+]
+
+body_length : (image body : List ℕ) (at n : ℕ) → body ≡ part image at n → part image at (length body) ≡ body
+unfolding part
+body_length image body at n is =
+    ap (λ (xs : List ℕ). take (length xs) (drop at image)) is ∙ take_length n (drop at image) ∙ sym is
+
+body_of : (size k : ℕ) (image : List ℕ) (e : Entry) → entry_at size image k ≡ Some e → e.body ≡ part image (k * size + 32) (head_at image (k * size)).len
+unfolding entry_at entry_of
+body_of size k image e here = by_test (is_upright size (head_at image (k * size)) (tail_at image (k * size) size)) here
+  where
+    by_test : (up : Bool)
+        → cond {A = Option Entry} up (Some (record { id = (head_at image (k * size)).id; generation = (head_at image (k * size)).generation; body = part image (k * size + 32) (head_at image (k * size)).len })) None ≡ Some e
+        → e.body ≡ part image (k * size + 32) (head_at image (k * size)).len
+    by_test true is = ap (λ (x : Entry). x.body) (sym (same_Some _ e is))
+    by_test false is = absurd (none-some e is)
+
+pub body_stands : (size k : ℕ) (image : List ℕ) (e : Entry) → entry_at size image k ≡ Some e → part image (k * size + 32) (length e.body) ≡ e.body
+body_stands size k image e here = body_length image e.body (k * size + 32) (head_at image (k * size)).len (body_of size k image e here)

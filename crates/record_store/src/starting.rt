@@ -1,5 +1,5 @@
-// What a write begins with, and bytes at the start of a buffer.
-ghost use Rattle.std.specs.Prelude.{◌≡◌, ◌≢◌, ℕ, ◌+◌, ◌-◌, ◌*◌, ◌<◌, ◌≤◌, ◌++◌, length, take, drop, Option, None, Some, false, MatchResult, OnOk};
+// What a write begins with, and how bytes come to the start of a buffer.
+ghost use Rattle.std.specs.Prelude.{◌≡◌, ◌≢◌, ℕ, ◌+◌, ◌-◌, ◌*◌, ◌<◌, ◌≤◌, ◌++◌, length, drop, Option, None, Some, false, MatchResult, OnErr, OnOk};
 ghost use Rattle.base_model.specs.Bytes.{part};
 ghost use Rattle.record_model.specs.Flash.{OnlyReads};
 ghost use Rattle.record_slots.specs.Slots.{Fits};
@@ -111,22 +111,26 @@ pub fn put_front(buffer: &mut [u8], bytes: &[u8])
     buffer[..len].copy_from_slice(bytes);
 }
 
-/// Reads the first bytes of a slot's body to the start of a buffer.
-pub fn read_front<F: Flash>(
+/// Reads the record of a slot, by way of a buffer, to the start of `out`, which stays as it is where the flash fails.
+pub fn read_record<F: Flash>(
     flash: &mut F,
     geometry: &Geometry,
-    slot: u32,
+    place: SlotOf,
     buffer: &mut [u8],
-    len: usize,
+    out: &mut [u8],
 ) -> Result<(), FlashFailed>
     requires fits { Fits geometry.now (F.state flash.old) }
-    requires within { slot < geometry.now.slots }
-    requires len { len ≤ length buffer.old }
-    requires room { length buffer.old ≤ geometry.now.slot_size - 64 }
-    ensures bytes { OnOk result (F.tells → take len buffer.new
-        ≡ part (F.state flash.old).told.image (slot * geometry.now.slot_size + 32) len) }
+    requires within { place.slot < geometry.now.slots }
+    requires most { place.len ≤ geometry.now.slot_size - 64 }
+    requires buffer { place.len ≤ length buffer.old }
+    requires room { place.len ≤ length out.old }
+    ensures bytes { OnOk result (F.tells → out.new
+        ≡ part (F.state flash.old).told.image (place.slot * geometry.now.slot_size + 32) place.len ++ drop place.len out.old) }
+    ensures out { OnErr result (out.new ≡ out.old) }
     ensures stays { OnlyReads F.tells (F.state flash.old) (F.state flash.new) result }
 {
-    read_body(flash, geometry, slot, &mut buffer[..len])?;
+    let len = place.len as usize;
+    read_body(flash, geometry, place.slot, &mut buffer[..len])?;
+    put_front(out, &buffer[..len]);
     Ok(())
 }

@@ -10,7 +10,7 @@ ghost use Rattle.record_store.specs.Answers.{HasFaultsOf, HasDoubtOf, HasDoubtAt
 use crate::errors::{StoreError, StoreRefused};
 use crate::index::{next_id, place_of};
 use crate::opening::open;
-use crate::starting::{draft_for, first_stage, put_front, read_front};
+use crate::starting::{draft_for, first_stage, put_front, read_record};
 use crate::stepping::make_change;
 use crate::work::Work;
 use erst_ids::RecordId;
@@ -233,11 +233,14 @@ impl<F: Flash> Store<F> {
         if out.len() < size {
             return Err(StoreError::Small { need: place.len });
         }
-        match read_front(&mut self.flash, &self.geometry, place.slot, &mut self.buffer, size) {
-            Ok(()) => {
-                put_front(out, &self.buffer[..size]);
-                Ok(size)
-            }
+        match read_record(
+            &mut self.flash,
+            &self.geometry,
+            place,
+            &mut self.buffer,
+            out,
+        ) {
+            Ok(()) => Ok(size),
             Err(FlashFailed) => {
                 self.in_doubt = true;
                 Err(StoreError::Flash)

@@ -1,27 +1,56 @@
-use Rattle.std.proofs.Common.{◌≡◌, ℕ, ◌<◌, ◌≤◌, List, length, Some, refl, sym, arith}
+use Rattle.std.proofs.Common.{◌≡◌, ◌≢◌, ℕ, ◌+◌, ◌*◌, ◌<◌, ◌≤◌, List, ◌++◌, length, drop, Some, None, refl, sym, ap, subst, ◌∙◌, arith}
+use Rattle.std.specs.FinMap.{get, len}
+use Rattle.base_model.specs.Bytes.{part}
+use Rattle.record_model.specs.Records.{Stored, entry_at, selected}
+use Rattle.record_model.specs.RecordMap.{Read, NotFound, Empty, refusal_of}
+use Rattle.record_model.proofs.RefusalLemmas.{read_empty, read_missing}
+use Rattle.record_store.proofs.AnswerLemmas.{place_stored, no_place_stored, none_stored}
+use Rattle.record_store.proofs.CountLemmas.{len_stored}
+use Rattle.record_store.proofs.StoreLemmas.{looked, of_old, body_stands, image_of}
 use Rattle.record_store.proofs.store.Store.read.Goals as goal
 
-pub read_front-requires-clause-within : goal.read_front-requires-clause-within
-read_front-requires-clause-within g c =
+pub returns-then-is_empty-clause-answer : goal.returns-then-is_empty-clause-answer
+returns-then-is_empty-clause-answer g c tells =
     let i = c.self.inside in
-    (c.in-Some.ensures.within i.geometry.slots i.geometry.slot_size c.self.invariant.listing.index).slot
+    let now = c.settle.new.self in
+    let is = looked g.F.Flash.tells i.geometry (g.F.Flash.state i.flash) i.found i.buffer.items i.in_doubt i.work c.args.self.now now c.self.invariant c.self.view_is
+    c.in_ok-settle.ensures.doubt c.settle.ensures.kept c.settle.ensures.alike in
+    let entry = entry_at now.slot_size now.flash.told.image in
+    let a = c.is_empty.ensures in
+    let b = c.if-is_empty.ensures in
+    (
+      of_old g.F.Flash.tells c.args.self.now now i.found (λ (n : ℕ) (s : Stored). refusal_of n (Read c.args.id) s ≡ Some Empty) is tells
+          (read_empty now.slots c.args.id (selected entry now.slots) (none_stored entry now.slots now.slot_size i.found is.listing (is.knows tells).list ?)),
+      refl,
+    )
 
-pub read_front-requires-clause-len : goal.read_front-requires-clause-len
-read_front-requires-clause-len g c =
+pub returns-in_default-clause-answer : goal.returns-in_default-clause-answer
+returns-in_default-clause-answer g c tells =
     let i = c.self.inside in
-    let within = c.in-Some.ensures.within i.geometry.slots i.geometry.slot_size c.self.invariant.listing.index in
-    let most = within.most in
-    let a = c.deref_mut.ensures in
-    ?
+    let now = c.settle.new.self in
+    let is = looked g.F.Flash.tells i.geometry (g.F.Flash.state i.flash) i.found i.buffer.items i.in_doubt i.work c.args.self.now now c.self.invariant c.self.view_is
+    c.in_ok-settle.ensures.doubt c.settle.ensures.kept c.settle.ensures.alike in
+    let entry = entry_at now.slot_size now.flash.told.image in
+    let long = len_stored entry now.slots now.slot_size i.found is.listing (is.knows tells).list in
+    (
+      of_old g.F.Flash.tells c.args.self.now now i.found (λ (n : ℕ) (s : Stored). refusal_of n (Read c.args.id) s ≡ Some NotFound) is tells
+          (read_missing now.slots c.args.id (selected entry now.slots) ? c.place_of.ensures.allowed
+          (no_place_stored entry now.slots c.args.id (c.in_default.ensures.place entry now.slots (is.knows tells).list))),
+      refl,
+    )
 
-pub slice_bounds-put_front-end : goal.slice_bounds-put_front-end
-slice_bounds-put_front-end g c =
-    let a = c.deref.ensures in
-    ?
-
-pub returns-in-Ok-clause-answer : goal.returns-in-Ok-clause-answer
-returns-in-Ok-clause-answer g c tells =
-    let a = c.deref.ensures in
-    let b = c.put_front.ensures in
-    let d = c.in-Ok.ensures.bytes in
-    ?
+pub returns-then-out-size-clause-answer : goal.returns-then-out-size-clause-answer
+returns-then-out-size-clause-answer g c tells =
+    let i = c.self.inside in
+    let now = c.settle.new.self in
+    let is = looked g.F.Flash.tells i.geometry (g.F.Flash.state i.flash) i.found i.buffer.items i.in_doubt i.work c.args.self.now now c.self.invariant c.self.view_is
+    c.in_ok-settle.ensures.doubt c.settle.ensures.kept c.settle.ensures.alike in
+    let entry = entry_at now.slot_size now.flash.told.image in
+    let had = place_stored entry now.slots c.args.id c.in-Some.place (c.in-Some.ensures.place entry now.slots (is.knows tells).list) in
+    (
+      of_old g.F.Flash.tells c.args.self.now now i.found
+          (λ (n : ℕ) (s : Stored). (body : List ℕ) × ((generation : ℕ) × (get s c.args.id ≡ Some (body, generation))) × (c.in-Some.place.len ≡ length body)) is tells
+          (had.0, (c.in-Some.place.generation, (had.1).stored), sym (had.1).len),
+      c.if-out-size.true,
+      refl,
+    )
