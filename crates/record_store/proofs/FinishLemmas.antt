@@ -182,9 +182,9 @@ way_crash tells old mid new way told step =
         → (stored_in old.slot_size old.slots image ≡ stored old) ⊎ (stored_in old.slot_size old.slots image ≡ map_at_end old.per_slot old.pending (stored old))
     at_mid image same = elim (Leaves-exit old.flash.told mid.flash.told
         (λ x. (stored_in old.slot_size old.slots x ≡ stored old) ⊎ (stored_in old.slot_size old.slots x ≡ map_at_end old.per_slot old.pending (stored old))) (way.crash told)) [
-      | inl first ↦ inl (alike_stored image ∙ same ∙ sym (alike_stored mid.flash.told.image) ∙ first)
-      | inr last ↦ inr (alike_stored image ∙ same ∙ sym (alike_stored mid.flash.told.image) ∙ last)
-    ]
+          | inl first ↦ inl (alike_stored image ∙ same ∙ sym (alike_stored mid.flash.told.image) ∙ first)
+          | inr last ↦ inr (alike_stored image ∙ same ∙ sym (alike_stored mid.flash.told.image) ∙ last)
+        ]
 
 -- one more change was made
 pub record HasGoneOn (tells : Type 0) (old new : StoreView) : Type 0 where

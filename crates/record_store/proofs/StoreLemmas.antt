@@ -137,9 +137,12 @@ refused_by tells now found id bytes slots (NoSpace free) is known by =
 refused_by tells now found id bytes slots (LastGeneration number) is known by =
     let last = subst (λ (n : ℕ). IsRefusedBy n found id (LastGeneration number)) is by in
     let refused = last.1 (entry_at now.slot_size now.flash.told.image) bytes known in
-    let map = sym (unfold_stored now.slot_size now.slots now.flash.told.image) in
-    (subst (λ (s : Stored). refusal_of now.slots (Write id bytes) s ≡ Some Failed) map refused.0, last.0,
-        ((refused.1).0, subst (λ (s : Stored). get s id ≡ Some ((refused.1).0, LAST_GENERATION)) map (refused.1).1), refl)
+    let map = sym (unfold_stored now.slot_size now.slots now.flash.told.image) in (
+      subst (λ (s : Stored). refusal_of now.slots (Write id bytes) s ≡ Some Failed) map refused.0,
+      last.0,
+      ((refused.1).0, subst (λ (s : Stored). get s id ≡ Some ((refused.1).0, LAST_GENERATION)) map (refused.1).1),
+      refl,
+    )
 refused_by tells now found id bytes slots NotFound is known by = absurd by
 refused_by tells now found id bytes slots Empty is known by = absurd by
 refused_by tells now found id bytes slots Flash is known by = absurd by
@@ -251,8 +254,7 @@ pub begun_answer : (now : StoreView) (found : Found) (slots id size : ℕ) (byte
 begun_answer now found slots id size bytes draft pending is known starts is_pending =
     let map = sym (unfold_stored now.slot_size now.slots now.flash.told.image) in
     let at_now = subst (λ (n : ℕ). StartsWith n found id size draft) is starts in
-    let takes = at_now.takes (entry_at now.slot_size now.flash.told.image) known in
-    (
+    let takes = at_now.takes (entry_at now.slot_size now.flash.told.image) known in (
       subst (λ (s : Stored). refusal_of now.slots (Write id bytes) s ≡ None) map
           (subst (λ (n : ℕ). refusal_of now.slots (Write n bytes) (selected (entry_at now.slot_size now.flash.told.image) now.slots) ≡ None) starts.is_id (takes.accepted bytes)),
       is_pending ∙ ap (λ (b : Bool). Writing id bytes b 0)
@@ -308,3 +310,10 @@ body_of size k image e here = by_test (is_upright size (head_at image (k * size)
 
 pub body_stands : (size k : ℕ) (image : List ℕ) (e : Entry) → entry_at size image k ≡ Some e → part image (k * size + 32) (length e.body) ≡ e.body
 body_stands size k image e here = body_length image e.body (k * size + 32) (head_at image (k * size)).len (body_of size k image e here)
+
+-- the bytes of a slot that are read are the body of its record
+pub read_body : (geometry : Geometry) (flash : FlashState) (doubt : Bool) (pending : Pending) (now : StoreView) (slot n : ℕ) (e : Entry) → view_of geometry flash doubt pending ≡ now
+    → entry_at now.slot_size now.flash.told.image slot ≡ Some e → length e.body ≡ n → part flash.told.image (slot * geometry.slot_size + 32) n ≡ e.body
+read_body geometry flash doubt pending now slot n e is here long =
+    let here_inside = subst (λ (v : StoreView). entry_at v.slot_size v.flash.told.image slot ≡ Some e) (sym is) here in
+    ap (part flash.told.image (slot * geometry.slot_size + 32)) (sym long) ∙ body_stands geometry.slot_size slot flash.told.image e here_inside

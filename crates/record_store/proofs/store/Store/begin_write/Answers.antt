@@ -45,8 +45,7 @@ returns-in-Ok-look-clause-pending g c =
     let i = c.self.inside in
     let written = c.put_front.new.buffer in
     let room = subst (λ (n : ℕ). length c.args.bytes.now ≤ n - 64) (sym (ap (λ (u : StoreView). u.slot_size) c.self.view_is)) c.requires.room in
-    let long = new_length c.args.bytes.now written c.deref_mut.result.now i.buffer.items c.put_front.ensures c.deref_mut.ensures.value (omega (arith, c.self.invariant.room, room)) in
-    (
+    let long = new_length c.args.bytes.now written c.deref_mut.result.now i.buffer.items c.put_front.ensures c.deref_mut.ensures.value (omega (arith, c.self.invariant.room, room)) in (
       is_some c.in-Ok.draft.replaced,
       ap (λ (xs : List ℕ). pending_of i.geometry.per_slot xs (Write c.in-Ok.draft c.first_stage.result)) (written_back i.buffer.len written i.buffer.items long i.buffer.ok.0)
           ∙ begun_pending i.geometry.per_slot written c.args.bytes.now c.args.id c.in-Ok-look.tail c.in-Ok.draft c.first_stage.result (c.in-Ok.ensures).is_id

@@ -13,8 +13,7 @@ returns-in_default-clause-answer g c tells =
     let i = c.self.inside in
     let now = c.settle.new.self in
     let is = looked g.F.Flash.tells i.geometry (g.F.Flash.state i.flash) i.found i.buffer.items i.in_doubt i.work c.args.self.now now c.self.invariant c.self.view_is
-    c.in_ok-settle.ensures.doubt c.settle.ensures.kept c.settle.ensures.alike in
-    (
+    c.in_ok-settle.ensures.doubt c.settle.ensures.kept c.settle.ensures.alike in (
       of_old g.F.Flash.tells c.args.self.now now i.found (λ (n : ℕ) (s : Stored). refusal_of n (Clear c.args.id) s ≡ Some NotFound) is tells
           (clear_missing now.slots c.args.id _ c.place_of.ensures.allowed
           (no_place_stored (entry_at now.slot_size now.flash.told.image) now.slots c.args.id (c.in_default.ensures.place (entry_at now.slot_size now.flash.told.image) now.slots (is.knows tells).list))),
@@ -36,8 +35,7 @@ returns-clause-answer g c tells =
     let is = looked g.F.Flash.tells i.geometry (g.F.Flash.state i.flash) i.found i.buffer.items i.in_doubt i.work c.args.self.now now c.self.invariant c.self.view_is
     c.in_ok-settle.ensures.doubt c.settle.ensures.kept c.settle.ensures.alike in
     let had = place_stored (entry_at now.slot_size now.flash.told.image) now.slots c.args.id c.in-Some.place
-    (c.in-Some.ensures.place (entry_at now.slot_size now.flash.told.image) now.slots (is.knows tells).list) in
-    (
+    (c.in-Some.ensures.place (entry_at now.slot_size now.flash.told.image) now.slots (is.knows tells).list) in (
       of_old g.F.Flash.tells c.args.self.now now i.found (λ (n : ℕ) (s : Stored). refusal_of n (Clear c.args.id) s ≡ None) is tells
           (clear_taken now.slots c.args.id _ (had.0, c.in-Some.place.generation) c.place_of.ensures.allowed (had.1).stored),
       refl,
