@@ -10,3 +10,6 @@ pub mod ChangeLemmas
 pub mod ScanLemmas
 pub mod WalkLemmas
 pub mod StoredLemmas
+pub mod StartLemmas
+pub mod StoreLemmas
+pub mod FinishLemmas

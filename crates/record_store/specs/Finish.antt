@@ -22,3 +22,12 @@ map_at_end per_slot Idle stored = stored
 map_at_end per_slot (Writing id bytes replaces made) stored =
     if nat_le made (changes_before_gate per_slot bytes) then made_by (Write id bytes) stored else stored
 map_at_end per_slot (Clearing id) stored = made_by (Clear id) stored
+
+-- a store on the way through the changes of a command
+pub record IsOnWay (tells : Type 0) (old now : StoreView) : Type 0 where
+  pub unfinished : IsUnfinished now.per_slot now.pending
+  pub left : now.flash.steps + changes_left now.per_slot now.pending ≡ old.flash.steps + changes_left old.per_slot old.pending
+  pub faults : now.flash.faults ≡ old.flash.faults
+  pub alike : DividesAlike old now
+  pub end : tells → map_at_end now.per_slot now.pending (stored now) ≡ map_at_end old.per_slot old.pending (stored old)
+  pub crash : tells → KeepsOrMakes old now (map_at_end old.per_slot old.pending (stored old))

@@ -1,8 +1,8 @@
 // The lists that a store keeps of its slots: the identifiers with the places of their records, and the free slots.
-ghost use Rattle.std.specs.Prelude.{◌≡◌, ◌⊎◌, ℕ, ◌<◌, ◌≤◌, length, Option, IfSome, vec_capacity};
+ghost use Rattle.std.specs.Prelude.{◌≡◌, ◌⊎◌, ℕ, ◌<◌, ◌≤◌, false, length, Option, IfSome, vec_capacity};
 ghost use Rattle.std.specs.List.Sorted.{IsStrictlyIncreasing};
 ghost use Rattle.erst_ids.specs.Next.{IsNextAfter};
-ghost use Rattle.record_model.specs.Records.{Entry, selected};
+ghost use Rattle.record_model.specs.Records.{Entry, selected, is_reserved};
 ghost use Rattle.record_model.specs.RecordMap.{IsNextAbove};
 ghost use Rattle.record_recovery.specs.Listed.{AreSlots, IsIndex, IsWithin};
 ghost use Rattle.record_recovery.specs.Listing.{IsNewlyListed, IsListedAgain};
@@ -16,11 +16,13 @@ use record_recovery::{Found, SlotOf, list_record};
 pub fn place_of(found: &Found, id: RecordId) -> Option<SlotOf>
     requires rising { IsStrictlyIncreasing found.now.ids.items }
     requires paired { length found.now.places.items ≡ length found.now.ids.items }
+    ensures allowed { is_reserved id ≡ false }
     ensures at { IsPlaceAt found.now.ids.items found.now.places.items id result }
     ensures within { (slots slot_size : ℕ) → IsIndex slots slot_size found.now.ids.items found.now.places.items
         → IfSome result (IsWithin slots slot_size) }
     ensures place { (entry : ℕ → Option Entry) (slots : ℕ) → IsListOf entry slots found.now → IsPlaceFound entry slots id result }
 {
+    prove!(id.get() != 0);
     match position_of(&found.ids, id) {
         Ok(at) => Some(found.places[at]),
         Err(_) => None,

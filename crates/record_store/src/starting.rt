@@ -1,10 +1,9 @@
-// What a write begins with, and bytes at the start of a buffer.
-ghost use Rattle.std.specs.Prelude.{◌≡◌, ◌≢◌, ℕ, ◌+◌, ◌-◌, ◌*◌, ◌<◌, ◌≤◌, ◌++◌, length, take, drop, Option, None, MatchResult, OnOk};
+// What a write begins with, and how bytes come to the start of a buffer.
+ghost use Rattle.std.specs.Prelude.{◌≡◌, ◌≢◌, ℕ, ◌+◌, ◌-◌, ◌*◌, ◌<◌, ◌≤◌, ◌++◌, length, drop, Option, None, Some, false, MatchResult, OnErr, OnOk};
 ghost use Rattle.base_model.specs.Bytes.{part};
 ghost use Rattle.record_model.specs.Flash.{OnlyReads};
 ghost use Rattle.record_slots.specs.Slots.{Fits};
-ghost use Rattle.record_model.specs.Records.{Entry};
-ghost use Rattle.record_recovery.specs.Listed.{IsPlaceOf};
+ghost use Rattle.record_model.specs.Records.{Entry, is_reserved};
 ghost use Rattle.record_store.specs.Index.{IsListing, IsListOf, IsPlaceFound};
 ghost use Rattle.record_store.specs.Start.{StartsWith, IsRefusedBy};
 
@@ -28,7 +27,11 @@ pub fn draft_for(
     requires { IsListing geometry.now.slots geometry.now.slot_size found.now }
     ensures { MatchResult result (StartsWith geometry.now.slots found.now id len) (IsRefusedBy geometry.now.slots found.now id) }
 {
+    let number = id.get();
     match place_of(found, id) {
+        Some(place) if place.generation == u32::MAX => {
+            Err(StoreError::LastGeneration { id: number })
+        }
         Some(place) => draft_over(found, geometry, id, len, place),
         None => draft_of_new(found, geometry, id, len),
     }
@@ -43,18 +46,16 @@ fn draft_over(
     place: SlotOf,
 ) -> Result<Draft, StoreError>
     requires listing { IsListing geometry.now.slots geometry.now.slot_size found.now }
+    requires allowed { is_reserved id ≡ false }
     requires within { place.slot < geometry.now.slots }
-    requires place { (entry : ℕ → Option Entry) → IsListOf entry geometry.now.slots found.now → IsPlaceOf entry geometry.now.slots id place }
+    requires not_last { place.generation ≢ 4294967295 }
+    requires place { (entry : ℕ → Option Entry) → IsListOf entry geometry.now.slots found.now → IsPlaceFound entry geometry.now.slots id (Some place) }
     ensures { MatchResult result (StartsWith geometry.now.slots found.now id len) (IsRefusedBy geometry.now.slots found.now id) }
 {
-    if place.generation == u32::MAX {
-        return Err(StoreError::LastGeneration { id: id.get() });
-    }
     let free = found.free.len() as u32;
     if free < 1 {
         return Err(StoreError::NoSpace { free });
     }
-    prove!(id.get() != 0);
     Ok(Draft {
         id,
         slot: found.free[0],
@@ -72,6 +73,7 @@ fn draft_of_new(
     len: u32,
 ) -> Result<Draft, StoreError>
     requires listing { IsListing geometry.now.slots geometry.now.slot_size found.now }
+    requires allowed { is_reserved id ≡ false }
     requires new { (entry : ℕ → Option Entry) → IsListOf entry geometry.now.slots found.now → IsPlaceFound entry geometry.now.slots id None }
     ensures { MatchResult result (StartsWith geometry.now.slots found.now id len) (IsRefusedBy geometry.now.slots found.now id) }
 {
@@ -109,22 +111,26 @@ pub fn put_front(buffer: &mut [u8], bytes: &[u8])
     buffer[..len].copy_from_slice(bytes);
 }
 
-/// Reads the first bytes of a slot's body to the start of a buffer.
-pub fn read_front<F: Flash>(
+/// Reads the record of a slot, by way of a buffer, to the start of `out`, which stays as it is where the flash fails.
+pub fn read_record<F: Flash>(
     flash: &mut F,
     geometry: &Geometry,
-    slot: u32,
+    place: SlotOf,
     buffer: &mut [u8],
-    len: usize,
+    out: &mut [u8],
 ) -> Result<(), FlashFailed>
     requires fits { Fits geometry.now (F.state flash.old) }
-    requires within { slot < geometry.now.slots }
-    requires len { len ≤ length buffer.old }
-    requires room { length buffer.old ≤ geometry.now.slot_size - 64 }
-    ensures bytes { OnOk result (F.tells → take len buffer.new
-        ≡ part (F.state flash.old).told.image (slot * geometry.now.slot_size + 32) len) }
+    requires within { place.slot < geometry.now.slots }
+    requires most { place.len ≤ geometry.now.slot_size - 64 }
+    requires buffer { place.len ≤ length buffer.old }
+    requires room { place.len ≤ length out.old }
+    ensures bytes { OnOk result (F.tells → out.new
+        ≡ part (F.state flash.old).told.image (place.slot * geometry.now.slot_size + 32) place.len ++ drop place.len out.old) }
+    ensures out { OnErr result (out.new ≡ out.old) }
     ensures stays { OnlyReads F.tells (F.state flash.old) (F.state flash.new) result }
 {
-    read_body(flash, geometry, slot, &mut buffer[..len])?;
+    let len = place.len as usize;
+    read_body(flash, geometry, place.slot, &mut buffer[..len])?;
+    put_front(out, &buffer[..len]);
     Ok(())
 }

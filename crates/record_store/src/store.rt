@@ -10,7 +10,7 @@ ghost use Rattle.record_store.specs.Answers.{HasFaultsOf, HasDoubtOf, HasDoubtAt
 use crate::errors::{StoreError, StoreRefused};
 use crate::index::{next_id, place_of};
 use crate::opening::open;
-use crate::starting::{draft_for, first_stage, put_front, read_front};
+use crate::starting::{draft_for, first_stage, put_front, read_record};
 use crate::stepping::make_change;
 use crate::work::Work;
 use erst_ids::RecordId;
@@ -99,8 +99,7 @@ impl<F: Flash> Store<F> {
         ensures cause { HasFaultsOf self.old.flash.faults self.new.flash.faults result }
     {
         self.settle()?;
-        self.begin_write(id, bytes)?;
-        Ok(())
+        self.begin_write(id, bytes)
     }
 
     /// Starts the clearing of an identifier, and makes no change of the map. A store in doubt first looks at its slots
@@ -116,16 +115,14 @@ impl<F: Flash> Store<F> {
         ensures cause { HasFaultsOf self.old.flash.faults self.new.flash.faults result }
     {
         self.settle()?;
-        match place_of(&self.found, id) {
-            Some(place) => {
-                self.work = Work::Clear {
-                    id,
-                    slot: place.slot,
-                };
-                Ok(())
-            }
-            None => Err(StoreError::NotFound),
-        }
+        let Some(place) = place_of(&self.found, id) else {
+            return Err(StoreError::NotFound);
+        };
+        self.work = Work::Clear {
+            id,
+            slot: place.slot,
+        };
+        Ok(())
     }
 
     /// Makes the next change of what is pending, and answers whether it was the last. It reads nothing of the flash.
@@ -180,9 +177,10 @@ impl<F: Flash> Store<F> {
         ensures alike { DividesAlike self.old self.new }
         ensures cause { HasFaultsOf self.old.flash.faults self.new.flash.faults result }
     {
-        self.start_write(id, bytes)?;
-        self.finish()?;
-        Ok(())
+        match self.start_write(id, bytes) {
+            Ok(()) => self.finish(),
+            Err(error) => Err(error),
+        }
     }
 
     /// Clears an identifier: its record is gone from then on.
@@ -195,9 +193,10 @@ impl<F: Flash> Store<F> {
         ensures alike { DividesAlike self.old self.new }
         ensures cause { HasFaultsOf self.old.flash.faults self.new.flash.faults result }
     {
-        self.start_clear(id)?;
-        self.finish()?;
-        Ok(())
+        match self.start_clear(id) {
+            Ok(()) => self.finish(),
+            Err(error) => Err(error),
+        }
     }
 
     /// Gives up what is pending. Where something was, the store is then in doubt.
@@ -234,11 +233,14 @@ impl<F: Flash> Store<F> {
         if out.len() < size {
             return Err(StoreError::Small { need: place.len });
         }
-        match read_front(&mut self.flash, &self.geometry, place.slot, &mut self.buffer, size) {
-            Ok(()) => {
-                put_front(out, &self.buffer[..size]);
-                Ok(size)
-            }
+        match read_record(
+            &mut self.flash,
+            &self.geometry,
+            place,
+            &mut self.buffer,
+            out,
+        ) {
+            Ok(()) => Ok(size),
             Err(FlashFailed) => {
                 self.in_doubt = true;
                 Err(StoreError::Flash)
@@ -301,10 +303,10 @@ impl<F: Flash> Store<F> {
         ensures cause { HasFaultsOf self.old.flash.faults self.new.flash.faults result }
     {
         self.settle()?;
-        match place_of(&self.found, id) {
-            Some(place) => Ok(place.len),
-            None => Err(StoreError::NotFound),
-        }
+        let Some(place) = place_of(&self.found, id) else {
+            return Err(StoreError::NotFound);
+        };
+        Ok(place.len)
     }
 
     /// Gives up what is pending and looks at the slots again, as an opening does.
