@@ -1,2 +1,6 @@
 pub mod LineLemmas
 pub mod ReadLemmas
+pub mod NumberLemmas
+pub mod PlayLemmas
+pub mod AnswerLemmas
+pub mod RecordLemmas

@@ -1,7 +1,7 @@
 -- What the text of a line is taken for.
 use Rattle.std.specs.Prelude.{◌≡◌, ◌≤◌, List, ℕ, length}
 use Rattle.hex.specs.Hex.{decode_of}
-use Rattle.apei_cli.specs.Script.{Asked, asked_by, asked_by_words, asked_by_hex, nothing, read, clear, count, next, not_built}
+use Rattle.apei_cli.specs.Script.{Asked, asked_by, asked_by_words, asked_by_word, asked_by_hex, nothing, read, clear, count, next, not_built}
 use Rattle.apei_cli.specs.declared.script_line.ScriptLine.{ScriptLine}
 use Rattle.apei_cli.specs.declared.script_line.ScriptLine.TheVariants.{Blank, Write, Read, Clear, Count, Next, Other}
 
@@ -21,3 +21,6 @@ IsParsed text line = IsLineOf (asked_by text) (length text) line
 
 abbrev pub IsParsedWords : List ℕ → ScriptLine → Type 0
 IsParsedWords text line = IsLineOf (asked_by_words text) (length text) line
+
+abbrev pub IsParsedWord : List ℕ → ScriptLine → Type 0
+IsParsedWord text line = IsLineOf (asked_by_word text) (length text) line

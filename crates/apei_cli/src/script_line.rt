@@ -2,7 +2,7 @@
 ghost use Rattle.std.specs.Prelude.{◌≡◌, ℕ, ◌+◌, ◌*◌, ◌<◌, ◌≤◌, ◌↔◌, List, length, take, IsTrue, MatchOption};
 ghost use Rattle.hex.specs.Hex.{decode_of};
 ghost use Rattle.apei_cli.specs.Script.{asked_by_hex, number_in, write, not_built, IsPlain, marked};
-ghost use Rattle.apei_cli.specs.Parsed.{IsParsed, IsParsedWords};
+ghost use Rattle.apei_cli.specs.Parsed.{IsParsed, IsParsedWords, IsParsedWord};
 
 use apei_bytes::{get_u16, get_u32};
 use hex::decode_to_slice;
@@ -58,10 +58,19 @@ impl ScriptLine<'_> {
                 None => ScriptLine::Other,
             };
         }
-        match text {
-            b"count" => ScriptLine::Count,
-            b"next" => ScriptLine::Next,
-            _ => ScriptLine::Other,
+        ScriptLine::parse_word(text)
+    }
+
+    // The line with this text, which is at most one word.
+    fn parse_word(text: &[u8]) -> ScriptLine<'_>
+        ensures { IsParsedWord text.now result }
+    {
+        if text == b"count".as_slice() {
+            ScriptLine::Count
+        } else if text == b"next".as_slice() {
+            ScriptLine::Next
+        } else {
+            ScriptLine::Other
         }
     }
 }
@@ -70,7 +79,12 @@ impl ScriptLine<'_> {
 fn number(text: &[u8]) -> Option<u64>
     ensures { result ≡ number_in text.now }
 {
-    let number = from_utf8(text).ok()?.parse::<u64>().ok()?;
+    let Ok(digits) = from_utf8(text) else {
+        return None;
+    };
+    let Ok(number) = digits.parse::<u64>() else {
+        return None;
+    };
     let mut buffer = Buffer::new();
     if buffer.format(number).as_bytes() == text {
         Some(number)
