@@ -5,7 +5,8 @@ use Rattle.base_model.specs.Faults.{Rose}
 use Rattle.record_model.specs.Flash.{Told, Leaves}
 use Rattle.record_model.specs.Records.{Stored, stored_in, is_reserved}
 use Rattle.record_model.proofs.CrashLemmas.{Leaves-exit, Leaves-weaker}
-use Rattle.record_model.specs.RecordMap.{Command, Write, Clear, Read, Count, Next, refusal_of, made_by, after, changes_of}
+use Rattle.std.specs.FinMap.{len}
+use Rattle.record_model.specs.RecordMap.{Command, Write, Clear, Read, Count, Next, IsNextAbove, refusal_of, made_by, after, changes_of}
 use Rattle.record_model.specs.History.{Answer, Done, Shown, Counted, Found, Refused, Hardware, cursor_after}
 use Rattle.record_store.specs.Store.{StoreView, stored, IsReady, IsBeforeOrAfter, DividesAlike, KeepsMap}
 use Rattle.record_store.specs.Answers.{RefusesWrite, RefusesClear, HasFaultsOf, HasDoubtOf, UnlessFlash, TakesExactly, AnswersByItself}
@@ -135,7 +136,7 @@ map_kept old new alike kept =
     ∙ Leaves-exit old.flash.told new.flash.told (λ image. stored_in old.slot_size old.slots image ≡ stored old) kept
 
 -- keeping is one of before and after
-keeps_before : (old new : StoreView) (command : Command) → KeepsMap old new → IsBeforeOrAfter old new command
+pub keeps_before : (old new : StoreView) (command : Command) → KeepsMap old new → IsBeforeOrAfter old new command
 keeps_before old new command kept =
     Leaves-weaker old.flash.told new.flash.told (λ image. stored_in old.slot_size old.slots image ≡ stored old)
     (λ image. (stored_in old.slot_size old.slots image ≡ stored old) ⊎ (stored_in old.slot_size old.slots image ≡ after old.slots command (stored old)))
@@ -178,3 +179,38 @@ named_says old id cursor bytes NotFound answer = (answer, refl)
 named_says old id cursor bytes Empty answer = (answer, refl)
 named_says old id cursor bytes Flash answer = tt
 named_says old id cursor bytes (Small need) answer = absurd answer
+
+-- a count and a next
+count_not_refused : (slots : ℕ) (map : Stored) → refusal_of slots Count map ≡ None
+unfolding refusal_of
+count_not_refused slots map = refl
+
+next_not_refused : (slots : ℕ) (map : Stored) → refusal_of slots Next map ≡ None
+unfolding refusal_of
+next_not_refused slots map = refl
+
+pub count_taken : (store : StoreView) (cursor n : ℕ) → n ≡ len (stored store) → Says store.slots cursor Count (Counted n) (stored store) (stored store)
+count_taken store cursor n is =
+    let look = IsLook-count store.per_slot store.slots in
+    (count_not_refused store.slots (stored store), is, sym (look.same (stored store)))
+
+pub next_taken : (store : StoreView) (cursor : ℕ) (found : Option ℕ) → IsNextAbove cursor (stored store) found → Says store.slots cursor Next (Found found) (stored store) (stored store)
+next_taken store cursor found is =
+    let look = IsLook-next store.per_slot store.slots in
+    (next_not_refused store.slots (stored store), is, sym (look.same (stored store)))
+
+-- they fail by the flash alone
+pub fails_as : (error : StoreError) (P : Answer → Type 0) → error ≡ Flash → P Hardware → P (answer_of error)
+fails_as error P is p = subst (λ (e : StoreError). P (answer_of e)) (sym is) p
+
+pub count_failed : (store : StoreView) (cursor : ℕ) (error : StoreError) → error ≡ Flash → Says store.slots cursor Count (answer_of error) (stored store) (stored store)
+count_failed store cursor error is = fails_as error (λ (a : Answer). Says store.slots cursor Count a (stored store) (stored store)) is tt
+
+pub next_failed : (store : StoreView) (cursor : ℕ) (error : StoreError) → error ≡ Flash → Says store.slots cursor Next (answer_of error) (stored store) (stored store)
+next_failed store cursor error is = fails_as error (λ (a : Answer). Says store.slots cursor Next a (stored store) (stored store)) is tt
+
+pub count_stays : (error : StoreError) → error ≡ Flash → (cursor : ℕ) → cursor ≡ cursor_after Count (answer_of error) cursor
+count_stays error is cursor = fails_as error (λ (a : Answer). cursor ≡ cursor_after Count a cursor) is refl
+
+pub next_stays : (error : StoreError) → error ≡ Flash → (cursor : ℕ) → cursor ≡ cursor_after Next (answer_of error) cursor
+next_stays error is cursor = fails_as error (λ (a : Answer). cursor ≡ cursor_after Next a cursor) is refl

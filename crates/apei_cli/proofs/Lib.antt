@@ -4,3 +4,5 @@ pub mod NumberLemmas
 pub mod PlayLemmas
 pub mod AnswerLemmas
 pub mod RecordLemmas
+pub mod LookLemmas
+pub mod StillLemmas

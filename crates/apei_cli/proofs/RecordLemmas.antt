@@ -9,6 +9,7 @@ use Rattle.std.proofs.lemmas.Option.{none-some}
 use Rattle.base_model.specs.Bytes.{part}
 use Rattle.base_model.proofs.BytesLemmas.{length-part, length-part-le}
 use Rattle.record_model.specs.Records.{Head, head_at, tail_at, is_reserved, is_upright, Entry, entry_of, entry_at, Stored, stored_in}
+use Rattle.record_slots.proofs.Within.{slot_within}
 use Rattle.record_model.specs.RecordMap.{Read, Failed, NotFound, Empty, IsNextAbove, refusal_of}
 use Rattle.record_model.proofs.SelectionLemmas.{get-selected, best_from}
 
@@ -62,42 +63,46 @@ entry_at_says : (size k : ℕ) (image : List ℕ) (entry : Entry) → entry_at s
 unfolding entry_at
 entry_at_says size k image entry e = entry_says size (k * size) image (head_at image (k * size)) (tail_at image (k * size) size) entry e
 
--- a slot lies in the image
-within_image : (size slots k at len total : ℕ) → k < slots → total ≡ size * slots → at ≡ k * size → len ≤ size - 64 → 64 ≤ size → at + 32 + len ≤ total
-within_image size slots k at len total low is place fits large = ?
-
--- a record that an image of the size of all slots holds
+-- a record that an image holds
 pub record IsRecordOf (size id : ℕ) (kept : List ℕ × ℕ) : Type 0 where
   pub usable : is_reserved id ≡ false
-  pub least : 128 ≤ length kept.0
   pub most : length kept.0 ≤ size - 64
 
-pub stored_says : (size slots id : ℕ) (image : List ℕ) (kept : List ℕ × ℕ) → length image ≡ size * slots → get (stored_in size slots image) id ≡ Some kept → IsRecordOf size id kept
+pub stored_says : (size slots id : ℕ) (image : List ℕ) (kept : List ℕ × ℕ) → get (stored_in size slots image) id ≡ Some kept → IsRecordOf size id kept
 unfolding stored_in
-stored_says size slots id image kept sized here =
+stored_says size slots id image kept here =
     let from = best_from (entry_at size image) id slots kept (sym (get-selected (entry_at size image) slots id) ∙ here) in
-    let entry = from.1 in
-    let is = entry_at_says size from.0 image entry from.3 in
+    let is = entry_at_says size from.0 image from.1 from.3 in
+    let says = is.says in
+    let body : kept.0 ≡ part image (from.0 * size + 32) is.head.len = sym (ap (λ (p : List ℕ × ℕ). p.0) from.5) ∙ is.body in
+    let most : is.head.len ≤ size - 64 = says.most in
+    record {
+      usable = ap is_reserved (sym from.4 ∙ is.id) ∙ says.usable;
+      most = omega (arith, ap length body, length-part-le image (from.0 * size + 32) is.head.len);
+    }
+
+-- one of the size of all slots
+pub stored_least : (size slots id : ℕ) (image : List ℕ) (kept : List ℕ × ℕ) → length image ≡ size * slots → get (stored_in size slots image) id ≡ Some kept → 128 ≤ length kept.0
+unfolding stored_in
+stored_least size slots id image kept sized here =
+    let from = best_from (entry_at size image) id slots kept (sym (get-selected (entry_at size image) slots id) ∙ here) in
+    let is = entry_at_says size from.0 image from.1 from.3 in
     let says = is.says in
     let body : kept.0 ≡ part image (from.0 * size + 32) is.head.len = sym (ap (λ (p : List ℕ × ℕ). p.0) from.5) ∙ is.body in
     let least : 128 ≤ is.head.len = says.least in
     let most : is.head.len ≤ size - 64 = says.most in
-    let fits : from.0 * size + 32 + is.head.len ≤ length image = within_image size slots from.0 (from.0 * size) is.head.len (length image) from.2 sized refl most (omega arith) in
-    let len : length kept.0 ≡ is.head.len = ap length body ∙ length-part image (from.0 * size + 32) is.head.len fits in
-    record {
-      usable = ap is_reserved (sym from.4 ∙ is.id) ∙ says.usable;
-      least = omega arith;
-      most = omega arith;
-    }
+    let ends : from.0 * size + size ≤ size * slots = slot_within from.0 size slots from.2 in
+    let len : length kept.0 ≡ is.head.len = ap length body ∙ length-part image (from.0 * size + 32) is.head.len (omega arith) in
+    omega arith
 
 -- an identifier that no record has is not stored
-pub reserved_absent : (size slots id : ℕ) (image : List ℕ) → length image ≡ size * slots → is_reserved id ≡ true → get (stored_in size slots image) id ≡ None
-reserved_absent size slots id image sized reserved = by_case (get (stored_in size slots image) id) refl
+pub reserved_absent : (size slots id : ℕ) (image : List ℕ) → is_reserved id ≡ true → get (stored_in size slots image) id ≡ None
+reserved_absent size slots id image reserved = by_case (get (stored_in size slots image) id) refl
   where
     by_case : (found : Option (List ℕ × ℕ)) → get (stored_in size slots image) id ≡ found → found ≡ None
     by_case None e = refl
     by_case (Some kept) e =
-        let says = stored_says size slots id image kept sized e in
+        let says = stored_says size slots id image kept e in
         let clash : true ≡ false = sym reserved ∙ says.usable in absurd (cc clash)
 
 -- a map that has an identifier is not empty
@@ -136,10 +141,10 @@ read_absent slots id found map kept here other absent =
     ∙ ap (λ (o : Option (List ℕ × ℕ)). cond (is_some o) None (Some NotFound)) absent
 
 -- no identifier above 0 is stored, and 0 is none
-pub none_above : (size slots : ℕ) (image : List ℕ) → length image ≡ size * slots → IsNextAbove 0 (stored_in size slots image) None → (id : ℕ) → get (stored_in size slots image) id ≡ None
+pub none_above : (size slots : ℕ) (image : List ℕ) → IsNextAbove 0 (stored_in size slots image) None → (id : ℕ) → get (stored_in size slots image) id ≡ None
 unfolding is_reserved
-none_above size slots image sized none zero = reserved_absent size slots 0 image sized refl
-none_above size slots image sized none (suc id) = none (suc id) (omega arith)
+none_above size slots image none zero = reserved_absent size slots 0 image refl
+none_above size slots image none (suc id) = none (suc id) (omega arith)
 
 -- the found one is there
 pub some_kept : (found : Option (List ℕ × ℕ)) → IsSome found → (kept : List ℕ × ℕ) × (found ≡ Some kept)

@@ -1,16 +1,15 @@
 // The playing of one line on a store.
-ghost use Rattle.std.specs.Prelude.{◌≡◌, ◌≢◌, ℕ, ◌-◌, ◌≤◌, ◌⊎◌, List, [], ◌∷◌, ◌++◌, length, take, true, false, None, Some, IfSome, IfOk, IfErr, OnOk, OnErr, MatchOption, MatchResult, MatchBool, vec_len};
+ghost use Rattle.std.specs.Prelude.{◌≡◌, ◌≢◌, ℕ, ◌-◌, ◌<◌, ◌≤◌, ◌⊎◌, List, [], ◌∷◌, ◌++◌, length, take, codes, true, false, None, Some, IfSome, IfOk, IfErr, OnOk, OnErr, MatchOption, MatchResult, MatchBool, vec_len};
 ghost use Rattle.hex.specs.Hex.{decode_of};
 ghost use Rattle.base_model.specs.Faults.{Rose};
 ghost use Rattle.record_model.specs.RecordMap.{Command, Write, Clear, Read, Count, Next};
 ghost use Rattle.record_model.specs.Records.{is_reserved};
-ghost use Rattle.record_model.specs.History.{cursor_after};
-ghost use Rattle.record_store.specs.Store.{Idle};
+ghost use Rattle.record_model.specs.History.{Found, cursor_after};
 ghost use Rattle.apei_cli.specs.Script.{nothing, asked_by, asked_by_hex, IsPlain, IsBuilt, write_of};
-ghost use Rattle.apei_cli.specs.Replies.{words_of, at_step};
+ghost use Rattle.apei_cli.specs.Replies.{words_of, words_of_record, at_step};
 ghost use Rattle.apei_cli.specs.Records.{AsksToWrite, AnswersNamed, LooksUp};
 ghost use Rattle.apei_cli.specs.Refusals.{answer_of};
-ghost use Rattle.apei_cli.specs.Plays.{StaysIdle, IsReplied, AnswersLine, PlaysLine, PlaysUnheard};
+ghost use Rattle.apei_cli.specs.Plays.{IsOpen, StaysIdle, IsReplied, AnswersLine, PlaysLine, PlaysUnheard};
 
 use crate::reply::Reply;
 use crate::script_line::{ScriptLine, decode, is_plain, stamp};
@@ -77,8 +76,7 @@ impl Desk {
     ) -> Result<(), PlayStop>
         requires text { length text.now ≤ 140000 }
         requires room { self.old.room ≡ store.old.slot_size - 64 }
-        requires slot { store.old.slot_size ≤ 65600 }
-        requires idle { store.old.pending ≡ Idle }
+        requires open_store { IsOpen store.old }
         ensures played { OnOk result (PlaysLine F.tells O.tells store.old store.new (asked_by text.now) self.old.cursor self.new.cursor (O.written out.old) (O.written out.new)) }
         ensures not_built { result ≡ Err PlayStop.NotBuilt → ¬ IsBuilt (asked_by text.now) }
         ensures untouched { result ≡ Err PlayStop.NotBuilt → (store.new ≡ store.old) × (out.new ≡ out.old) }
@@ -101,8 +99,7 @@ impl Desk {
     fn answer<F: Flash>(&mut self, store: &mut Store<F>, text: &[u8]) -> Result<bool, PlayStop>
         requires text { length text.now ≤ 140000 }
         requires room { self.old.room ≡ store.old.slot_size - 64 }
-        requires slot { store.old.slot_size ≤ 65600 }
-        requires idle { store.old.pending ≡ Idle }
+        requires open_store { IsOpen store.old }
         ensures answered { IfOk result (λ replied. MatchBool replied
             (AnswersLine F.tells store.old store.new (asked_by text.now) self.old.cursor self.new.cursor self.new.reply)
             ((asked_by text.now ≡ nothing) × (store.new ≡ store.old) × (self.new.cursor ≡ self.old.cursor))) }
@@ -137,7 +134,7 @@ impl Desk {
     fn write<F: Flash>(&mut self, store: &mut Store<F>, hex: &[u8]) -> Result<bool, PlayStop>
         requires text { length hex.now ≤ 140000 }
         requires room { self.old.room ≡ store.old.slot_size - 64 }
-        requires idle { store.old.pending ≡ Idle }
+        requires open_store { IsOpen store.old }
         ensures answered { IfOk result (λ replied. (replied ≡ true)
             × AnswersLine F.tells store.old store.new (asked_by_hex (decode_of hex.now)) self.old.cursor self.new.cursor self.new.reply) }
         ensures not_built { IfErr result (λ stop. (stop ≡ PlayStop.NotBuilt) × ¬ IsBuilt (asked_by_hex (decode_of hex.now)) × (store.new ≡ store.old)) }
@@ -156,7 +153,7 @@ impl Desk {
         requires within { len ≤ length self.old.bytes.items }
         requires plain { IsPlain (take len self.old.bytes.items) }
         requires room { self.old.room ≡ store.old.slot_size - 64 }
-        requires idle { store.old.pending ≡ Idle }
+        requires open_store { IsOpen store.old }
         ensures replied { IsReplied F.tells store.old store.new (write_of self.old.room (take len self.old.bytes.items)) self.old.cursor self.new.cursor self.new.reply }
         ensures idle { StaysIdle store.old store.new }
         ensures room { self.new.room ≡ self.old.room }
@@ -173,8 +170,7 @@ impl Desk {
 
     // Shows the record of an identifier, and moves the cursor to it.
     fn read<F: Flash>(&mut self, store: &mut Store<F>, id: u64)
-        requires slot { store.old.slot_size ≤ 65600 }
-        requires idle { store.old.pending ≡ Idle }
+        requires open_store { IsOpen store.old }
         ensures replied { IsReplied F.tells store.old store.new (Read id) self.old.cursor self.new.cursor self.new.reply }
         ensures idle { StaysIdle store.old store.new }
         ensures room { self.new.room ≡ self.old.room }
@@ -182,12 +178,26 @@ impl Desk {
         let read = read_named(store, id, &mut self.bytes);
         let steps = store.flash().steps();
         match read {
-            Ok(held) => {
-                self.reply.record(&self.bytes[..held.len], steps);
-                self.cursor = held.id;
-            }
+            Ok(held) => self.show(held, steps),
             Err(error) => self.refuse_read(error, steps),
         }
+    }
+
+    // Makes the reply to a record that was read, and moves the cursor to it. No store has a record that is too short.
+    fn show(&mut self, held: HeldRecord, steps: u64)
+        requires within { held.len ≤ length self.old.bytes.items }
+        ensures shown { 128 ≤ held.len → self.new.reply ≡ words_of_record (take held.len self.old.bytes.items) ++ at_step steps }
+        ensures moved { 128 ≤ held.len → self.new.cursor ≡ held.id }
+        ensures short { held.len < 128 → self.new.reply ≡ codes "refused failed" ++ at_step steps }
+        ensures stays { held.len < 128 → self.new.cursor ≡ self.old.cursor }
+        ensures room { self.new.room ≡ self.old.room }
+    {
+        if held.len < SHORTEST_RECORD {
+            self.reply.refused(b"failed", steps);
+            return;
+        }
+        self.reply.record(&self.bytes[..held.len], steps);
+        self.cursor = held.id;
     }
 
     // Makes the reply to a refused read, and moves the cursor.
@@ -204,7 +214,7 @@ impl Desk {
 
     // Clears an identifier.
     fn clear<F: Flash>(&mut self, store: &mut Store<F>, id: u64)
-        requires idle { store.old.pending ≡ Idle }
+        requires open_store { IsOpen store.old }
         ensures replied { IsReplied F.tells store.old store.new (Clear id) self.old.cursor self.new.cursor self.new.reply }
         ensures idle { StaysIdle store.old store.new }
         ensures room { self.new.room ≡ self.old.room }
@@ -217,7 +227,7 @@ impl Desk {
 
     // Counts the identifiers.
     fn count<F: Flash>(&mut self, store: &mut Store<F>)
-        requires idle { store.old.pending ≡ Idle }
+        requires open_store { IsOpen store.old }
         ensures replied { IsReplied F.tells store.old store.new Count self.old.cursor self.new.cursor self.new.reply }
         ensures idle { StaysIdle store.old store.new }
         ensures room { self.new.room ≡ self.old.room }
@@ -232,7 +242,7 @@ impl Desk {
 
     // Shows the next identifier, and moves the cursor to it.
     fn next<F: Flash>(&mut self, store: &mut Store<F>)
-        requires idle { store.old.pending ≡ Idle }
+        requires open_store { IsOpen store.old }
         ensures replied { IsReplied F.tells store.old store.new Next self.old.cursor self.new.cursor self.new.reply }
         ensures idle { StaysIdle store.old store.new }
         ensures room { self.new.room ≡ self.old.room }
@@ -241,9 +251,9 @@ impl Desk {
         let steps = store.flash().steps();
         match found {
             Ok(next) => {
-                let next = next.map(|id| id.get());
+                let next = value_of(next);
                 self.reply.found(next, steps);
-                self.cursor = next.unwrap_or(0);
+                self.cursor = cursor_at(next);
             }
             Err(error) => refuse(&mut self.reply, error, steps),
         }
@@ -271,7 +281,7 @@ fn read_plain(hex: &[u8], out: &mut [u8]) -> Option<usize>
 fn write_marked<F: Flash>(store: &mut Store<F>, reply: &mut Reply, id: u64, bytes: &[u8])
     requires least { 128 ≤ length bytes.now }
     requires room { length bytes.now ≤ store.old.slot_size - 64 }
-    requires idle { store.old.pending ≡ Idle }
+    requires open_store { IsOpen store.old }
     ensures replied { (cursor : ℕ) → IsReplied F.tells store.old store.new (Write id bytes.now) cursor cursor reply.new }
     ensures idle { StaysIdle store.old store.new }
 {
@@ -283,9 +293,10 @@ fn write_marked<F: Flash>(store: &mut Store<F>, reply: &mut Reply, id: u64, byte
 
 // Writes a record, and makes the reply.
 fn write_record<F: Flash>(store: &mut Store<F>, reply: &mut Reply, id: RecordId, bytes: &[u8])
+    requires usable { is_reserved id ≡ false }
     requires least { 128 ≤ length bytes.now }
     requires room { length bytes.now ≤ store.old.slot_size - 64 }
-    requires idle { store.old.pending ≡ Idle }
+    requires open_store { IsOpen store.old }
     ensures replied { (cursor : ℕ) → IsReplied F.tells store.old store.new (Write id bytes.now) cursor cursor reply.new }
     ensures idle { StaysIdle store.old store.new }
 {
@@ -299,7 +310,8 @@ fn write_record<F: Flash>(store: &mut Store<F>, reply: &mut Reply, id: RecordId,
 
 // Clears an identifier, and makes the reply.
 fn clear_record<F: Flash>(store: &mut Store<F>, reply: &mut Reply, id: RecordId)
-    requires idle { store.old.pending ≡ Idle }
+    requires usable { is_reserved id ≡ false }
+    requires open_store { IsOpen store.old }
     ensures replied { (cursor : ℕ) → IsReplied F.tells store.old store.new (Clear id) cursor cursor reply.new }
     ensures idle { StaysIdle store.old store.new }
 {
@@ -317,11 +329,10 @@ fn read_named<F: Flash>(
     id: u64,
     out: &mut [u8],
 ) -> Result<HeldRecord, StoreError>
-    requires idle { store.old.pending ≡ Idle }
-    requires slot { store.old.slot_size ≤ 65600 }
+    requires open_store { IsOpen store.old }
     requires out { length out.old ≡ 70000 }
     ensures answer { F.tells → AnswersNamed store.old id out.new result }
-    ensures held { IfOk result (λ held. (128 ≤ held.len) × (held.len ≤ length out.new)) }
+    ensures held { IfOk result (λ held. held.len ≤ length out.new) }
     ensures looks { LooksUp F.tells store.old store.new result }
 {
     match RecordId::new(id) {
@@ -337,11 +348,10 @@ fn read_reserved<F: Flash>(
     out: &mut [u8],
 ) -> Result<HeldRecord, StoreError>
     requires reserved { is_reserved id ≡ true }
-    requires idle { store.old.pending ≡ Idle }
-    requires slot { store.old.slot_size ≤ 65600 }
+    requires open_store { IsOpen store.old }
     requires out { length out.old ≡ 70000 }
     ensures answer { F.tells → AnswersNamed store.old id out.new result }
-    ensures held { IfOk result (λ held. (128 ≤ held.len) × (held.len ≤ length out.new)) }
+    ensures held { IfOk result (λ held. held.len ≤ length out.new) }
     ensures looks { LooksUp F.tells store.old store.new result }
 {
     let first = match store.first() {
@@ -365,22 +375,37 @@ fn read_record<F: Flash>(
     id: RecordId,
     out: &mut [u8],
 ) -> Result<HeldRecord, StoreError>
-    requires idle { store.old.pending ≡ Idle }
-    requires slot { store.old.slot_size ≤ 65600 }
+    requires open_store { IsOpen store.old }
     requires out { length out.old ≡ 70000 }
     ensures answer { F.tells → AnswersNamed store.old id out.new result }
-    ensures held { IfOk result (λ held. (128 ≤ held.len) × (held.len ≤ length out.new)) }
+    ensures held { IfOk result (λ held. held.len ≤ length out.new) }
     ensures id { IfOk result (λ held. held.id ≡ id) }
     ensures looks { LooksUp F.tells store.old store.new result }
 {
-    let len = match store.read(id, out) {
-        Ok(len) => len,
-        Err(error) => return Err(error),
-    };
-    if len < SHORTEST_RECORD {
-        return Err(StoreError::NotFound);
+    match store.read(id, out) {
+        Ok(len) => Ok(HeldRecord { id: id.get(), len }),
+        Err(error) => Err(error),
     }
-    Ok(HeldRecord { id: id.get(), len })
+}
+
+// The number of an identifier.
+fn value_of(id: Option<RecordId>) -> Option<u64>
+    ensures { result ≡ id }
+{
+    match id {
+        Some(id) => Some(id.get()),
+        None => None,
+    }
+}
+
+// Where the cursor stands at an identifier that was found, and at the start where there is none.
+fn cursor_at(found: Option<u64>) -> u64
+    ensures { (cursor : ℕ) → result ≡ cursor_after Next (Found found) cursor }
+{
+    match found {
+        Some(id) => id,
+        None => 0,
+    }
 }
 
 // Makes the reply to a command that the store refused or its flash failed.

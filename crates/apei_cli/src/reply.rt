@@ -153,7 +153,8 @@ impl Reply {
 
     fn add_hex(&mut self, bytes: &[u8])
         requires { length self.old + 2 * length bytes.now ≤ 140128 }
-        ensures { self.new ≡ self.old ++ encode_lower bytes.now }
+        ensures text { self.new ≡ self.old ++ encode_lower bytes.now }
+        ensures longer { length self.new ≡ length self.old + 2 * length bytes.now }
     {
         let at = self.text.len();
         self.text.resize(at + 2 * bytes.len(), 0).unwrap();
