@@ -6,3 +6,4 @@ pub mod AnswerLemmas
 pub mod RecordLemmas
 pub mod LookLemmas
 pub mod StillLemmas
+pub mod LinePlayLemmas

@@ -1,5 +1,5 @@
 -- Commands that the map refuses without the store being asked.
-use Rattle.std.proofs.Common.{◌≡◌, ℕ, ◌+◌, ◌≤◌, Bool, true, false, cond, List, [], ◌∷◌, ◌++◌, length, Option, Some, None, refl, sym, ap, subst, ◌∙◌, arith}
+use Rattle.std.proofs.Common.{◌≡◌, ℕ, ◌+◌, ◌<◌, ◌≤◌, Bool, true, false, cond, List, [], ◌∷◌, ◌++◌, length, take, drop, codes, Option, Some, None, refl, sym, ap, subst, ◌∙◌, arith, length-append, length-drop}
 use Rattle.std.specs.Prelude.{is_none}
 use Rattle.base_model.specs.Faults.{Rose}
 use Rattle.record_model.specs.Records.{Stored, stored_in, is_reserved}
@@ -8,6 +8,12 @@ use Rattle.record_model.specs.RecordMap.{Command, Write, WriteOversize, Clear, R
 use Rattle.record_model.specs.History.{Refused, cursor_after}
 use Rattle.record_model.proofs.CrashLemmas.{CrashImage-now, IsLater-refl}
 use Rattle.record_store.specs.Store.{StoreView, stored, KeepsMap, DividesAlike}
+use Rattle.std.proofs.lemmas.Bool.{le-ltb, lt-ltb}
+use Rattle.std.proofs.lemmas.List.{length-take-le, take_at}
+use Rattle.base_model.proofs.BytesLemmas.{length-put_at, number_at-before, SameOutside-put_at}
+use Rattle.base_model.specs.Bytes.{put_at}
+use Rattle.apei_cli.specs.Records.{IsMarked}
+use Rattle.apei_cli.specs.Script.{id_of, marked, write_of}
 use Rattle.apei_cli.specs.Replies.{words_of, at_step}
 use Rattle.apei_cli.specs.Plays.{IsReplied}
 use Rattle.apei_cli.proofs.PlayLemmas.{IsReplied-one}
@@ -53,3 +59,34 @@ clear_reserved slots id reserved map = rw reserved refl
 pub write_oversize : (slots size room : ℕ) (map : Stored) → refusal_of slots (WriteOversize size room) map ≡ Some TooLong
 unfolding refusal_of
 write_oversize slots size room map = refl
+
+-- the write of a record, by its length
+pub write_of-fits : (room : ℕ) (bytes : List ℕ) → length bytes ≤ room → write_of room bytes ≡ Write (id_of bytes) (marked bytes)
+write_of-fits room bytes fits =
+    ap (λ (b : Bool). cond b (WriteOversize (length bytes) room) (Write (id_of bytes) (marked bytes))) (le-ltb room (length bytes) fits)
+
+pub write_of-long : (room : ℕ) (bytes : List ℕ) → room < length bytes → write_of room bytes ≡ WriteOversize (length bytes) room
+write_of-long room bytes long =
+    ap (λ (b : Bool). cond b (WriteOversize (length bytes) room) (Write (id_of bytes) (marked bytes))) (lt-ltb room (length bytes) long)
+
+-- the mark leaves the length
+length-marked : (bytes : List ℕ) → 128 ≤ length bytes → length (marked bytes) ≡ length bytes
+unfolding marked
+length-marked bytes h = length-put_at bytes 108 (codes "ER") (omega arith)
+
+pub marked_held : (items stamped : List ℕ) (len : ℕ) → len ≤ length items → 128 ≤ len → stamped ≡ marked (take len items)
+    → IsMarked len items (stamped ++ drop len items)
+marked_held items stamped len within least stamp =
+    let whole : length (take len items) ≡ len = length-take-le len items within in
+    let size : length (marked (take len items)) ≡ len = length-marked (take len items) (omega arith) ∙ whole in
+    let stamped_size : length stamped ≡ len = ap length stamp ∙ size in
+    record {
+      same_length = omega (arith, length-append stamped (drop len items), length-drop len items);
+      record_now = take_at stamped (drop len items) len stamped_size ∙ stamp;
+      size = size;
+    }
+
+-- the mark leaves the identifier
+pub id_of-marked : (bytes : List ℕ) → 128 ≤ length bytes → id_of (marked bytes) ≡ id_of bytes
+unfolding marked
+id_of-marked bytes h = number_at-before 108 2 96 8 bytes (put_at bytes 108 (codes "ER")) (SameOutside-put_at bytes 108 (codes "ER") (omega arith)) (omega arith)

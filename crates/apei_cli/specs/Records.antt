@@ -7,13 +7,19 @@ use Rattle.record_store.specs.Store.{StoreView, stored, KeepsMap, DividesAlike}
 use Rattle.record_store.specs.Answers.{HasFaultsOf, HasDoubtOf}
 use Rattle.record_store.specs.declared.errors.StoreError.{StoreError}
 use Rattle.record_store.specs.declared.errors.StoreError.TheVariants.{NoSpace, LastGeneration, NotFound, Empty, Flash, Small}
-use Rattle.apei_cli.specs.Script.{Asked, write, IsPlain}
+use Rattle.apei_cli.specs.Script.{Asked, write, IsPlain, marked}
 use Rattle.apei_cli.specs.declared.player.HeldRecord.{HeldRecord}
 
 -- a line that is built asks to write these bytes
 pub record AsksToWrite (asked : Asked) (bytes : List ℕ) : Type 0 where
   pub asks : asked ≡ write bytes
   pub plain : IsPlain bytes
+
+-- the record of so many bytes at the start of a buffer got its mark
+pub record IsMarked (len : ℕ) (old new : List ℕ) : Type 0 where
+  pub same_length : length new ≡ length old
+  pub record_now : take len new ≡ marked (take len old)
+  pub size : length (marked (take len old)) ≡ len
 
 -- the answer of a read: the record of the identifier that was named, held at the start of these bytes, or the refusal of
 -- the map

@@ -5,9 +5,9 @@ ghost use Rattle.base_model.specs.Faults.{Rose};
 ghost use Rattle.record_model.specs.RecordMap.{Command, Write, Clear, Read, Count, Next};
 ghost use Rattle.record_model.specs.Records.{is_reserved};
 ghost use Rattle.record_model.specs.History.{Found, cursor_after};
-ghost use Rattle.apei_cli.specs.Script.{nothing, asked_by, asked_by_hex, IsPlain, IsBuilt, write_of};
+ghost use Rattle.apei_cli.specs.Script.{nothing, asked_by, asked_by_hex, IsPlain, IsBuilt, id_of, write_of};
 ghost use Rattle.apei_cli.specs.Replies.{words_of, words_of_record, at_step};
-ghost use Rattle.apei_cli.specs.Records.{AsksToWrite, AnswersNamed, LooksUp};
+ghost use Rattle.apei_cli.specs.Records.{IsMarked, AsksToWrite, AnswersNamed, LooksUp};
 ghost use Rattle.apei_cli.specs.Refusals.{answer_of};
 ghost use Rattle.apei_cli.specs.Plays.{IsOpen, StaysIdle, IsReplied, AnswersLine, PlaysLine, PlaysUnheard};
 
@@ -163,8 +163,7 @@ impl Desk {
             self.reply.too_long(len as u64, self.room, steps);
             return;
         }
-        let id = get_u64(&self.bytes[..len], ID);
-        stamp(&mut self.bytes[..len]);
+        let id = mark(&mut self.bytes, len);
         write_marked(store, &mut self.reply, id, &self.bytes[..len]);
     }
 
@@ -275,6 +274,18 @@ fn read_plain(hex: &[u8], out: &mut [u8]) -> Option<usize>
     } else {
         None
     }
+}
+
+// Marks the record of so many bytes at the start of a buffer, and answers its identifier.
+fn mark(bytes: &mut [u8], len: usize) -> u64
+    requires within { len ≤ length bytes.old }
+    requires least { 128 ≤ len }
+    ensures id { result ≡ id_of (take len bytes.old) }
+    ensures held { IsMarked len bytes.old bytes.new }
+{
+    let record = &mut bytes[..len];
+    stamp(record);
+    get_u64(record, ID)
 }
 
 // Writes a record that has its mark, and makes the reply. An identifier that no record has is refused.

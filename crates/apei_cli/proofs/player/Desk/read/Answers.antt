@@ -4,6 +4,7 @@ use Rattle.std.proofs.lemmas.List.{with_items_is}
 use Rattle.record_model.specs.Flash.{FlashState}
 use Rattle.record_model.specs.RecordMap.{Read, Failed}
 use Rattle.record_model.specs.History.{Shown, Refused}
+use Rattle.apei_cli.specs.Replies.{words_of_record, at_step}
 use Rattle.apei_cli.specs.Refusals.{answer_of}
 use Rattle.apei_cli.proofs.AnswerLemmas.{IsLook-read, looked, error_cause, named_says}
 use Rattle.apei_cli.proofs.LookLemmas.{read_says, held_long}
@@ -28,7 +29,7 @@ returns-in-Ok-clause-replied g c =
           looked g.F.Flash.tells store c.read_named-read.new.store c.args.self.now.cursor c.show.new.self.cursor c.steps-steps.result (Read c.args.id) (Shown c.in-Ok.held.id (take c.in-Ok.held.len c.read_named-read.new.out)) c.show.new.self.reply
           (IsLook-read store.per_slot store.slots c.args.id) looks.kept looks.still alike (omega (arith, looks.cause)) (λ h. absurd h) steps counted
           (λ told. read_says store c.args.id c.args.self.now.cursor c.read_named-read.new.out c.in-Ok.held (c.in-Ok.ensures.answer told))
-          ? (c.show.ensures.moved long)
+          (c.show.ensures.shown long ∙ ap (λ (bs : List ℕ). words_of_record (take c.in-Ok.held.len bs) ++ at_step c.steps-steps.result) (with_items_is c.args.self.now.bytes c.read_named-read.new.out (omega arith))) (c.show.ensures.moved long)
     ]
 
 pub returns-in-Err-clause-replied : goal.returns-in-Err-clause-replied
