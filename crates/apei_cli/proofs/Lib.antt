@@ -7,3 +7,5 @@ pub mod RecordLemmas
 pub mod LookLemmas
 pub mod StillLemmas
 pub mod LinePlayLemmas
+pub mod RunLemmas
+pub mod CompleteLemmas

@@ -39,7 +39,6 @@ pub record PlaysScript (told_source told_sink told_flash : Type 0) (layout : Lay
 -- from the step on at which the store was opened, each command took exactly the steps that the map gives it
 pub record TakesItsSteps (layout : Layout) (old : FlashState) (commands : List Played) : Type 0 where
   pub opened : ℕ
-  pub later : old.steps ≤ opened
   pub steps : TakeSteps layout.per_slot layout.slots opened commands (stored_in layout.slot_size layout.slots old.told.image)
 
 -- the commands of a run: they are the history of the flash, their lines are those that the status says, and what was

@@ -2,7 +2,7 @@
 ghost use Rattle.std.specs.Prelude.{◌≡◌, ℕ, ◌-◌, ◌≤◌, ◌↔◌, List, [], ◌∷◌, false, IsTrue};
 ghost use Rattle.base_model.specs.Faults.{Rose};
 ghost use Rattle.record_store.specs.Store.{IsReady};
-ghost use Rattle.apei_cli.specs.Plays.{layout_of};
+ghost use Rattle.apei_cli.specs.Plays.{IsOpen, layout_of};
 ghost use Rattle.apei_cli.specs.Runs.{AreSim, layout_by, PlaysScript, IsRun, IsOnGeometry, IsAdmitted, HasSourceCause, HasSinkCause, HasFlashCause, ComesFirst, LeavesFlash, IsComplete, IsDoneWhere, IsStatusOf};
 
 use crate::lines::{LineReader, LineStop};
@@ -50,7 +50,7 @@ fn play_script<I: Source, O: Sink, F: Flash>(
     requires start { lines.old ≡ record { line = []; number = 0; end = 0; pending = []; at_end = false } }
     requires room { desk.old.room ≡ store.old.slot_size - 64 }
     requires cursor { desk.old.cursor ≡ 0 }
-    requires slot { store.old.slot_size ≤ 65600 }
+    requires open_store { IsOpen store.old }
     requires ready { IsReady store.old }
     ensures played { PlaysScript I.tells O.tells F.tells (layout_of store.old) (I.rest script.old) (I.rest script.new)
         (O.written out.old) (O.written out.new) store.old.flash store.new.flash result }
