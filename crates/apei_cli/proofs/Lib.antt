@@ -4,3 +4,5 @@ pub mod PlayLemmas
 pub mod RefusalLemmas
 pub mod RunLemmas
 pub mod CompleteLemmas
+mod NumberLemmas
+mod WordLemmas

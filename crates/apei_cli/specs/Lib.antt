@@ -10,3 +10,4 @@ pub mod Runs
 pub mod Numbers
 pub mod Plan
 pub mod Sim
+pub mod Decimals

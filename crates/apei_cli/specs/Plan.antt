@@ -1,13 +1,10 @@
 -- The words of the command line, and the plan that they make.
-use Rattle.std.specs.Prelude.{◌≡◌, ◌⊎◌, ℕ, ◌^◌, ◌<◌, ◌≤◌, ◌==◌, ◌||◌, Bool, List, [], ◌∷◌, length, drop, map, codes, decimal, nat_eq, if◌then◌else◌, IsTrue, All, count_by, filter_map, Option, Some, None, String, string_bytes, bytes_eq}
-use Rattle.std.specs.List.{starts_with, list_any}
+use Rattle.std.specs.Prelude.{◌≡◌, ◌⊎◌, ℕ, ◌^◌, ◌<◌, ◌≤◌, ◌||◌, Bool, List, [], ◌∷◌, length, drop, map, codes, decimal, nat_eq, if◌then◌else◌, count_by, filter_map, Option, Some, None, String, string_bytes, bytes_eq}
+use Rattle.std.specs.List.{starts_with, list_any, AllPass}
 use Rattle.std.specs.declared.alloc.Global.{Global}
 use Rattle.apei_cli.specs.declared.job.Plan.{Plan}
-
--- a text is a number below 2^64 in decimal digits, with no sign, and no zero before other digits
-pub record IsNumber (text : List ℕ) (n : ℕ) : Type 0 where
-  pub digits : text ≡ decimal n
-  pub fits : n < 2 ^ 64
+use Rattle.apei_cli.specs.declared.job.PlanError.{PlanError}
+use Rattle.apei_cli.specs.declared.job.PlanError.TheVariants.{BadWords}
 
 -- the options' names, each with the sign before its value
 abbrev pub option_names : List (List ℕ)
@@ -44,10 +41,13 @@ IsTorn words n = IsGivenOr 0 (codes "--torn=") words n × (n ≤ 3)
 abbrev pub texts_of : List (String Global) → List (List ℕ)
 texts_of words = map string_bytes words
 
--- the words are the job once, and options with values, none of them twice; a field of the plan is its option's number
--- or its default
+-- nothing fits: the words are bad
+abbrev pub NoneFits : {X : Type 0} → (X → Type 0) → PlanError → Type 0
+NoneFits {X} Fits error = (error ≡ BadWords) × ((x : X) → ¬ Fits x)
+
+-- the words are the job once, and options, none of them twice; each field of the plan is its option's number or default
 pub record IsPlanOf (words : List (String Global)) (plan : Plan) : Type 0 where
-  pub known : All (λ word. IsTrue (is_known word)) (texts_of words)
+  pub known : AllPass is_known (texts_of words)
   pub job : count_by is_job (texts_of words) ≡ 1
   pub sector : IsGivenOr 4096 (codes "--sector=") (texts_of words) plan.sector
   pub per_slot : IsGivenOr 2 (codes "--per-slot=") (texts_of words) plan.per_slot
@@ -55,3 +55,7 @@ pub record IsPlanOf (words : List (String Global)) (plan : Plan) : Type 0 where
   pub fail : IsGiven (codes "--fail=") (texts_of words) plan.fail
   pub fail_read : IsGiven (codes "--fail-read=") (texts_of words) plan.fail_read
   pub torn : IsTorn (texts_of words) plan.torn
+
+-- the words are not of the program's form
+abbrev pub AreBad : List (String Global) → Type 0
+AreBad words = (plan : Plan) → ¬ IsPlanOf words plan
