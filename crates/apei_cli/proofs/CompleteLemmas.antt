@@ -8,7 +8,9 @@ use Rattle.apei_cli.specs.Lines.{Line, lines_of, IsTooLong}
 use Rattle.apei_cli.specs.Script.{asked_by, IsBuilt}
 use Rattle.apei_cli.specs.Plays.{Layout, room_of, ArePlayable}
 use Rattle.apei_cli.specs.Statuses.{StopsTooLong, StopsNotBuilt}
-use Rattle.apei_cli.specs.Runs.{IsRun, HasGeometry, IsOnGeometry, HasSourceCause, HasSinkCause, HasFlashCause, EndsByItself}
+use Rattle.apei_cli.specs.Plan.{IsPlanOf}
+use Rattle.apei_cli.specs.declared.job.Plan.{Plan}
+use Rattle.apei_cli.specs.Runs.{IsRun, HasGeometry, IsOnGeometry, IsAdmitted, HasSourceCause, HasSinkCause, HasFlashCause, EndsByItself}
 use Rattle.apei_cli.specs.declared.status.Status.{Status}
 use Rattle.apei_cli.specs.declared.status.Status.TheVariants.{Done, BadWords, SourceFault, SinkFault, FlashFault, BadGeometry, TooLong, Memory, NotYet}
 
@@ -18,41 +20,53 @@ playable_at [] line behind h = h.0
 playable_at (first ∷ before) line behind h = playable_at before line behind h.1
 
 -- with every line built and within the lengths, and no fault, all is read
-pub is_done : (told_source told_sink told_flash : Type 0) (layout : Layout) (sector per_slot slots : ℕ) (script rest written now : List ℕ) (old new : FlashState)
+pub is_done : (told_source told_sink told_flash : Type 0) (layout : Layout) (plan : Plan) (script rest written now : List ℕ) (old new : FlashState)
     (source source_now sink sink_now : ℕ) (status : Status)
-    → IsRun told_source told_sink told_flash layout script rest written now old new status → IsOnGeometry sector per_slot slots old status
+    → IsRun told_source told_sink told_flash layout script rest written now old new status → IsOnGeometry plan old status
     → HasSourceCause source source_now status → HasSinkCause sink sink_now status → HasFlashCause old.faults new.faults status
-    → told_source → HasGeometry sector per_slot slots old → ArePlayable (lines_of 0 script)
+    → told_source → HasGeometry plan old → ArePlayable (lines_of 0 script)
     → (Rose source source_now → ⊥) → (Rose sink sink_now → ⊥) → (Rose old.faults new.faults → ⊥) → (status ≡ Done) ⊎ (status ≡ Memory)
-is_done told_source told_sink told_flash layout sector per_slot slots script rest written now old new source source_now sink sink_now Done run on in_cause out_cause flash_cause heard fits lines no_source no_sink no_flash = inl refl
-is_done told_source told_sink told_flash layout sector per_slot slots script rest written now old new source source_now sink sink_now BadWords run on in_cause out_cause flash_cause heard fits lines no_source no_sink no_flash = absurd on
-is_done told_source told_sink told_flash layout sector per_slot slots script rest written now old new source source_now sink sink_now SourceFault run on in_cause out_cause flash_cause heard fits lines no_source no_sink no_flash = absurd (no_source in_cause)
-is_done told_source told_sink told_flash layout sector per_slot slots script rest written now old new source source_now sink sink_now SinkFault run on in_cause out_cause flash_cause heard fits lines no_source no_sink no_flash = absurd (no_sink out_cause)
-is_done told_source told_sink told_flash layout sector per_slot slots script rest written now old new source source_now sink sink_now FlashFault run on in_cause out_cause flash_cause heard fits lines no_source no_sink no_flash = absurd (no_flash flash_cause.1)
-is_done told_source told_sink told_flash layout sector per_slot slots script rest written now old new source source_now sink sink_now (BadGeometry s p n size) run on in_cause out_cause flash_cause heard fits lines no_source no_sink no_flash = absurd (on.0 fits)
-is_done told_source told_sink told_flash layout sector per_slot slots script rest written now old new source source_now sink sink_now (TooLong number) run on in_cause out_cause flash_cause heard fits lines no_source no_sink no_flash =
+is_done told_source told_sink told_flash layout plan script rest written now old new source source_now sink sink_now Done run on in_cause out_cause flash_cause heard fits lines no_source no_sink no_flash = inl refl
+is_done told_source told_sink told_flash layout plan script rest written now old new source source_now sink sink_now BadWords run on in_cause out_cause flash_cause heard fits lines no_source no_sink no_flash = absurd on
+is_done told_source told_sink told_flash layout plan script rest written now old new source source_now sink sink_now SourceFault run on in_cause out_cause flash_cause heard fits lines no_source no_sink no_flash = absurd (no_source in_cause)
+is_done told_source told_sink told_flash layout plan script rest written now old new source source_now sink sink_now SinkFault run on in_cause out_cause flash_cause heard fits lines no_source no_sink no_flash = absurd (no_sink out_cause)
+is_done told_source told_sink told_flash layout plan script rest written now old new source source_now sink sink_now FlashFault run on in_cause out_cause flash_cause heard fits lines no_source no_sink no_flash = absurd (no_flash flash_cause.1)
+is_done told_source told_sink told_flash layout plan script rest written now old new source source_now sink sink_now (BadGeometry s p n size) run on in_cause out_cause flash_cause heard fits lines no_source no_sink no_flash = absurd (on.0 fits)
+is_done told_source told_sink told_flash layout plan script rest written now old new source source_now sink sink_now (TooLong number) run on in_cause out_cause flash_cause heard fits lines no_source no_sink no_flash =
     let ends : StopsTooLong (room_of layout) script run.commands number = run.lines heard in
     let stops = ends.stops in
     let at = playable_at stops.before ends.line stops.behind (subst ArePlayable stops.lines lines) in
     absurd (at.1 ends.too_long)
-is_done told_source told_sink told_flash layout sector per_slot slots script rest written now old new source source_now sink sink_now Memory run on in_cause out_cause flash_cause heard fits lines no_source no_sink no_flash = inr refl
-is_done told_source told_sink told_flash layout sector per_slot slots script rest written now old new source source_now sink sink_now (NotYet number) run on in_cause out_cause flash_cause heard fits lines no_source no_sink no_flash =
+is_done told_source told_sink told_flash layout plan script rest written now old new source source_now sink sink_now Memory run on in_cause out_cause flash_cause heard fits lines no_source no_sink no_flash = inr refl
+is_done told_source told_sink told_flash layout plan script rest written now old new source source_now sink sink_now (NotYet number) run on in_cause out_cause flash_cause heard fits lines no_source no_sink no_flash =
     let ends : StopsNotBuilt (room_of layout) script run.commands number = run.lines heard in
     let stops = ends.stops in
     let at = playable_at stops.before ends.line stops.behind (subst ArePlayable stops.lines lines) in
     absurd (ends.other at.0)
 
 -- where no fault was counted the run ends by itself
-pub is_complete : (sector per_slot slots : ℕ) (old : FlashState) (source source_now sink sink_now faults faults_now : ℕ) (status : Status)
-    → IsOnGeometry sector per_slot slots old status → HasSourceCause source source_now status → HasSinkCause sink sink_now status → HasFlashCause faults faults_now status
-    → HasGeometry sector per_slot slots old
+pub is_complete : (plan : Plan) (old : FlashState) (source source_now sink sink_now faults faults_now : ℕ) (status : Status)
+    → IsOnGeometry plan old status → HasSourceCause source source_now status → HasSinkCause sink sink_now status → HasFlashCause faults faults_now status
+    → HasGeometry plan old
     → (Rose source source_now → ⊥) → (Rose sink sink_now → ⊥) → (Rose faults faults_now → ⊥) → EndsByItself status
-is_complete sector per_slot slots old source source_now sink sink_now faults faults_now Done on in_cause out_cause flash_cause fits no_source no_sink no_flash = tt
-is_complete sector per_slot slots old source source_now sink sink_now faults faults_now BadWords on in_cause out_cause flash_cause fits no_source no_sink no_flash = on
-is_complete sector per_slot slots old source source_now sink sink_now faults faults_now SourceFault on in_cause out_cause flash_cause fits no_source no_sink no_flash = no_source in_cause
-is_complete sector per_slot slots old source source_now sink sink_now faults faults_now SinkFault on in_cause out_cause flash_cause fits no_source no_sink no_flash = no_sink out_cause
-is_complete sector per_slot slots old source source_now sink sink_now faults faults_now FlashFault on in_cause out_cause flash_cause fits no_source no_sink no_flash = no_flash flash_cause.1
-is_complete sector per_slot slots old source source_now sink sink_now faults faults_now (BadGeometry s p n size) on in_cause out_cause flash_cause fits no_source no_sink no_flash = on.0 fits
-is_complete sector per_slot slots old source source_now sink sink_now faults faults_now (TooLong number) on in_cause out_cause flash_cause fits no_source no_sink no_flash = tt
-is_complete sector per_slot slots old source source_now sink sink_now faults faults_now Memory on in_cause out_cause flash_cause fits no_source no_sink no_flash = tt
-is_complete sector per_slot slots old source source_now sink sink_now faults faults_now (NotYet number) on in_cause out_cause flash_cause fits no_source no_sink no_flash = tt
+is_complete plan old source source_now sink sink_now faults faults_now Done on in_cause out_cause flash_cause fits no_source no_sink no_flash = tt
+is_complete plan old source source_now sink sink_now faults faults_now BadWords on in_cause out_cause flash_cause fits no_source no_sink no_flash = on
+is_complete plan old source source_now sink sink_now faults faults_now SourceFault on in_cause out_cause flash_cause fits no_source no_sink no_flash = no_source in_cause
+is_complete plan old source source_now sink sink_now faults faults_now SinkFault on in_cause out_cause flash_cause fits no_source no_sink no_flash = no_sink out_cause
+is_complete plan old source source_now sink sink_now faults faults_now FlashFault on in_cause out_cause flash_cause fits no_source no_sink no_flash = no_flash flash_cause.1
+is_complete plan old source source_now sink sink_now faults faults_now (BadGeometry s p n size) on in_cause out_cause flash_cause fits no_source no_sink no_flash = on.0 fits
+is_complete plan old source source_now sink sink_now faults faults_now (TooLong number) on in_cause out_cause flash_cause fits no_source no_sink no_flash = tt
+is_complete plan old source source_now sink sink_now faults faults_now Memory on in_cause out_cause flash_cause fits no_source no_sink no_flash = tt
+is_complete plan old source source_now sink sink_now faults faults_now (NotYet number) on in_cause out_cause flash_cause fits no_source no_sink no_flash = tt
+
+-- the words were admitted
+pub is_admitted : (words : List (String Global)) (plan : Plan) (flash : FlashState) (status : Status) → IsPlanOf words plan → IsOnGeometry plan flash status → IsAdmitted words flash status
+is_admitted words plan flash Done of on = (plan, (of, on))
+is_admitted words plan flash BadWords of on = absurd on
+is_admitted words plan flash SourceFault of on = (plan, (of, on))
+is_admitted words plan flash SinkFault of on = (plan, (of, on))
+is_admitted words plan flash FlashFault of on = (plan, (of, on))
+is_admitted words plan flash (BadGeometry sector per_slot slots size) of on = (plan, (of, on))
+is_admitted words plan flash (TooLong line) of on = (plan, (of, on))
+is_admitted words plan flash Memory of on = tt
+is_admitted words plan flash (NotYet line) of on = (plan, (of, on))

@@ -1,6 +1,6 @@
 pub mod LineLemmas
 pub mod ReadLemmas
-pub mod NumberLemmas
+pub mod DecimalLemmas
 pub mod PlayLemmas
 pub mod AnswerLemmas
 pub mod RecordLemmas
@@ -9,3 +9,4 @@ pub mod StillLemmas
 pub mod LinePlayLemmas
 pub mod RunLemmas
 pub mod CompleteLemmas
+pub mod WordLemmas

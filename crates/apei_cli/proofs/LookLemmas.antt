@@ -26,8 +26,7 @@ not_zero id usable zero = let clash : true ≡ false = ap is_reserved (sym zero)
 pub read_answer : (old : StoreView) (id found size : ℕ) (before now : List ℕ) → is_reserved id ≡ false → found ≡ id → AnswersRead old id before now (Ok size)
     → AnswersNamed old id now (Ok (record { id = found; len = size }))
 read_answer old id found size before now usable is answer =
-    let body : take size now ≡ answer.0 = ap (take size) answer.3 ∙ take_at answer.0 (drop size before) size (sym answer.2) in
-    (
+    let body : take size now ≡ answer.0 = ap (take size) answer.3 ∙ take_at answer.0 (drop size before) size (sym answer.2) in (
       read_taken old.slots id id (stored old) (answer.0, answer.1.0) (inr refl) answer.1.1,
       inl (not_zero id usable, is),
       (answer.1.0, ap (get (stored old)) is ∙ answer.1.1 ∙ ap (λ (bytes : List ℕ). Some (bytes, answer.1.0)) (sym body)),
@@ -56,8 +55,7 @@ no_refusal refusal found none some = none-some refusal (sym none ∙ some)
 pub least_answer : (old mid : StoreView) (id least : ℕ) (bytes : List ℕ) (result : Result HeldRecord StoreError) → id ≡ 0 → mid.slots ≡ old.slots → stored mid ≡ stored old
     → IsNextAbove 0 (stored old) (Some least) → IfOk result (λ held. held.id ≡ least) → AnswersNamed mid least bytes result → AnswersNamed old id bytes result
 least_answer old mid id least bytes (Ok held) zero slots same next is answer =
-    let here : get (stored old) held.id ≡ Some (take held.len bytes, answer.2.0) = ap (λ (m : Stored). get m held.id) (sym same) ∙ answer.2.1 in
-    (
+    let here : get (stored old) held.id ≡ Some (take held.len bytes, answer.2.0) = ap (λ (m : Stored). get m held.id) (sym same) ∙ answer.2.1 in (
       read_taken old.slots id held.id (stored old) (take held.len bytes, answer.2.0) (inl zero) here,
       inr (zero, subst (λ (n : ℕ). IsNextAbove 0 (stored old) (Some n)) (sym is) next),
       (answer.2.0, here),

@@ -1,5 +1,5 @@
 -- What a run of the program over a script leaves.
-use Rattle.std.specs.Prelude.{◌≡◌, ◌≤◌, ◌⊎◌, ℕ, ◌*◌, List, [], ◌∷◌, map, codes, String, string_bytes}
+use Rattle.std.specs.Prelude.{◌≡◌, ◌≤◌, ◌⊎◌, ℕ, ◌*◌, List, String}
 use Rattle.std.specs.declared.alloc.Global.{Global}
 use Rattle.base_model.specs.Faults.{Rose}
 use Rattle.flash_model.specs.Limits.{IsGeometry}
@@ -9,24 +9,25 @@ use Rattle.record_recovery.specs.declared.scanning.ScanError.TheVariants.{Size, 
 use Rattle.record_model.specs.Records.{stored_in}
 use Rattle.record_model.specs.History.{Played, IsHistory, TakeSteps}
 use Rattle.apei_cli.specs.Lines.{lines_of}
+use Rattle.apei_cli.specs.Plan.{IsPlanOf, AreBad}
+use Rattle.apei_cli.specs.declared.job.Plan.{Plan}
 use Rattle.apei_cli.specs.Plays.{Layout, room_of, HasHardware, Plays, ArePlayable}
 use Rattle.apei_cli.specs.Statuses.{EndsBy, IsWritten}
 use Rattle.apei_cli.specs.declared.status.Status.{Status}
 use Rattle.apei_cli.specs.declared.status.Status.TheVariants.{Done, BadWords, SourceFault, SinkFault, FlashFault, BadGeometry, TooLong, Memory, NotYet}
 
--- the words are the one word `sim`
-abbrev pub AreSim : List (String Global) → Type 0
-AreSim words = map string_bytes words ≡ codes "sim" ∷ []
-
 -- slots of so many sectors of a size
 abbrev pub layout_by : ℕ → ℕ → ℕ → Layout
 layout_by sector per_slot slots = record { per_slot = per_slot; slots = slots; slot_size = sector * per_slot }
 
+abbrev pub layout_of_plan : Plan → Layout
+layout_of_plan plan = layout_by plan.sector plan.per_slot plan.slots
+
 -- the geometry is within its limits, and the flash has its size and its sector size
-pub record HasGeometry (sector per_slot slots : ℕ) (flash : FlashState) : Type 0 where
-  pub within : IsGeometry sector per_slot slots
-  pub size : flash.size ≡ sector * per_slot * slots
-  pub sector_size : flash.sector_size ≡ sector
+pub record HasGeometry (plan : Plan) (flash : FlashState) : Type 0 where
+  pub within : IsGeometry plan.sector plan.per_slot plan.slots
+  pub size : flash.size ≡ plan.sector * plan.per_slot * plan.slots
+  pub sector_size : flash.sector_size ≡ plan.sector
 
 -- the commands on a store that was just opened: their lines are those that the status says, and what was written are
 -- their replies
@@ -83,13 +84,13 @@ abbrev pub HasFlashCause : ℕ → ℕ → Status → Type 0
 HasFlashCause before after FlashFault = (before ≤ after) × Rose before after
 HasFlashCause before after status = before ≤ after
 
--- the geometry is refused exactly where it is outside its limits or not the flash's; want of memory aside
-abbrev pub IsOnGeometry : ℕ → ℕ → ℕ → FlashState → Status → Type 0
-IsOnGeometry sector per_slot slots flash (BadGeometry found_sector found_per_slot found_slots size) =
-    ¬ HasGeometry sector per_slot slots flash × (found_sector ≡ sector) × (found_per_slot ≡ per_slot) × (found_slots ≡ slots) × (size ≡ flash.size)
-IsOnGeometry sector per_slot slots flash BadWords = ⊥
-IsOnGeometry sector per_slot slots flash Memory = Unit {0}
-IsOnGeometry sector per_slot slots flash status = HasGeometry sector per_slot slots flash
+-- the geometry of a plan is refused exactly where it is outside its limits or not the flash's; want of memory aside
+abbrev pub IsOnGeometry : Plan → FlashState → Status → Type 0
+IsOnGeometry plan flash (BadGeometry sector per_slot slots size) =
+    ¬ HasGeometry plan flash × (sector ≡ plan.sector) × (per_slot ≡ plan.per_slot) × (slots ≡ plan.slots) × (size ≡ flash.size)
+IsOnGeometry plan flash BadWords = ⊥
+IsOnGeometry plan flash Memory = Unit {0}
+IsOnGeometry plan flash status = HasGeometry plan flash
 
 -- a run that ends by itself: the script was read to its end, there was no memory, or one of its lines stopped it
 abbrev pub EndsByItself : Status → Type 0
@@ -109,20 +110,22 @@ IsStatusOf (Size found sector) refused status = status ≡ refused
 IsStatusOf flash_failed refused status = status ≡ FlashFault
 IsStatusOf no_memory refused status = status ≡ Memory
 
--- the words and the geometry are refused exactly where they are not those of the program; want of memory aside
+-- the words are refused exactly where they are not of the program's form, and their geometry where it is not the flash's;
+-- want of memory aside
 abbrev pub IsAdmitted : List (String Global) → FlashState → Status → Type 0
-IsAdmitted words flash BadWords = ¬ AreSim words
-IsAdmitted words flash status = AreSim words × IsOnGeometry 4096 2 32 flash status
+IsAdmitted words flash BadWords = AreBad words
+IsAdmitted words flash Memory = Unit {0}
+IsAdmitted words flash status = (plan : Plan) × (IsPlanOf words plan × IsOnGeometry plan flash status)
 
--- with the program's words and geometry, where no fault of the source, the sink or the flash was counted, it ends by
--- itself
+-- with words of the program's form and their geometry, where no fault of the source, the sink or the flash was counted, it
+-- ends by itself
 abbrev pub IsComplete : List (String Global) → FlashState → Type 0 → Type 0 → Type 0 → Status → Type 0
 IsComplete words flash source_rose sink_rose flash_rose status =
-    AreSim words → HasGeometry 4096 2 32 flash → ¬ source_rose → ¬ sink_rose → ¬ flash_rose → EndsByItself status
+    (plan : Plan) → IsPlanOf words plan → HasGeometry plan flash → ¬ source_rose → ¬ sink_rose → ¬ flash_rose → EndsByItself status
 
--- with the program's words and geometry, where each line is built and within the lengths, and where no fault was counted,
--- the script is read to its end
+-- with such words and geometry, where each line is built and within the lengths, and where no fault was counted, the script
+-- is read to its end
 abbrev pub IsDoneWhere : List (String Global) → FlashState → List ℕ → Type 0 → Type 0 → Type 0 → Status → Type 0
 IsDoneWhere words flash script source_rose sink_rose flash_rose status =
-    AreSim words → HasGeometry 4096 2 32 flash → ArePlayable (lines_of 0 script)
+    (plan : Plan) → IsPlanOf words plan → HasGeometry plan flash → ArePlayable (lines_of 0 script)
     → ¬ source_rose → ¬ sink_rose → ¬ flash_rose → (status ≡ Done) ⊎ (status ≡ Memory)

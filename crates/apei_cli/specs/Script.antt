@@ -1,8 +1,8 @@
 -- What a line of a script asks for.
-use Rattle.std.specs.Prelude.{◌≡◌, ℕ, ◌^◌, ◌≤◌, ◌<◌, ◌==◌, ◌&&◌, nat_eq, nat_lt, if◌then◌else◌, List, [], ◌∷◌, length, drop, codes, decimal, Option, Some, None, Result, Ok, Err}
+use Rattle.std.specs.Prelude.{◌≡◌, ℕ, ◌≤◌, ◌==◌, nat_eq, nat_lt, if◌then◌else◌, List, [], ◌∷◌, length, drop, codes, Option, Some, None, Result, Ok, Err}
 use Rattle.std.specs.List.{starts_with}
 use Rattle.std.specs.Str.{bytes_eq}
-use Rattle.std.specs.Str.Parse.{digits_value}
+use Rattle.apei_cli.specs.Decimals.{number_in}
 use Rattle.hex.specs.Hex.{decode_of}
 use Rattle.hex.specs.declared.error.FromHexError.{FromHexError}
 use Rattle.base_model.specs.Bytes.{part, number_at, put_at}
@@ -24,11 +24,7 @@ asked_by_hex (Ok []) = not_built
 asked_by_hex (Ok (byte ∷ bytes)) = write (byte ∷ bytes)
 asked_by_hex (Err e) = not_built
 
--- the number below 2 ^ 64 of which a text is the decimal text: so it begins with no zero, but for the text `0`
-unfoldable pub number_in : List ℕ → Option ℕ
-number_in text =
-    if nat_lt (digits_value 10 text) (2 ^ 64) && bytes_eq text (decimal (digits_value 10 text)) then Some (digits_value 10 text) else None
-
+-- a line with a number
 abbrev pub asked_by_number : (ℕ → Asked) → Option ℕ → Asked
 asked_by_number ask (Some id) = ask id
 asked_by_number ask None = not_built

@@ -1,13 +1,12 @@
 // What a line of a script asks for.
 ghost use Rattle.std.specs.Prelude.{◌≡◌, ℕ, ◌+◌, ◌*◌, ◌<◌, ◌≤◌, ◌↔◌, List, length, take, IsTrue, MatchOption};
 ghost use Rattle.hex.specs.Hex.{decode_of};
-ghost use Rattle.apei_cli.specs.Script.{asked_by_hex, number_in, write, not_built, IsPlain, marked};
+ghost use Rattle.apei_cli.specs.Script.{asked_by_hex, write, not_built, IsPlain, marked};
 ghost use Rattle.apei_cli.specs.Parsed.{IsParsed, IsParsedWords, IsParsedWord};
 
+use crate::number::number;
 use apei_bytes::{get_u16, get_u32};
 use hex::decode_to_slice;
-use itoa::Buffer;
-use std::str::from_utf8;
 
 /// A line of a script.
 #[derive(Clone, Copy)]
@@ -72,24 +71,6 @@ impl ScriptLine<'_> {
         } else {
             ScriptLine::Other
         }
-    }
-}
-
-// The number of which this is the decimal text.
-fn number(text: &[u8]) -> Option<u64>
-    ensures { result ≡ number_in text.now }
-{
-    let Ok(digits) = from_utf8(text) else {
-        return None;
-    };
-    let Ok(number) = digits.parse::<u64>() else {
-        return None;
-    };
-    let mut buffer = Buffer::new();
-    if buffer.format(number).as_bytes() == text {
-        Some(number)
-    } else {
-        None
     }
 }
 

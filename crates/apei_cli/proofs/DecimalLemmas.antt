@@ -6,7 +6,7 @@ use Rattle.std.specs.Str.Parse.{digits_value}
 use Rattle.std.proofs.lemmas.Fmt.{decimal_is_IsNumeral}
 use Rattle.std.proofs.lemmas.Slice.Eq.{bytes_eq-Decides}
 use Rattle.std.proofs.lemmas.Bool.{lt-ltb, ltb-true}
-use Rattle.apei_cli.specs.Script.{number_in}
+use Rattle.apei_cli.specs.Decimals.{IsNumber, number_in}
 
 both : (a b : Bool) (n : ℕ) → a ≡ true → b ≡ true → cond (a && b) (Some n) None ≡ Some n
 both true true n e h = refl
@@ -19,9 +19,11 @@ not_both true false n h = refl
 not_both false b n h = refl
 
 -- a text that is the decimal text of a number has that number
-pub number_some : (text : List ℕ) (n : ℕ) → n < 2 ^ 64 → text ≡ decimal n → number_in text ≡ Some n
+pub number_some : (text : List ℕ) (n : ℕ) → IsNumber text n → number_in text ≡ Some n
 unfolding number_in
-number_some text n small is =
+number_some text n number =
+    let small = number.fits in
+    let is = number.digits in
     let value : digits_value 10 text ≡ n = ap (digits_value 10) is ∙ (decimal_is_IsNumeral n small).1 in
     let same : text ≡ decimal (digits_value 10 text) = is ∙ ap decimal (sym value) in
     both (nat_lt (digits_value 10 text) (2 ^ 64)) (bytes_eq text (decimal (digits_value 10 text))) (digits_value 10 text)
@@ -30,8 +32,16 @@ number_some text n small is =
     ∙ ap Some value
 
 -- and a text that is that of no number has none
-pub number_none : (text : List ℕ) → ((n : ℕ) → n < 2 ^ 64 → text ≡ decimal n → ⊥) → number_in text ≡ None
+pub number_none : (text : List ℕ) → ((n : ℕ) → IsNumber text n → ⊥) → number_in text ≡ None
 unfolding number_in
 number_none text none =
     not_both (nat_lt (digits_value 10 text) (2 ^ 64)) (bytes_eq text (decimal (digits_value 10 text))) (digits_value 10 text)
-    (λ small same. none (digits_value 10 text) (ltb-true (digits_value 10 text) (2 ^ 64) small) ((bytes_eq-Decides text (decimal (digits_value 10 text))).0 same))
+    (λ small same. none (digits_value 10 text) (record {
+      digits = (bytes_eq-Decides text (decimal (digits_value 10 text))).0 same;
+      fits = ltb-true (digits_value 10 text) (2 ^ 64) small;
+    }))
+
+-- two numbers with the same digits are one
+pub same_number : (m n : ℕ) → m < 2 ^ 64 → n < 2 ^ 64 → decimal m ≡ decimal n → m ≡ n
+same_number m n m_fits n_fits same =
+    sym (decimal_is_IsNumeral m m_fits).1 ∙ ap (digits_value 10) same ∙ (decimal_is_IsNumeral n n_fits).1
