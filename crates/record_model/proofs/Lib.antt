@@ -3,3 +3,5 @@ pub mod HistoryLemmas
 pub mod MapLemmas
 pub mod SelectionLemmas
 pub mod SlotLemmas
+pub mod SizeLemmas
+pub mod RefusalLemmas

@@ -11,7 +11,7 @@ use Rattle.record_recovery.specs.Listed.{IsListed, with_free, free_slots}
 use Rattle.record_recovery.proofs.ListedLemmas.{rising-insert, IsListed-insert, IsListed-inserted}
 use Rattle.record_recovery.proofs.OpenedLemmas.{rising-remove, IsListed-remove}
 
-rising-tail : (x : ℕ) (xs : List ℕ) → IsStrictlyIncreasing (x ∷ xs) → IsStrictlyIncreasing xs
+pub rising-tail : (x : ℕ) (xs : List ℕ) → IsStrictlyIncreasing (x ∷ xs) → IsStrictlyIncreasing xs
 rising-tail x xs up k h =
     let e : k + 1 ≡ suc k = omega arith in
     let e' : (k + 1) + 1 ≡ suc (k + 1) = omega arith in
@@ -27,15 +27,15 @@ head_least x xs k up listed =
     let is : get_or (x ∷ xs) listed.0 0 ≡ k = listed.2 in
     omega arith
 
-listed-cons : (x : ℕ) (xs : List ℕ) (k : ℕ) → IsListed xs k → IsListed (x ∷ xs) k
+pub listed-cons : (x : ℕ) (xs : List ℕ) (k : ℕ) → IsListed xs k → IsListed (x ∷ xs) k
 listed-cons x xs k listed = let low : listed.0 < length xs = listed.1 in (suc listed.0, omega arith, listed.2)
 
 -- what is listed is the head or behind it, and then greater
-listed_behind : (x : ℕ) (xs : List ℕ) (k : ℕ) → x < k → IsListed (x ∷ xs) k → IsListed xs k
+pub listed_behind : (x : ℕ) (xs : List ℕ) (k : ℕ) → x < k → IsListed (x ∷ xs) k → IsListed xs k
 listed_behind x xs k above (zero, h, is) = absurd (let e : x ≡ k = is in omega arith)
 listed_behind x xs k above (suc i, h, is) = (i, omega arith, is)
 
-listed_above : (x : ℕ) (xs : List ℕ) (k : ℕ) → IsStrictlyIncreasing (x ∷ xs) → IsListed xs k → x < k
+pub listed_above : (x : ℕ) (xs : List ℕ) (k : ℕ) → IsStrictlyIncreasing (x ∷ xs) → IsListed xs k → x < k
 listed_above x xs k up listed =
     let low : listed.0 < length xs = listed.1 in
     let less : get_or (x ∷ xs) 0 0 < get_or (x ∷ xs) (suc listed.0) 0 = rising (x ∷ xs) up 0 (suc listed.0) (omega arith) (omega arith) in
@@ -126,7 +126,7 @@ are_free_slots entry n free up are all =
     (λ k listed. let is = free_slots-are entry n k listed in all k is.0 is.1)
 
 -- what is left of a list
-remove_listed : (ids : List ℕ) (at x : ℕ) → IsStrictlyIncreasing ids → at < length ids → IsListed (remove ids at) x → IsListed ids x × (x ≡ get_or ids at 0 → ⊥)
+pub remove_listed : (ids : List ℕ) (at x : ℕ) → IsStrictlyIncreasing ids → at < length ids → IsListed (remove ids at) x → IsListed ids x × (x ≡ get_or ids at 0 → ⊥)
 remove_listed ids at x up within listed =
     let long : length (remove ids at) + 1 ≡ length ids = length-remove ids at within in
     let low : listed.0 < length (remove ids at) = listed.1 in
@@ -141,7 +141,7 @@ remove_listed ids at x up within listed =
           ((listed.0 + 1, omega arith, is), λ same. omega arith)
     ]
 
-insert_listed : (ids : List ℕ) (at id x : ℕ) → at ≤ length ids → IsListed (insert ids at id) x → (IsListed ids x) ⊎ (x ≡ id)
+pub insert_listed : (ids : List ℕ) (at id x : ℕ) → at ≤ length ids → IsListed (insert ids at id) x → (IsListed ids x) ⊎ (x ≡ id)
 insert_listed ids at id x within listed =
     let long : length (insert ids at id) ≡ length ids + 1 = length-insert ids at id within in
     let low : listed.0 < length (insert ids at id) = listed.1 in

@@ -17,7 +17,7 @@ use Rattle.record_recovery.proofs.ListedLemmas.{same_index}
 use Rattle.record_recovery.proofs.KillLemmas.{free_by_kill, kill_other, kill_keeps, kill_erased}
 
 -- the slots before n are free or not as before
-free_slots-same : (entry other : ℕ → Option Entry) (n : ℕ) → ((k : ℕ) → k < n → other k ≡ entry k) → free_slots other n ≡ free_slots entry n
+pub free_slots-same : (entry other : ℕ → Option Entry) (n : ℕ) → ((k : ℕ) → k < n → other k ≡ entry k) → free_slots other n ≡ free_slots entry n
 unfolding free_slots
 free_slots-same entry other zero same = refl
 free_slots-same entry other (suc n) same =
@@ -100,7 +100,7 @@ killing_keeps size slots n old new ids places e some within paired same listed i
     kill_keeps size slots n other.0 old new e other.1 some same is other.2 other.3 other.4
 
 -- the list stays one of the slots that are left
-AreListed-without : (entry other : ℕ → Option Entry) (slots n : ℕ) (ids : List ℕ) (places : List SlotOf)
+pub AreListed-without : (entry other : ℕ → Option Entry) (slots n : ℕ) (ids : List ℕ) (places : List SlotOf)
     → ((k : ℕ) → k ≢ n → other k ≡ entry k) → other n ≡ None → ((i : ℕ) (d : SlotOf) → i < length ids → (get_or places i d).slot ≢ n)
     → AreListed entry slots ids places → AreListed other slots ids places
 AreListed-without entry other slots n ids places same gone apart had = record {

@@ -1,5 +1,5 @@
 // A scan of all slots.
-ghost use Rattle.std.specs.Prelude.{◌≡◌, ◌≤◌, OnOk, OnErr, IfOk, IfErr};
+ghost use Rattle.std.specs.Prelude.{◌≡◌, ◌≤◌, OnOk, OnErr, IfOk, IfErr, length};
 ghost use Rattle.record_slots.specs.Slots.{Fits};
 ghost use Rattle.record_recovery.specs.Answers.{IsAnswer};
 ghost use Rattle.record_recovery.specs.Listed.{AreSlots, IsIndex};
@@ -51,6 +51,7 @@ pub fn scan<F: Flash>(alloc: Global, flash: &mut F, geometry: &Geometry) -> Resu
         (F.state flash.old) (F.state flash.new) found) }
     ensures crash { F.tells → KeepsRecords geometry.now.slot_size geometry.now.slots (F.state flash.old).told (F.state flash.new).told }
     ensures index { IfOk result (λ found. IsIndex geometry.now.slots geometry.now.slot_size found.ids.items found.places.items) }
+    ensures few { IfOk result (λ found. length found.ids.items ≤ geometry.now.slots) }
     ensures free { IfOk result (λ found. AreSlots geometry.now.slots found.free.items) }
     ensures room { IfOk result (HasRoom geometry.now.slots) }
     ensures size { (F.state flash.new).size ≡ (F.state flash.old).size }
@@ -84,6 +85,7 @@ pub fn rescan<F: Flash>(
     ensures emptied { OnErr result (IsEmpty found.new) }
     ensures crash { F.tells → KeepsRecords geometry.now.slot_size geometry.now.slots (F.state flash.old).told (F.state flash.new).told }
     ensures index { IsIndex geometry.now.slots geometry.now.slot_size found.new.ids.items found.new.places.items }
+    ensures few { length found.new.ids.items ≤ geometry.now.slots }
     ensures free { AreSlots geometry.now.slots found.new.free.items }
     ensures room { SameRoom found.old found.new }
     ensures shape { KeepsShape (F.state flash.old) (F.state flash.new) result }
@@ -109,6 +111,7 @@ fn recover<F: Flash>(
         (F.state flash.old) (F.state flash.new) found.new) }
     ensures crash { F.tells → KeepsRecords geometry.now.slot_size geometry.now.slots (F.state flash.old).told (F.state flash.new).told }
     ensures index { IsIndex geometry.now.slots geometry.now.slot_size found.new.ids.items found.new.places.items }
+    ensures few { OnOk result (length found.new.ids.items ≤ geometry.now.slots) }
     ensures free { OnOk result (AreSlots geometry.now.slots found.new.free.items) }
     ensures room { SameRoom found.old found.new }
     ensures shape { KeepsShape (F.state flash.old) (F.state flash.new) result }

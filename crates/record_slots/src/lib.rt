@@ -15,4 +15,4 @@ pub use changes::{erase_one, kill, open_gate, put_head, put_piece, put_tail};
 pub use head::Head;
 pub use live::{FORMAT, GATE_OPEN, NOT_KILLED, TAIL_MARK, is_live};
 pub use plain::{PlainRecord, find_record, record_at};
-pub use reading::look;
+pub use reading::{look, read_body};

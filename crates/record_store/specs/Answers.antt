@@ -163,3 +163,8 @@ AnswersByItself old new (Err (LastGeneration id)) = ⊥
 AnswersByItself old new (Err Empty) = ⊥
 AnswersByItself old new (Err Flash) = ⊥
 AnswersByItself old new (Err (Small need)) = ⊥
+
+-- the opening of a flash that has the geometry's size
+abbrev pub OpensOn : {T : Type 0} → Geometry → FlashState → FlashState → Result T ScanError → Type 0
+OpensOn geometry old new (Ok opened) = new.faults ≡ old.faults
+OpensOn geometry old new (Err error) = RefusesFlash geometry old new error

@@ -1,3 +1,9 @@
 pub mod Store
 pub mod Answers
 pub mod Index
+pub mod Slot
+pub mod Work
+pub mod Kept
+pub mod Finish
+pub mod Start
+pub mod Walk

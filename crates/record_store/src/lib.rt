@@ -2,9 +2,18 @@
 //! of the flash, or within one, leaves the records from before the command or those after it.
 #![tactic(auto)]
 
+mod changes;
 mod errors;
+mod index;
+mod laws;
+mod opening;
+mod preparing;
+mod starting;
+mod stepping;
 mod store;
+mod work;
 
 pub use errors::{StoreError, StoreRefused};
+pub use laws::a_walk_finds_each_identifier;
 pub use record_recovery::ScanError;
 pub use store::Store;

@@ -1,0 +1,110 @@
+-- What the kept lists answer, as the map of the records answers it.
+use Rattle.std.proofs.Common.{◌≡◌, ℕ, ◌<◌, ◌≤◌, true, List, length, get_or, Option, Some, None, refl, sym, ap, subst, ◌∙◌, arith, inl, inr}
+use Rattle.std.specs.Prelude.{Contains, is_some, IsSome}
+use Rattle.std.specs.FinMap.{get, len}
+use Rattle.std.proofs.lemmas.List.{get_or_default}
+use Rattle.std.proofs.lemmas.Option.{none-some, same_Some}
+use Rattle.erst_ids.specs.Next.{IsNextAfter}
+use Rattle.record_model.specs.Records.{Entry, selected}
+use Rattle.record_model.specs.RecordMap.{IsNextAbove}
+use Rattle.record_recovery.specs.declared.found.Found.{Found}
+use Rattle.record_recovery.specs.declared.found.SlotOf.{SlotOf}
+use Rattle.record_recovery.specs.Listed.{IsPlaceOf, AreListed, IsListed}
+use Rattle.record_recovery.proofs.ChosenLemmas.{chosen_or_none, get-chosen, get-no_slot}
+use Rattle.record_recovery.proofs.ListedLemmas.{get-listed, get-unlisted}
+use Rattle.record_recovery.proofs.FreeLemmas.{free_slots-are}
+use Rattle.record_store.specs.Index.{IsListing, IsListOf, IsPlaceFound, IsStoredAt}
+use Rattle.record_store.proofs.CountLemmas.{len_stored}
+
+-- what a list has stands at an index of it
+contains_at : (xs : List ℕ) (x : ℕ) → Contains xs x → IsListed xs x
+contains_at xs x has = (has.0, has.1, get_or_default xs has.0 0 x has.1 ∙ has.2)
+
+-- an identifier of the map is listed
+stored_listed : (entry : ℕ → Option Entry) (n q : ℕ) (ids : List ℕ) (places : List SlotOf) → AreListed entry n ids places → IsSome (get (selected entry n) q) → IsListed ids q
+stored_listed entry n q ids places had some = elim (chosen_or_none entry q n) [
+  | inl chosen ↦
+      let listed = had.all chosen.0 chosen.1 (chosen.2).within (chosen.2).here in
+      (listed.0, listed.1, listed.2 ∙ chosen.3)
+  | inr none ↦
+      absurd (none_some (get (selected entry n) q) (get-unlisted entry n q ids places had (λ listed. not_listed listed none)) some)
+]
+  where
+    none_some : {T : Type 0} (o : Option T) → o ≡ None → is_some o ≡ true → ⊥
+    none_some None e is = cc
+    none_some (Some x) e is = none-some x (sym e)
+
+    not_listed : IsListed ids q → ((k : ℕ) (e : Entry) → k < n → entry k ≡ Some e → e.id ≡ q → ⊥) → ⊥
+    not_listed listed none =
+        let d : SlotOf = record { slot = 0; generation = 0; len = 0 } in
+        let place = had.each listed.0 d listed.1 in
+        none (get_or places listed.0 d).slot place.chosen (place.is).within (place.is).here (place.of_id ∙ listed.2)
+
+-- and what is listed is in the map
+listed_stored : (entry : ℕ → Option Entry) (n q : ℕ) (ids : List ℕ) (places : List SlotOf) → AreListed entry n ids places → IsListed ids q → IsSome (get (selected entry n) q)
+listed_stored entry n q ids places had listed =
+    let d : SlotOf = record { slot = 0; generation = 0; len = 0 } in
+    let place = get-listed entry n listed.0 d ids places had listed.1 in
+    ap is_some (ap (get (selected entry n)) (sym listed.2) ∙ place.2)
+
+-- the least listed identifier above a cursor is the least stored one
+pub next_stored : (entry : ℕ → Option Entry) (slots cursor : ℕ) (found : Found) (answer : Option ℕ) → IsListOf entry slots found
+    → IsNextAfter found.ids.items cursor answer → IsNextAbove cursor (selected entry slots) answer
+next_stored entry slots cursor found None list next = λ id above.
+    get-unlisted entry slots id found.ids.items found.places.items list.listed (λ listed.
+    let low : get_or found.ids.items listed.0 0 ≤ cursor = next listed.0 listed.1 in
+    let is : get_or found.ids.items listed.0 0 ≡ id = listed.2 in
+    omega arith)
+next_stored entry slots cursor found (Some id) list next = record {
+  above = next.1;
+  here = listed_stored entry slots id found.ids.items found.places.items list.listed (contains_at found.ids.items id next.0);
+  least = λ other above some.
+      let listed = stored_listed entry slots other found.ids.items found.places.items list.listed some in
+      let is : get_or found.ids.items listed.0 0 ≡ other = listed.2 in
+      let least : id ≤ get_or found.ids.items listed.0 0 = next.2 listed.0 listed.1 (omega arith) in
+      omega arith;
+}
+
+-- the place that is found is that of the stored record
+pub place_stored : (entry : ℕ → Option Entry) (slots id : ℕ) (place : SlotOf) → IsPlaceOf entry slots id place → (body : List ℕ) × IsStoredAt entry slots id place body
+place_stored entry slots id place is =
+    let whole : is.chosen ≡ record { id = id; generation = place.generation; body = (is.chosen).body } =
+    λ i. record { id = is.of_id i; generation = is.generation i; body = (is.chosen).body } in
+    let stored : get (selected entry slots) id ≡ Some ((is.chosen).body, place.generation) =
+    ap (get (selected entry slots)) (sym is.of_id) ∙ get-chosen entry slots place.slot is.chosen is.is
+    ∙ ap (λ (g : ℕ). Some ((is.chosen).body, g)) is.generation in (
+      (is.chosen).body,
+      record {
+        slot = (is.is).within;
+        here = (is.is).here ∙ ap (λ (e : Entry). Some e) whole;
+        stored = stored;
+        len = is.len;
+      },
+    )
+
+-- where none is found, none is stored
+pub no_place_stored : (entry : ℕ → Option Entry) (slots id : ℕ) → IsPlaceFound entry slots id None → get (selected entry slots) id ≡ None
+no_place_stored entry slots id none = get-no_slot entry slots id none
+
+-- of what is stored the place is found
+pub stored_place : (entry : ℕ → Option Entry) (slots id : ℕ) (answer : Option SlotOf) (kept : List ℕ × ℕ) → IsPlaceFound entry slots id answer
+    → get (selected entry slots) id ≡ Some kept → (place : SlotOf) × (answer ≡ Some place) × IsStoredAt entry slots id place kept.0 × (place.generation ≡ kept.1)
+stored_place entry slots id None kept none is = absurd (none-some kept (sym (no_place_stored entry slots id none) ∙ is))
+stored_place entry slots id (Some place) kept found is =
+    let had = place_stored entry slots id place found in
+    let same : (had.0, place.generation) ≡ kept = same_Some _ _ (sym (had.1).stored ∙ is) in (
+      place,
+      refl,
+      subst (λ (body : List ℕ). IsStoredAt entry slots id place body) (ap (λ (p : List ℕ × ℕ). p.0) same) had.1,
+      ap (λ (p : List ℕ × ℕ). p.1) same,
+    )
+
+-- every slot that is listed as free has no record
+pub free_is_free : (entry : ℕ → Option Entry) (slots i : ℕ) (found : Found) → IsListOf entry slots found → i < length found.free.items
+    → (get_or found.free.items i 0 < slots) × (entry (get_or found.free.items i 0) ≡ None)
+free_is_free entry slots i found list within = free_slots-are entry slots (get_or found.free.items i 0) (subst (λ (xs : List ℕ). IsListed xs (get_or found.free.items i 0)) list.free (i, within, refl))
+
+-- a store whose lists have no identifier has no record
+pub none_stored : (entry : ℕ → Option Entry) (slots size : ℕ) (found : Found) → IsListing slots size found → IsListOf entry slots found
+    → length found.ids.items ≡ 0 → len (selected entry slots) ≡ 0
+none_stored entry slots size found listing list none = len_stored entry slots size found listing list ∙ none

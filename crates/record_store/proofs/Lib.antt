@@ -1,0 +1,14 @@
+pub mod KeepsLemmas
+pub mod Sectors
+pub mod Begun
+pub mod WorkLemmas
+pub mod FreeListLemmas
+pub mod CountLemmas
+pub mod IndexLemmas
+pub mod AnswerLemmas
+pub mod ChangeLemmas
+pub mod ScanLemmas
+pub mod WalkLemmas
+pub mod StartLemmas
+pub mod StoreLemmas
+pub mod FinishLemmas

@@ -1,0 +1,11 @@
+use Rattle.std.proofs.Common.{◌≡◌}
+use Rattle.record_recovery.proofs.SettledLemmas.{KeepsRecords-none}
+use Rattle.record_store.proofs.StoreLemmas.{fold_single}
+use Rattle.record_store.proofs.store.Store.attach.Goals as goal
+
+pub returns-then-size-clause-back : goal.returns-then-size-clause-back
+returns-then-size-clause-back g c tells = KeepsRecords-none c.args.geometry.slot_size c.args.geometry.slots (g.F.Flash.state c.args.flash).told
+
+pub returns-in-Ok-clause-single : goal.returns-in-Ok-clause-single
+returns-in-Ok-clause-single g c tells =
+    fold_single c.args.geometry.slot_size c.args.geometry.slots (g.F.Flash.state c.open.new.flash).told.image (c.in-Ok.ensures.knows tells).single

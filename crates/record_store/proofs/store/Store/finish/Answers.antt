@@ -1,0 +1,24 @@
+use Rattle.std.proofs.Common.{◌≡◌, ◌⊎◌, Bool, true, false, inl, inr, sym, ◌∙◌}
+use Rattle.std.proofs.lemmas.Bool.{both_ways}
+use Rattle.record_store.proofs.FinishLemmas.{IsOnWay-none, way_crash, gone_on, IsOnWay-more}
+use Rattle.record_store.proofs.store.Store.finish.Goals as goal
+
+pub loop-init : goal.loop-init
+loop-init g c = IsOnWay-none g.F.Flash.tells c.args.self.now c.requires.unfinished
+
+pub returns-in_err-step-clause-crash : goal.returns-in_err-step-clause-crash
+returns-in_err-step-clause-crash g c tells =
+    way_crash g.F.Flash.tells c.args.self.now c.loop.self c.step.new.self c.loop.invariant tells (c.step.ensures.crash tells)
+
+pub loop-preserved : goal.loop-preserved
+loop-preserved g c =
+    let stepped = c.in_ok-step.ensures.stepped in
+    IsOnWay-more g.F.Flash.tells c.args.self.now c.loop.self c.step.new.self c.loop.invariant stepped.1
+    (λ idle. elim stepped.2 [ inl last ↦ absurd (both_ways c.in_ok-step.field-0 c.if-not-branch.true last) | inr more ↦ more.1 idle ])
+    c.step.ensures.alike.per_slot
+    (gone_on g.F.Flash.tells c.args.self.now c.loop.self c.step.new.self c.loop.invariant stepped.1 c.in_ok-step.ensures.answer c.step.ensures.crash
+    c.in_ok-step.ensures.one c.step.ensures.alike c.in_ok-step.ensures.cause)
+
+pub returns-clause-crash : goal.returns-clause-crash
+returns-clause-crash g c tells =
+    way_crash g.F.Flash.tells c.args.self.now c.loop.self c.step.new.self c.loop.invariant tells (c.step.ensures.crash tells)

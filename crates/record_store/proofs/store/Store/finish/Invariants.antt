@@ -1,0 +1,8 @@
+use Rattle.record_store.specs.Finish.{changes_left, IsOnWay}
+use Rattle.record_store.proofs.store.Store.finish.Given as goal
+
+abbrev pub invariant-loop : goal.invariant-loop
+invariant-loop g l = IsOnWay g.F.Flash.tells l.initial.self l.self
+
+abbrev pub decreases-loop : goal.decreases-loop
+decreases-loop g l = changes_left l.self.per_slot l.self.pending

@@ -1,0 +1,34 @@
+-- A walk over the stored identifiers, by one next after another, with other commands between them.
+use Rattle.std.specs.Prelude.{◌≡◌, ℕ, List, [], ◌∷◌, Some, None, IsSome}
+use Rattle.std.specs.FinMap.{get}
+use Rattle.record_model.specs.Records.{Stored}
+use Rattle.record_model.specs.RecordMap.{Command, Read}
+use Rattle.record_model.specs.History.{Answer, Found, Played, left_by}
+
+abbrev pub with_found : Answer → List ℕ → List ℕ
+with_found (Found (Some id)) ids = id ∷ ids
+with_found answer ids = ids
+
+-- the identifiers that were found, in the order of the commands
+abbrev pub found_by : List Played → List ℕ
+found_by [] = []
+found_by (played ∷ rest) = with_found played.answer (found_by rest)
+
+-- every command but a read, which moves the cursor too
+abbrev pub IsNoRead : Command → Type 0
+IsNoRead (Read id) = ⊥
+IsNoRead command = Unit {0}
+
+abbrev pub EndsOr : Answer → List Played → Type 0 → Type 0
+EndsOr (Found None) rest more = rest ≡ []
+EndsOr answer rest more = more
+
+-- no read is among these commands, and the last of them is the first next that found no more
+abbrev pub IsWalk : List Played → Type 0
+IsWalk [] = ⊥
+IsWalk (played ∷ rest) = IsNoRead played.command × EndsOr played.answer rest (IsWalk rest)
+
+-- an identifier is stored before the commands, and after every one of them
+abbrev pub StaysStored : ℕ → ℕ → List Played → Stored → Type 0
+StaysStored slots id [] stored = IsSome (get stored id)
+StaysStored slots id (played ∷ rest) stored = IsSome (get stored id) × StaysStored slots id rest (left_by slots played stored)

@@ -1,0 +1,120 @@
+// The lists that a store keeps of its slots: the identifiers with the places of their records, and the free slots.
+ghost use Rattle.std.specs.Prelude.{◌≡◌, ◌⊎◌, ℕ, ◌<◌, ◌≤◌, false, length, Option, IfSome, vec_capacity};
+ghost use Rattle.std.specs.List.Sorted.{IsStrictlyIncreasing};
+ghost use Rattle.erst_ids.specs.Next.{IsNextAfter};
+ghost use Rattle.record_model.specs.Records.{Entry, selected, is_reserved};
+ghost use Rattle.record_model.specs.RecordMap.{IsNextAbove};
+ghost use Rattle.record_recovery.specs.Listed.{AreSlots, IsIndex, IsWithin};
+ghost use Rattle.record_recovery.specs.Listing.{IsNewlyListed, IsListedAgain};
+ghost use Rattle.record_store.specs.Index.{IsListing, IsListOf, HasOpened, HasLost, IsEntryOf, IsOlderCopy, IsOnlyCopy, IsPlaceFound, IsPlaceAt, IsFreed, IsTaken};
+
+use erst_ids::{RecordId, next_after, position_of};
+use flash_model::Geometry;
+use record_recovery::{Found, SlotOf, list_record};
+
+/// Where the record of an identifier is.
+pub fn place_of(found: &Found, id: RecordId) -> Option<SlotOf>
+    requires rising { IsStrictlyIncreasing found.now.ids.items }
+    requires paired { length found.now.places.items ≡ length found.now.ids.items }
+    ensures allowed { is_reserved id ≡ false }
+    ensures at { IsPlaceAt found.now.ids.items found.now.places.items id result }
+    ensures within { (slots slot_size : ℕ) → IsIndex slots slot_size found.now.ids.items found.now.places.items
+        → IfSome result (IsWithin slots slot_size) }
+    ensures place { (entry : ℕ → Option Entry) (slots : ℕ) → IsListOf entry slots found.now → IsPlaceFound entry slots id result }
+{
+    prove!(id.get() != 0);
+    match position_of(&found.ids, id) {
+        Ok(at) => Some(found.places[at]),
+        Err(_) => None,
+    }
+}
+
+/// The least identifier above a cursor that has a record.
+pub fn next_id(found: &Found, cursor: u64) -> Option<RecordId>
+    requires { IsStrictlyIncreasing found.now.ids.items }
+    ensures after { IsNextAfter found.now.ids.items cursor result }
+    ensures next { (entry : ℕ → Option Entry) (slots : ℕ) → IsListOf entry slots found.now
+        → IsNextAbove cursor (selected entry slots) result }
+{
+    next_after(&found.ids, cursor)
+}
+
+/// Lists the record of a slot that was free, which is newer than all of its identifier.
+pub fn record_opened(found: &mut Found, geometry: &Geometry, id: RecordId, place: SlotOf)
+    requires listing { IsListing geometry.now.slots geometry.now.slot_size found.old }
+    requires within { IsWithin geometry.now.slots geometry.now.slot_size place }
+    ensures listing { IsListing geometry.now.slots geometry.now.slot_size found.new }
+    ensures list { (entry other : ℕ → Option Entry) (e : Entry) → HasOpened entry other geometry.now.slots place.slot e → IsEntryOf id place e
+        → IsListOf entry geometry.now.slots found.old → IsListOf other geometry.now.slots found.new }
+{
+    list_opened(found, geometry, id, place);
+    take_free(found, place.slot);
+}
+
+/// Lists a slot as free whose record was killed, which was not that of its identifier.
+pub fn slot_killed(found: &mut Found, geometry: &Geometry, slot: u32)
+    requires listing { IsListing geometry.now.slots geometry.now.slot_size found.old }
+    requires within { slot < geometry.now.slots }
+    ensures listing { IsListing geometry.now.slots geometry.now.slot_size found.new }
+    ensures list { (entry other : ℕ → Option Entry) (lost : Entry) → HasLost entry other slot lost → IsOlderCopy entry geometry.now.slots slot lost
+        → IsListOf entry geometry.now.slots found.old → IsListOf other geometry.now.slots found.new }
+{
+    prove!(u64::from(slot) < geometry.slots);
+    list_free(found, slot);
+}
+
+/// Lists an identifier no more whose only slot was killed, and lists the slot as free.
+pub fn record_cleared(found: &mut Found, geometry: &Geometry, id: RecordId)
+    requires listing { IsListing geometry.now.slots geometry.now.slot_size found.old }
+    ensures listing { IsListing geometry.now.slots geometry.now.slot_size found.new }
+    ensures list { (entry other : ℕ → Option Entry) (j : ℕ) (lost : Entry) → j < geometry.now.slots → HasLost entry other j lost → lost.id ≡ id
+        → IsOnlyCopy entry geometry.now.slots j id → IsListOf entry geometry.now.slots found.old → IsListOf other geometry.now.slots found.new }
+{
+    let Ok(at) = position_of(&found.ids, id) else {
+        return;
+    };
+    found.ids.remove(at);
+    let place = found.places.remove(at);
+    list_free(found, place.slot);
+}
+
+// Lists the record of a slot. Where each slot has an identifier already, none is free, and there is no other record.
+fn list_opened(found: &mut Found, geometry: &Geometry, id: RecordId, place: SlotOf)
+    requires listing { IsListing geometry.now.slots geometry.now.slot_size found.old }
+    requires within { IsWithin geometry.now.slots geometry.now.slot_size place }
+    ensures listing { IsListing geometry.now.slots geometry.now.slot_size found.new }
+    ensures free { found.new.free ≡ found.old.free }
+    ensures listed { length found.old.ids.items < geometry.now.slots
+        → IsNewlyListed found.old found.new id place ⊎ IsListedAgain found.old found.new id place }
+{
+    if (found.ids.len() as u64) < geometry.slots {
+        list_record(found, id, place);
+    }
+}
+
+// Lists a slot as free no more.
+fn take_free(found: &mut Found, slot: u32)
+    requires rising { IsStrictlyIncreasing found.old.free.items }
+    ensures taken { IsTaken found.old.free.items found.new.free.items slot }
+    ensures capacity { vec_capacity found.new.free ≡ vec_capacity found.old.free }
+    ensures ids { found.new.ids ≡ found.old.ids }
+    ensures places { found.new.places ≡ found.old.places }
+{
+    if let Ok(at) = found.free.binary_search(&slot) {
+        found.free.remove(at);
+    }
+}
+
+// Lists a slot as free.
+fn list_free(found: &mut Found, slot: u32)
+    requires free { AreSlots (vec_capacity found.old.free) found.old.free.items }
+    requires within { slot < vec_capacity found.old.free }
+    ensures freed { IsFreed found.old.free.items found.new.free.items slot }
+    ensures capacity { vec_capacity found.old.free ≤ vec_capacity found.new.free }
+    ensures ids { found.new.ids ≡ found.old.ids }
+    ensures places { found.new.places ≡ found.old.places }
+{
+    if let Err(at) = found.free.binary_search(&slot) {
+        let _ = found.free.insert(at, slot);
+    }
+}

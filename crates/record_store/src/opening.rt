@@ -1,0 +1,33 @@
+// The opening of a flash: all memory of a store, and a look at each slot.
+ghost use Rattle.std.specs.Prelude.{◌≡◌, ◌≤◌, ◌-◌, length, IfOk};
+ghost use Rattle.record_slots.specs.Slots.{Fits};
+ghost use Rattle.record_store.specs.Answers.{OpensOn};
+ghost use Rattle.record_store.specs.Index.{IsListing};
+ghost use Rattle.record_store.specs.Kept.{KnowsSlots};
+ghost use Rattle.record_store.specs.Store.{KeepsRecordsOf};
+ghost use Rattle.record_model.specs.Records.{entry_at};
+
+use flash_model::{Flash, Geometry};
+use record_recovery::{Found, ScanError, scan};
+use std::alloc::Global;
+
+/// The lists of a flash of the geometry's size, and memory for a record.
+pub fn open<F: Flash>(
+    alloc: Global,
+    flash: &mut F,
+    geometry: &Geometry,
+) -> Result<(Found, Vec<u8>), ScanError>
+    requires fits { Fits geometry.now (F.state flash.old) }
+    ensures answer { OpensOn geometry.now (F.state flash.old) (F.state flash.new) result }
+    ensures listing { IfOk result (λ opened. IsListing geometry.now.slots geometry.now.slot_size opened.0) }
+    ensures room { IfOk result (λ opened. length opened.1.items ≡ geometry.now.slot_size - 64) }
+    ensures knows { IfOk result (λ opened. F.tells
+        → KnowsSlots (entry_at geometry.now.slot_size (F.state flash.new).told.image) geometry.now.slots opened.0) }
+    ensures kept { F.tells → KeepsRecordsOf geometry.now (F.state flash.old) (F.state flash.new) }
+    ensures size { (F.state flash.new).size ≡ (F.state flash.old).size }
+    ensures sector_size { (F.state flash.new).sector_size ≡ (F.state flash.old).sector_size }
+{
+    let buffer = vec![in alloc; 0; geometry.room() as usize]?;
+    let found = scan(alloc, flash, geometry)?;
+    Ok((found, buffer))
+}
