@@ -3,7 +3,7 @@
 #![tactic(auto)]
 
 use apei_bytes::{StdSink, StdSource};
-use apei_cli::{Status, run, sim_flash};
+use apei_cli::{PlanError, Status, plan, run, sim_flash};
 use std::env;
 use std::io::ErrorKind;
 use std::process::ExitCode;
@@ -23,7 +23,12 @@ fn play(rt: &HostRuntime) -> Status {
         Ok(words) => words,
         Err(status) => return status,
     };
-    let Ok(flash) = sim_flash(rt.alloc()) else {
+    let plan = match plan(rt.alloc(), &words) {
+        Ok(plan) => plan,
+        Err(PlanError::BadWords) => return Status::BadWords,
+        Err(PlanError::Memory) => return Status::Memory,
+    };
+    let Ok(flash) = sim_flash(rt.alloc(), &plan) else {
         return Status::Memory;
     };
     let mut script = StdSource::new(rt.stdin());

@@ -1,22 +1,30 @@
 -- Laws of a run over the lines of a script.
-use Rattle.std.proofs.Common.{◌≡◌, ℕ, ◌+◌, ◌^◌, ◌<◌, ◌≤◌, inl, inr, Bool, true, false, List, [], ◌∷◌, ◌++◌, length, take, map, MatchBool, refl, sym, ap, subst, ◌∙◌, arith, append_assoc, length-append}
+use Rattle.std.proofs.Common.{◌≡◌, ℕ, ◌+◌, ◌*◌, ◌^◌, ◌<◌, ◌≤◌, ◌⊎◌, inl, inr, Bool, true, false, List, [], ◌∷◌, ◌++◌, length, take, map, MatchBool, refl, sym, ap, subst, ◌∙◌, arith, append_assoc, length-append}
 use Rattle.std.proofs.lemmas.Bool.{cases_lt}
 use Rattle.std.proofs.lemmas.List.{append-nil}
 use Rattle.record_model.specs.Flash.{FlashState}
-use Rattle.record_model.specs.Records.{Stored, stored_in, HasNoSecondCopy}
+use Rattle.record_model.specs.Records.{Stored, stored_in}
 use Rattle.record_model.specs.RecordMap.{Command}
-use Rattle.record_model.specs.History.{Played}
-use Rattle.record_store.specs.Store.{StoreView, stored, IsSingle}
+use Rattle.record_model.specs.History.{Played, cursor_left, IsHistory, TakeSteps}
+use Rattle.record_model.proofs.HistoryLemmas.{cursor_left-append, IsHistory-none, IsHistory-then}
+use Rattle.record_model.proofs.CrashLemmas.{Leaves-exit, past_grows, IsLater-refl, CrashImage-now}
+use Rattle.record_model.specs.Flash.{Told, Leaves, CrashImage}
+use Rattle.base_model.specs.Faults.{Rose}
+use Rattle.record_store.specs.Store.{StoreView, stored, DividesAlike, IsOpened, KeepsRecordsOf}
+use Rattle.record_store.specs.Answers.{RefusesFlash}
+use Rattle.flash_model.specs.declared.geometry.Geometry.{Geometry}
+use Rattle.record_recovery.specs.declared.scanning.ScanError.{ScanError}
+use Rattle.record_recovery.specs.declared.scanning.ScanError.TheVariants.{Size, Flash as flash_failed, Memory as no_memory}
 use Rattle.apei_cli.specs.Lines.{Line, Reading, lines_of, ended_lines_of, lines_ahead, IsTooLong, ReadsLine, with_newline, last_one, IsNextLine, IsAtEnd, NextIsTooLong, HasNoLine}
 use Rattle.apei_cli.specs.Script.{Asked, asked_by, IsBuilt, commands_of}
 use Rattle.apei_cli.specs.Replies.{reply_of, text_of}
-use Rattle.apei_cli.specs.Plays.{Plays, ArePlayable, asked_by_all, commands_in, AreOf, PartlyWritten, WantsStored, PlaysLine, PlaysUnheard, PlaysNothing}
+use Rattle.apei_cli.specs.Plays.{Layout, room_of, layout_of, HasHardware, IsOpen, StaysIdle, Plays, ArePlayable, asked_by_all, commands_in, AreOf, PartlyWritten, PlaysLine, PlaysUnheard}
 use Rattle.apei_cli.specs.Statuses.{EndsBy, IsWritten, PlaysAll, PlaysTaken, PlaysSome, StopsTooLong, StopsNotBuilt}
-use Rattle.apei_cli.specs.Runs.{SLOTS, SLOT_SIZE, ROOM, ComesFirst, IsRun}
+use Rattle.apei_cli.specs.Runs.{layout_by, PlaysScript, TakesItsSteps, ComesFirst, IsStatusOf, IsRun}
 use Rattle.apei_cli.specs.declared.status.Status.{Status}
-use Rattle.apei_cli.specs.declared.status.Status.TheVariants.{Done, BadWords, SourceFault, SinkFault, BadGeometry, TooLong, Memory, NotYet}
+use Rattle.apei_cli.specs.declared.status.Status.TheVariants.{Done, BadWords, SourceFault, SinkFault, FlashFault, BadGeometry, TooLong, Memory, NotYet}
 use Rattle.apei_cli.proofs.LineLemmas.{lines_of-newline, lines_of-nil, lines_of-last, ended_lines_of-newline, ended_lines_of-one_line}
-use Rattle.apei_cli.proofs.PlayLemmas.{Plays-none, Plays-then}
+use Rattle.apei_cli.proofs.PlayLemmas.{Plays-none, Plays-then, Rose-then, Rose-after}
 
 -- the line that was read
 abbrev pub line_of : Reading → Line
@@ -81,14 +89,15 @@ pub line_short : (tells : Type 0) (a b : Reading) (rest rest_now : List ℕ) →
 line_short tells a b rest rest_now next = elim (cases_lt 140000 (length b.line)) [ inl long ↦ absurd (next.within (inl long)) | inr short ↦ short ]
 
 -- playable lines, one after another
-ArePlayable-append : (room : ℕ) (some more : List Line) → ArePlayable room some → ArePlayable room more → ArePlayable room (some ++ more)
-ArePlayable-append room [] more p q = q
-ArePlayable-append room (line ∷ lines) more p q = (p.0, ArePlayable-append room lines more p.1 q)
+ArePlayable-append : (some more : List Line) → ArePlayable some → ArePlayable more → ArePlayable (some ++ more)
+ArePlayable-append [] more p q = q
+ArePlayable-append (line ∷ lines) more p q = (p.0, ArePlayable-append lines more p.1 q)
 
-asked_by_all-append : (some more : List Line) → asked_by_all (some ++ more) ≡ asked_by_all some ++ asked_by_all more
-asked_by_all-append [] more = refl
-asked_by_all-append (line ∷ lines) more =
-    ap (λ (cs : List Command). commands_of (asked_by line.text) ++ cs) (asked_by_all-append lines more) ∙ sym (append_assoc (commands_of (asked_by line.text)) (asked_by_all lines) (asked_by_all more))
+asked_by_all-append : (room : ℕ) (some more : List Line) → asked_by_all room (some ++ more) ≡ asked_by_all room some ++ asked_by_all room more
+asked_by_all-append room [] more = refl
+asked_by_all-append room (line ∷ lines) more =
+    ap (λ (cs : List Command). commands_of room (asked_by line.text) ++ cs) (asked_by_all-append room lines more)
+    ∙ sym (append_assoc (commands_of room (asked_by line.text)) (asked_by_all room lines) (asked_by_all room more))
 
 commands_in-append : (some more : List Played) → commands_in (some ++ more) ≡ commands_in some ++ commands_in more
 commands_in-append [] more = refl
@@ -99,24 +108,15 @@ text_of-append [] more = refl
 text_of-append (played ∷ rest) more = ap (λ (bs : List ℕ). reply_of played ++ bs) (text_of-append rest more) ∙ sym (append_assoc (reply_of played) (text_of rest) (text_of more))
 
 -- one more line
-pub AreOf-push : (room : ℕ) (lines : List Line) (line : Line) (some more : List Played) → AreOf room lines some → IsBuilt room (asked_by line.text) → (IsTooLong line → ⊥)
-    → commands_in more ≡ commands_of (asked_by line.text) → AreOf room (lines ++ line ∷ []) (some ++ more)
+pub AreOf-push : (room : ℕ) (lines : List Line) (line : Line) (some more : List Played) → AreOf room lines some → IsBuilt (asked_by line.text) → (IsTooLong line → ⊥)
+    → commands_in more ≡ commands_of room (asked_by line.text) → AreOf room (lines ++ line ∷ []) (some ++ more)
 AreOf-push room lines line some more so_far built short asked = record {
-  playable = ArePlayable-append room lines (line ∷ []) so_far.playable ((built, short), tt);
+  playable = ArePlayable-append lines (line ∷ []) so_far.playable ((built, short), tt);
   asked =
       commands_in-append some more
       ∙ ap (λ (cs : List Command). cs ++ commands_in more) so_far.asked
-      ∙ ap (λ (cs : List Command). asked_by_all lines ++ cs) (asked ∙ sym (append-nil (commands_of (asked_by line.text))))
-      ∙ sym (asked_by_all-append lines (line ∷ []));
-}
-
--- a weaker premise
-pub Plays-weaker : (tells told : Type 0) (slots slot_size : ℕ) (old new : FlashState) (commands : List Played) → (told → tells) → Plays tells slots slot_size old new commands → Plays told slots slot_size old new commands
-Plays-weaker tells told slots slot_size old new commands f plays = record {
-  history = λ t. plays.history (f t);
-  fresh = λ t. plays.fresh (f t);
-  faults = plays.faults;
-  cause = plays.cause;
+      ∙ ap (λ (cs : List Command). asked_by_all room lines ++ cs) (asked ∙ sym (append-nil (commands_of room (asked_by line.text))))
+      ∙ sym (asked_by_all-append room lines (line ∷ []));
 }
 
 -- the replies of more commands
@@ -136,240 +136,334 @@ partly-then some more written middle now first part = record {
       (ap (λ (bs : List ℕ). bs ++ text_of part.before) first ∙ append_assoc written (text_of some) (text_of part.before) ∙ ap (λ (bs : List ℕ). written ++ bs) (sym (text_of-append some part.before)));
 }
 
--- a run so far: the lines that were read, all of them played, and their commands
-pub record SoFar (told_source told_sink told_flash : Type 0) (script rest written written_now : List ℕ) (old new : FlashState) (reading : Reading) : Type 0 where
+-- a run so far: the lines that were read, all of them played, and their commands. The store is in doubt only where the
+-- flash's count of faults rose
+pub record SoFar (told_source told_sink told_flash : Type 0) (script rest written written_now : List ℕ) (old new : StoreView) (cursor : ℕ) (reading : Reading) : Type 0 where
   pub lines : List Line
   pub commands : List Played
   pub number : reading.number ≡ length lines
-  pub played : AreOf ROOM lines commands
+  pub played : AreOf (room_of (layout_of old)) lines commands
   pub ahead : told_source → lines_of 0 script ≡ lines ++ lines_ahead reading rest
   pub taken : told_source → reading.at_end ≡ false → TakenSoFar script rest lines reading
-  pub plays : Plays told_flash SLOTS SLOT_SIZE old new commands
+  pub plays : Plays told_flash (Unit {0}) (layout_of old) 0 old.flash new.flash commands
+  pub moved : cursor ≡ cursor_left commands 0
   pub text : told_sink → written_now ≡ written ++ text_of commands
+  pub alike : DividesAlike old new
+  pub doubt : new.in_doubt ≡ true → Rose old.flash.faults new.flash.faults
 
 -- nothing was read
-pub SoFar-start : (told_source told_sink told_flash : Type 0) (script written : List ℕ) (flash : FlashState) (reading : Reading)
-    → reading ≡ record { line = []; number = 0; end = 0; pending = []; at_end = false } → Plays told_flash SLOTS SLOT_SIZE flash flash []
-    → SoFar told_source told_sink told_flash script script written written flash flash reading
-SoFar-start told_source told_sink told_flash script written flash reading start none =
-    subst (SoFar told_source told_sink told_flash script script written written flash flash) (sym start) (record {
+pub SoFar-start : (told_source told_sink told_flash : Type 0) (script written : List ℕ) (store : StoreView) (cursor : ℕ) (reading : Reading)
+    → reading ≡ record { line = []; number = 0; end = 0; pending = []; at_end = false } → cursor ≡ 0 → store.in_doubt ≡ false
+    → SoFar told_source told_sink told_flash script script written written store store cursor reading
+SoFar-start told_source told_sink told_flash script written store cursor reading start at_start certain =
+    subst (SoFar told_source told_sink told_flash script script written written store store cursor) (sym start) (record {
       lines = [];
       commands = [];
       number = refl;
       played = record { playable = tt; asked = refl };
       ahead = λ told. refl;
       taken = λ told e. record { taken = []; source = refl; ended = λ more. refl };
-      plays = none;
+      plays = Plays-none told_flash (Unit {0}) (layout_of store) 0 store.flash;
+      moved = at_start;
       text = λ told. sym (append-nil written);
+      alike = record { sector = refl; per_slot = refl; slots = refl; slot_size = refl; size = refl; sector_size = refl };
+      doubt = λ doubtful. let clash : true ≡ false = sym doubtful ∙ certain in absurd (cc clash);
     })
 
+-- a store that divides its flash as before has the same layout
+layout_stays : (old new : StoreView) → DividesAlike old new → layout_of new ≡ layout_of old
+layout_stays old new alike =
+    ap (λ (n : ℕ). record { per_slot = n; slots = new.slots; slot_size = new.slot_size }) alike.per_slot
+    ∙ ap (λ (n : ℕ). record { per_slot = old.per_slot; slots = n; slot_size = new.slot_size }) alike.slots
+    ∙ ap (λ (n : ℕ). record { per_slot = old.per_slot; slots = old.slots; slot_size = n }) alike.slot_size
+
+DividesAlike-then : (old mid new : StoreView) → DividesAlike old mid → DividesAlike mid new → DividesAlike old new
+DividesAlike-then old mid new first second = record {
+  sector = second.sector ∙ first.sector;
+  per_slot = second.per_slot ∙ first.per_slot;
+  slots = second.slots ∙ first.slots;
+  slot_size = second.slot_size ∙ first.slot_size;
+  size = second.size ∙ first.size;
+  sector_size = second.sector_size ∙ first.sector_size;
+}
+
+-- a store that is not in doubt where no fault was counted
+certain_where : (b : Bool) (P : Type 0) → (b ≡ true → P) → (P → ⊥) → b ≡ false
+certain_where true P rose still = absurd (still (rose refl))
+certain_where false P rose still = refl
+
+-- some lines, and then the commands of one more
+commands_then : (told_source told_sink told_flash : Type 0) (script rest written middle : List ℕ) (old mid new : StoreView) (cursor : ℕ) (a : Reading) (commands : List Played)
+    → (so_far : SoFar told_source told_sink told_flash script rest written middle old mid cursor a)
+    → Plays told_flash (mid.in_doubt ≡ false) (layout_of mid) cursor mid.flash new.flash commands
+    → Plays told_flash (Unit {0}) (layout_of old) 0 old.flash new.flash (so_far.commands ++ commands)
+commands_then told_source told_sink told_flash script rest written middle old mid new cursor a commands so_far plays =
+    Plays-then told_flash (Unit {0}) (mid.in_doubt ≡ false) (layout_of old) 0 old.flash mid.flash new.flash so_far.commands commands so_far.plays
+    (subst (λ (n : ℕ). Plays told_flash (mid.in_doubt ≡ false) (layout_of old) n mid.flash new.flash commands) so_far.moved
+    (subst (λ (l : Layout). Plays told_flash (mid.in_doubt ≡ false) l cursor mid.flash new.flash commands) (layout_stays old mid so_far.alike) plays))
+    (λ sure still. certain_where mid.in_doubt (Rose old.flash.faults mid.flash.faults) so_far.doubt still)
+
 -- one more line was read and played
-pub SoFar-more : (told_source told_sink told_flash : Type 0) (script rest rest_now written middle now : List ℕ) (old mid new : FlashState) (a b : Reading) (commands : List Played)
-    → SoFar told_source told_sink told_flash script rest written middle old mid a
-    → IsNextLine told_source a b rest rest_now
-    → IsBuilt ROOM (asked_by b.line) → commands_in commands ≡ commands_of (asked_by b.line)
-    → Plays told_flash SLOTS SLOT_SIZE mid new commands → (told_sink → now ≡ middle ++ text_of commands)
-    → SoFar told_source told_sink told_flash script rest_now written now old new b
-SoFar-more told_source told_sink told_flash script rest rest_now written middle now old mid new a b commands so_far next built asked plays text = record {
+pub SoFar-played : (told_source told_sink told_flash : Type 0) (script rest rest_now written middle now text : List ℕ) (old mid new : StoreView) (cursor cursor_now : ℕ) (a b : Reading)
+    → SoFar told_source told_sink told_flash script rest written middle old mid cursor a
+    → IsNextLine told_source a b rest rest_now → text ≡ b.line
+    → PlaysLine told_flash told_sink mid new (asked_by text) cursor cursor_now middle now → StaysIdle mid new
+    → SoFar told_source told_sink told_flash script rest_now written now old new cursor_now b
+SoFar-played told_source told_sink told_flash script rest rest_now written middle now text old mid new cursor cursor_now a b so_far next is line stays = record {
   lines = so_far.lines ++ line_of b ∷ [];
-  commands = so_far.commands ++ commands;
+  commands = so_far.commands ++ line.commands;
   number = omega (arith, next.number, so_far.number, length-append so_far.lines (line_of b ∷ []));
-  played = AreOf-push ROOM so_far.lines (line_of b) so_far.commands commands so_far.played built next.within asked;
+  played = AreOf-push (room_of (layout_of old)) so_far.lines (line_of b) so_far.commands line.commands so_far.played built next.within
+      (line.commands_are ∙ ap (λ (l : Layout). commands_of (room_of l) (asked_by text)) (layout_stays old mid so_far.alike) ∙ ap (λ (t : List ℕ). commands_of (room_of (layout_of old)) (asked_by t)) is);
   ahead = λ told.
       so_far.ahead told ∙ ap (λ (ls : List Line). so_far.lines ++ ls) (next_ahead told_source a b rest rest_now next told) ∙ sym (append_assoc so_far.lines (line_of b ∷ []) (lines_ahead b rest_now));
   taken = λ told e. next_taken told_source a b script rest rest_now so_far.lines next told (so_far.taken told) e;
-  plays = Plays-then told_flash SLOTS SLOT_SIZE old mid new so_far.commands commands so_far.plays plays;
-  text = λ told. text-then so_far.commands commands written middle now (so_far.text told) (text told);
+  plays = commands_then told_source told_sink told_flash script rest written middle old mid new cursor a line.commands so_far line.plays;
+  moved = line.moved ∙ ap (cursor_left line.commands) so_far.moved ∙ sym (cursor_left-append so_far.commands line.commands 0);
+  text = λ told. text-then so_far.commands line.commands written middle now (so_far.text told) (line.text_now told);
+  alike = DividesAlike-then old mid new so_far.alike stays.alike;
+  doubt = λ doubtful. by_part (stays.doubt doubtful);
 }
+  where
+    built : IsBuilt (asked_by b.line)
+    built = subst (λ (t : List ℕ). IsBuilt (asked_by t)) is line.built
+
+    by_part : (mid.in_doubt ≡ true) ⊎ Rose mid.flash.faults new.flash.faults → Rose old.flash.faults new.flash.faults
+    by_part (inl doubtful) = let plays = so_far.plays in Rose-then old.flash.faults mid.flash.faults new.flash.faults plays.faults (so_far.doubt doubtful) stays.faults
+    by_part (inr rose) = let plays = so_far.plays in Rose-after old.flash.faults mid.flash.faults new.flash.faults plays.faults rose
+
+-- an open store stays one
+pub IsOpen-then : (old new : StoreView) → IsOpen old → StaysIdle old new → IsOpen new
+IsOpen-then old new is stays =
+    let alike = stays.alike in
+    record {
+      idle = stays.idle;
+      slot = subst (λ (n : ℕ). n ≤ 65600) (sym alike.slot_size) is.slot;
+      size = alike.size ∙ is.size ∙ ap (λ (n : ℕ). n * old.slots) (sym alike.slot_size) ∙ ap (λ (n : ℕ). new.slot_size * n) (sym alike.slots);
+    }
 
 -- the script was read to its end
-pub ends_done : (told_source told_sink told_flash : Type 0) (script rest rest_now written written_now : List ℕ) (old new : FlashState) (a b : Reading)
+pub ends_done : (told_source told_sink told_flash : Type 0) (script rest rest_now written written_now : List ℕ) (old new : StoreView) (cursor : ℕ) (a b : Reading)
     → IsAtEnd told_source a b rest rest_now
-    → (so_far : SoFar told_source told_sink told_flash script rest written written_now old new a) → told_source → PlaysAll ROOM script rest_now so_far.commands
-ends_done told_source told_sink told_flash script rest rest_now written written_now old new a b end so_far told =
-    let left = end.nothing_left told in
-    let none : lines_ahead a rest ≡ [] = ap (lines_of a.end) (ap (λ (bs : List ℕ). bs ++ rest) end.pending ∙ left.0) ∙ lines_of-nil a.end in
-    let all : lines_of 0 script ≡ so_far.lines = so_far.ahead told ∙ ap (λ (ls : List Line). so_far.lines ++ ls) none ∙ append-nil so_far.lines in
-    record { all_read = left.1; played = subst (λ (ls : List Line). AreOf ROOM ls so_far.commands) (sym all) so_far.played }
+    → SoFar told_source told_sink told_flash script rest written written_now old new cursor a
+    → PlaysScript told_source told_sink told_flash (layout_of old) script rest_now written written_now old.flash new.flash Done
+ends_done told_source told_sink told_flash script rest rest_now written written_now old new cursor a b end so_far = record {
+  commands = so_far.commands;
+  plays = so_far.plays;
+  lines = λ told.
+      let left = end.nothing_left told in
+      let none : lines_ahead a rest ≡ [] = ap (lines_of a.end) (ap (λ (bs : List ℕ). bs ++ rest) end.pending ∙ left.0) ∙ lines_of-nil a.end in
+      let all : lines_of 0 script ≡ so_far.lines = so_far.ahead told ∙ ap (λ (ls : List Line). so_far.lines ++ ls) none ∙ append-nil so_far.lines in
+      record { all_read = left.1; played = subst (λ (ls : List Line). AreOf (room_of (layout_of old)) ls so_far.commands) (sym all) so_far.played };
+  text = so_far.text;
+}
 
 -- the source failed
-pub ends_fault : (told_source told_sink told_flash : Type 0) (script rest rest_now written written_now : List ℕ) (old new : FlashState) (a b : Reading)
+pub ends_fault : (told_source told_sink told_flash : Type 0) (script rest rest_now written written_now : List ℕ) (old new : StoreView) (cursor : ℕ) (a b : Reading)
     → HasNoLine told_source a b rest rest_now
-    → (so_far : SoFar told_source told_sink told_flash script rest written written_now old new a) → told_source → PlaysTaken ROOM script rest_now so_far.commands
-ends_fault told_source told_sink told_flash script rest rest_now written written_now old new a b failed so_far told =
-    let before = so_far.taken told failed.not_at_end in
-    let none : ended_lines_of a.end (a.pending ++ failed.bytes) ≡ [] = ended_lines_of-one_line a.end (a.pending ++ failed.bytes) failed.one_line in
-    let lines : ended_lines_of 0 (before.taken ++ (a.pending ++ failed.bytes)) ≡ so_far.lines =
-    before.ended (a.pending ++ failed.bytes) ∙ ap (λ (ls : List Line). so_far.lines ++ ls) none ∙ append-nil so_far.lines in
-    record {
-      taken = before.taken ++ (a.pending ++ failed.bytes);
-      source =
-          before.source
-          ∙ ap (λ (bs : List ℕ). before.taken ++ bs) (ap (λ (bs : List ℕ). a.pending ++ bs) (failed.given told) ∙ sym (append_assoc a.pending failed.bytes rest_now))
-          ∙ sym (append_assoc before.taken (a.pending ++ failed.bytes) rest_now);
-      played = subst (λ (ls : List Line). AreOf ROOM ls so_far.commands) (sym lines) so_far.played;
-    }
+    → SoFar told_source told_sink told_flash script rest written written_now old new cursor a
+    → PlaysScript told_source told_sink told_flash (layout_of old) script rest_now written written_now old.flash new.flash SourceFault
+ends_fault told_source told_sink told_flash script rest rest_now written written_now old new cursor a b failed so_far = record {
+  commands = so_far.commands;
+  plays = so_far.plays;
+  lines = λ told.
+      let before = so_far.taken told failed.not_at_end in
+      let none : ended_lines_of a.end (a.pending ++ failed.bytes) ≡ [] = ended_lines_of-one_line a.end (a.pending ++ failed.bytes) failed.one_line in
+      let lines : ended_lines_of 0 (before.taken ++ (a.pending ++ failed.bytes)) ≡ so_far.lines =
+      before.ended (a.pending ++ failed.bytes) ∙ ap (λ (ls : List Line). so_far.lines ++ ls) none ∙ append-nil so_far.lines in
+      record {
+        taken = before.taken ++ (a.pending ++ failed.bytes);
+        source =
+            before.source
+            ∙ ap (λ (bs : List ℕ). before.taken ++ bs) (ap (λ (bs : List ℕ). a.pending ++ bs) (failed.given told) ∙ sym (append_assoc a.pending failed.bytes rest_now))
+            ∙ sym (append_assoc before.taken (a.pending ++ failed.bytes) rest_now);
+        played = subst (λ (ls : List Line). AreOf (room_of (layout_of old)) ls so_far.commands) (sym lines) so_far.played;
+      };
+  text = so_far.text;
+}
 
 -- the next line is too long
-pub ends_too_long : (told_source told_sink told_flash : Type 0) (script rest written written_now : List ℕ) (old new : FlashState) (a b : Reading) (number : ℕ)
+pub ends_too_long : (told_source told_sink told_flash : Type 0) (script rest rest_now written written_now : List ℕ) (old new : StoreView) (cursor : ℕ) (a b : Reading) (number : ℕ)
     → NextIsTooLong told_source a b rest → number ≡ b.number + 1
-    → (so_far : SoFar told_source told_sink told_flash script rest written written_now old new a) → told_source → StopsTooLong ROOM script so_far.commands number
-ends_too_long told_source told_sink told_flash script rest written written_now old new a b number next is so_far told =
-    let found = next.too_long told in
-    record {
-      line = found.0;
-      stops = record {
-        before = so_far.lines;
-        behind = found.1;
-        lines = so_far.ahead told ∙ ap (λ (ls : List Line). so_far.lines ++ ls) found.2;
-        numbered = omega (arith, is, next.number, so_far.number);
-        played = so_far.played;
+    → SoFar told_source told_sink told_flash script rest written written_now old new cursor a
+    → PlaysScript told_source told_sink told_flash (layout_of old) script rest_now written written_now old.flash new.flash (TooLong number)
+ends_too_long told_source told_sink told_flash script rest rest_now written written_now old new cursor a b number next is so_far = record {
+  commands = so_far.commands;
+  plays = so_far.plays;
+  lines = λ told.
+      let found = next.too_long told in
+      record {
+        line = found.0;
+        stops = record {
+          before = so_far.lines;
+          behind = found.1;
+          lines = so_far.ahead told ∙ ap (λ (ls : List Line). so_far.lines ++ ls) found.2;
+          numbered = omega (arith, is, next.number, so_far.number);
+          played = so_far.played;
+        };
+        too_long = found.3;
       };
-      too_long = found.3;
-    }
+  text = so_far.text;
+}
 
 -- the line that was read is not built
-pub ends_not_built : (told_source told_sink told_flash : Type 0) (script rest rest_now written middle : List ℕ) (old mid : FlashState) (a b : Reading) (number : ℕ)
-    → IsNextLine told_source a b rest rest_now → number ≡ b.number
-    → (IsBuilt ROOM (asked_by b.line) → told_flash → WantsStored (asked_by b.line) (stored_in SLOT_SIZE SLOTS mid.told.image))
-    → (so_far : SoFar told_source told_sink told_flash script rest written middle old mid a) → told_source
-    → StopsNotBuilt told_flash ROOM SLOTS (stored_in SLOT_SIZE SLOTS old.told.image) script so_far.commands number
-ends_not_built told_source told_sink told_flash script rest rest_now written middle old mid a b number next is because so_far told = record {
-  line = line_of b;
-  stops = record {
-    before = so_far.lines;
-    behind = lines_ahead b rest_now;
-    lines = so_far.ahead told ∙ ap (λ (ls : List Line). so_far.lines ++ ls) (next_ahead told_source a b rest rest_now next told);
-    numbered = omega (arith, is, next.number, so_far.number);
-    played = so_far.played;
+pub ends_not_built : (told_source told_sink told_flash : Type 0) (script rest rest_now written middle now text : List ℕ) (old mid new : StoreView) (cursor : ℕ) (a b : Reading) (number : ℕ)
+    → IsNextLine told_source a b rest rest_now → number ≡ b.number → text ≡ b.line → (IsBuilt (asked_by text) → ⊥) → new ≡ mid → now ≡ middle
+    → SoFar told_source told_sink told_flash script rest written middle old mid cursor a
+    → PlaysScript told_source told_sink told_flash (layout_of old) script rest_now written now old.flash new.flash (NotYet number)
+ends_not_built told_source told_sink told_flash script rest rest_now written middle now text old mid new cursor a b number next is text_is other same quiet so_far = record {
+  commands = so_far.commands;
+  plays = subst (λ (s : StoreView). Plays told_flash (Unit {0}) (layout_of old) 0 old.flash s.flash so_far.commands) (sym same) so_far.plays;
+  lines = λ told. record {
+    line = line_of b;
+    stops = record {
+      before = so_far.lines;
+      behind = lines_ahead b rest_now;
+      lines = so_far.ahead told ∙ ap (λ (ls : List Line). so_far.lines ++ ls) (next_ahead told_source a b rest rest_now next told);
+      numbered = omega (arith, is, next.number, so_far.number);
+      played = so_far.played;
+    };
+    within = next.within;
+    other = subst (λ (t : List ℕ). IsBuilt (asked_by t) → ⊥) text_is other;
   };
-  within = next.within;
-  because = λ built tells.
-      let history = so_far.plays.history tells in
-      subst (WantsStored (asked_by b.line)) history.now (because built tells);
+  text = λ told. quiet ∙ so_far.text told;
 }
 
--- some lines were played
-pub ends_some : (told_source told_sink told_flash : Type 0) (script rest written written_now : List ℕ) (old new : FlashState) (a : Reading)
-    → (so_far : SoFar told_source told_sink told_flash script rest written written_now old new a) → told_source → PlaysSome ROOM script so_far.commands
-ends_some told_source told_sink told_flash script rest written written_now old new a so_far told = record {
-  before = so_far.lines;
-  behind = lines_ahead a rest;
-  lines = so_far.ahead told;
-  played = so_far.played;
+-- its reply was refused by the sink
+pub ends_unheard : (told_source told_sink told_flash : Type 0) (script rest rest_now written middle now text : List ℕ) (old mid new : StoreView) (cursor : ℕ) (a b : Reading)
+    → SoFar told_source told_sink told_flash script rest written middle old mid cursor a
+    → IsNextLine told_source a b rest rest_now → text ≡ b.line
+    → PlaysUnheard told_flash told_sink mid new (asked_by text) cursor middle now
+    → PlaysScript told_source told_sink told_flash (layout_of old) script rest_now written now old.flash new.flash SinkFault
+ends_unheard told_source told_sink told_flash script rest rest_now written middle now text old mid new cursor a b so_far next is line = record {
+  commands = so_far.commands ++ line.commands;
+  plays = commands_then told_source told_sink told_flash script rest written middle old mid new cursor a line.commands so_far line.plays;
+  lines = λ told. record {
+    before = so_far.lines ++ line_of b ∷ [];
+    behind = lines_ahead b rest_now;
+    lines = so_far.ahead told ∙ ap (λ (ls : List Line). so_far.lines ++ ls) (next_ahead told_source a b rest rest_now next told) ∙ sym (append_assoc so_far.lines (line_of b ∷ []) (lines_ahead b rest_now));
+    played = AreOf-push (room_of (layout_of old)) so_far.lines (line_of b) so_far.commands line.commands so_far.played
+        (subst (λ (t : List ℕ). IsBuilt (asked_by t)) is line.built) next.within
+        (line.commands_are ∙ ap (λ (l : Layout). commands_of (room_of l) (asked_by text)) (layout_stays old mid so_far.alike) ∙ ap (λ (t : List ℕ). commands_of (room_of (layout_of old)) (asked_by t)) is);
+  };
+  text = λ told. partly-then so_far.commands line.commands written middle now (so_far.text told) (line.text_now told);
 }
 
--- a store that divides its flash as the default geometry does
-pub IsSingle-default : (store : StoreView) → store.slots ≡ SLOTS → store.slot_size ≡ SLOT_SIZE → HasNoSecondCopy SLOT_SIZE SLOTS store.flash.told.image → IsSingle store
-IsSingle-default store slots size single =
-    subst (λ (n : ℕ). HasNoSecondCopy n store.slots store.flash.told.image) (sym size) (subst (λ (n : ℕ). HasNoSecondCopy SLOT_SIZE n store.flash.told.image) (sym slots) single)
+-- the opening of a store keeps the records: no command was played
+pub IsHistory-kept : (slots cursor : ℕ) (view : List ℕ → Stored) (old new : Told) → Leaves old new (λ image. view image ≡ view old.image) → IsHistory slots cursor view old new []
+IsHistory-kept slots cursor view old new kept = record {
+  later = kept.later;
+  in_order = past_grows old new kept.later;
+  answered = tt;
+  now = Leaves-exit old new (λ image. view image ≡ view old.image) kept;
+  ends = tt;
+  crash = λ s image from crash. kept.each s image from crash;
+}
 
-pub Plays-default : (tells told : Type 0) (store : StoreView) (new : FlashState) (commands : List Played) → store.slots ≡ SLOTS → store.slot_size ≡ SLOT_SIZE → (told → tells)
-    → Plays tells store.slots store.slot_size store.flash new commands → Plays told SLOTS SLOT_SIZE store.flash new commands
-Plays-default tells told store new commands slots size f plays =
-    subst (λ (n : ℕ). Plays told SLOTS n store.flash new commands) size
-    (subst (λ (n : ℕ). Plays told n store.slot_size store.flash new commands) slots (Plays-weaker tells told store.slots store.slot_size store.flash new commands f plays))
+-- the records of a flash were kept
+abbrev pub KeepsAll : Layout → FlashState → FlashState → Type 0
+KeepsAll layout old new =
+    Leaves old.told new.told (λ image. stored_in layout.slot_size layout.slots image ≡ stored_in layout.slot_size layout.slots old.told.image)
 
-pub WantsStored-default : (store : StoreView) (asked : Asked) → store.slots ≡ SLOTS → store.slot_size ≡ SLOT_SIZE → WantsStored asked (stored store) → WantsStored asked (stored_in SLOT_SIZE SLOTS store.flash.told.image)
-WantsStored-default store asked slots size wants =
-    subst (λ (n : ℕ). WantsStored asked (stored_in n SLOTS store.flash.told.image)) size (subst (λ (n : ℕ). WantsStored asked (stored_in store.slot_size n store.flash.told.image)) slots wants)
+KeepsAll-same : (layout : Layout) (old new : FlashState) → new ≡ old → KeepsAll layout old new
+KeepsAll-same layout old new same =
+    subst (λ (flash : FlashState). KeepsAll layout old flash) (sym same) (record {
+      later = IsLater-refl old.told;
+      each = λ s image from crash. ap (stored_in layout.slot_size layout.slots) (CrashImage-now old.told s image from crash);
+    })
 
-pub of_true : (b : Bool) (P Q : Type 0) → b ≡ true → MatchBool b P Q → P
-of_true true P Q e p = p
-of_true false P Q e p = absurd (cc e)
-
-pub of_false : (b : Bool) (P Q : Type 0) → b ≡ false → MatchBool b P Q → Q
-of_false true P Q e q = absurd (cc e)
-of_false false P Q e q = q
-
--- what the line that was read was to be played on
-pub record OnDefault (tells told : Type 0) (room_is : ℕ) (store : StoreView) (text_is : List ℕ) (reading : Reading) : Type 0 where
-  pub room : room_is ≡ ROOM
-  pub slots : store.slots ≡ SLOTS
-  pub slot_size : store.slot_size ≡ SLOT_SIZE
-  pub text : text_is ≡ reading.line
-  pub single : told → tells × IsSingle store
-
--- the line that was read was played
-pub SoFar-played : (told_source told_sink told tells : Type 0) (script rest rest_now written middle now : List ℕ) (old : FlashState) (a b : Reading) (room : ℕ) (store new : StoreView) (text : List ℕ)
-    → SoFar told_source told_sink told script rest written middle old store.flash a → IsNextLine told_source a b rest rest_now → OnDefault tells told room store text b
-    → PlaysLine (tells × IsSingle store) told_sink room store new (asked_by text) middle now
-    → SoFar told_source told_sink told script rest_now written now old new.flash b
-SoFar-played told_source told_sink told tells script rest rest_now written middle now old a b room store new text so_far next on line =
-    SoFar-more told_source told_sink told script rest rest_now written middle now old store.flash new.flash a b line.commands so_far next
-    (subst (λ (r : ℕ). IsBuilt r (asked_by b.line)) on.room (subst (λ (t : List ℕ). IsBuilt room (asked_by t)) on.text line.built))
-    (line.commands_are ∙ ap (λ (t : List ℕ). commands_of (asked_by t)) on.text)
-    (Plays-default (tells × IsSingle store) told store new.flash line.commands on.slots on.slot_size on.single line.plays)
-    line.text_now
-
--- its reply was refused
-pub run_unheard : (told_source told_sink told tells : Type 0) (script rest rest_now written middle now : List ℕ) (old : FlashState) (a b : Reading) (room : ℕ) (store new : StoreView) (text : List ℕ)
-    → SoFar told_source told_sink told script rest written middle old store.flash a → IsNextLine told_source a b rest rest_now → OnDefault tells told room store text b
-    → PlaysUnheard (tells × IsSingle store) told_sink room store new (asked_by text) middle now
-    → IsRun told_source told_sink told script rest_now written now old new.flash SinkFault
-unfolding SoFar-more
-run_unheard told_source told_sink told tells script rest rest_now written middle now old a b room store new text so_far next on line =
-    let after =
-    SoFar-more told_source told_sink told script rest rest_now written middle (middle ++ text_of line.commands) old store.flash new.flash a b line.commands so_far next
-    (subst (λ (r : ℕ). IsBuilt r (asked_by b.line)) on.room (subst (λ (t : List ℕ). IsBuilt room (asked_by t)) on.text line.built))
-    (line.commands_are ∙ ap (λ (t : List ℕ). commands_of (asked_by t)) on.text)
-    (Plays-default (tells × IsSingle store) told store new.flash line.commands on.slots on.slot_size on.single line.plays)
-    (λ _. refl) in
-    record {
-      commands = so_far.commands ++ line.commands;
-      plays = after.plays;
-      lines = λ heard. ends_some told_source told_sink told script rest_now written (middle ++ text_of line.commands) old new.flash b after heard;
-      text = λ heard. partly-then so_far.commands line.commands written middle now (so_far.text heard) (line.text_now heard);
-    }
-
--- it is not built
-pub run_not_built : (told_source told_sink told tells : Type 0) (script rest rest_now written middle now : List ℕ) (old : FlashState) (a b : Reading) (room : ℕ) (store new : StoreView) (text : List ℕ) (number : ℕ)
-    → SoFar told_source told_sink told script rest written middle old store.flash a → IsNextLine told_source a b rest rest_now → OnDefault tells told room store text b
-    → number ≡ b.number
-    → PlaysNothing (tells × IsSingle store) told_sink room store new (asked_by text) middle now
-    → IsRun told_source told_sink told script rest_now written now old new.flash (NotYet number)
-run_not_built told_source told_sink told tells script rest rest_now written middle now old a b room store new text number so_far next on is line =
-    let plays = Plays-default (tells × IsSingle store) told store new.flash [] on.slots on.slot_size on.single line.plays in
-    let all : so_far.commands ++ [] ≡ so_far.commands = append-nil so_far.commands in
-    record {
-      commands = so_far.commands;
-      plays = subst (Plays told SLOTS SLOT_SIZE old new.flash) all (Plays-then told SLOTS SLOT_SIZE old store.flash new.flash so_far.commands [] so_far.plays plays);
-      lines = λ heard. ends_not_built told_source told_sink told script rest rest_now written middle old store.flash a b number next is because so_far heard;
-      text = λ heard. line.text_now heard ∙ so_far.text heard;
-    }
-  where
-    because : IsBuilt ROOM (asked_by b.line) → told → WantsStored (asked_by b.line) (stored_in SLOT_SIZE SLOTS store.flash.told.image)
-    because built told_now =
-        WantsStored-default store (asked_by b.line) on.slots on.slot_size
-        (subst (λ (t : List ℕ). WantsStored (asked_by t) (stored store)) on.text
-        (line.because (subst (λ (t : List ℕ). IsBuilt room (asked_by t)) (sym on.text) (subst (λ (r : ℕ). IsBuilt r (asked_by b.line)) (sym on.room) built)) (on.single told_now)))
-
-ends_first : (told : Type 0) (room slots : ℕ) (map : Stored) (script rest : List ℕ) (status : Status) → ComesFirst status → EndsBy told room slots map script rest [] status
-ends_first told room slots map script rest Done first = absurd first
-ends_first told room slots map script rest BadWords first = refl
-ends_first told room slots map script rest SourceFault first = absurd first
-ends_first told room slots map script rest SinkFault first = absurd first
-ends_first told room slots map script rest (BadGeometry sector per_slot number size) first = refl
-ends_first told room slots map script rest (TooLong line) first = absurd first
-ends_first told room slots map script rest Memory first = refl
-ends_first told room slots map script rest (NotYet line) first = absurd first
+ends_first : (room : ℕ) (script rest : List ℕ) (status : Status) → ComesFirst status → EndsBy room script rest [] status
+ends_first room script rest Done first = absurd first
+ends_first room script rest BadWords first = refl
+ends_first room script rest SourceFault first = absurd first
+ends_first room script rest SinkFault first = absurd first
+ends_first room script rest FlashFault first = refl
+ends_first room script rest (BadGeometry sector per_slot slots size) first = refl
+ends_first room script rest (TooLong line) first = absurd first
+ends_first room script rest Memory first = refl
+ends_first room script rest (NotYet line) first = absurd first
 
 written_first : (written : List ℕ) (status : Status) → ComesFirst status → IsWritten [] written written status
 written_first written Done first = absurd first
 written_first written BadWords first = sym (append-nil written)
 written_first written SourceFault first = absurd first
 written_first written SinkFault first = absurd first
-written_first written (BadGeometry sector per_slot number size) first = sym (append-nil written)
+written_first written FlashFault first = sym (append-nil written)
+written_first written (BadGeometry sector per_slot slots size) first = sym (append-nil written)
 written_first written (TooLong line) first = absurd first
 written_first written Memory first = sym (append-nil written)
 written_first written (NotYet line) first = absurd first
 
 -- nothing was played
-pub run_none : (told_source told_sink told : Type 0) (script written : List ℕ) (old new : FlashState) (status : Status) → ComesFirst status → new ≡ old
-    → IsRun told_source told_sink told script script written written old new status
-run_none told_source told_sink told script written old new status first same = record {
+pub run_kept : (told_source told_sink told_flash : Type 0) (layout : Layout) (script written : List ℕ) (old new : FlashState) (status : Status) → ComesFirst status
+    → (told_flash → KeepsAll layout old new) → IsRun told_source told_sink told_flash layout script script written written old new status
+run_kept told_source told_sink told_flash layout script written old new status first kept = record {
   commands = [];
-  plays = Plays-none told SLOTS SLOT_SIZE old new (λ _. ap (λ (flash : FlashState). flash.told) same) (ap (λ (flash : FlashState). flash.faults) same);
-  lines = λ _. ends_first told ROOM SLOTS (stored_in SLOT_SIZE SLOTS old.told.image) script script status first;
-  text = λ _. written_first written status first;
+  history = λ told. IsHistory-kept layout.slots 0 (stored_in layout.slot_size layout.slots) old.told new.told (kept told);
+  steps = λ told still. record { opened = 0; steps = tt };
+  cause = λ h. absurd h;
+  lines = λ told. ends_first (room_of layout) script script status first;
+  text = λ told. written_first written status first;
 }
+
+pub run_none : (told_source told_sink told_flash : Type 0) (layout : Layout) (script written : List ℕ) (old new : FlashState) (status : Status) → ComesFirst status
+    → new ≡ old → IsRun told_source told_sink told_flash layout script script written written old new status
+run_none told_source told_sink told_flash layout script written old new status first same =
+    run_kept told_source told_sink told_flash layout script written old new status first (λ told. KeepsAll-same layout old new same)
+
+-- the store was not opened
+pub run_refused : (told_source told_sink told_flash : Type 0) (layout : Layout) (geometry : Geometry) (script written : List ℕ) (old back : FlashState) (why : ScanError) (sector per_slot slots size : ℕ) (status : Status)
+    → IsStatusOf why (BadGeometry sector per_slot slots size) status → RefusesFlash geometry old back why → (told_flash → KeepsAll layout old back)
+    → IsRun told_source told_sink told_flash layout script script written written old back status
+run_refused told_source told_sink told_flash layout geometry script written old back (Size found found_sector) sector per_slot slots size status is refuses kept =
+    subst (IsRun told_source told_sink told_flash layout script script written written old back) (sym is)
+    (run_kept told_source told_sink told_flash layout script written old back (BadGeometry sector per_slot slots size) tt kept)
+run_refused told_source told_sink told_flash layout geometry script written old back flash_failed sector per_slot slots size status is refuses kept =
+    subst (IsRun told_source told_sink told_flash layout script script written written old back) (sym is)
+    (run_kept told_source told_sink told_flash layout script written old back FlashFault tt kept)
+run_refused told_source told_sink told_flash layout geometry script written old back no_memory sector per_slot slots size status is refuses kept =
+    subst (IsRun told_source told_sink told_flash layout script script written written old back) (sym is)
+    (run_kept told_source told_sink told_flash layout script written old back Memory tt kept)
+
+-- the store was opened, and then commands were played on it
+pub run_opened : (told_source told_sink told_flash : Type 0) (layout : Layout) (script rest written now : List ℕ) (old mid new : FlashState) (status : Status)
+    → (told_flash → KeepsAll layout old mid) → mid.faults ≡ old.faults
+    → PlaysScript told_source told_sink told_flash layout script rest written now mid new status
+    → IsRun told_source told_sink told_flash layout script rest written now old new status
+run_opened told_source told_sink told_flash layout script rest written now old mid new status kept faults played =
+    let plays = played.plays in
+    record {
+      commands = played.commands;
+      history = λ told.
+          IsHistory-then layout.slots 0 (stored_in layout.slot_size layout.slots) old.told mid.told new.told [] played.commands
+          (IsHistory-kept layout.slots 0 (stored_in layout.slot_size layout.slots) old.told mid.told (kept told)) (plays.history told);
+      steps = λ told still. record {
+        opened = mid.steps;
+        steps = subst (TakeSteps layout.per_slot layout.slots mid.steps played.commands)
+            (Leaves-exit old.told mid.told (λ image. stored_in layout.slot_size layout.slots image ≡ stored_in layout.slot_size layout.slots old.told.image) (kept told))
+            (plays.steps told tt (λ h. still (subst (λ (n : ℕ). Rose n new.faults) faults h)));
+      };
+      cause = λ h. subst (λ (n : ℕ). Rose n new.faults) faults (plays.cause h);
+      lines = played.lines;
+      text = played.text;
+    }
+
+-- the layout of a geometry
+pub layout_opened : (geometry : Geometry) (store : StoreView) (sector per_slot slots : ℕ) → IsOpened geometry store
+    → geometry.sector ≡ sector → geometry.per_slot ≡ per_slot → geometry.slots ≡ slots → geometry.slot_size ≡ geometry.sector * geometry.per_slot
+    → layout_of store ≡ layout_by sector per_slot slots
+layout_opened geometry store sector per_slot slots opened a b c product =
+    ap (λ (n : ℕ). record { per_slot = n; slots = store.slots; slot_size = store.slot_size }) (opened.per_slot ∙ b)
+    ∙ ap (λ (n : ℕ). record { per_slot = per_slot; slots = n; slot_size = store.slot_size }) (opened.slots ∙ c)
+    ∙ ap (λ (n : ℕ). record { per_slot = per_slot; slots = slots; slot_size = n }) (opened.slot_size ∙ slot_size_is geometry sector per_slot a b product)
+  where
+    slot_size_is : (g : Geometry) (s p : ℕ) → g.sector ≡ s → g.per_slot ≡ p → g.slot_size ≡ g.sector * g.per_slot → g.slot_size ≡ s * p
+    slot_size_is g s p x y h = h ∙ ap (λ (n : ℕ). n * g.per_slot) x ∙ ap (λ (n : ℕ). s * n) y
+
+pub kept_by : (geometry : Geometry) (sector per_slot slots : ℕ) (old new : FlashState)
+    → geometry.sector ≡ sector → geometry.per_slot ≡ per_slot → geometry.slots ≡ slots → geometry.slot_size ≡ geometry.sector * geometry.per_slot
+    → KeepsRecordsOf geometry old new → KeepsAll (layout_by sector per_slot slots) old new
+kept_by geometry sector per_slot slots old new a b c product kept =
+    subst (λ (n : ℕ). KeepsAll (record { per_slot = per_slot; slots = n; slot_size = sector * per_slot }) old new) c
+    (subst (λ (n : ℕ). KeepsAll (record { per_slot = per_slot; slots = geometry.slots; slot_size = n }) old new)
+    (product ∙ ap (λ (n : ℕ). n * geometry.per_slot) a ∙ ap (λ (n : ℕ). sector * n) b) kept)

@@ -8,3 +8,6 @@ pub mod Refusals
 pub mod Statuses
 pub mod Runs
 pub mod Numbers
+pub mod Plan
+pub mod Sim
+pub mod Decimals

@@ -1,13 +1,14 @@
--- What the refusal of a write is answered with.
-use Rattle.std.specs.Prelude.{◌≡◌, ℕ, List, ◌++◌, Result, Ok, Err, codes}
+-- How a command is answered where the store answers an error.
+use Rattle.record_model.specs.RecordMap.{Failed, NoSpace as no_space, NotFound as not_found, Empty as empty}
+use Rattle.record_model.specs.History.{Answer, Refused, Hardware}
 use Rattle.record_store.specs.declared.errors.StoreError.{StoreError}
-use Rattle.record_store.specs.declared.errors.StoreError.TheVariants.{NoSpace, Stored, Flash}
-use Rattle.apei_cli.specs.Replies.{at_step}
-use Rattle.apei_cli.specs.declared.player.PlayStop.{PlayStop}
-use Rattle.apei_cli.specs.declared.player.PlayStop.TheVariants.{NotBuilt}
+use Rattle.record_store.specs.declared.errors.StoreError.TheVariants.{NoSpace, LastGeneration, NotFound, Empty, Flash, Small}
 
--- the reply to a refused write; of a stored identifier there is none
-abbrev pub RefusesBy : StoreError → ℕ → Result (Unit {0}) PlayStop → List ℕ → Type 0
-RefusesBy (NoSpace free) steps result reply = (result ≡ Ok tt) × (reply ≡ codes "refused no-space" ++ at_step steps)
-RefusesBy Flash steps result reply = (result ≡ Ok tt) × (reply ≡ codes "refused hardware" ++ at_step steps)
-RefusesBy (Stored id) steps result reply = result ≡ Err NotBuilt
+-- the map has no word for a record that the buffer is too small for: on a flash that tells its content there is none
+abbrev pub answer_of : StoreError → Answer
+answer_of (NoSpace free) = Refused no_space
+answer_of (LastGeneration id) = Refused Failed
+answer_of NotFound = Refused not_found
+answer_of Empty = Refused empty
+answer_of Flash = Hardware
+answer_of (Small need) = Refused Failed

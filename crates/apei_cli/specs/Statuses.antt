@@ -1,13 +1,12 @@
 -- What each status of a run says of its script.
 use Rattle.std.specs.Prelude.{◌≡◌, ℕ, ◌+◌, List, [], ◌∷◌, ◌++◌, length}
-use Rattle.record_model.specs.Records.{Stored}
-use Rattle.record_model.specs.History.{Played, left_by_all}
+use Rattle.record_model.specs.History.{Played}
 use Rattle.apei_cli.specs.Lines.{Line, lines_of, ended_lines_of, IsTooLong}
 use Rattle.apei_cli.specs.Script.{asked_by, IsBuilt}
 use Rattle.apei_cli.specs.Replies.{text_of}
-use Rattle.apei_cli.specs.Plays.{AreOf, PartlyWritten, WantsStored}
+use Rattle.apei_cli.specs.Plays.{AreOf, PartlyWritten}
 use Rattle.apei_cli.specs.declared.status.Status.{Status}
-use Rattle.apei_cli.specs.declared.status.Status.TheVariants.{Done, BadWords, SourceFault, SinkFault, BadGeometry, TooLong, Memory, NotYet}
+use Rattle.apei_cli.specs.declared.status.Status.TheVariants.{Done, BadWords, SourceFault, SinkFault, FlashFault, BadGeometry, TooLong, Memory, NotYet}
 
 -- the lines before one of the script were played, and what that line is
 pub record StopsAt (room : ℕ) (script : List ℕ) (commands : List Played) (number : ℕ) (line : Line) : Type 0 where
@@ -40,23 +39,23 @@ pub record StopsTooLong (room : ℕ) (script : List ℕ) (commands : List Played
   pub stops : StopsAt room script commands number line
   pub too_long : IsTooLong line
 
--- the line is not built, or the flash tells that its identifier is stored; `stored` is the map at the start
-pub record StopsNotBuilt (told_flash : Type 0) (room slots : ℕ) (stored : Stored) (script : List ℕ) (commands : List Played) (number : ℕ) : Type 0 where
+pub record StopsNotBuilt (room : ℕ) (script : List ℕ) (commands : List Played) (number : ℕ) : Type 0 where
   pub line : Line
   pub stops : StopsAt room script commands number line
   pub within : ¬ IsTooLong line
-  pub because : IsBuilt room (asked_by line.text) → told_flash → WantsStored (asked_by line.text) (left_by_all slots commands stored)
+  pub other : ¬ IsBuilt (asked_by line.text)
 
 -- the lines of the script that were played, by the status
-abbrev pub EndsBy : Type 0 → ℕ → ℕ → Stored → List ℕ → List ℕ → List Played → Status → Type 0
-EndsBy told_flash room slots stored script rest commands Done = PlaysAll room script rest commands
-EndsBy told_flash room slots stored script rest commands SourceFault = PlaysTaken room script rest commands
-EndsBy told_flash room slots stored script rest commands SinkFault = PlaysSome room script commands
-EndsBy told_flash room slots stored script rest commands (TooLong number) = StopsTooLong room script commands number
-EndsBy told_flash room slots stored script rest commands (NotYet number) = StopsNotBuilt told_flash room slots stored script commands number
-EndsBy told_flash room slots stored script rest commands BadWords = commands ≡ []
-EndsBy told_flash room slots stored script rest commands (BadGeometry sector per_slot number size) = commands ≡ []
-EndsBy told_flash room slots stored script rest commands Memory = commands ≡ []
+abbrev pub EndsBy : ℕ → List ℕ → List ℕ → List Played → Status → Type 0
+EndsBy room script rest commands Done = PlaysAll room script rest commands
+EndsBy room script rest commands SourceFault = PlaysTaken room script rest commands
+EndsBy room script rest commands SinkFault = PlaysSome room script commands
+EndsBy room script rest commands (TooLong number) = StopsTooLong room script commands number
+EndsBy room script rest commands (NotYet number) = StopsNotBuilt room script commands number
+EndsBy room script rest commands BadWords = commands ≡ []
+EndsBy room script rest commands FlashFault = commands ≡ []
+EndsBy room script rest commands (BadGeometry sector per_slot slots size) = commands ≡ []
+EndsBy room script rest commands Memory = commands ≡ []
 
 -- what was written in a run, by the status: the replies to its commands, and where the sink failed not the whole of the
 -- last one

@@ -1,7 +1,9 @@
 //! The program's top call.
 #![tactic(auto)]
 
+mod job;
 mod lines;
+mod number;
 mod player;
 mod program;
 mod reply;
@@ -10,8 +12,11 @@ mod sim;
 mod status;
 #[cfg(test)]
 mod tests;
+mod words;
 
+pub use job::{Job, Plan, PlanError};
 pub use program::run;
 pub use script_line::stamp;
 pub use sim::sim_flash;
 pub use status::Status;
+pub use words::plan;

@@ -1,24 +1,29 @@
 // The playing of one line on a store.
-ghost use Rattle.std.specs.Prelude.{◌≡◌, ◌≢◌, ℕ, ◌-◌, ◌≤◌, ◌⊎◌, List, [], ◌∷◌, ◌++◌, length, take, false, None, Some, IfSome, IfOk, IfErr, OnOk, OnErr, MatchOption, MatchResult, vec_len};
+ghost use Rattle.std.specs.Prelude.{◌≡◌, ◌≢◌, ℕ, ◌-◌, ◌<◌, ◌≤◌, ◌⊎◌, List, [], ◌∷◌, ◌++◌, length, take, codes, true, false, None, Some, IfSome, IfOk, IfErr, OnOk, OnErr, MatchOption, MatchResult, MatchBool, vec_len};
 ghost use Rattle.hex.specs.Hex.{decode_of};
 ghost use Rattle.base_model.specs.Faults.{Rose};
+ghost use Rattle.record_model.specs.RecordMap.{Command, Write, Clear, Read, Count, Next};
 ghost use Rattle.record_model.specs.Records.{is_reserved};
-ghost use Rattle.record_model.specs.RecordMap.{Write};
-ghost use Rattle.record_store.specs.Store.{IsSingle, DividesAlike};
-ghost use Rattle.apei_cli.specs.Script.{asked_by, asked_by_hex, write, IsBuilt, id_of, marked};
-ghost use Rattle.apei_cli.specs.Records.{ReadsRecord};
-ghost use Rattle.apei_cli.specs.Refusals.{RefusesBy};
-ghost use Rattle.apei_cli.specs.Plays.{IsReplied, IsKept, PlaysLine, PlaysNothing, PlaysUnheard};
+ghost use Rattle.record_model.specs.History.{Found, cursor_after};
+ghost use Rattle.apei_cli.specs.Script.{nothing, asked_by, asked_by_hex, IsPlain, IsBuilt, id_of, write_of};
+ghost use Rattle.apei_cli.specs.Replies.{words_of, words_of_record, at_step};
+ghost use Rattle.apei_cli.specs.Records.{IsMarked, AsksToWrite, AnswersNamed, LooksUp};
+ghost use Rattle.apei_cli.specs.Refusals.{answer_of};
+ghost use Rattle.apei_cli.specs.Plays.{IsOpen, StaysIdle, IsReplied, AnswersLine, PlaysLine, PlaysUnheard};
 
 use crate::reply::Reply;
 use crate::script_line::{ScriptLine, decode, is_plain, stamp};
 use apei_bytes::{Memory, Sink, SinkFault, get_u64, write_all};
+use erst_ids::RecordId;
 use flash_model::Flash;
 use record_store::{Store, StoreError};
 use std::alloc::Global;
 
 // The most bytes that the hexadecimal text of a line stands for.
 const LONGEST_RECORD: usize = 70_000;
+
+// The least bytes that a record has.
+const SHORTEST_RECORD: usize = 128;
 
 // The offset of a record's identifier.
 const ID: usize = 96;
@@ -30,24 +35,35 @@ pub enum PlayStop {
     SinkFault,
 }
 
-/// Where the record of a line and its reply are made.
+/// A record at the start of a buffer, with the identifier that it was found under.
+#[derive(Clone, Copy)]
+pub struct HeldRecord {
+    pub id: u64,
+    pub len: usize,
+}
+
+/// Where the record of a line and its reply are made, and the cursor of `next`.
 #[derive(Drop)]
 pub struct Desk {
     pub bytes: Vec<u8>,
     pub reply: Reply,
     pub room: u64,
+    pub cursor: u64,
     ghost size: { vec_len bytes ≡ 70000 },
 }
 
 impl Desk {
-    /// A desk for lines whose records have at most `room` bytes. It takes all the memory that it will have.
+    /// A desk for a store whose slots have `room` bytes for a record, with the cursor at the start. It takes all the
+    /// memory that it will have.
     pub fn new(alloc: Global, room: u64) -> Result<Desk, Memory>
-        ensures { IfOk result (λ desk. desk.room ≡ room) }
+        ensures room { IfOk result (λ desk. desk.room ≡ room) }
+        ensures cursor { IfOk result (λ desk. desk.cursor ≡ 0) }
     {
         Ok(Desk {
             bytes: vec![in alloc; 0u8; LONGEST_RECORD]?,
             reply: Reply::new(alloc)?,
             room,
+            cursor: 0,
         })
     }
 
@@ -60,115 +76,360 @@ impl Desk {
     ) -> Result<(), PlayStop>
         requires text { length text.now ≤ 140000 }
         requires room { self.old.room ≡ store.old.slot_size - 64 }
-        ensures played { OnOk result (PlaysLine (F.tells × IsSingle store.old) O.tells self.old.room store.old store.new (asked_by text.now) (O.written out.old) (O.written out.new)) }
-        ensures not_built { result ≡ Err PlayStop.NotBuilt → PlaysNothing (F.tells × IsSingle store.old) O.tells self.old.room store.old store.new (asked_by text.now) (O.written out.old) (O.written out.new) }
-        ensures unheard { result ≡ Err PlayStop.SinkFault → PlaysUnheard (F.tells × IsSingle store.old) O.tells self.old.room store.old store.new (asked_by text.now) (O.written out.old) (O.written out.new) }
+        requires open_store { IsOpen store.old }
+        ensures played { OnOk result (PlaysLine F.tells O.tells store.old store.new (asked_by text.now) self.old.cursor self.new.cursor (O.written out.old) (O.written out.new)) }
+        ensures not_built { result ≡ Err PlayStop.NotBuilt → ¬ IsBuilt (asked_by text.now) }
+        ensures untouched { result ≡ Err PlayStop.NotBuilt → (store.new ≡ store.old) × (out.new ≡ out.old) }
+        ensures unheard { result ≡ Err PlayStop.SinkFault → PlaysUnheard F.tells O.tells store.old store.new (asked_by text.now) self.old.cursor (O.written out.old) (O.written out.new) }
         ensures fault { result ≡ Err PlayStop.SinkFault → Rose (O.faults out.old) (O.faults out.new) }
         ensures no_fault { result ≢ Err PlayStop.SinkFault → O.faults out.new ≡ O.faults out.old }
-        ensures alike { DividesAlike store.old store.new }
-        ensures single { F.tells → IsSingle store.old → IsSingle store.new }
+        ensures idle { StaysIdle store.old store.new }
         ensures room { self.new.room ≡ self.old.room }
     {
-        match ScriptLine::parse(text) {
-            ScriptLine::Blank => Ok(()),
-            ScriptLine::Write { hex } => self.play_write(store, hex, out),
-            ScriptLine::Other => Err(PlayStop::NotBuilt),
+        if !self.answer(store, text)? {
+            return Ok(());
         }
-    }
-
-    // Plays a write line with this hexadecimal text.
-    fn play_write<F: Flash, O: Sink>(
-        &mut self,
-        store: &mut Store<F>,
-        hex: &[u8],
-        out: &mut O,
-    ) -> Result<(), PlayStop>
-        requires text { length hex.now ≤ 140000 }
-        requires room { self.old.room ≡ store.old.slot_size - 64 }
-        ensures played { OnOk result (PlaysLine (F.tells × IsSingle store.old) O.tells self.old.room store.old store.new (asked_by_hex (decode_of hex.now)) (O.written out.old) (O.written out.new)) }
-        ensures not_built { result ≡ Err PlayStop.NotBuilt → PlaysNothing (F.tells × IsSingle store.old) O.tells self.old.room store.old store.new (asked_by_hex (decode_of hex.now)) (O.written out.old) (O.written out.new) }
-        ensures unheard { result ≡ Err PlayStop.SinkFault → PlaysUnheard (F.tells × IsSingle store.old) O.tells self.old.room store.old store.new (asked_by_hex (decode_of hex.now)) (O.written out.old) (O.written out.new) }
-        ensures fault { result ≡ Err PlayStop.SinkFault → Rose (O.faults out.old) (O.faults out.new) }
-        ensures no_fault { result ≢ Err PlayStop.SinkFault → O.faults out.new ≡ O.faults out.old }
-        ensures alike { DividesAlike store.old store.new }
-        ensures single { F.tells → IsSingle store.old → IsSingle store.new }
-        ensures room { self.new.room ≡ self.old.room }
-    {
-        let Some(found) = read_record(hex, &mut self.bytes, self.room) else {
-            return Err(PlayStop::NotBuilt);
-        };
-        write_record(store, &mut self.reply, found.id, &self.bytes[..found.len])?;
         match write_all(out, self.reply.text()) {
             Ok(()) => Ok(()),
             Err(SinkFault) => Err(PlayStop::SinkFault),
         }
     }
+
+    // Carries out what a line asks for, and answers whether there is a reply.
+    fn answer<F: Flash>(&mut self, store: &mut Store<F>, text: &[u8]) -> Result<bool, PlayStop>
+        requires text { length text.now ≤ 140000 }
+        requires room { self.old.room ≡ store.old.slot_size - 64 }
+        requires open_store { IsOpen store.old }
+        ensures answered { IfOk result (λ replied. MatchBool replied
+            (AnswersLine F.tells store.old store.new (asked_by text.now) self.old.cursor self.new.cursor self.new.reply)
+            ((asked_by text.now ≡ nothing) × (store.new ≡ store.old) × (self.new.cursor ≡ self.old.cursor))) }
+        ensures not_built { IfErr result (λ stop. (stop ≡ PlayStop.NotBuilt) × ¬ IsBuilt (asked_by text.now) × (store.new ≡ store.old)) }
+        ensures idle { StaysIdle store.old store.new }
+        ensures room { self.new.room ≡ self.old.room }
+    {
+        match ScriptLine::parse(text) {
+            ScriptLine::Blank => Ok(false),
+            ScriptLine::Write { hex } => self.write(store, hex),
+            ScriptLine::Read { id } => {
+                self.read(store, id);
+                Ok(true)
+            }
+            ScriptLine::Clear { id } => {
+                self.clear(store, id);
+                Ok(true)
+            }
+            ScriptLine::Count => {
+                self.count(store);
+                Ok(true)
+            }
+            ScriptLine::Next => {
+                self.next(store);
+                Ok(true)
+            }
+            ScriptLine::Other => Err(PlayStop::NotBuilt),
+        }
+    }
+
+    // Writes the record of a write line, where the line is built.
+    fn write<F: Flash>(&mut self, store: &mut Store<F>, hex: &[u8]) -> Result<bool, PlayStop>
+        requires text { length hex.now ≤ 140000 }
+        requires room { self.old.room ≡ store.old.slot_size - 64 }
+        requires open_store { IsOpen store.old }
+        ensures answered { IfOk result (λ replied. (replied ≡ true)
+            × AnswersLine F.tells store.old store.new (asked_by_hex (decode_of hex.now)) self.old.cursor self.new.cursor self.new.reply) }
+        ensures not_built { IfErr result (λ stop. (stop ≡ PlayStop.NotBuilt) × ¬ IsBuilt (asked_by_hex (decode_of hex.now)) × (store.new ≡ store.old)) }
+        ensures idle { StaysIdle store.old store.new }
+        ensures room { self.new.room ≡ self.old.room }
+    {
+        let Some(len) = read_plain(hex, &mut self.bytes) else {
+            return Err(PlayStop::NotBuilt);
+        };
+        self.write_plain(store, len);
+        Ok(true)
+    }
+
+    // Writes the plain record of so many bytes that is held.
+    fn write_plain<F: Flash>(&mut self, store: &mut Store<F>, len: usize)
+        requires within { len ≤ length self.old.bytes.items }
+        requires plain { IsPlain (take len self.old.bytes.items) }
+        requires room { self.old.room ≡ store.old.slot_size - 64 }
+        requires open_store { IsOpen store.old }
+        ensures replied { IsReplied F.tells store.old store.new (write_of self.old.room (take len self.old.bytes.items)) self.old.cursor self.new.cursor self.new.reply }
+        ensures idle { StaysIdle store.old store.new }
+        ensures room { self.new.room ≡ self.old.room }
+    {
+        if len as u64 > self.room {
+            let steps = store.flash().steps();
+            self.reply.too_long(len as u64, self.room, steps);
+            return;
+        }
+        let id = mark(&mut self.bytes, len);
+        write_marked(store, &mut self.reply, id, &self.bytes[..len]);
+    }
+
+    // Shows the record of an identifier, and moves the cursor to it.
+    fn read<F: Flash>(&mut self, store: &mut Store<F>, id: u64)
+        requires open_store { IsOpen store.old }
+        ensures replied { IsReplied F.tells store.old store.new (Read id) self.old.cursor self.new.cursor self.new.reply }
+        ensures idle { StaysIdle store.old store.new }
+        ensures room { self.new.room ≡ self.old.room }
+    {
+        let read = read_named(store, id, &mut self.bytes);
+        let steps = store.flash().steps();
+        match read {
+            Ok(held) => self.show(held, steps),
+            Err(error) => self.refuse_read(error, steps),
+        }
+    }
+
+    // Makes the reply to a record that was read, and moves the cursor to it. No store has a record that is too short.
+    fn show(&mut self, held: HeldRecord, steps: u64)
+        requires within { held.len ≤ length self.old.bytes.items }
+        ensures shown { 128 ≤ held.len → self.new.reply ≡ words_of_record (take held.len self.old.bytes.items) ++ at_step steps }
+        ensures moved { 128 ≤ held.len → self.new.cursor ≡ held.id }
+        ensures short { held.len < 128 → self.new.reply ≡ codes "refused failed" ++ at_step steps }
+        ensures stays { held.len < 128 → self.new.cursor ≡ self.old.cursor }
+        ensures room { self.new.room ≡ self.old.room }
+    {
+        if held.len < SHORTEST_RECORD {
+            self.reply.refused(b"failed", steps);
+            return;
+        }
+        self.reply.record(&self.bytes[..held.len], steps);
+        self.cursor = held.id;
+    }
+
+    // Makes the reply to a refused read, and moves the cursor.
+    fn refuse_read(&mut self, error: StoreError, steps: u64)
+        ensures reply { (command : Command) → self.new.reply ≡ words_of (answer_of error) command ++ at_step steps }
+        ensures cursor { (id : ℕ) → self.new.cursor ≡ cursor_after (Read id) (answer_of error) self.old.cursor }
+        ensures room { self.new.room ≡ self.old.room }
+    {
+        refuse(&mut self.reply, error, steps);
+        if let StoreError::NotFound = error {
+            self.cursor = 0;
+        }
+    }
+
+    // Clears an identifier.
+    fn clear<F: Flash>(&mut self, store: &mut Store<F>, id: u64)
+        requires open_store { IsOpen store.old }
+        ensures replied { IsReplied F.tells store.old store.new (Clear id) self.old.cursor self.new.cursor self.new.reply }
+        ensures idle { StaysIdle store.old store.new }
+        ensures room { self.new.room ≡ self.old.room }
+    {
+        match RecordId::new(id) {
+            Some(id) => clear_record(store, &mut self.reply, id),
+            None => self.reply.refused(b"failed", store.flash().steps()),
+        }
+    }
+
+    // Counts the identifiers.
+    fn count<F: Flash>(&mut self, store: &mut Store<F>)
+        requires open_store { IsOpen store.old }
+        ensures replied { IsReplied F.tells store.old store.new Count self.old.cursor self.new.cursor self.new.reply }
+        ensures idle { StaysIdle store.old store.new }
+        ensures room { self.new.room ≡ self.old.room }
+    {
+        let count = store.count();
+        let steps = store.flash().steps();
+        match count {
+            Ok(count) => self.reply.counted(count, steps),
+            Err(error) => refuse(&mut self.reply, error, steps),
+        }
+    }
+
+    // Shows the next identifier, and moves the cursor to it.
+    fn next<F: Flash>(&mut self, store: &mut Store<F>)
+        requires open_store { IsOpen store.old }
+        ensures replied { IsReplied F.tells store.old store.new Next self.old.cursor self.new.cursor self.new.reply }
+        ensures idle { StaysIdle store.old store.new }
+        ensures room { self.new.room ≡ self.old.room }
+    {
+        let found = store.next(self.cursor);
+        let steps = store.flash().steps();
+        match found {
+            Ok(next) => {
+                let next = value_of(next);
+                self.reply.found(next, steps);
+                self.cursor = cursor_at(next);
+            }
+            Err(error) => refuse(&mut self.reply, error, steps),
+        }
+    }
 }
 
-// A record that stands at the start of a buffer.
-#[derive(Clone, Copy)]
-struct ReadRecord {
-    id: u64,
-    len: usize,
-}
-
-// Decodes the record of a write line to the start of `out` and marks it: `None` where the line is not built.
-fn read_record(hex: &[u8], out: &mut [u8], room: u64) -> Option<ReadRecord>
+// Decodes the record of a write line to the start of `out`, and answers its length: `None` where the line is not built.
+fn read_plain(hex: &[u8], out: &mut [u8]) -> Option<usize>
     requires text { length hex.now ≤ 140000 }
     requires room { length out.old ≡ 70000 }
-    ensures within { IfSome result (λ found. found.len ≤ length out.new) }
+    ensures within { IfSome result (λ len. len ≤ length out.new) }
     ensures read { MatchOption result
-        (¬ IsBuilt room (asked_by_hex (decode_of hex.now)))
-        (λ found. ReadsRecord room (asked_by_hex (decode_of hex.now)) found.id (take found.len out.new)) }
+        (¬ IsBuilt (asked_by_hex (decode_of hex.now)))
+        (λ len. AsksToWrite (asked_by_hex (decode_of hex.now)) (take len out.new)) }
 {
     let len = decode(hex, out)?;
-    let bytes = &mut out[..len];
-    if !is_plain(bytes) || bytes.len() as u64 > room {
-        return None;
+    if is_plain(&out[..len]) {
+        Some(len)
+    } else {
+        None
     }
-    let id = get_u64(bytes, ID);
-    if id == 0 || id == u64::MAX {
-        return None;
-    }
-    stamp(bytes);
-    Some(ReadRecord { id, len })
 }
 
-// Writes a record, and makes the reply. Where its identifier is stored nothing is done.
-fn write_record<F: Flash>(
-    store: &mut Store<F>,
-    reply: &mut Reply,
-    id: u64,
-    bytes: &[u8],
-) -> Result<(), PlayStop>
-    requires id { is_reserved id ≡ false }
+// Marks the record of so many bytes at the start of a buffer, and answers its identifier.
+fn mark(bytes: &mut [u8], len: usize) -> u64
+    requires within { len ≤ length bytes.old }
+    requires least { 128 ≤ len }
+    ensures id { result ≡ id_of (take len bytes.old) }
+    ensures held { IsMarked len bytes.old bytes.new }
+{
+    let record = &mut bytes[..len];
+    stamp(record);
+    get_u64(record, ID)
+}
+
+// Writes a record that has its mark, and makes the reply. An identifier that no record has is refused.
+fn write_marked<F: Flash>(store: &mut Store<F>, reply: &mut Reply, id: u64, bytes: &[u8])
     requires least { 128 ≤ length bytes.now }
     requires room { length bytes.now ≤ store.old.slot_size - 64 }
-    ensures replied { OnOk result (IsReplied (F.tells × IsSingle store.old) store.old store.new (Write id bytes.now) reply.new) }
-    ensures kept { OnErr result (IsKept (F.tells × IsSingle store.old) store.old store.new (Write id bytes.now)) }
-    ensures stop { IfErr result (λ stop. stop ≡ PlayStop.NotBuilt) }
-    ensures alike { DividesAlike store.old store.new }
-    ensures single { F.tells → IsSingle store.old → IsSingle store.new }
+    requires open_store { IsOpen store.old }
+    ensures replied { (cursor : ℕ) → IsReplied F.tells store.old store.new (Write id bytes.now) cursor cursor reply.new }
+    ensures idle { StaysIdle store.old store.new }
+{
+    match RecordId::new(id) {
+        Some(id) => write_record(store, reply, id, bytes),
+        None => reply.refused(b"failed", store.flash().steps()),
+    }
+}
+
+// Writes a record, and makes the reply.
+fn write_record<F: Flash>(store: &mut Store<F>, reply: &mut Reply, id: RecordId, bytes: &[u8])
+    requires usable { is_reserved id ≡ false }
+    requires least { 128 ≤ length bytes.now }
+    requires room { length bytes.now ≤ store.old.slot_size - 64 }
+    requires open_store { IsOpen store.old }
+    ensures replied { (cursor : ℕ) → IsReplied F.tells store.old store.new (Write id bytes.now) cursor cursor reply.new }
+    ensures idle { StaysIdle store.old store.new }
 {
     let written = store.write(id, bytes);
     let steps = store.flash().steps();
     match written {
-        Ok(()) => {
-            reply.wrote(id, bytes.len() as u64, steps);
-            Ok(())
-        }
+        Ok(()) => reply.wrote(id.get(), bytes.len() as u64, steps),
         Err(error) => refuse(reply, error, steps),
     }
 }
 
-// Makes the reply to a refused write. A line whose identifier is stored is not built.
-fn refuse(reply: &mut Reply, error: StoreError, steps: u64) -> Result<(), PlayStop>
-    ensures { RefusesBy error steps result reply.new }
+// Clears an identifier, and makes the reply.
+fn clear_record<F: Flash>(store: &mut Store<F>, reply: &mut Reply, id: RecordId)
+    requires usable { is_reserved id ≡ false }
+    requires open_store { IsOpen store.old }
+    ensures replied { (cursor : ℕ) → IsReplied F.tells store.old store.new (Clear id) cursor cursor reply.new }
+    ensures idle { StaysIdle store.old store.new }
+{
+    let cleared = store.clear(id);
+    let steps = store.flash().steps();
+    match cleared {
+        Ok(()) => reply.cleared(id.get(), steps),
+        Err(error) => refuse(reply, error, steps),
+    }
+}
+
+// Reads the record of an identifier to the start of `out`; 0 names the least one.
+fn read_named<F: Flash>(
+    store: &mut Store<F>,
+    id: u64,
+    out: &mut [u8],
+) -> Result<HeldRecord, StoreError>
+    requires open_store { IsOpen store.old }
+    requires out { length out.old ≡ 70000 }
+    ensures answer { F.tells → AnswersNamed store.old id out.new result }
+    ensures held { IfOk result (λ held. held.len ≤ length out.new) }
+    ensures looks { LooksUp F.tells store.old store.new result }
+{
+    match RecordId::new(id) {
+        Some(id) => read_record(store, id, out),
+        None => read_reserved(store, id, out),
+    }
+}
+
+// Reads the record of an identifier that no record has: 0 names the least one, and the last number none.
+fn read_reserved<F: Flash>(
+    store: &mut Store<F>,
+    id: u64,
+    out: &mut [u8],
+) -> Result<HeldRecord, StoreError>
+    requires reserved { is_reserved id ≡ true }
+    requires open_store { IsOpen store.old }
+    requires out { length out.old ≡ 70000 }
+    ensures answer { F.tells → AnswersNamed store.old id out.new result }
+    ensures held { IfOk result (λ held. held.len ≤ length out.new) }
+    ensures looks { LooksUp F.tells store.old store.new result }
+{
+    let first = match store.first() {
+        Ok(first) => first,
+        Err(error) => return Err(error),
+    };
+    match first {
+        None => Err(StoreError::Empty),
+        Some(least) => {
+            if id != 0 {
+                return Err(StoreError::NotFound);
+            }
+            read_record(store, least, out)
+        }
+    }
+}
+
+// Reads the record of an identifier to the start of `out`.
+fn read_record<F: Flash>(
+    store: &mut Store<F>,
+    id: RecordId,
+    out: &mut [u8],
+) -> Result<HeldRecord, StoreError>
+    requires open_store { IsOpen store.old }
+    requires out { length out.old ≡ 70000 }
+    ensures answer { F.tells → AnswersNamed store.old id out.new result }
+    ensures held { IfOk result (λ held. held.len ≤ length out.new) }
+    ensures id { IfOk result (λ held. held.id ≡ id) }
+    ensures looks { LooksUp F.tells store.old store.new result }
+{
+    match store.read(id, out) {
+        Ok(len) => Ok(HeldRecord { id: id.get(), len }),
+        Err(error) => Err(error),
+    }
+}
+
+// The number of an identifier.
+fn value_of(id: Option<RecordId>) -> Option<u64>
+    ensures { result ≡ id }
+{
+    match id {
+        Some(id) => Some(id.get()),
+        None => None,
+    }
+}
+
+// Where the cursor stands at an identifier that was found, and at the start where there is none.
+fn cursor_at(found: Option<u64>) -> u64
+    ensures { (cursor : ℕ) → result ≡ cursor_after Next (Found found) cursor }
+{
+    match found {
+        Some(id) => id,
+        None => 0,
+    }
+}
+
+// Makes the reply to a command that the store refused or its flash failed.
+fn refuse(reply: &mut Reply, error: StoreError, steps: u64)
+    ensures { (command : Command) → reply.new ≡ words_of (answer_of error) command ++ at_step steps }
 {
     match error {
         StoreError::NoSpace { .. } => reply.refused(b"no-space", steps),
         StoreError::Flash => reply.refused(b"hardware", steps),
-        StoreError::Stored { .. } => return Err(PlayStop::NotBuilt),
+        StoreError::NotFound => reply.refused(b"not-found", steps),
+        StoreError::Empty => reply.refused(b"empty", steps),
+        StoreError::LastGeneration { .. } | StoreError::Small { .. } => {
+            reply.refused(b"failed", steps)
+        }
     }
-    Ok(())
 }

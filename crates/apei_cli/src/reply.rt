@@ -1,14 +1,19 @@
 // The text of a reply, made in memory that is taken once.
-ghost use Rattle.std.specs.Prelude.{◌≡◌, ℕ, ◌+◌, ◌^◌, ◌<◌, ◌≤◌, List, [], ◌∷◌, ◌++◌, length, codes, decimal, IfOk};
-ghost use Rattle.apei_cli.specs.Replies.{at_step};
+ghost use Rattle.std.specs.Prelude.{◌≡◌, ℕ, ◌+◌, ◌*◌, ◌^◌, ◌<◌, ◌≤◌, List, [], ◌∷◌, ◌++◌, length, codes, decimal, IfOk};
+ghost use Rattle.hex.specs.Hex.{encode_lower};
+ghost use Rattle.apei_cli.specs.Replies.{at_step, words_of_record, words_of_next};
 
-use apei_bytes::Memory;
+use apei_bytes::{Memory, get_u64};
+use hex::encode_to_slice;
 use itoa::Buffer;
 use std::alloc::Global;
 use std::marker::Model;
 
-// The longest reply has two numbers, a step and less than forty bytes of words.
-const LONGEST: usize = 128;
+// The longest reply shows a record of 70,000 bytes, two numbers, a step and less than forty bytes of words.
+const LONGEST: usize = 140_128;
+
+// The offset of a record's identifier.
+const ID: usize = 96;
 
 /// A reply.
 #[derive(Drop)]
@@ -23,7 +28,7 @@ impl Model for Reply {
 
     ghost view = { λ r. r.text.items };
 
-    ghost invariant = { λ r. 128 ≤ vec_capacity r.text };
+    ghost invariant = { λ r. 140128 ≤ vec_capacity r.text };
 }
 
 impl Reply {
@@ -55,6 +60,55 @@ impl Reply {
         self.end(steps);
     }
 
+    /// Makes it the reply to a record that was read.
+    pub fn record(&mut self, bytes: &[u8], steps: u64)
+        requires least { 128 ≤ length bytes.now }
+        requires most { length bytes.now ≤ 70000 }
+        ensures { self.new ≡ words_of_record bytes.now ++ at_step steps }
+    {
+        self.text.clear();
+        self.add(b"record ");
+        self.add_number(get_u64(bytes, ID));
+        self.add(b" ");
+        self.add_number(bytes.len() as u64);
+        self.add(b" ");
+        self.add_hex(bytes);
+        self.end(steps);
+    }
+
+    /// Makes it the reply to an identifier that was cleared.
+    pub fn cleared(&mut self, id: u64, steps: u64)
+        ensures { self.new ≡ codes "cleared " ++ decimal id ++ at_step steps }
+    {
+        self.text.clear();
+        self.add(b"cleared ");
+        self.add_number(id);
+        self.end(steps);
+    }
+
+    /// Makes it the reply to the identifiers that were counted.
+    pub fn counted(&mut self, count: u32, steps: u64)
+        ensures { self.new ≡ codes "count " ++ decimal count ++ at_step steps }
+    {
+        self.text.clear();
+        self.add(b"count ");
+        self.add_number(count as u64);
+        self.end(steps);
+    }
+
+    /// Makes it the reply to the next identifier, or to none.
+    pub fn found(&mut self, next: Option<u64>, steps: u64)
+        ensures { self.new ≡ words_of_next next ++ at_step steps }
+    {
+        self.text.clear();
+        self.add(b"next ");
+        match next {
+            Some(id) => self.add_number(id),
+            None => self.add(b"end"),
+        }
+        self.end(steps);
+    }
+
     /// Makes it the reply to a refused command.
     pub fn refused(&mut self, why: &[u8], steps: u64)
         requires { length why.now ≤ 20 }
@@ -66,9 +120,21 @@ impl Reply {
         self.end(steps);
     }
 
+    /// Makes it the reply to a record of `len` bytes where there is room for fewer.
+    pub fn too_long(&mut self, len: u64, room: u64, steps: u64)
+        ensures { self.new ≡ codes "refused " ++ (codes "too-long " ++ (decimal len ++ codes " " ++ decimal room)) ++ at_step steps }
+    {
+        self.text.clear();
+        self.add(b"refused too-long ");
+        self.add_number(len);
+        self.add(b" ");
+        self.add_number(room);
+        self.end(steps);
+    }
+
     // Ends the reply with the flash step at which the command ended.
     fn end(&mut self, steps: u64)
-        requires { length self.old ≤ 80 }
+        requires { length self.old ≤ 140080 }
         ensures { self.new ≡ self.old ++ at_step steps }
     {
         self.add(b" @");
@@ -77,7 +143,7 @@ impl Reply {
     }
 
     fn add_number(&mut self, n: u64)
-        requires { length self.old ≤ 100 }
+        requires { length self.old ≤ 140100 }
         ensures text { self.new ≡ self.old ++ decimal n }
         ensures short { length self.new ≤ length self.old + 20 }
     {
@@ -85,8 +151,18 @@ impl Reply {
         self.add(buffer.format(n).as_bytes());
     }
 
+    fn add_hex(&mut self, bytes: &[u8])
+        requires { length self.old + 2 * length bytes.now ≤ 140128 }
+        ensures text { self.new ≡ self.old ++ encode_lower bytes.now }
+        ensures longer { length self.new ≡ length self.old + 2 * length bytes.now }
+    {
+        let at = self.text.len();
+        self.text.resize(at + 2 * bytes.len(), 0).unwrap();
+        encode_to_slice(bytes, &mut self.text[at..]).unwrap();
+    }
+
     fn add(&mut self, text: &[u8])
-        requires { length self.old + length text.now ≤ 128 }
+        requires { length self.old + length text.now ≤ 140128 }
         ensures { self.new ≡ self.old ++ text.now }
     {
         self.text.extend_from_slice(text).unwrap();

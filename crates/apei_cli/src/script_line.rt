@@ -2,8 +2,9 @@
 ghost use Rattle.std.specs.Prelude.{◌≡◌, ℕ, ◌+◌, ◌*◌, ◌<◌, ◌≤◌, ◌↔◌, List, length, take, IsTrue, MatchOption};
 ghost use Rattle.hex.specs.Hex.{decode_of};
 ghost use Rattle.apei_cli.specs.Script.{asked_by_hex, write, not_built, IsPlain, marked};
-ghost use Rattle.apei_cli.specs.Parsed.{IsParsed};
+ghost use Rattle.apei_cli.specs.Parsed.{IsParsed, IsParsedWords, IsParsedWord};
 
+use crate::number::number;
 use apei_bytes::{get_u16, get_u32};
 use hex::decode_to_slice;
 
@@ -14,6 +15,14 @@ pub enum ScriptLine<'a> {
     Blank,
     /// A record is to be written. Whether the text is hexadecimal shows when it is decoded.
     Write { hex: &'a [u8] },
+    /// The record of an identifier is to be shown, 0 naming the least one.
+    Read { id: u64 },
+    /// An identifier is to be cleared.
+    Clear { id: u64 },
+    /// The identifiers are to be counted.
+    Count,
+    /// The next identifier is to be shown.
+    Next,
     /// A line that is not built.
     Other,
 }
@@ -26,9 +35,41 @@ impl ScriptLine<'_> {
         if text.is_empty() || text[0] == b'#' {
             return ScriptLine::Blank;
         }
-        match text.strip_prefix(b"write ") {
-            Some(hex) => ScriptLine::Write { hex },
-            None => ScriptLine::Other,
+        ScriptLine::parse_words(text)
+    }
+
+    // The line with this text, which is neither empty nor a comment.
+    fn parse_words(text: &[u8]) -> ScriptLine<'_>
+        ensures { IsParsedWords text.now result }
+    {
+        if let Some(hex) = text.strip_prefix(b"write ") {
+            return ScriptLine::Write { hex };
+        }
+        if let Some(id) = text.strip_prefix(b"read ") {
+            return match number(id) {
+                Some(id) => ScriptLine::Read { id },
+                None => ScriptLine::Other,
+            };
+        }
+        if let Some(id) = text.strip_prefix(b"clear ") {
+            return match number(id) {
+                Some(id) => ScriptLine::Clear { id },
+                None => ScriptLine::Other,
+            };
+        }
+        ScriptLine::parse_word(text)
+    }
+
+    // The line with this text, which is at most one word.
+    fn parse_word(text: &[u8]) -> ScriptLine<'_>
+        ensures { IsParsedWord text.now result }
+    {
+        if text == b"count".as_slice() {
+            ScriptLine::Count
+        } else if text == b"next".as_slice() {
+            ScriptLine::Next
+        } else {
+            ScriptLine::Other
         }
     }
 }

@@ -1,30 +1,92 @@
 // The flash that a `sim` plays on.
-ghost use Rattle.std.specs.Prelude.{◌≡◌, [], None, IfOk, replicate};
-ghost use Rattle.flash_model.specs.Simulation.{first_power};
+ghost use Rattle.std.specs.Prelude.{◌≡◌, ◌*◌, [], IfOk, replicate, option_to_list};
+ghost use Rattle.flash_model.specs.Limits.{IsGeometry};
+ghost use Rattle.apei_cli.specs.Sim.{tear_numbered, failing_of, IsErasedFlash, IsEmptyFlash};
 
-use crate::program::default_geometry;
+use crate::Plan;
 use apei_bytes::Memory;
-use flash_model::{SimFlash, erased};
+use flash_model::{Geometry, SimFlash, Tear, erased};
 use std::alloc::Global;
 
-/// A simulated flash of the default geometry whose bytes are all erased and whose calls fail for want of memory alone.
-pub fn sim_flash(alloc: Global) -> Result<SimFlash, Memory>
-    ensures image { IfOk result (λ flash. flash.told ≡ record { past = []; image = replicate 262144 0xFF }) }
-    ensures sector { IfOk result (λ flash. flash.sector_size ≡ 4096) }
-    ensures failing { IfOk result (λ flash. flash.failing ≡ []) }
-    ensures failing_reads { IfOk result (λ flash. flash.failing_reads ≡ []) }
-    ensures power { IfOk result (λ flash. flash.power ≡ first_power None) }
+// The sector of the flash that stands for a geometry outside its limits.
+const NO_GEOMETRY_SECTOR: u32 = 256;
+
+/// The flash that a plan's job plays on: its bytes are erased, and its calls fail where the plan says, and for want of
+/// memory. Where the geometry is outside its limits it is empty.
+pub fn sim_flash(alloc: Global, plan: &Plan) -> Result<SimFlash, Memory>
+    ensures erased { IsGeometry plan.now.sector plan.now.per_slot plan.now.slots → IfOk result (IsErasedFlash plan.now) }
+    ensures empty { ¬ IsGeometry plan.now.sector plan.now.per_slot plan.now.slots → IfOk result (IsEmptyFlash plan.now) }
 {
-    let geometry = default_geometry();
-    let image = erased(alloc, &geometry)?;
-    let failing = Vec::new(alloc);
-    let failing_reads = Vec::new(alloc);
-    Ok(SimFlash::new(
-        alloc,
-        geometry.sector() as u32,
-        image,
-        None,
-        failing,
-        failing_reads,
-    ))
+    let failing = failing_changes(alloc, plan)?;
+    let failing_reads = failing_reads(alloc, plan)?;
+    let (sector, image) = match Geometry::new(plan.sector, plan.per_slot, plan.slots) {
+        Ok(geometry) => (geometry.sector() as u32, erased(alloc, &geometry)?),
+        Err(_) => (NO_GEOMETRY_SECTOR, Vec::new(alloc)),
+    };
+    Ok(SimFlash::new(alloc, sector, image, None, failing, failing_reads))
+}
+
+// The changes that a plan has fail.
+fn failing_changes(alloc: Global, plan: &Plan) -> Result<Vec<(u64, Tear)>, Memory>
+    ensures { IfOk result (λ failing. failing.items ≡ failing_of plan.now.fail plan.now.torn) }
+{
+    match plan.fail {
+        Some(step) => Ok(vec![in alloc; (step, tear_numbered(plan.torn))]?),
+        None => Ok(Vec::new(alloc)),
+    }
+}
+
+// The reads that a plan has fail.
+fn failing_reads(alloc: Global, plan: &Plan) -> Result<Vec<u64>, Memory>
+    ensures { IfOk result (λ failing. failing.items ≡ option_to_list plan.now.fail_read) }
+{
+    match plan.fail_read {
+        Some(read) => Ok(vec![in alloc; read]?),
+        None => Ok(Vec::new(alloc)),
+    }
+}
+
+// The tear with this number.
+fn tear_numbered(torn: u8) -> Tear
+    ensures { result ≡ tear_numbered torn }
+{
+    if torn == 0 {
+        Tear::Nothing
+    } else if torn == 1 {
+        Tear::Whole
+    } else if torn == 2 {
+        Tear::Zeros
+    } else {
+        Tear::Marks
+    }
+}
+
+#[cfg(test)]
+mod tests {
+    use super::*;
+    use crate::Job;
+    use flash_model::Flash;
+    use std::test::Fail;
+
+    #[test]
+    fn is_of_the_geometry(rt: HostRuntime) -> Result<(), Fail> {
+        let plan = Plan {
+            job: Job::Sim,
+            sector: 256,
+            per_slot: 2,
+            slots: 3,
+            fail: Some(0),
+            fail_read: Some(0),
+            torn: 1,
+        };
+        let flash = sim_flash(rt.alloc(), &plan)?;
+        assert_eq!(rt; flash.size(), 1536);
+        assert_eq!(rt; flash.sector_size(), 256);
+        let empty = Plan {
+            sector: 300,
+            ..plan
+        };
+        assert_eq!(rt; sim_flash(rt.alloc(), &empty)?.size(), 0);
+        Ok(())
+    }
 }

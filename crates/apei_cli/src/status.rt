@@ -14,6 +14,8 @@ pub enum Status {
     SourceFault,
     /// A write of a reply failed.
     SinkFault,
+    /// The flash failed when the store was opened.
+    FlashFault,
     /// The geometry is outside its limits, or it is not the flash's, which has this size in bytes.
     BadGeometry {
         sector: u64,
@@ -45,6 +47,7 @@ impl Status {
             Status::BadWords => 1,
             Status::SourceFault => 3,
             Status::SinkFault => 4,
+            Status::FlashFault => 5,
             Status::BadGeometry { .. } => 6,
             Status::TooLong { .. } => 7,
             Status::Memory => 8,
@@ -61,6 +64,7 @@ impl fmt::Display for Status {
             Status::BadWords => write!(f, "apei: bad words"),
             Status::SourceFault => write!(f, "apei: read failed"),
             Status::SinkFault => write!(f, "apei: write failed"),
+            Status::FlashFault => write!(f, "apei: flash failed"),
             Status::BadGeometry {
                 sector,
                 per_slot,

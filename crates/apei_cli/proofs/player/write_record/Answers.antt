@@ -1,27 +1,29 @@
-use Rattle.std.proofs.Common.{length, true, refl, sym, ap, ◌∙◌}
+use Rattle.std.proofs.Common.{◌≡◌, ℕ, List, ◌++◌, length, codes, refl, sym, ap, subst, ◌∙◌, arith}
+use Rattle.std.specs.Prelude.{decimal}
+use Rattle.record_model.specs.Flash.{FlashState}
 use Rattle.record_model.specs.RecordMap.{Write}
 use Rattle.record_model.specs.History.{Done}
-use Rattle.record_store.specs.Store.{IsSingle}
-use Rattle.apei_cli.proofs.PlayLemmas.{Plays-done}
-use Rattle.apei_cli.proofs.RefusalLemmas.{answered}
+use Rattle.apei_cli.specs.Replies.{at_step}
+use Rattle.apei_cli.proofs.PlayLemmas.{IsReplied-one}
+use Rattle.apei_cli.proofs.AnswerLemmas.{write_refused}
 use Rattle.apei_cli.proofs.player.write_record.Goals as goal
 
 pub returns-in-Ok-clause-replied : goal.returns-in-Ok-clause-replied
-returns-in-Ok-clause-replied g c =
-    let ended = λ (told : g.F.Flash.tells × IsSingle c.args.store.now).
-    c.steps-steps.ensures ∙ sym (g.met.F.Flash.counted c.flash.result.now told.0) ∙ ap (λ (f : _). length f.told.past) c.flash.ensures in
-    record {
-      played = record { command = Write c.args.id c.args.bytes.now; answer = Done; taken = true; ended = c.steps-steps.result };
-      of_command = refl;
-      text = c.wrote.ensures;
-      plays = Plays-done (g.F.Flash.tells × IsSingle c.args.store.now) c.args.store.now c.write-written.new.self c.args.id c.args.bytes.now c.steps-steps.result c.in-Ok.ensures.alike ended
-          (λ (told : g.F.Flash.tells × IsSingle c.args.store.now). c.in-Ok.ensures.answer told.0 told.1) (λ (told : g.F.Flash.tells × IsSingle c.args.store.now). c.in-Ok.ensures.crash told.0 told.1) c.in-Ok.ensures.cause;
-    }
+returns-in-Ok-clause-replied g c = λ cursor.
+    IsReplied-one g.F.Flash.tells c.args.store.now c.write-written.new.self cursor cursor c.steps-steps.result (Write c.args.id c.args.bytes.now) Done c.wrote.new.self c.in-Ok.ensures.alike
+    (c.steps-steps.ensures ∙ ap (λ (f : FlashState). f.steps) c.flash.ensures)
+    (λ told. subst (λ (f : FlashState). length f.told.past ≡ f.steps) c.flash.ensures (g.met.F.Flash.counted c.flash.result.now told))
+    (λ told. let a = c.in-Ok.ensures.answer told in (a.0, tt, a.1))
+    c.in-Ok.ensures.crash
+    (omega (arith, c.in-Ok.ensures.cause)) (λ h. absurd h)
+    (λ told certain still. c.in-Ok.ensures.steps told certain)
+    (c.wrote.ensures ∙ ap (λ (n : ℕ). codes "wrote " ++ decimal n ++ codes " " ++ decimal (length c.args.bytes.now) ++ at_step c.steps-steps.result) c.get.ensures.value)
+    refl
 
 pub returns-in-Err-clause-replied : goal.returns-in-Err-clause-replied
-returns-in-Err-clause-replied g c =
-    let ended = λ (told : g.F.Flash.tells × IsSingle c.args.store.now).
-    c.steps-steps.ensures ∙ sym (g.met.F.Flash.counted c.flash.result.now told.0) ∙ ap (λ (f : _). length f.told.past) c.flash.ensures in
-    let all = answered (g.F.Flash.tells × IsSingle c.args.store.now) c.args.store.now c.write-written.new.self c.args.id c.args.bytes.now c.refuse.new.reply c.steps-steps.result c.refuse.result c.in-Err.error
-    c.in-Err.ensures.alike ended (λ (told : g.F.Flash.tells × IsSingle c.args.store.now). c.in-Err.ensures.answer told.0 told.1) (λ (told : g.F.Flash.tells × IsSingle c.args.store.now). c.in-Err.ensures.crash told.0 told.1) c.in-Err.ensures.cause c.refuse.ensures in
-    all.replied
+returns-in-Err-clause-replied g c = λ cursor.
+    write_refused g.F.Flash.tells c.args.store.now c.write-written.new.self c.args.id c.args.bytes.now cursor c.steps-steps.result c.refuse.new.reply c.in-Err.error
+    c.requires.usable c.in-Err.ensures.alike
+    (c.steps-steps.ensures ∙ ap (λ (f : FlashState). f.steps) c.flash.ensures)
+    (λ told. subst (λ (f : FlashState). length f.told.past ≡ f.steps) c.flash.ensures (g.met.F.Flash.counted c.flash.result.now told))
+    c.in-Err.ensures.answer c.in-Err.ensures.crash c.in-Err.ensures.steps c.in-Err.ensures.cause (c.refuse.ensures (Write c.args.id c.args.bytes.now))

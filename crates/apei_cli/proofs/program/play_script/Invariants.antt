@@ -1,18 +1,15 @@
 use Rattle.std.proofs.Common.{◌≡◌, ◌-◌, ◌^◌, ◌≤◌, true, []}
-use Rattle.record_store.specs.Store.{IsSingle}
-use Rattle.apei_cli.specs.Runs.{SLOTS, SLOT_SIZE, ROOM, TellsSingle}
+use Rattle.apei_cli.specs.Plays.{IsOpen}
 use Rattle.apei_cli.proofs.RunLemmas.{SoFar}
 use Rattle.apei_cli.proofs.program.play_script.Given as goal
 
 -- the lines that were read were played, and no count of the source or the sink rose
 abbrev pub invariant-lines : goal.invariant-lines
 invariant-lines g l = record {
-  so_far : SoFar g.I.Source.tells g.O.Sink.tells (TellsSingle g.F.Flash.tells l.fn.store.flash) (g.I.Source.rest l.fn.script) (g.I.Source.rest l.script)
-      (g.O.Sink.written l.fn.out) (g.O.Sink.written l.out) l.fn.store.flash l.store.flash l.lines;
-  single : TellsSingle g.F.Flash.tells l.fn.store.flash → IsSingle l.store;
-  room : l.desk.room ≡ ROOM;
-  slots : l.store.slots ≡ SLOTS;
-  slot_size : l.store.slot_size ≡ SLOT_SIZE;
+  so_far : SoFar g.I.Source.tells g.O.Sink.tells g.F.Flash.tells (g.I.Source.rest l.fn.script) (g.I.Source.rest l.script)
+      (g.O.Sink.written l.fn.out) (g.O.Sink.written l.out) l.fn.store l.store l.desk.cursor l.lines;
+  open_store : IsOpen l.store;
+  room : l.desk.room ≡ l.store.slot_size - 64;
   at_end : g.I.Source.tells → l.lines.at_end ≡ true → g.I.Source.rest l.script ≡ [];
   near : l.lines.end ≤ 2 ^ 24;
   source : g.I.Source.faults l.script ≡ g.I.Source.faults l.fn.script;

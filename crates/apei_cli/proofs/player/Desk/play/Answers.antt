@@ -1,17 +1,16 @@
-use Rattle.std.proofs.Common.{subst, sym}
-use Rattle.record_store.specs.Store.{IsSingle}
-use Rattle.apei_cli.specs.Script.{Asked, IsBuilt}
-use Rattle.apei_cli.specs.Plays.{PlaysNothing}
-use Rattle.apei_cli.proofs.PlayLemmas.{PlaysLine-nothing, PlaysNothing-other}
+use Rattle.std.proofs.Common.{ℕ, List, ◌++◌, take, ap, ◌∙◌}
+use Rattle.apei_cli.proofs.LinePlayLemmas.{PlaysLine-nothing, PlaysUnheard-one, on_true, on_false}
 use Rattle.apei_cli.proofs.player.Desk.play.Goals as goal
 
-pub returns-in-Blank-clause-played : goal.returns-in-Blank-clause-played
-returns-in-Blank-clause-played g c = PlaysLine-nothing _ _ _ _ _ _ c.in-Blank.ensures
+pub returns-then-not-branch-clause-played : goal.returns-then-not-branch-clause-played
+returns-then-not-branch-clause-played g c =
+    let nothing = on_false c.in_ok-answer.field-0 _ _ c.if-not-branch.true c.in_ok-answer.ensures.answered in
+    PlaysLine-nothing _ _ _ _ _ _ _ _ nothing.0 nothing.1 nothing.2
 
-pub returns-in-Other-clause-not_built : goal.returns-in-Other-clause-not_built
-returns-in-Other-clause-not_built g c = λ _. PlaysNothing-other _ _ _ _ _ _ (λ built. subst (IsBuilt c.args.self.now.room) c.in-Other.ensures built)
-
-pub returns-in-Write-clause-not_built : goal.returns-in-Write-clause-not_built
-returns-in-Write-clause-not_built g c = λ stopped.
-    subst (λ (asked : Asked). PlaysNothing (g.F.Flash.tells × IsSingle c.args.store.now) g.O.Sink.tells c.args.self.now.room c.args.store.now c.play_write.new.store asked (g.O.Sink.written c.args.out.now) (g.O.Sink.written c.play_write.new.out))
-    (sym c.in-Write.ensures.0) (c.play_write.ensures.not_built stopped)
+pub returns-in-Err-clause-unheard : goal.returns-in-Err-clause-unheard
+returns-in-Err-clause-unheard g c = λ _.
+    let answers = on_true c.in_ok-answer.field-0 _ _ c.if-not-branch.false c.in_ok-answer.ensures.answered in
+    PlaysUnheard-one _ _ _ _ _ _ _ _ _ _ answers
+    (λ (told : g.O.Sink.tells).
+    let part = c.in-Err.ensures.part told in
+    (part.0, part.1 ∙ ap (λ (bs : List ℕ). g.O.Sink.written c.args.out.now ++ take part.0 bs) c.text.ensures))

@@ -1,0 +1,216 @@
+-- From the answers of a store to the replies.
+use Rattle.std.proofs.Common.{◌≡◌, ℕ, ◌+◌, ◌-◌, ◌≤◌, ◌⊎◌, Bool, true, false, cond, List, [], ◌∷◌, ◌++◌, length, take, Option, Some, None, Result, Ok, Err, refl, sym, ap, subst, ◌∙◌, arith, inl, inr}
+use Rattle.std.specs.Prelude.{is_none}
+use Rattle.base_model.specs.Faults.{Rose}
+use Rattle.record_model.specs.Flash.{Told, Leaves}
+use Rattle.record_model.specs.Records.{Stored, stored_in, is_reserved}
+use Rattle.record_model.proofs.CrashLemmas.{Leaves-exit, Leaves-weaker}
+use Rattle.std.specs.FinMap.{len}
+use Rattle.record_model.specs.RecordMap.{Command, Write, Clear, Read, Count, Next, IsNextAbove, refusal_of, made_by, after, changes_of}
+use Rattle.record_model.specs.History.{Answer, Done, Shown, Counted, Found, Refused, Hardware, cursor_after}
+use Rattle.record_store.specs.Store.{StoreView, stored, IsReady, IsBeforeOrAfter, DividesAlike, KeepsMap}
+use Rattle.record_store.specs.Answers.{RefusesWrite, RefusesClear, HasFaultsOf, HasDoubtOf, UnlessFlash, TakesExactly, AnswersByItself}
+use Rattle.record_store.specs.declared.errors.StoreError.{StoreError}
+use Rattle.record_store.specs.declared.errors.StoreError.TheVariants.{NoSpace, LastGeneration, NotFound, Empty, Flash, Small}
+use Rattle.apei_cli.specs.Replies.{words_of, at_step}
+use Rattle.apei_cli.specs.Refusals.{answer_of}
+use Rattle.apei_cli.specs.Records.{LooksUp, AnswersNamed}
+use Rattle.apei_cli.specs.Plays.{IsHardware, IsReplied}
+use Rattle.apei_cli.proofs.PlayLemmas.{Says, IsReplied-one, after_is, same_after}
+
+-- an error's cause
+pub error_cause : (a b : ℕ) (error : StoreError) → HasFaultsOf {T = Unit {0}} a b (Err error) → (a ≤ b) × (IsHardware (answer_of error) → Rose a b)
+error_cause a b (NoSpace free) cause = (omega arith, λ h. absurd h)
+error_cause a b (LastGeneration id) cause = (omega arith, λ h. absurd h)
+error_cause a b NotFound cause = (omega arith, λ h. absurd h)
+error_cause a b Empty cause = (omega arith, λ h. absurd h)
+error_cause a b Flash cause = (cause.0, λ h. cause.1)
+error_cause a b (Small need) cause = (omega arith, λ h. absurd h)
+
+-- without a fault the error is another one
+pub unless_rose : (a b : ℕ) (error : StoreError) (P : Type 0) → HasFaultsOf {T = Unit {0}} a b (Err error) → UnlessFlash {T = Unit {0}} (Err error) P → (Rose a b → ⊥) → P
+unless_rose a b (NoSpace free) P cause p still = p
+unless_rose a b (LastGeneration id) P cause p still = p
+unless_rose a b NotFound P cause p still = p
+unless_rose a b Empty P cause p still = p
+unless_rose a b Flash P cause p still = absurd (still cause.1)
+unless_rose a b (Small need) P cause p still = p
+
+-- a refused write and a refused clear leave the cursor
+write_stays : (id : ℕ) (bytes : List ℕ) (error : StoreError) (cursor : ℕ) → cursor ≡ cursor_after (Write id bytes) (answer_of error) cursor
+write_stays id bytes (NoSpace free) cursor = refl
+write_stays id bytes (LastGeneration found) cursor = refl
+write_stays id bytes NotFound cursor = refl
+write_stays id bytes Empty cursor = refl
+write_stays id bytes Flash cursor = refl
+write_stays id bytes (Small need) cursor = refl
+
+clear_stays : (id : ℕ) (error : StoreError) (cursor : ℕ) → cursor ≡ cursor_after (Clear id) (answer_of error) cursor
+clear_stays id (NoSpace free) cursor = refl
+clear_stays id (LastGeneration found) cursor = refl
+clear_stays id NotFound cursor = refl
+clear_stays id Empty cursor = refl
+clear_stays id Flash cursor = refl
+clear_stays id (Small need) cursor = refl
+
+write_says : (old new : StoreView) (id : ℕ) (bytes : List ℕ) (cursor : ℕ) (error : StoreError) → is_reserved id ≡ false → RefusesWrite old new id bytes error
+    → Says old.slots cursor (Write id bytes) (answer_of error) (stored old) (stored new)
+write_says old new id bytes cursor (NoSpace free) usable refuses = (refuses.0, refuses.2)
+write_says old new id bytes cursor (LastGeneration found) usable refuses = (refuses.0, refuses.3)
+write_says old new id bytes cursor NotFound usable refuses = absurd refuses
+write_says old new id bytes cursor Empty usable refuses = absurd refuses
+write_says old new id bytes cursor Flash usable refuses = usable
+write_says old new id bytes cursor (Small need) usable refuses = absurd refuses
+
+clear_says : (old new : StoreView) (id cursor : ℕ) (error : StoreError) → is_reserved id ≡ false → RefusesClear old new id error
+    → Says old.slots cursor (Clear id) (answer_of error) (stored old) (stored new)
+clear_says old new id cursor (NoSpace free) usable refuses = absurd refuses
+clear_says old new id cursor (LastGeneration found) usable refuses = absurd refuses
+clear_says old new id cursor NotFound usable refuses = (refuses.0, refuses.1)
+clear_says old new id cursor Empty usable refuses = absurd refuses
+clear_says old new id cursor Flash usable refuses = usable
+clear_says old new id cursor (Small need) usable refuses = absurd refuses
+
+-- a write that the store refused
+pub write_refused : (tells : Type 0) (old new : StoreView) (id : ℕ) (bytes : List ℕ) (cursor steps : ℕ) (reply : List ℕ) (error : StoreError)
+    → is_reserved id ≡ false → DividesAlike old new → steps ≡ new.flash.steps → (tells → length new.flash.told.past ≡ new.flash.steps)
+    → (tells → RefusesWrite old new id bytes error) → (tells → IsBeforeOrAfter old new (Write id bytes))
+    → (tells → TakesExactly {T = Unit {0}} old new (Write id bytes) (Err error)) → HasFaultsOf {T = Unit {0}} old.flash.faults new.flash.faults (Err error)
+    → reply ≡ words_of (answer_of error) (Write id bytes) ++ at_step steps
+    → IsReplied tells old new (Write id bytes) cursor cursor reply
+write_refused tells old new id bytes cursor steps reply error usable alike is counted refuses leaves exact faults text =
+    let cause = error_cause old.flash.faults new.flash.faults error faults in
+    IsReplied-one tells old new cursor cursor steps (Write id bytes) (answer_of error) reply alike is counted
+    (λ told. write_says old new id bytes cursor error usable (refuses told)) leaves cause.0 cause.1
+    (λ told certain still. unless_rose old.flash.faults new.flash.faults error _ faults (exact told certain) still)
+    text (write_stays id bytes error cursor)
+
+pub clear_refused : (tells : Type 0) (old new : StoreView) (id cursor steps : ℕ) (reply : List ℕ) (error : StoreError)
+    → is_reserved id ≡ false → DividesAlike old new → steps ≡ new.flash.steps → (tells → length new.flash.told.past ≡ new.flash.steps)
+    → (tells → RefusesClear old new id error) → (tells → IsBeforeOrAfter old new (Clear id))
+    → (tells → TakesExactly {T = Unit {0}} old new (Clear id) (Err error)) → HasFaultsOf {T = Unit {0}} old.flash.faults new.flash.faults (Err error)
+    → reply ≡ words_of (answer_of error) (Clear id) ++ at_step steps
+    → IsReplied tells old new (Clear id) cursor cursor reply
+clear_refused tells old new id cursor steps reply error usable alike is counted refuses leaves exact faults text =
+    let cause = error_cause old.flash.faults new.flash.faults error faults in
+    IsReplied-one tells old new cursor cursor steps (Clear id) (answer_of error) reply alike is counted
+    (λ told. clear_says old new id cursor error usable (refuses told)) leaves cause.0 cause.1
+    (λ told certain still. unless_rose old.flash.faults new.flash.faults error _ faults (exact told certain) still)
+    text (clear_stays id error cursor)
+
+-- a command that leaves every map as it is, and changes no flash
+pub record IsLook (per_slot slots : ℕ) (command : Command) : Type 0 where
+  pub same : (map : Stored) → after slots command map ≡ map
+  pub no_changes : (map : Stored) → changes_of per_slot slots command map ≡ 0
+
+none_either : (b : Bool) → cond {A = ℕ} b 0 0 ≡ 0
+none_either true = refl
+none_either false = refl
+
+pub IsLook-read : (per_slot slots id : ℕ) → IsLook per_slot slots (Read id)
+unfolding made_by changes_of
+IsLook-read per_slot slots id = record {
+  same = λ map. after_is slots (Read id) map ∙ same_after slots (Read id) map (is_none (refusal_of slots (Read id) map)) refl;
+  no_changes = λ map. none_either (is_none (refusal_of slots (Read id) map));
+}
+
+pub IsLook-count : (per_slot slots : ℕ) → IsLook per_slot slots Count
+unfolding made_by changes_of
+IsLook-count per_slot slots = record {
+  same = λ map. after_is slots Count map ∙ same_after slots Count map (is_none (refusal_of slots Count map)) refl;
+  no_changes = λ map. none_either (is_none (refusal_of slots Count map));
+}
+
+pub IsLook-next : (per_slot slots : ℕ) → IsLook per_slot slots Next
+unfolding made_by changes_of
+IsLook-next per_slot slots = record {
+  same = λ map. after_is slots Next map ∙ same_after slots Next map (is_none (refusal_of slots Next map)) refl;
+  no_changes = λ map. none_either (is_none (refusal_of slots Next map));
+}
+
+-- the map that a look leaves
+pub map_kept : (old new : StoreView) → DividesAlike old new → KeepsMap old new → stored new ≡ stored old
+map_kept old new alike kept =
+    ap (λ (n : ℕ). stored_in n new.slots new.flash.told.image) alike.slot_size
+    ∙ ap (λ (n : ℕ). stored_in old.slot_size n new.flash.told.image) alike.slots
+    ∙ Leaves-exit old.flash.told new.flash.told (λ image. stored_in old.slot_size old.slots image ≡ stored old) kept
+
+-- keeping is one of before and after
+pub keeps_before : (old new : StoreView) (command : Command) → KeepsMap old new → IsBeforeOrAfter old new command
+keeps_before old new command kept =
+    Leaves-weaker old.flash.told new.flash.told (λ image. stored_in old.slot_size old.slots image ≡ stored old)
+    (λ image. (stored_in old.slot_size old.slots image ≡ stored old) ⊎ (stored_in old.slot_size old.slots image ≡ after old.slots command (stored old)))
+    kept (λ image same. inl same)
+
+-- a command that only looked
+pub looked : (tells : Type 0) (old new : StoreView) (cursor cursor_now steps : ℕ) (command : Command) (answer : Answer) (reply : List ℕ)
+    → IsLook old.per_slot old.slots command
+    → (tells → KeepsMap old new) → (old.in_doubt ≡ false → new.flash.steps ≡ old.flash.steps) → DividesAlike old new
+    → old.flash.faults ≤ new.flash.faults → (IsHardware answer → Rose old.flash.faults new.flash.faults)
+    → steps ≡ new.flash.steps → (tells → length new.flash.told.past ≡ new.flash.steps)
+    → (tells → Says old.slots cursor command answer (stored old) (stored old))
+    → reply ≡ words_of answer command ++ at_step steps
+    → cursor_now ≡ cursor_after command answer cursor
+    → IsReplied tells old new command cursor cursor_now reply
+looked tells old new cursor cursor_now steps command answer reply look kept still alike rise cause is counted says text moved =
+    IsReplied-one tells old new cursor cursor_now steps command answer reply alike is counted
+    (λ told. subst (λ (m : Stored). Says old.slots cursor command answer (stored old) m) (sym (map_kept old new alike (kept told))) (says told))
+    (λ told. keeps_before old new command (kept told))
+    rise cause
+    (λ told certain _. let none = look.no_changes (stored old) in let stays = still certain in omega arith)
+    text moved
+
+-- a store that answers by itself makes no change
+pub itself_still : {T : Type 0} (old new : StoreView) (result : Result T StoreError) → AnswersByItself old new result → new.flash.steps ≡ old.flash.steps
+itself_still old new (Ok done) same = ap (λ (s : StoreView). s.flash.steps) same
+itself_still old new (Err NotFound) same = ap (λ (s : StoreView). s.flash.steps) same
+itself_still old new (Err (NoSpace free)) same = absurd same
+itself_still old new (Err (LastGeneration id)) same = absurd same
+itself_still old new (Err Empty) same = absurd same
+itself_still old new (Err Flash) same = absurd same
+itself_still old new (Err (Small need)) same = absurd same
+
+-- the error of a read
+pub named_says : (old : StoreView) (id cursor : ℕ) (bytes : List ℕ) (error : StoreError) → AnswersNamed old id bytes (Err error)
+    → Says old.slots cursor (Read id) (answer_of error) (stored old) (stored old)
+named_says old id cursor bytes (NoSpace free) answer = absurd answer
+named_says old id cursor bytes (LastGeneration found) answer = absurd answer
+named_says old id cursor bytes NotFound answer = (answer, refl)
+named_says old id cursor bytes Empty answer = (answer, refl)
+named_says old id cursor bytes Flash answer = tt
+named_says old id cursor bytes (Small need) answer = absurd answer
+
+-- a count and a next
+count_not_refused : (slots : ℕ) (map : Stored) → refusal_of slots Count map ≡ None
+unfolding refusal_of
+count_not_refused slots map = refl
+
+next_not_refused : (slots : ℕ) (map : Stored) → refusal_of slots Next map ≡ None
+unfolding refusal_of
+next_not_refused slots map = refl
+
+pub count_taken : (store : StoreView) (cursor n : ℕ) → n ≡ len (stored store) → Says store.slots cursor Count (Counted n) (stored store) (stored store)
+count_taken store cursor n is =
+    let look = IsLook-count store.per_slot store.slots in
+    (count_not_refused store.slots (stored store), is, sym (look.same (stored store)))
+
+pub next_taken : (store : StoreView) (cursor : ℕ) (found : Option ℕ) → IsNextAbove cursor (stored store) found → Says store.slots cursor Next (Found found) (stored store) (stored store)
+next_taken store cursor found is =
+    let look = IsLook-next store.per_slot store.slots in
+    (next_not_refused store.slots (stored store), is, sym (look.same (stored store)))
+
+-- they fail by the flash alone
+pub fails_as : (error : StoreError) (P : Answer → Type 0) → error ≡ Flash → P Hardware → P (answer_of error)
+fails_as error P is p = subst (λ (e : StoreError). P (answer_of e)) (sym is) p
+
+pub count_failed : (store : StoreView) (cursor : ℕ) (error : StoreError) → error ≡ Flash → Says store.slots cursor Count (answer_of error) (stored store) (stored store)
+count_failed store cursor error is = fails_as error (λ (a : Answer). Says store.slots cursor Count a (stored store) (stored store)) is tt
+
+pub next_failed : (store : StoreView) (cursor : ℕ) (error : StoreError) → error ≡ Flash → Says store.slots cursor Next (answer_of error) (stored store) (stored store)
+next_failed store cursor error is = fails_as error (λ (a : Answer). Says store.slots cursor Next a (stored store) (stored store)) is tt
+
+pub count_stays : (error : StoreError) → error ≡ Flash → (cursor : ℕ) → cursor ≡ cursor_after Count (answer_of error) cursor
+count_stays error is cursor = fails_as error (λ (a : Answer). cursor ≡ cursor_after Count a cursor) is refl
+
+pub next_stays : (error : StoreError) → error ≡ Flash → (cursor : ℕ) → cursor ≡ cursor_after Next (answer_of error) cursor
+next_stays error is cursor = fails_as error (λ (a : Answer). cursor ≡ cursor_after Next a cursor) is refl

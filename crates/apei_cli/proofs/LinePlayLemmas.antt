@@ -1,0 +1,52 @@
+-- Laws of the playing of one line.
+use Rattle.std.proofs.Common.{◌≡◌, ℕ, ◌-◌, true, false, List, [], ◌∷◌, ◌++◌, take, refl, sym, ap, subst, ◌∙◌}
+use Rattle.std.specs.Prelude.{MatchBool, Bool}
+use Rattle.std.proofs.lemmas.List.{append-nil}
+use Rattle.record_model.specs.RecordMap.{Command}
+use Rattle.record_store.specs.Store.{StoreView}
+use Rattle.apei_cli.specs.Script.{Asked, nothing, IsBuilt, commands_of}
+use Rattle.apei_cli.specs.Replies.{reply_of}
+use Rattle.apei_cli.specs.Plays.{layout_of, room_of, Plays, AnswersLine, PlaysLine, PlaysUnheard}
+use Rattle.apei_cli.proofs.PlayLemmas.{Plays-none}
+
+-- a line that asks for nothing
+pub PlaysLine-nothing : (told_flash told_sink : Type 0) (old new : StoreView) (asked : Asked) (cursor cursor_now : ℕ) (written : List ℕ) → asked ≡ nothing → new ≡ old → cursor_now ≡ cursor
+    → PlaysLine told_flash told_sink old new asked cursor cursor_now written written
+PlaysLine-nothing told_flash told_sink old new asked cursor cursor_now written asks same moved = record {
+  commands = [];
+  built = subst IsBuilt (sym asks) tt;
+  commands_are = sym (ap (commands_of (room_of (layout_of old))) asks);
+  moved = moved;
+  plays = subst (λ (s : StoreView). Plays told_flash (old.in_doubt ≡ false) (layout_of old) cursor old.flash s.flash []) (sym same) (Plays-none told_flash (old.in_doubt ≡ false) (layout_of old) cursor old.flash);
+  text_now = λ _. sym (append-nil written);
+}
+
+-- a command whose reply the sink took a part of
+pub PlaysUnheard-one : (told_flash told_sink : Type 0) (old new : StoreView) (asked : Asked) (cursor cursor_now : ℕ) (reply written written_now : List ℕ)
+    → AnswersLine told_flash old new asked cursor cursor_now reply → (told_sink → (n : ℕ) × (written_now ≡ written ++ take n reply))
+    → PlaysUnheard told_flash told_sink old new asked cursor written written_now
+PlaysUnheard-one told_flash told_sink old new asked cursor cursor_now reply written written_now answers part =
+    let replied = answers.replied in
+    record {
+      commands = replied.played ∷ [];
+      built = answers.built;
+      commands_are = ap (λ (command : Command). command ∷ []) replied.of_command ∙ sym answers.commands_are;
+      plays = replied.plays;
+      text_now = λ told.
+          let some = part told in
+          record {
+            before = [];
+            last = replied.played;
+            commands_are = refl;
+            count = some.0;
+            text = some.1 ∙ ap (λ (bs : List ℕ). written ++ take some.0 bs) replied.text ∙ ap (λ (bs : List ℕ). bs ++ take some.0 (reply_of replied.played)) (sym (append-nil written));
+          };
+    }
+
+pub on_true : (b : Bool) (P Q : Type 0) → b ≡ true → MatchBool b P Q → P
+on_true true P Q e p = p
+on_true false P Q e p = absurd (cc e)
+
+pub on_false : (b : Bool) (P Q : Type 0) → b ≡ false → MatchBool b P Q → Q
+on_false true P Q e q = absurd (cc e)
+on_false false P Q e q = q

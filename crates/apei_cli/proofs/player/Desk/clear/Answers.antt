@@ -1,0 +1,14 @@
+use Rattle.std.proofs.Common.{◌≡◌, ℕ, List, ◌++◌, length, codes, refl, sym, ap, subst, ◌∙◌, arith}
+use Rattle.record_model.specs.Flash.{FlashState}
+use Rattle.record_model.specs.RecordMap.{Clear, Failed}
+use Rattle.record_model.specs.History.{Refused}
+use Rattle.apei_cli.proofs.StillLemmas.{refused_still, clear_reserved}
+use Rattle.apei_cli.proofs.player.Desk.clear.Goals as goal
+
+pub returns-in-None-clause-replied : goal.returns-in-None-clause-replied
+returns-in-None-clause-replied g c =
+    refused_still g.F.Flash.tells c.args.store.now c.args.self.now.cursor c.steps.result (Clear c.args.id) Failed c.refused.new.self
+    (c.steps.ensures ∙ ap (λ (f : FlashState). f.steps) c.flash.ensures)
+    (λ told. subst (λ (f : FlashState). length f.told.past ≡ f.steps) c.flash.ensures (g.met.F.Flash.counted c.flash.result.now told))
+    (clear_reserved c.args.store.now.slots c.args.id c.in-None.ensures)
+    c.refused.ensures refl

@@ -1,0 +1,31 @@
+use Rattle.std.proofs.Common.{◌≡◌, ℕ, List, ◌++◌, length, codes, Err, refl, sym, ap, subst, ◌∙◌, arith}
+use Rattle.record_model.specs.Flash.{FlashState}
+use Rattle.record_model.specs.RecordMap.{Count}
+use Rattle.record_model.specs.History.{Counted}
+use Rattle.record_store.specs.Store.{StoreView}
+use Rattle.apei_cli.specs.Refusals.{answer_of}
+use Rattle.apei_cli.proofs.AnswerLemmas.{IsLook-count, looked, itself_still, error_cause, count_taken, count_failed, count_stays}
+use Rattle.apei_cli.proofs.player.Desk.count.Goals as goal
+
+pub returns-in-Ok-clause-replied : goal.returns-in-Ok-clause-replied
+returns-in-Ok-clause-replied g c =
+    let store = c.args.store.now in
+    looked g.F.Flash.tells store c.count-count.new.self c.args.self.now.cursor c.args.self.now.cursor c.steps-steps.result Count (Counted c.in-Ok.count) c.counted.new.self
+    (IsLook-count store.per_slot store.slots) c.in-Ok.ensures.kept (λ certain. ap (λ (s : StoreView). s.flash.steps) (c.in-Ok.ensures.still certain)) c.in-Ok.ensures.alike
+    (omega (arith, c.in-Ok.ensures.cause)) (λ h. absurd h)
+    (c.steps-steps.ensures ∙ ap (λ (f : FlashState). f.steps) c.flash.ensures)
+    (λ told. subst (λ (f : FlashState). length f.told.past ≡ f.steps) c.flash.ensures (g.met.F.Flash.counted c.flash.result.now told))
+    (λ told. count_taken store c.args.self.now.cursor c.in-Ok.count (c.in-Ok.ensures.answer told))
+    c.counted.ensures refl
+
+pub returns-in-Err-clause-replied : goal.returns-in-Err-clause-replied
+returns-in-Err-clause-replied g c =
+    let store = c.args.store.now in
+    let cause = error_cause store.flash.faults c.count-count.new.self.flash.faults c.in-Err.error c.in-Err.ensures.cause in
+    looked g.F.Flash.tells store c.count-count.new.self c.args.self.now.cursor c.args.self.now.cursor c.steps-steps.result Count (answer_of c.in-Err.error) c.refuse.new.reply
+    (IsLook-count store.per_slot store.slots) c.in-Err.ensures.kept (λ certain. itself_still {T = Unit {0}} store c.count-count.new.self (Err c.in-Err.error) (c.in-Err.ensures.still certain)) c.in-Err.ensures.alike
+    cause.0 cause.1
+    (c.steps-steps.ensures ∙ ap (λ (f : FlashState). f.steps) c.flash.ensures)
+    (λ told. subst (λ (f : FlashState). length f.told.past ≡ f.steps) c.flash.ensures (g.met.F.Flash.counted c.flash.result.now told))
+    (λ told. count_failed store c.args.self.now.cursor c.in-Err.error c.in-Err.ensures.error)
+    (c.refuse.ensures Count) (count_stays c.in-Err.error c.in-Err.ensures.error c.args.self.now.cursor)

@@ -1,0 +1,14 @@
+use Rattle.std.proofs.Common.{◌≡◌, ℕ, List, ◌++◌, length, codes, refl, sym, ap, subst, ◌∙◌, arith}
+use Rattle.record_model.specs.Flash.{FlashState}
+use Rattle.record_model.specs.RecordMap.{Write, Failed}
+use Rattle.record_model.specs.History.{Refused}
+use Rattle.apei_cli.proofs.StillLemmas.{refused_still, write_reserved}
+use Rattle.apei_cli.proofs.player.write_marked.Goals as goal
+
+pub returns-in-None-clause-replied : goal.returns-in-None-clause-replied
+returns-in-None-clause-replied g c = λ cursor.
+    refused_still g.F.Flash.tells c.args.store.now cursor c.steps.result (Write c.args.id c.args.bytes.now) Failed c.refused.new.self
+    (c.steps.ensures ∙ ap (λ (f : FlashState). f.steps) c.flash.ensures)
+    (λ told. subst (λ (f : FlashState). length f.told.past ≡ f.steps) c.flash.ensures (g.met.F.Flash.counted c.flash.result.now told))
+    (write_reserved c.args.store.now.slots c.args.id c.args.bytes.now c.in-None.ensures)
+    c.refused.ensures refl

@@ -1,0 +1,36 @@
+-- The simulated flash of a plan.
+use Rattle.std.specs.Prelude.{◌≡◌, ℕ, ◌*◌, ◌==◌, if◌then◌else◌, List, [], ◌∷◌, replicate, Option, Some, None, option_to_list}
+use Rattle.flash_model.specs.Simulation.{Simulation, first_power}
+use Rattle.flash_model.specs.declared.tear.Tear.{Tear}
+use Rattle.flash_model.specs.declared.tear.Tear.TheVariants.{Nothing, Whole, Zeros, Marks}
+use Rattle.apei_cli.specs.declared.job.Plan.{Plan}
+
+-- a tear by its number; the words give none above 3
+abbrev pub tear_numbered : ℕ → Tear
+tear_numbered torn = if torn == 0 then Nothing else (if torn == 1 then Whole else (if torn == 2 then Zeros else Marks))
+
+-- the changes that fail: the one that a plan numbers, torn by that number
+abbrev pub failing_of : Option ℕ → ℕ → List (ℕ × Tear)
+failing_of None torn = []
+failing_of (Some step) torn = (step, tear_numbered torn) ∷ []
+
+-- a flash that was not used yet, with a sector size and an image: it fails where the plan says, and power stays
+abbrev pub new_flash : Plan → ℕ → List ℕ → Simulation
+new_flash plan sector image = record {
+  told = record { past = []; image = image };
+  sector_size = sector;
+  power = first_power None;
+  failing = failing_of plan.fail plan.torn;
+  failing_reads = option_to_list plan.fail_read;
+  reads = 0;
+  faults = 0;
+  starved = 0;
+}
+
+-- a new flash of the plan's geometry, with erased bytes
+abbrev pub IsErasedFlash : Plan → Simulation → Type 0
+IsErasedFlash plan flash = flash ≡ new_flash plan plan.sector (replicate (plan.sector * plan.per_slot * plan.slots) 0xFF)
+
+-- a new flash without a byte
+abbrev pub IsEmptyFlash : Plan → Simulation → Type 0
+IsEmptyFlash plan flash = flash ≡ new_flash plan 256 []
