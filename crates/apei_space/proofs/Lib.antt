@@ -1,2 +1,3 @@
 mod Spots
 mod BytePlaces
+mod MappedLemmas

@@ -3,11 +3,13 @@
 
 mod bytes;
 mod faults;
+mod laws;
 mod plain;
 mod spaces;
 mod windows;
 
 pub use faults::SpaceFault;
+pub use laws::unmapped_is_first;
 pub use plain::Ram;
 pub use spaces::Space;
 pub use windows::Window;
