@@ -12,3 +12,4 @@ pub mod WalkLemmas
 pub mod StartLemmas
 pub mod StoreLemmas
 pub mod FinishLemmas
+pub mod StoredLemmas
