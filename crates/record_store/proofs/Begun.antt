@@ -1,15 +1,15 @@
 -- A slot in which a record is written behind a closed gate, and what opening the gate does.
-use Rattle.std.proofs.Common.{◌≡◌, ◌≢◌, ℕ, ◌+◌, ◌-◌, ◌*◌, ◌^◌, ◌<◌, ◌≤◌, ◌⊎◌, Bool, true, false, List, [], ◌∷◌, ◌++◌, length, take, drop, Option, Some, None, refl, sym, ap, subst, ◌∙◌, arith, length-drop, inl, inr}
+use Rattle.std.proofs.Common.{◌≡◌, ℕ, ◌+◌, ◌-◌, ◌*◌, ◌^◌, ◌<◌, ◌≤◌, false, List, [], ◌++◌, length, take, drop, refl, sym, ap, subst, ◌∙◌, arith, length-drop, inl, inr}
 use Rattle.std.proofs.lemmas.Bool.{cases_eq}
 use Rattle.std.proofs.lemmas.List.{take_all, length-take}
 use Rattle.std.proofs.Math.Seq.{take-add}
-use Rattle.base_model.specs.Bytes.{SameOutside, number_at, part, little, spelled, joined}
-use Rattle.base_model.proofs.BytesLemmas.{number_at-part, number_at-before, number_at-after, part-before, part-append, little-spelled, SameOutside-wider, SameOutside-then}
+use Rattle.base_model.specs.Bytes.{SameOutside, number_at, part, spelled}
+use Rattle.base_model.proofs.BytesLemmas.{number_at-part, number_at-before, part-before, part-append, little-spelled, SameOutside-wider}
 use Rattle.record_model.specs.Flash.{Told, Leaves, MayChange, IsErased}
-use Rattle.record_model.specs.Records.{Head, Entry, head_fields, entry_at, tail_at, is_reserved, DiffersInFreeSlot, IsReady}
+use Rattle.record_model.specs.Records.{Head, Entry, head_fields, tail_at, is_reserved, IsReady}
 use Rattle.record_model.proofs.CrashLemmas.{Leaves-change}
 use Rattle.record_model.proofs.SlotLemmas.{erased_byte, IsErased-within, IsErased-before, IsErased-after, IsReady-gate, ready_opened, free_by_gate}
-use Rattle.record_store.specs.Slot.{Keeps, StaysFree, IsFilled, IsFreeOrOpened, IsBegun}
+use Rattle.record_store.specs.Slot.{StaysFree, IsFilled, IsFreeOrOpened, IsBegun}
 use Rattle.record_store.proofs.KeepsLemmas.{StaysFree-gate, erased_gate}
 
 -- the numbers of the fields

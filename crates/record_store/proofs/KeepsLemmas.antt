@@ -1,11 +1,9 @@
 -- Steps that keep the records of all other slots and leave the slot free, whatever power lost in them leaves.
-use Rattle.std.proofs.Common.{◌≡◌, ◌≢◌, ℕ, ◌+◌, ◌-◌, ◌*◌, ◌<◌, ◌≤◌, List, Option, None, Result, Ok, Err, ◌⊎◌, ◌^◌, refl, sym, ap, subst, ◌∙◌, arith, inl, inr}
-use Rattle.std.specs.Prelude.{OnOk}
+use Rattle.std.proofs.Common.{◌≡◌, ◌≢◌, ℕ, ◌+◌, ◌-◌, ◌*◌, ◌≤◌, List, None, Result, sym, subst, ◌∙◌, arith, inl, inr}
 use Rattle.base_model.specs.Bytes.{SameOutside, number_at}
-use Rattle.base_model.specs.Faults.{HasCause}
 use Rattle.base_model.proofs.BytesLemmas.{SameOutside-wider, SameOutside-then, SameOutside-refl, SameOutside-none, number_at-before}
-use Rattle.record_model.specs.Flash.{Told, FlashState, Leaves, MayChange, AsksChange, IsErased}
-use Rattle.record_model.specs.Records.{entry_at, tail_at, head_at, DiffersInFreeSlot}
+use Rattle.record_model.specs.Flash.{Told, FlashState, MayChange, AsksChange, IsErased}
+use Rattle.record_model.specs.Records.{entry_at, tail_at, DiffersInFreeSlot}
 use Rattle.record_model.proofs.CrashLemmas.{Leaves-none, Leaves-change, Leaves-weaker, Leaves-then, Leaves-exit}
 use Rattle.record_model.proofs.SlotLemmas.{free_by_gate, free_by_tail, free_by_head, tail_at-after, head_at-before, erased_byte}
 use Rattle.record_store.specs.Slot.{Keeps, StaysFree, IsOneChange}

@@ -1,12 +1,12 @@
 -- A slot that is erased in part, from its head or from its tail.
-use Rattle.std.proofs.Common.{◌≡◌, ◌≢◌, ℕ, ◌+◌, ◌-◌, ◌*◌, ◌<◌, ◌≤◌, List, Option, None, refl, sym, ap, subst, ◌∙◌, arith, inl, inr}
+use Rattle.std.proofs.Common.{◌≡◌, ◌≢◌, ℕ, ◌+◌, ◌-◌, ◌*◌, ◌<◌, ◌≤◌, List, None, sym, ap, subst, ◌∙◌, arith, inl, inr}
 use Rattle.std.proofs.lemmas.Bool.{cases_eq}
 use Rattle.std.proofs.Math.Nat.{add-mul, mul-le-mul_right, mul_comm}
 use Rattle.base_model.specs.Bytes.{SameOutside, number_at}
 use Rattle.flash_model.specs.declared.geometry.Geometry.{Geometry}
 use Rattle.record_model.specs.Flash.{IsErased}
 use Rattle.record_model.specs.Records.{entry_at, tail_at}
-use Rattle.record_model.proofs.SlotLemmas.{IsErased-append, IsErased-before, IsErased-after, IsErased-within, erased_byte}
+use Rattle.record_model.proofs.SlotLemmas.{IsErased-append, IsErased-before, IsErased-after, erased_byte}
 use Rattle.record_store.specs.Slot.{StaysFree, IsCleanFromHead, IsCleanFromTail}
 use Rattle.record_store.proofs.KeepsLemmas.{StaysFree-gate, StaysFree-head, StaysFree-tail, erased_gate}
 

@@ -1,6 +1,6 @@
 -- What a write begins with, from the lists.
-use Rattle.std.proofs.Common.{◌≡◌, ◌≢◌, ℕ, ◌+◌, ◌-◌, ◌^◌, ◌<◌, ◌≤◌, Bool, true, false, List, length, get_or, Option, Some, None, refl, sym, ap, subst, ◌∙◌, arith, inl, inr}
-use Rattle.std.specs.Prelude.{is_some, IfSome}
+use Rattle.std.proofs.Common.{◌≡◌, ◌≢◌, ℕ, ◌+◌, ◌<◌, ◌≤◌, false, List, length, get_or, Option, Some, None, refl, sym, ap, ◌∙◌, arith}
+use Rattle.std.specs.Prelude.{is_some}
 use Rattle.std.specs.FinMap.{get, len}
 use Rattle.record_model.specs.Records.{Entry, selected, is_reserved}
 use Rattle.record_model.specs.RecordMap.{Write, Failed, NoSpace as no_space, LAST_GENERATION, refusal_of, next_generation}
@@ -9,9 +9,8 @@ use Rattle.record_recovery.specs.declared.found.Found.{Found}
 use Rattle.record_recovery.specs.declared.found.SlotOf.{SlotOf}
 use Rattle.record_recovery.proofs.FreeLemmas.{length-rising}
 use Rattle.record_store.specs.Index.{IsListing, IsListOf, IsPlaceFound}
-use Rattle.record_store.specs.Kept.{KnowsSlots, IsDraftFor, HoldsId}
-use Rattle.record_store.specs.Start.{TakesDraft, StartsWith}
-use Rattle.record_store.specs.declared.work.Draft.{Draft}
+use Rattle.record_store.specs.Kept.{KnowsSlots}
+use Rattle.record_store.specs.Start.{StartsWith}
 use Rattle.record_store.proofs.AnswerLemmas.{place_stored, no_place_stored, free_is_free}
 use Rattle.record_store.proofs.CountLemmas.{free_and_stored}
 

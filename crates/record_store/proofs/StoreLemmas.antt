@@ -1,26 +1,24 @@
 -- What a store knows, in terms of what is seen of it.
-use Rattle.std.proofs.Common.{◌≡◌, ◌≢◌, ◌⊎◌, ℕ, ◌+◌, ◌-◌, ◌*◌, ◌^◌, ◌<◌, ◌≤◌, Bool, true, false, cond, List, [], ◌++◌, length, take, drop, min, Option, Some, None, Result, Ok, Err, refl, sym, ap, subst, ◌∙◌, arith, inl, inr, length-append, length-drop}
+use Rattle.std.proofs.Common.{◌≡◌, ◌≢◌, ◌⊎◌, ℕ, ◌+◌, ◌-◌, ◌*◌, ◌<◌, ◌≤◌, Bool, true, false, cond, List, ◌++◌, length, take, drop, Option, Some, None, Result, Ok, Err, refl, sym, ap, subst, ◌∙◌, arith, inl, inr, length-append, length-drop}
 use Rattle.std.specs.Prelude.{is_some}
 use Rattle.std.specs.FinMap.{get, len}
 use Rattle.std.proofs.lemmas.Bool.{cases_eq, cases_lt}
 use Rattle.std.proofs.lemmas.Option.{none-some, same_Some}
 use Rattle.std.proofs.lemmas.List.{length-take, take_all, take-append-le}
 use Rattle.base_model.specs.Bytes.{part}
-use Rattle.base_model.proofs.BytesLemmas.{length-part}
 use Rattle.flash_model.specs.declared.geometry.Geometry.{Geometry}
 use Rattle.record_model.specs.Flash.{Told, FlashState, Leaves, IsErased}
-use Rattle.record_model.specs.Records.{Entry, Stored, entry_at, entry_of, head_at, tail_at, selected, stored_in, is_reserved, is_upright, AreSingle, HasNoSecondCopy}
-use Rattle.record_model.specs.RecordMap.{Write, Clear, Read, Refusal, Failed, NoSpace as no_space, NotFound as not_found, Empty as empty, LAST_GENERATION, refusal_of, pieces_of}
-use Rattle.record_model.proofs.CrashLemmas.{Leaves-none, Leaves-weaker, Leaves-then, Leaves-exit}
+use Rattle.record_model.specs.Records.{Entry, Stored, entry_at, entry_of, head_at, tail_at, selected, stored_in, is_upright, AreSingle, HasNoSecondCopy}
+use Rattle.record_model.specs.RecordMap.{Write, Failed, NoSpace as no_space, LAST_GENERATION, refusal_of, pieces_of}
+use Rattle.record_model.proofs.CrashLemmas.{Leaves-none, Leaves-exit}
 use Rattle.record_recovery.specs.declared.found.Found.{Found}
 use Rattle.record_recovery.specs.declared.found.SlotOf.{SlotOf}
 use Rattle.record_recovery.specs.Recovered.{KeepsRecords}
-use Rattle.record_slots.specs.Slots.{Fits}
-use Rattle.record_store.specs.Index.{IsListing, IsListOf, IsPlaceFound, IsStoredAt}
-use Rattle.record_store.specs.Store.{StoreView, Pending, Idle, Writing, Clearing, stored, map_after, IsReady, KeepsMap, KeepsOrMakes, DividesAlike}
-use Rattle.record_store.specs.Answers.{StartsWrite, StartsClear, RefusesWrite, RefusesClear, AnswersLength}
-use Rattle.record_store.specs.Work.{IsDraft, IsStage, made_at, StandsAt}
-use Rattle.record_store.specs.Kept.{IsStore, IsWork, IsUnderWay, Knows, KnowsSlots, KnowsDraft, HoldsId, MayMake, view_of, pending_of}
+use Rattle.record_store.specs.Index.{IsListing, IsListOf, IsPlaceFound}
+use Rattle.record_store.specs.Store.{StoreView, Pending, Idle, Writing, stored, map_after, IsReady, KeepsMap, DividesAlike}
+use Rattle.record_store.specs.Answers.{StartsWrite, RefusesWrite}
+use Rattle.record_store.specs.Work.{IsStage, made_at, StandsAt}
+use Rattle.record_store.specs.Kept.{IsStore, Knows, KnowsSlots, KnowsDraft, MayMake, view_of, pending_of}
 use Rattle.record_store.specs.Start.{StartsWith, IsRefusedBy}
 use Rattle.record_store.specs.declared.errors.StoreError.{StoreError}
 use Rattle.record_store.specs.declared.errors.StoreError.TheVariants.{NoSpace, LastGeneration, NotFound, Empty, Flash, Small}
@@ -29,7 +27,7 @@ use Rattle.record_store.specs.declared.work.Stage.{Stage}
 use Rattle.record_store.specs.declared.work.Stage.TheVariants as stages
 use Rattle.record_store.specs.declared.work.Work.{Work}
 use Rattle.record_store.specs.declared.work.Work.TheVariants as works
-use Rattle.record_store.proofs.AnswerLemmas.{place_stored, no_place_stored}
+use Rattle.record_store.proofs.AnswerLemmas.{place_stored}
 
 -- power lost in nothing, or in what kept the records
 pub KeepsMap-none : (v : StoreView) → KeepsMap v v

@@ -1,34 +1,30 @@
 -- What each change of what is pending makes of the slots and of the map.
-use Rattle.std.proofs.Common.{◌≡◌, ◌≢◌, ◌⊎◌, ℕ, ◌+◌, ◌-◌, ◌*◌, ◌/◌, ◌<◌, ◌≤◌, Bool, true, false, cond, nat_eq, List, length, take, min, Option, Some, None, refl, sym, ap, subst, ◌∙◌, arith, inl, inr}
+use Rattle.std.proofs.Common.{◌≡◌, ◌≢◌, ◌⊎◌, ℕ, ◌+◌, ◌*◌, ◌<◌, ◌≤◌, Bool, true, false, cond, nat_eq, List, length, take, Option, Some, None, refl, sym, ap, subst, ◌∙◌, arith, inl, inr}
 use Rattle.std.specs.Prelude.{is_some, IfSome}
 use Rattle.std.specs.FinMap.{get, insert, remove}
-use Rattle.std.proofs.lemmas.Bool.{cases_eq, cases_lt, cond-true, cond-false, eq-eqb, ne_eqb}
-use Rattle.std.proofs.lemmas.List.{length-take}
+use Rattle.std.proofs.lemmas.Bool.{cases_eq, cond-true, cond-false, eq-eqb, ne_eqb}
 use Rattle.std.proofs.lemmas.Option.{none-some, same_Some}
 use Rattle.base_model.specs.Bytes.{SameOutside, number_at}
-use Rattle.base_model.proofs.BytesLemmas.{SameOutside-wider}
 use Rattle.flash_model.specs.declared.geometry.Geometry.{Geometry}
 use Rattle.record_model.specs.Flash.{Told, Leaves, MayChange, IsErased}
 use Rattle.record_model.specs.Records.{Entry, Stored, entry_at, selected, stored_in, AreSingle, HasNoSecondCopy, IsChosen, DiffersInFreeSlot}
-use Rattle.record_model.specs.RecordMap.{Command, Write as write, Clear as clear, made_by, next_generation, pieces_of}
+use Rattle.record_model.specs.RecordMap.{Write as write, Clear as clear, made_by, next_generation, pieces_of}
 use Rattle.record_model.proofs.CrashLemmas.{Leaves-weaker, Leaves-exit, Leaves-change}
 use Rattle.record_model.proofs.SlotLemmas.{entry_at-other, stored_in-opened}
 use Rattle.record_model.proofs.SelectionLemmas.{get_none-then}
 use Rattle.record_slots.proofs.Within.{slot_within}
 use Rattle.record_recovery.specs.declared.found.Found.{Found}
-use Rattle.record_recovery.specs.declared.found.SlotOf.{SlotOf}
 use Rattle.record_recovery.proofs.ChosenLemmas.{get-chosen}
 use Rattle.record_recovery.proofs.OpenedLemmas.{IsChosen-opened}
 use Rattle.record_recovery.proofs.KillLemmas.{free_by_kill, kill_erased, kill_other, kill_keeps, kill_clears, killed_is_cleared}
-use Rattle.record_store.specs.Index.{IsListOf, HasOpened, HasLost, IsEntryOf, IsOlderCopy, IsOnlyCopy}
+use Rattle.record_store.specs.Index.{IsListOf, HasOpened, HasLost, IsOnlyCopy}
 use Rattle.record_store.specs.Slot.{Keeps, IsFilled, IsFreeOrOpened}
-use Rattle.record_store.specs.Store.{Pending, Idle, Writing, Clearing, map_after, pending_after, changes_before_gate, changes_in_all}
-use Rattle.record_store.specs.Work.{IsDraft, IsStage, IsBeforeGate, made_at, StandsAt, entry_in, IsNextStage}
-use Rattle.record_store.specs.Kept.{KnowsSlots, HoldsId, IsReplaced, IsDraftFor, KnowsDraft, KnowsOldCopy, KnowsCleared, Knows, IsWork, MayMake, HasMade, pending_of, work_after}
+use Rattle.record_store.specs.Store.{Pending, Idle, Writing, map_after, pending_after, changes_before_gate, changes_in_all}
+use Rattle.record_store.specs.Work.{IsDraft, IsStage, IsBeforeGate, made_at, entry_in, IsNextStage}
+use Rattle.record_store.specs.Kept.{KnowsSlots, HoldsId, IsReplaced, IsDraftFor, KnowsDraft, KnowsOldCopy, KnowsCleared, MayMake, HasMade, pending_of, work_after}
 use Rattle.record_store.specs.declared.work.Draft.{Draft}
 use Rattle.record_store.specs.declared.work.Stage.{Stage}
 use Rattle.record_store.specs.declared.work.Stage.TheVariants.{EraseFromHead, EraseFromTail, Head, Piece, TailMark, Gate}
-use Rattle.record_store.specs.declared.work.Work.{Work}
 use Rattle.record_store.specs.declared.work.Work.TheVariants.{Nothing, Write, OldCopy, Clear}
 
 -- a change in a free slot that stays free leaves all slots as they were

@@ -1,15 +1,14 @@
 -- What each answer of a store says.
-use Rattle.std.specs.Prelude.{◌≡◌, ℕ, ◌+◌, ◌<◌, ◌≤◌, ◌⊎◌, Bool, true, false, is_some, List, ◌++◌, length, drop, Option, Some, None, Result, Ok, Err}
+use Rattle.std.specs.Prelude.{◌≡◌, ℕ, ◌+◌, ◌<◌, ◌≤◌, ◌⊎◌, Bool, true, false, is_some, List, ◌++◌, length, drop, Some, None, Result, Ok, Err}
 use Rattle.std.specs.FinMap.{get, len}
 use Rattle.base_model.specs.Faults.{Rose}
 use Rattle.flash_model.specs.declared.geometry.Geometry.{Geometry}
-use Rattle.record_model.specs.Flash.{FlashState, Leaves, next_count}
-use Rattle.record_model.specs.Records.{Stored, stored_in, HasNoSecondCopy}
-use Rattle.record_model.specs.RecordMap.{Command, Write, Clear, Read, Count, Next, Refusal, Failed, NoSpace as no_space, NotFound as not_found, Empty as empty, IsNextAbove, LAST_GENERATION, refusal_of, after, changes_of}
+use Rattle.record_model.specs.Flash.{FlashState}
+use Rattle.record_model.specs.RecordMap.{Command, Write, Clear, Read, Failed, NoSpace as no_space, NotFound as not_found, Empty as empty, LAST_GENERATION, refusal_of, after, changes_of}
 use Rattle.record_slots.specs.Slots.{Fits}
 use Rattle.record_recovery.specs.declared.scanning.ScanError.{ScanError}
 use Rattle.record_recovery.specs.declared.scanning.ScanError.TheVariants.{Size, Flash as flash_failed, Memory}
-use Rattle.record_store.specs.Store.{StoreView, Pending, Idle, Writing, Clearing, stored, map_after, pending_after, IsReady, IsInDoubt}
+use Rattle.record_store.specs.Store.{StoreView, Idle, Writing, Clearing, stored, map_after, pending_after, IsReady, IsInDoubt}
 use Rattle.record_store.specs.declared.errors.StoreError.{StoreError}
 use Rattle.record_store.specs.declared.errors.StoreError.TheVariants.{NoSpace, LastGeneration, NotFound, Empty, Flash, Small}
 

@@ -1,9 +1,9 @@
 -- What a store keeps between two calls, and what it knows of its flash.
-use Rattle.std.specs.Prelude.{◌≡◌, ◌≢◌, ◌⊎◌, ℕ, ◌+◌, ◌-◌, ◌<◌, ◌≤◌, Bool, true, false, is_some, List, length, take, Option, Some, None, IfSome}
+use Rattle.std.specs.Prelude.{◌≡◌, ◌≢◌, ◌⊎◌, ℕ, ◌+◌, ◌-◌, ◌<◌, Bool, true, false, is_some, List, length, take, Option, Some, None}
 use Rattle.std.specs.FinMap.{get}
 use Rattle.flash_model.specs.declared.geometry.Geometry.{Geometry}
 use Rattle.record_model.specs.Flash.{Told, FlashState, Leaves}
-use Rattle.record_model.specs.Records.{Entry, Stored, entry_at, selected, stored_in, AreSingle}
+use Rattle.record_model.specs.Records.{Entry, entry_at, selected, stored_in, AreSingle}
 use Rattle.record_model.specs.RecordMap.{next_generation, pieces_of}
 use Rattle.record_slots.specs.Slots.{Fits}
 use Rattle.record_recovery.specs.declared.found.Found.{Found}

@@ -1,5 +1,5 @@
 -- What stands in a slot while a record is written into it.
-use Rattle.std.specs.Prelude.{◌≡◌, ◌≢◌, ℕ, ◌+◌, ◌-◌, ◌*◌, ◌⊎◌, List, length, take, Option, None, Some, Result, OnOk}
+use Rattle.std.specs.Prelude.{◌≡◌, ◌≢◌, ℕ, ◌+◌, ◌-◌, ◌*◌, ◌⊎◌, List, length, take, None, Some, Result, OnOk}
 use Rattle.base_model.specs.Bytes.{SameOutside, number_at, part}
 use Rattle.base_model.specs.Faults.{HasCause}
 use Rattle.record_model.specs.Flash.{Told, FlashState, Leaves, IsErased, next_count}

@@ -1,7 +1,6 @@
 -- What a write begins with.
 use Rattle.std.specs.Prelude.{◌≡◌, ℕ, ◌+◌, ◌<◌, false, is_some, List, Option, Some, None, IfSome}
 use Rattle.std.specs.FinMap.{get, len}
-use Rattle.flash_model.specs.declared.geometry.Geometry.{Geometry}
 use Rattle.record_model.specs.Records.{Entry, selected, is_reserved}
 use Rattle.record_model.specs.RecordMap.{Write, Failed, NoSpace as no_space, LAST_GENERATION, refusal_of}
 use Rattle.record_recovery.specs.declared.found.Found.{Found}

@@ -1,7 +1,6 @@
 -- What is seen of a store: its flash, how it divides the flash into slots, whether it has to look at them again, and the
 -- write or clear that it has begun.
-use Rattle.std.specs.Prelude.{◌≡◌, ℕ, ◌+◌, ◌⊎◌, Bool, true, false, ◌==◌, if◌then◌else◌, List, length, is_some}
-use Rattle.std.specs.FinMap.{get}
+use Rattle.std.specs.Prelude.{◌≡◌, ℕ, ◌+◌, ◌⊎◌, Bool, true, false, ◌==◌, if◌then◌else◌, List, length}
 use Rattle.flash_model.specs.declared.geometry.Geometry.{Geometry}
 use Rattle.record_model.specs.Flash.{FlashState, Leaves}
 use Rattle.record_model.specs.Records.{Stored, stored_in, HasNoSecondCopy}

@@ -174,6 +174,7 @@ impl<F: Flash> Store<F> {
 
         ensures steps { F.tells → TakesExactly self.old self.new (Write id bytes.now) result }
         ensures doubt { HasDoubtOf self.new result }
+        ensures idle { self.new.pending ≡ Idle }
         ensures alike { DividesAlike self.old self.new }
         ensures cause { HasFaultsOf self.old.flash.faults self.new.flash.faults result }
     {
@@ -190,6 +191,7 @@ impl<F: Flash> Store<F> {
         ensures crash { F.tells → IsBeforeOrAfter self.old self.new (Clear id) }
         ensures steps { F.tells → TakesExactly self.old self.new (Clear id) result }
         ensures doubt { HasDoubtOf self.new result }
+        ensures idle { self.new.pending ≡ Idle }
         ensures alike { DividesAlike self.old self.new }
         ensures cause { HasFaultsOf self.old.flash.faults self.new.flash.faults result }
     {
@@ -219,6 +221,7 @@ impl<F: Flash> Store<F> {
         ensures kept { F.tells → KeepsMap self.old self.new }
         ensures still { self.old.in_doubt ≡ false → OnlyReadsFlash self.old.flash self.new.flash F.tells }
         ensures doubt { HasDoubtOf self.new result }
+        ensures idle { self.new.pending ≡ Idle }
         ensures alike { DividesAlike self.old self.new }
         ensures cause { HasFaultsOf self.old.flash.faults self.new.flash.faults result }
     {
@@ -256,6 +259,7 @@ impl<F: Flash> Store<F> {
         ensures kept { F.tells → KeepsMap self.old self.new }
         ensures still { self.old.in_doubt ≡ false → AnswersByItself self.old self.new result }
         ensures doubt { HasDoubtOf self.new result }
+        ensures idle { self.new.pending ≡ Idle }
         ensures alike { DividesAlike self.old self.new }
         ensures cause { HasFaultsOf self.old.flash.faults self.new.flash.faults result }
     {
@@ -271,6 +275,7 @@ impl<F: Flash> Store<F> {
         ensures kept { F.tells → KeepsMap self.old self.new }
         ensures still { self.old.in_doubt ≡ false → AnswersByItself self.old self.new result }
         ensures doubt { HasDoubtOf self.new result }
+        ensures idle { self.new.pending ≡ Idle }
         ensures alike { DividesAlike self.old self.new }
         ensures cause { HasFaultsOf self.old.flash.faults self.new.flash.faults result }
     {
@@ -285,6 +290,7 @@ impl<F: Flash> Store<F> {
         ensures kept { F.tells → KeepsMap self.old self.new }
         ensures still { self.old.in_doubt ≡ false → AnswersByItself self.old self.new result }
         ensures doubt { HasDoubtOf self.new result }
+        ensures idle { self.new.pending ≡ Idle }
         ensures alike { DividesAlike self.old self.new }
         ensures cause { HasFaultsOf self.old.flash.faults self.new.flash.faults result }
     {
@@ -299,6 +305,7 @@ impl<F: Flash> Store<F> {
         ensures kept { F.tells → KeepsMap self.old self.new }
         ensures still { self.old.in_doubt ≡ false → AnswersByItself self.old self.new result }
         ensures doubt { HasDoubtOf self.new result }
+        ensures idle { self.new.pending ≡ Idle }
         ensures alike { DividesAlike self.old self.new }
         ensures cause { HasFaultsOf self.old.flash.faults self.new.flash.faults result }
     {
@@ -315,6 +322,7 @@ impl<F: Flash> Store<F> {
         ensures kept { F.tells → KeepsMap self.old self.new }
         ensures single { OnOk result (F.tells → IsSingle self.new) }
         ensures doubt { HasDoubtOf self.new result }
+        ensures idle { self.new.pending ≡ Idle }
         ensures alike { DividesAlike self.old self.new }
         ensures cause { HasFaultsOf self.old.flash.faults self.new.flash.faults result }
     {
@@ -330,6 +338,7 @@ impl<F: Flash> Store<F> {
         ensures kept { F.tells → KeepsMap self.old self.new }
         ensures single { OnOk result (F.tells → IsSingle self.new) }
         ensures doubt { HasDoubtOf self.new result }
+        ensures idle { self.new.pending ≡ Idle }
         ensures alike { DividesAlike self.old self.new }
         ensures cause { HasFaultsOf self.old.flash.faults self.new.flash.faults result }
     {
@@ -368,6 +377,7 @@ impl<F: Flash> Store<F> {
         ensures still { self.old.in_doubt ≡ false → AnswersByItself self.old self.new result }
         ensures single { OnOk result (F.tells → IsSingle self.new) }
         ensures doubt { HasDoubtOf self.new result }
+        ensures idle { self.new.pending ≡ Idle }
         ensures alike { DividesAlike self.old self.new }
         ensures cause { HasFaultsOf self.old.flash.faults self.new.flash.faults result }
     {
@@ -423,6 +433,7 @@ impl<F: Flash> Store<F> {
         ensures crash { F.tells → KeepsOrMakes self.old self.new (map_at_end self.old.per_slot self.old.pending (stored self.old)) }
         ensures steps { OnOk result (self.new.flash.steps ≡ self.old.flash.steps + changes_left self.old.per_slot self.old.pending) }
         ensures doubt { HasDoubtOf self.new result }
+        ensures idle { self.new.pending ≡ Idle }
         ensures alike { DividesAlike self.old self.new }
         ensures cause { HasFaultsOf self.old.flash.faults self.new.flash.faults result }
     {

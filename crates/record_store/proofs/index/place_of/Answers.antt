@@ -1,4 +1,3 @@
-use Rattle.std.proofs.Common.{◌≡◌}
 use Rattle.record_model.proofs.RefusalLemmas.{allowed_not_zero}
 use Rattle.record_store.proofs.index.place_of.Goals as goal
 

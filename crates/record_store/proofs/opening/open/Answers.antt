@@ -1,4 +1,3 @@
-use Rattle.std.proofs.Common.{◌≡◌}
 use Rattle.record_recovery.proofs.SettledLemmas.{KeepsRecords-none}
 use Rattle.record_store.proofs.ScanLemmas.{IsListOf-recovered, AreSingle-recovered}
 use Rattle.record_store.proofs.opening.open.Goals as goal

@@ -1,4 +1,4 @@
-use Rattle.std.proofs.Common.{◌≡◌, ℕ, ◌+◌, ◌*◌, ◌∙◌}
+use Rattle.std.proofs.Common.{◌+◌, ◌*◌, ◌∙◌}
 use Rattle.record_store.proofs.KeepsLemmas.{MayChange-same}
 use Rattle.record_store.proofs.WorkLemmas.{kill_can, kill_lost, large_slot, only_copy, cleared_may, cleared_made}
 use Rattle.record_model.specs.Records.{entry_at}

@@ -1,4 +1,4 @@
-use Rattle.std.proofs.Common.{◌≡◌, ℕ, ◌+◌, ◌-◌, ◌≤◌, length, take, sym, subst, arith}
+use Rattle.std.proofs.Common.{◌≡◌, ℕ, length, take, sym, subst, arith}
 use Rattle.std.proofs.lemmas.List.{length-take}
 use Rattle.record_store.specs.Work.{IsStage}
 use Rattle.record_store.proofs.WorkLemmas.{prepared_may, prepared_made}

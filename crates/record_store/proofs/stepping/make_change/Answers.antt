@@ -1,4 +1,4 @@
-use Rattle.std.proofs.Common.{◌≡◌, ℕ, sym, subst}
+use Rattle.std.proofs.Common.{sym, subst}
 use Rattle.record_store.specs.Kept.{MayMake, pending_of}
 use Rattle.record_store.specs.declared.work.Work.{Work}
 use Rattle.record_store.proofs.stepping.make_change.Goals as goal

@@ -1,8 +1,8 @@
-use Rattle.std.proofs.Common.{◌≡◌, ℕ, ◌+◌, ◌-◌, ◌≤◌, length, take, sym, subst, refl, arith}
+use Rattle.std.proofs.Common.{◌≡◌, length, take, sym, subst, refl, arith}
 use Rattle.std.proofs.lemmas.List.{length-take}
 use Rattle.record_model.specs.Records.{entry_at}
 use Rattle.record_store.specs.Work.{entry_in}
-use Rattle.record_store.specs.Kept.{HasMade, work_after}
+use Rattle.record_store.specs.Kept.{HasMade}
 use Rattle.record_store.specs.declared.work.Stage.TheVariants.{Gate}
 use Rattle.record_store.specs.declared.work.Work.{Work}
 use Rattle.record_store.specs.declared.work.Work.TheVariants.{Write}

@@ -1,4 +1,3 @@
-use Rattle.std.proofs.Common.{◌≡◌}
 use Rattle.record_recovery.proofs.SettledLemmas.{KeepsRecords-none}
 use Rattle.record_store.proofs.StoreLemmas.{fold_single}
 use Rattle.record_store.proofs.store.Store.attach.Goals as goal

@@ -1,4 +1,4 @@
-use Rattle.std.proofs.Common.{◌≡◌, ◌⊎◌, Bool, true, false, inl, inr, sym, ◌∙◌}
+use Rattle.std.proofs.Common.{inl, inr}
 use Rattle.std.proofs.lemmas.Bool.{both_ways}
 use Rattle.record_store.proofs.FinishLemmas.{IsOnWay-none, way_crash, gone_on, IsOnWay-more}
 use Rattle.record_store.proofs.store.Store.finish.Goals as goal

@@ -1,4 +1,3 @@
-use Rattle.std.proofs.Common.{◌≡◌}
 use Rattle.record_store.specs.Kept.{pending_of}
 use Rattle.record_store.proofs.StoreLemmas.{kept_since}
 use Rattle.record_store.proofs.store.Store.remount.Goals as goal

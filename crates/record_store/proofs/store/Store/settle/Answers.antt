@@ -1,5 +1,4 @@
-use Rattle.std.proofs.Common.{◌≡◌, ℕ, List, false, refl, sym, ap, subst, ◌∙◌}
-use Rattle.record_model.specs.Records.{entry_at}
+use Rattle.std.proofs.Common.{refl, sym, ap, subst, ◌∙◌}
 use Rattle.record_store.specs.Store.{StoreView}
 use Rattle.record_store.specs.Kept.{Knows, pending_of}
 use Rattle.record_store.specs.declared.work.Work.{Work}

@@ -1,9 +1,7 @@
-use Rattle.std.proofs.Common.{◌≡◌, ℕ, Some, None, refl, sym, ap, subst, ◌∙◌}
-use Rattle.std.specs.Prelude.{false}
+use Rattle.std.proofs.Common.{◌≡◌, ℕ, Some, None, refl}
 use Rattle.record_model.specs.Records.{Stored, entry_at}
 use Rattle.record_model.specs.RecordMap.{Clear, NotFound, refusal_of}
 use Rattle.record_model.proofs.RefusalLemmas.{clear_missing, clear_taken}
-use Rattle.record_store.specs.Store.{StoreView}
 use Rattle.record_store.proofs.AnswerLemmas.{place_stored, no_place_stored}
 use Rattle.record_store.proofs.StoreLemmas.{looked, of_old, kept_map, clearing_store}
 use Rattle.record_store.proofs.store.Store.start_clear.Goals as goal

@@ -1,4 +1,3 @@
-use Rattle.std.proofs.Common.{◌≡◌}
 use Rattle.record_store.proofs.StoreLemmas.{kept_map, start_from}
 use Rattle.record_store.proofs.store.Store.start_write.Goals as goal
 

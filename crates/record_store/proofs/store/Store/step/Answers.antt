@@ -1,4 +1,4 @@
-use Rattle.std.proofs.Common.{◌≡◌, ℕ, List, subst}
+use Rattle.std.proofs.Common.{ℕ, List, subst}
 use Rattle.record_store.specs.Kept.{MayMake, pending_of}
 use Rattle.record_store.proofs.StoreLemmas.{may_since, may_exit}
 use Rattle.record_store.proofs.store.Store.step.Goals as goal
