@@ -13,3 +13,4 @@ pub mod StoredLemmas
 pub mod StartLemmas
 pub mod StoreLemmas
 pub mod FinishLemmas
+pub mod FewLemmas

@@ -8,9 +8,9 @@ use Rattle.std.proofs.lemmas.List.{length-take, take_all, take-append-le}
 use Rattle.base_model.specs.Bytes.{part}
 use Rattle.flash_model.specs.declared.geometry.Geometry.{Geometry}
 use Rattle.record_model.specs.Flash.{Told, FlashState, Leaves, IsErased}
-use Rattle.record_model.specs.Records.{Entry, Stored, entry_at, entry_of, head_at, tail_at, selected, stored_in, is_upright, AreSingle, HasNoSecondCopy}
-use Rattle.record_model.specs.RecordMap.{Write, Failed, NoSpace as no_space, LAST_GENERATION, refusal_of, pieces_of}
-use Rattle.record_model.proofs.CrashLemmas.{Leaves-none, Leaves-exit}
+use Rattle.record_model.specs.Records.{Entry, Stored, entry_at, entry_of, head_at, tail_at, selected, stored_in, is_reserved, is_upright, AreSingle, HasNoSecondCopy, IsNearlySingle}
+use Rattle.record_model.specs.RecordMap.{Write, Clear, Read, Refusal, Failed, NoSpace as no_space, NotFound as not_found, Empty as empty, LAST_GENERATION, refusal_of, pieces_of}
+use Rattle.record_model.proofs.CrashLemmas.{Leaves-none, Leaves-weaker, Leaves-then, Leaves-exit}
 use Rattle.record_recovery.specs.declared.found.Found.{Found}
 use Rattle.record_recovery.specs.declared.found.SlotOf.{SlotOf}
 use Rattle.record_recovery.specs.Recovered.{KeepsRecords}
@@ -242,6 +242,7 @@ begun_store tells geometry flash new found buffer written doubt work v id size t
             record { slots = known; draft_for = (starts.takes (entry_at geometry.slot_size flash.told.image) known).draft_for },
             first_stands geometry draft (take draft.len written) flash.told.image tail stage first (is_tail told),
           );
+      spare = λ told. subst (λ (t : Told). IsNearlySingle (entry_at geometry.slot_size t.image) geometry.slots) (sym (same told)) (store.spare told);
     }
 
 -- what a write that has begun answers
@@ -282,6 +283,7 @@ clearing_store tells geometry flash found buffer doubt work v id place store is 
             slots_known = known;
             held = record { held = record { id = id; generation = place.generation; body = had.0 }; here = (had.1).here; of_id = refl };
           };
+      spare = store.spare;
     }
 
 -- the body of a slot's record stands in the slot

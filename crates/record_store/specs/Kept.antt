@@ -3,7 +3,7 @@ use Rattle.std.specs.Prelude.{◌≡◌, ◌≢◌, ◌⊎◌, ℕ, ◌+◌, ◌
 use Rattle.std.specs.FinMap.{get}
 use Rattle.flash_model.specs.declared.geometry.Geometry.{Geometry}
 use Rattle.record_model.specs.Flash.{Told, FlashState, Leaves}
-use Rattle.record_model.specs.Records.{Entry, entry_at, selected, stored_in, AreSingle}
+use Rattle.record_model.specs.Records.{Entry, Stored, entry_at, selected, stored_in, AreSingle, IsNearlySingle}
 use Rattle.record_model.specs.RecordMap.{next_generation, pieces_of}
 use Rattle.record_slots.specs.Slots.{Fits}
 use Rattle.record_recovery.specs.declared.found.Found.{Found}
@@ -110,7 +110,7 @@ view_of geometry flash in_doubt pending = record {
   pending = pending;
 }
 
--- what holds of a store between two calls
+-- what holds of a store between two calls, in doubt or not: at most one live slot is a second copy
 pub record IsStore (tells : Type 0) (geometry : Geometry) (flash : FlashState) (found : Found) (buffer : List ℕ) (in_doubt : Bool) (work : Work) : Type 0 where
   pub fits : Fits geometry flash
   pub listing : IsListing geometry.slots geometry.slot_size found
@@ -118,6 +118,7 @@ pub record IsStore (tells : Type 0) (geometry : Geometry) (flash : FlashState) (
   pub form : IsWork geometry work
   pub certain : IsUnderWay work → in_doubt ≡ false
   pub knows : tells → in_doubt ≡ false → Knows geometry found buffer flash.told.image work
+  pub spare : tells → IsNearlySingle (entry_at geometry.slot_size flash.told.image) geometry.slots
 
 -- power lost in the next change of what is pending leaves the records from before it, or those after it
 abbrev pub MayMake : Geometry → Pending → Told → Told → Type 0

@@ -1,11 +1,11 @@
 // The opening of a flash: all memory of a store, and a look at each slot.
-ghost use Rattle.std.specs.Prelude.{◌≡◌, ◌≤◌, ◌-◌, length, IfOk};
+ghost use Rattle.std.specs.Prelude.{◌≡◌, ◌+◌, ◌≤◌, ◌-◌, length, IfOk};
 ghost use Rattle.record_slots.specs.Slots.{Fits};
 ghost use Rattle.record_store.specs.Answers.{OpensOn};
 ghost use Rattle.record_store.specs.Index.{IsListing};
 ghost use Rattle.record_store.specs.Kept.{KnowsSlots};
 ghost use Rattle.record_store.specs.Store.{KeepsRecordsOf};
-ghost use Rattle.record_model.specs.Records.{entry_at};
+ghost use Rattle.record_model.specs.Records.{entry_at, second_copies};
 
 use flash_model::{Flash, Geometry};
 use record_recovery::{Found, ScanError, scan};
@@ -24,6 +24,10 @@ pub fn open<F: Flash>(
     ensures knows { IfOk result (λ opened. F.tells
         → KnowsSlots (entry_at geometry.now.slot_size (F.state flash.new).told.image) geometry.now.slots opened.0) }
     ensures kept { F.tells → KeepsRecordsOf geometry.now (F.state flash.old) (F.state flash.new) }
+    ensures steps { IfOk result (λ _. F.tells → (F.state flash.new).steps
+        ≡ (F.state flash.old).steps + second_copies geometry.now.slot_size geometry.now.slots (F.state flash.old).told.image) }
+    ensures at_most { F.tells → (F.state flash.new).steps
+        ≤ (F.state flash.old).steps + second_copies geometry.now.slot_size geometry.now.slots (F.state flash.old).told.image }
     ensures size { (F.state flash.new).size ≡ (F.state flash.old).size }
     ensures sector_size { (F.state flash.new).sector_size ≡ (F.state flash.old).sector_size }
 {

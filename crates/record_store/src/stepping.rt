@@ -1,7 +1,7 @@
 // The next change of what is pending, one a call. After it the lists are those of the slots as they are then.
 ghost use Rattle.std.specs.Prelude.{◌≡◌, ◌≢◌, ℕ, ◌-◌, ◌<◌, ◌≤◌, List, length, take, None, OnOk, IfOk};
 ghost use Rattle.record_slots.specs.Slots.{Fits};
-ghost use Rattle.record_model.specs.Records.{entry_at};
+ghost use Rattle.record_model.specs.Records.{entry_at, AreSingle, IsNearlySingle};
 ghost use Rattle.record_store.specs.Index.{IsListing};
 ghost use Rattle.record_store.specs.Slot.{IsOneChange};
 ghost use Rattle.record_store.specs.Work.{IsDraft, IsStage, IsBeforeGate, StandsAt};
@@ -33,6 +33,7 @@ pub fn make_change<F: Flash>(
     ensures listing { IsListing geometry.now.slots geometry.now.slot_size found.new }
     ensures made { IfOk result (HasMade F.tells geometry.now buffer.now (F.state flash.old).told.image (F.state flash.new).told.image found.new work.now) }
     ensures crash { F.tells → MayMake geometry.now (pending_of geometry.now.per_slot buffer.now work.now) (F.state flash.old).told (F.state flash.new).told }
+    ensures spare { F.tells → IsNearlySingle (entry_at geometry.now.slot_size (F.state flash.new).told.image) geometry.now.slots }
     ensures change { IsOneChange (F.state flash.old) (F.state flash.new) result }
 {
     match work {
@@ -62,9 +63,11 @@ fn fill_slot<F: Flash>(
     requires before { IsBeforeGate stage }
     requires stands { F.tells → StandsAt geometry.now draft.now (take draft.now.len buffer.now) (F.state flash.old).told.image stage }
     requires free { F.tells → entry_at geometry.now.slot_size (F.state flash.old).told.image draft.now.slot ≡ None }
+    requires single { F.tells → AreSingle (entry_at geometry.now.slot_size (F.state flash.old).told.image) geometry.now.slots }
     ensures made { IfOk result (λ next. (found : Found) → (F.tells → KnowsDraft geometry.now found (F.state flash.old).told.image draft.now)
         → HasMade F.tells geometry.now buffer.now (F.state flash.old).told.image (F.state flash.new).told.image found (Work.Write draft.now stage) next) }
     ensures crash { F.tells → MayMake geometry.now (pending_of geometry.now.per_slot buffer.now (Work.Write draft.now stage)) (F.state flash.old).told (F.state flash.new).told }
+    ensures spare { F.tells → IsNearlySingle (entry_at geometry.now.slot_size (F.state flash.new).told.image) geometry.now.slots }
     ensures change { IsOneChange (F.state flash.old) (F.state flash.new) result }
 {
     let len = draft.len as usize;
@@ -91,6 +94,7 @@ fn open_slot<F: Flash>(
     ensures listing { IsListing geometry.now.slots geometry.now.slot_size found.new }
     ensures made { IfOk result (HasMade F.tells geometry.now buffer.now (F.state flash.old).told.image (F.state flash.new).told.image found.new (Work.Write draft.now Stage.Gate)) }
     ensures crash { F.tells → MayMake geometry.now (pending_of geometry.now.per_slot buffer.now (Work.Write draft.now Stage.Gate)) (F.state flash.old).told (F.state flash.new).told }
+    ensures spare { F.tells → IsNearlySingle (entry_at geometry.now.slot_size (F.state flash.new).told.image) geometry.now.slots }
     ensures change { IsOneChange (F.state flash.old) (F.state flash.new) result }
 {
     let len = draft.len as usize;
@@ -134,6 +138,7 @@ fn end_old_copy<F: Flash>(
         → HasMade F.tells geometry.now buffer (F.state flash.old).told.image (F.state flash.new).told.image found.new (Work.OldCopy id len slot) next) }
     ensures crash { F.tells → (buffer : List ℕ) (id len : ℕ)
         → MayMake geometry.now (pending_of geometry.now.per_slot buffer (Work.OldCopy id len slot)) (F.state flash.old).told (F.state flash.new).told }
+    ensures spare { F.tells → IsNearlySingle (entry_at geometry.now.slot_size (F.state flash.new).told.image) geometry.now.slots }
     ensures change { IsOneChange (F.state flash.old) (F.state flash.new) result }
 {
     kill(flash, geometry, slot)?;
@@ -158,6 +163,7 @@ fn end_record<F: Flash>(
         → HasMade F.tells geometry.now buffer (F.state flash.old).told.image (F.state flash.new).told.image found.new (Work.Clear id slot) next) }
     ensures crash { F.tells → (buffer : List ℕ)
         → MayMake geometry.now (pending_of geometry.now.per_slot buffer (Work.Clear id slot)) (F.state flash.old).told (F.state flash.new).told }
+    ensures spare { F.tells → IsNearlySingle (entry_at geometry.now.slot_size (F.state flash.new).told.image) geometry.now.slots }
     ensures change { IsOneChange (F.state flash.old) (F.state flash.new) result }
 {
     kill(flash, geometry, slot)?;

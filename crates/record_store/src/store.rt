@@ -1,6 +1,7 @@
 // The store.
 ghost use Rattle.std.specs.Prelude.{◌≡◌, ◌↔◌, ℕ, ◌+◌, ◌-◌, ◌*◌, ◌/◌, ◌<◌, ◌≤◌, List, false, length, IsOk, OnOk, OnErr, IfOk, IfErr};
 ghost use Rattle.std.specs.FinMap.{len};
+ghost use Rattle.record_model.specs.Records.{second_copies};
 ghost use Rattle.record_model.specs.RecordMap.{Write, Clear, Read, IsNextAbove};
 ghost use Rattle.record_slots.specs.Slots.{Fits};
 ghost use Rattle.record_store.specs.Store.{Idle, Clearing, stored, map_after, IsBusy, IsWriteOf, IsSingle, IsReady, IsOpened, IsFlashOf, IsBeforeOrAfter, DividesAlike, KeepsMap, KeepsOrMakes, KeepsRecordsOf, abandoned};
@@ -54,6 +55,12 @@ impl<F: Flash> Store<F> {
         ensures fits { IsOk result → Fits geometry (F.state flash) }
         ensures flash { IfOk result (λ store. IsFlashOf (F.state flash) store.flash) }
         ensures single { IfOk result (λ store. F.tells → IsSingle store) }
+
+        // One change for each live slot that is not its identifier's record, and no more where it fails.
+        ensures steps { IfOk result (λ store. F.tells → store.flash.steps
+            ≡ (F.state flash).steps + second_copies geometry.slot_size geometry.slots (F.state flash).told.image) }
+        ensures at_most { IfErr result (λ refused. F.tells → (F.state refused.flash).steps
+            ≤ (F.state flash).steps + second_copies geometry.slot_size geometry.slots (F.state flash).told.image) }
 
         // Power lost at any step on the way leaves the records of the flash.
         ensures kept { IfOk result (λ store. F.tells → KeepsRecordsOf geometry (F.state flash) store.flash) }

@@ -1,4 +1,5 @@
 use Rattle.record_recovery.proofs.SettledLemmas.{KeepsRecords-none}
+use Rattle.record_recovery.proofs.StepsLemmas.{recovered_steps}
 use Rattle.record_store.proofs.ScanLemmas.{IsListOf-recovered, AreSingle-recovered}
 use Rattle.record_store.proofs.opening.open.Goals as goal
 
@@ -13,3 +14,7 @@ returns-clause-knows g c tells =
     let new = g.F.Flash.state c.scan.new.flash in
     let recovered = c.in_ok-found.ensures.recovered tells in
     record { list = IsListOf-recovered size slots old new c.in_ok-found.found recovered; single = AreSingle-recovered size slots old new c.in_ok-found.found recovered }
+
+pub returns-clause-steps : goal.returns-clause-steps
+returns-clause-steps g c tells =
+    recovered_steps c.args.geometry.now.slot_size c.args.geometry.now.slots (g.F.Flash.state c.args.flash.now) (g.F.Flash.state c.scan.new.flash) c.in_ok-found.found (c.in_ok-found.ensures.recovered tells)

@@ -2,6 +2,7 @@ use Rattle.std.proofs.Common.{◌+◌, ◌*◌, ◌∙◌}
 use Rattle.record_store.proofs.KeepsLemmas.{MayChange-same}
 use Rattle.record_store.proofs.WorkLemmas.{kill_can, kill_lost, large_slot, old_copy_may, old_copy_made}
 use Rattle.record_model.specs.Records.{entry_at}
+use Rattle.record_store.proofs.FewLemmas.{old_copy_spare}
 use Rattle.record_store.proofs.stepping.end_old_copy.Goals as goal
 
 pub kill-requires-clause-erased : goal.kill-requires-clause-erased
@@ -32,3 +33,11 @@ returns-clause-made g c buffer id len =
     c.slot_killed.ensures.list (entry_at size old.image) (entry_at size new.image) known.lost
     (kill_lost size c.args.slot old.image new.image known.lost (large_slot c.args.geometry.now) known.here (same tells) (c.in_ok-kill.ensures.stands tells))
     known.older known.list)
+
+pub returns-in_err-kill-clause-spare : goal.returns-in_err-kill-clause-spare
+returns-in_err-kill-clause-spare g c tells =
+    old_copy_spare c.args.geometry.now c.args.found.now c.args.slot (g.F.Flash.state c.args.flash.now).told (g.F.Flash.state c.kill.new.flash).told (c.requires.knows tells) (c.kill.ensures.change.told tells)
+
+pub returns-clause-spare : goal.returns-clause-spare
+returns-clause-spare g c tells =
+    old_copy_spare c.args.geometry.now c.args.found.now c.args.slot (g.F.Flash.state c.args.flash.now).told (g.F.Flash.state c.kill.new.flash).told (c.requires.knows tells) (c.kill.ensures.change.told tells)

@@ -2,6 +2,7 @@ use Rattle.std.proofs.Common.{◌+◌, ◌*◌, ◌∙◌}
 use Rattle.record_store.proofs.KeepsLemmas.{MayChange-same}
 use Rattle.record_store.proofs.WorkLemmas.{kill_can, kill_lost, large_slot, only_copy, cleared_may, cleared_made}
 use Rattle.record_model.specs.Records.{entry_at}
+use Rattle.record_store.proofs.FewLemmas.{cleared_spare}
 use Rattle.record_store.proofs.stepping.end_record.Goals as goal
 
 pub kill-requires-clause-erased : goal.kill-requires-clause-erased
@@ -34,3 +35,13 @@ returns-clause-made g c buffer =
     (known.held).of_id
     (only_copy (entry_at size old.image) c.args.geometry.now.slots c.args.id c.args.slot c.requires.slot known.slots_known.single known.held)
     known.slots_known.list)
+
+pub returns-in_err-kill-clause-spare : goal.returns-in_err-kill-clause-spare
+returns-in_err-kill-clause-spare g c tells =
+    let known = c.requires.knows tells in
+    cleared_spare c.args.geometry.now c.args.slot (known.held).held (g.F.Flash.state c.args.flash.now).told (g.F.Flash.state c.kill.new.flash).told known.slots_known.single (known.held).here (c.kill.ensures.change.told tells)
+
+pub returns-clause-spare : goal.returns-clause-spare
+returns-clause-spare g c tells =
+    let known = c.requires.knows tells in
+    cleared_spare c.args.geometry.now c.args.slot (known.held).held (g.F.Flash.state c.args.flash.now).told (g.F.Flash.state c.kill.new.flash).told known.slots_known.single (known.held).here (c.kill.ensures.change.told tells)

@@ -7,6 +7,7 @@ use Rattle.record_store.specs.declared.work.Stage.TheVariants.{Gate}
 use Rattle.record_store.specs.declared.work.Work.{Work}
 use Rattle.record_store.specs.declared.work.Work.TheVariants.{Write}
 use Rattle.record_store.proofs.WorkLemmas.{large_slot, gate_opened, published_may, published_made}
+use Rattle.record_store.proofs.FewLemmas.{published_spare}
 use Rattle.record_store.proofs.stepping.open_slot.Goals as goal
 
 pub returns-in_err-publish-clause-crash : goal.returns-in_err-publish-clause-crash
@@ -40,3 +41,13 @@ returns-clause-made g c =
     (gate_opened geometry.slot_size geometry.slots draft body old.image new.image (large_slot geometry) known.slots.single known.draft_for (c.in_ok-publish.ensures.opened tells))
     (record { of_id = refl; generation = refl; len = long })
     known.slots.list))
+
+pub returns-in_err-publish-clause-spare : goal.returns-in_err-publish-clause-spare
+returns-in_err-publish-clause-spare g c tells =
+    published_spare c.args.geometry.now c.args.draft.now.slot (entry_in c.args.draft.now (take c.args.draft.now.len c.args.buffer.now)) (g.F.Flash.state c.args.flash.now).told (g.F.Flash.state c.publish.new.flash).told
+    (c.requires.knows tells).0.slots.single (c.publish.ensures.crash tells)
+
+pub returns-clause-spare : goal.returns-clause-spare
+returns-clause-spare g c tells =
+    published_spare c.args.geometry.now c.args.draft.now.slot (entry_in c.args.draft.now (take c.args.draft.now.len c.args.buffer.now)) (g.F.Flash.state c.args.flash.now).told (g.F.Flash.state c.publish.new.flash).told
+    (c.requires.knows tells).0.slots.single (c.publish.ensures.crash tells)

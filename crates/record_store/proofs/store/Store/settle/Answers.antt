@@ -4,6 +4,7 @@ use Rattle.record_store.specs.Kept.{Knows, pending_of}
 use Rattle.record_store.specs.declared.work.Work.{Work}
 use Rattle.record_store.proofs.ScanLemmas.{IsListing-rescanned, IsListOf-recovered, AreSingle-recovered}
 use Rattle.record_store.proofs.StoreLemmas.{KeepsMap-none, kept_since, idle_work, ready_knows, fold_single}
+use Rattle.record_store.proofs.FewLemmas.{rescanned_spare, rescanned_few}
 use Rattle.record_store.proofs.store.Store.settle.Goals as goal
 
 pub returns-then-not-self-clause-kept : goal.returns-then-not-self-clause-kept
@@ -36,6 +37,7 @@ invariant_of-self g c =
           let idle = idle_work i.geometry.per_slot i.buffer.items i.work (ap (λ (u : StoreView). u.pending) c.self.view_is ∙ c.requires.idle) in
           subst (λ (w : Work). Knows i.geometry found i.buffer.items new.told.image w) (sym idle)
           (record { list = IsListOf-recovered size slots old new found recovered; single = AreSingle-recovered size slots old new found recovered });
+      spare = λ tells. rescanned_spare size slots old.told new.told (c.rescan.ensures.lost tells) (c.self.invariant.spare tells);
     }
 
 pub returns-in-Ok-clause-kept : goal.returns-in-Ok-clause-kept
@@ -47,3 +49,16 @@ pub returns-in-Err-clause-kept : goal.returns-in-Err-clause-kept
 returns-in-Err-clause-kept g c tells =
     let i = c.self.inside in
     kept_since i.geometry (g.F.Flash.state i.flash) i.in_doubt (pending_of i.geometry.per_slot i.buffer.items i.work) c.args.self.now (g.F.Flash.state c.rescan.new.flash).told c.self.view_is (c.rescan.ensures.crash tells)
+
+pub invariant_of-self-in-Err : goal.invariant_of-self-in-Err
+invariant_of-self-in-Err g c =
+    let i = c.self.inside in
+    record {
+      fits = record { size = c.rescan.ensures.shape.size ∙ c.self.invariant.fits.size; sector_size = c.rescan.ensures.shape.sector_size ∙ c.self.invariant.fits.sector_size };
+      listing = IsListing-rescanned i.geometry.slots i.geometry.slot_size i.found c.rescan.new.found c.rescan.ensures.index c.rescan.ensures.free c.rescan.ensures.few c.rescan.ensures.room c.self.invariant.listing.room;
+      room = c.self.invariant.room;
+      form = c.self.invariant.form;
+      certain = c.self.invariant.certain;
+      knows = λ tells sure. absurd (cc);
+      spare = λ tells. rescanned_spare i.geometry.slot_size i.geometry.slots (g.F.Flash.state i.flash).told (g.F.Flash.state c.rescan.new.flash).told (c.rescan.ensures.lost tells) (c.self.invariant.spare tells);
+    }
