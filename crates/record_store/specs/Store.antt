@@ -4,7 +4,7 @@ use Rattle.std.specs.Prelude.{◌≡◌, ℕ, ◌+◌, ◌⊎◌, Bool, true, fa
 use Rattle.std.specs.FinMap.{get}
 use Rattle.flash_model.specs.declared.geometry.Geometry.{Geometry}
 use Rattle.record_model.specs.Flash.{FlashState, Leaves}
-use Rattle.record_model.specs.Records.{Stored, stored_in, HasNoSecondCopy}
+use Rattle.record_model.specs.Records.{Stored, entry_at, stored_in, HasNoSecondCopy, free_among}
 use Rattle.record_model.specs.RecordMap.{Command, Write, Clear, pieces_of, made_by, after}
 
 -- what a store has begun: nothing, the write of a record, of whose flash changes so many are made and which takes the
@@ -131,3 +131,9 @@ pub record IsFlashOf (old new : FlashState) : Type 0 where
 abbrev pub KeepsRecordsOf : Geometry → FlashState → FlashState → Type 0
 KeepsRecordsOf geometry old new =
     Leaves old.told new.told (λ image. stored_in geometry.slot_size geometry.slots image ≡ stored_in geometry.slot_size geometry.slots old.told.image)
+
+-- in the opening each slot that lost its record took one change
+abbrev pub TakesOneEach : Geometry → FlashState → FlashState → Type 0
+TakesOneEach geometry old new =
+    new.steps + free_among (entry_at geometry.slot_size old.told.image) geometry.slots
+    ≡ old.steps + free_among (entry_at geometry.slot_size new.told.image) geometry.slots

@@ -4,7 +4,7 @@ ghost use Rattle.record_slots.specs.Slots.{Fits};
 ghost use Rattle.record_store.specs.Answers.{OpensOn};
 ghost use Rattle.record_store.specs.Index.{IsListing};
 ghost use Rattle.record_store.specs.Kept.{KnowsSlots};
-ghost use Rattle.record_store.specs.Store.{KeepsRecordsOf};
+ghost use Rattle.record_store.specs.Store.{KeepsRecordsOf, TakesOneEach};
 ghost use Rattle.record_model.specs.Records.{entry_at};
 
 use flash_model::{Flash, Geometry};
@@ -24,6 +24,7 @@ pub fn open<F: Flash>(
     ensures knows { IfOk result (λ opened. F.tells
         → KnowsSlots (entry_at geometry.now.slot_size (F.state flash.new).told.image) geometry.now.slots opened.0) }
     ensures kept { F.tells → KeepsRecordsOf geometry.now (F.state flash.old) (F.state flash.new) }
+    ensures steps { IfOk result (λ _. F.tells → TakesOneEach geometry.now (F.state flash.old) (F.state flash.new)) }
     ensures size { (F.state flash.new).size ≡ (F.state flash.old).size }
     ensures sector_size { (F.state flash.new).sector_size ≡ (F.state flash.old).sector_size }
 {

@@ -3,7 +3,7 @@ ghost use Rattle.std.specs.Prelude.{◌≡◌, ◌↔◌, ℕ, ◌+◌, ◌-◌,
 ghost use Rattle.std.specs.FinMap.{len};
 ghost use Rattle.record_model.specs.RecordMap.{Write, Clear, Read, IsNextAbove};
 ghost use Rattle.record_slots.specs.Slots.{Fits};
-ghost use Rattle.record_store.specs.Store.{Idle, Clearing, stored, map_after, IsBusy, IsWriteOf, IsSingle, IsReady, IsOpened, IsFlashOf, IsBeforeOrAfter, DividesAlike, KeepsMap, KeepsOrMakes, KeepsRecordsOf, abandoned};
+ghost use Rattle.record_store.specs.Store.{Idle, Clearing, stored, map_after, IsBusy, IsWriteOf, IsSingle, IsReady, IsOpened, IsFlashOf, TakesOneEach, IsBeforeOrAfter, DividesAlike, KeepsMap, KeepsOrMakes, KeepsRecordsOf, abandoned};
 ghost use Rattle.record_store.specs.Finish.{IsUnfinished, map_at_end, changes_left};
 ghost use Rattle.record_store.specs.Answers.{HasFaultsOf, HasDoubtOf, HasDoubtAtStart, StartsWrite, StartsClear, IsStep, HasStepped, AnswersWrite, AnswersClear, AnswersRead, AnswersLength, FailsByFlash, RefusesFlash, TakesExactly, OnlyReadsFlash, AnswersByItself};
 
@@ -54,6 +54,7 @@ impl<F: Flash> Store<F> {
         ensures fits { IsOk result → Fits geometry (F.state flash) }
         ensures flash { IfOk result (λ store. IsFlashOf (F.state flash) store.flash) }
         ensures single { IfOk result (λ store. F.tells → IsSingle store) }
+        ensures steps { IfOk result (λ store. F.tells → TakesOneEach geometry (F.state flash) store.flash) }
 
         // Power lost at any step on the way leaves the records of the flash.
         ensures kept { IfOk result (λ store. F.tells → KeepsRecordsOf geometry (F.state flash) store.flash) }
