@@ -3,14 +3,16 @@ use Rattle.std.proofs.Common.{◌≡◌, ℕ, ◌+◌, ◌*◌, ◌^◌, ◌<◌
 use Rattle.std.proofs.lemmas.Bool.{cases_lt}
 use Rattle.std.proofs.lemmas.List.{append-nil}
 use Rattle.record_model.specs.Flash.{FlashState}
-use Rattle.record_model.specs.Records.{Stored, stored_in}
+use Rattle.record_model.specs.Records.{Stored, stored_in, entry_at, selected, free_among, HasNoSecondCopy}
+use Rattle.record_model.proofs.SelectionLemmas.{free_among-len}
+use Rattle.std.specs.FinMap.{len}
 use Rattle.record_model.specs.RecordMap.{Command}
 use Rattle.record_model.specs.History.{Played, cursor_left, IsHistory, TakeSteps}
 use Rattle.record_model.proofs.HistoryLemmas.{cursor_left-append, IsHistory-none, IsHistory-then}
 use Rattle.record_model.proofs.CrashLemmas.{Leaves-exit, past_grows, IsLater-refl, CrashImage-now}
 use Rattle.record_model.specs.Flash.{Told, Leaves, CrashImage}
 use Rattle.base_model.specs.Faults.{Rose}
-use Rattle.record_store.specs.Store.{StoreView, stored, DividesAlike, IsOpened, KeepsRecordsOf}
+use Rattle.record_store.specs.Store.{StoreView, stored, DividesAlike, IsOpened, IsSingle, KeepsRecordsOf, TakesOneEach}
 use Rattle.record_store.specs.Answers.{RefusesFlash}
 use Rattle.flash_model.specs.declared.geometry.Geometry.{Geometry}
 use Rattle.record_recovery.specs.declared.scanning.ScanError.{ScanError}
@@ -239,7 +241,6 @@ IsOpen-then old new is stays =
     record {
       idle = stays.idle;
       slot = subst (λ (n : ℕ). n ≤ 65600) (sym alike.slot_size) is.slot;
-      size = alike.size ∙ is.size ∙ ap (λ (n : ℕ). n * old.slots) (sym alike.slot_size) ∙ ap (λ (n : ℕ). new.slot_size * n) (sym alike.slots);
     }
 
 -- the script was read to its end
@@ -360,6 +361,18 @@ IsHistory-kept slots cursor view old new kept = record {
   crash = λ s image from crash. kept.each s image from crash;
 }
 
+-- an opening of a flash without second copies made no change
+opened_still : (size slots : ℕ) (old mid : FlashState) → HasNoSecondCopy size slots old.told.image → HasNoSecondCopy size slots mid.told.image
+    → stored_in size slots mid.told.image ≡ stored_in size slots old.told.image
+    → mid.steps + free_among (entry_at size old.told.image) slots ≡ old.steps + free_among (entry_at size mid.told.image) slots
+    → mid.steps ≡ old.steps
+unfolding HasNoSecondCopy stored_in
+opened_still size slots old mid single single_mid same steps =
+    let before = free_among-len (entry_at size old.told.image) slots single in
+    let after = free_among-len (entry_at size mid.told.image) slots single_mid in
+    let lens : len (selected (entry_at size mid.told.image) slots) ≡ len (selected (entry_at size old.told.image) slots) = ap (λ (m : Stored). len m) same in
+    omega arith
+
 -- the records of a flash were kept
 abbrev pub KeepsAll : Layout → FlashState → FlashState → Type 0
 KeepsAll layout old new =
@@ -400,7 +413,7 @@ pub run_kept : (told_source told_sink told_flash : Type 0) (layout : Layout) (sc
 run_kept told_source told_sink told_flash layout script written old new status first kept = record {
   commands = [];
   history = λ told. IsHistory-kept layout.slots 0 (stored_in layout.slot_size layout.slots) old.told new.told (kept told);
-  steps = λ told still. record { opened = 0; steps = tt };
+  steps = λ told still. record { opened = old.steps; from_start = λ single. refl; steps = tt };
   cause = λ h. absurd h;
   lines = λ told. ends_first (room_of layout) script script status first;
   text = λ told. written_first written status first;
@@ -425,12 +438,18 @@ run_refused told_source told_sink told_flash layout geometry script written old 
     subst (IsRun told_source told_sink told_flash layout script script written written old back) (sym is)
     (run_kept told_source told_sink told_flash layout script written old back Memory tt kept)
 
+-- the opening left no second copy, and each slot that lost its record took one change
+pub record OpensBy (layout : Layout) (old mid : FlashState) : Type 0 where
+  pub single : HasNoSecondCopy layout.slot_size layout.slots mid.told.image
+  pub steps : mid.steps + free_among (entry_at layout.slot_size old.told.image) layout.slots
+      ≡ old.steps + free_among (entry_at layout.slot_size mid.told.image) layout.slots
+
 -- the store was opened, and then commands were played on it
 pub run_opened : (told_source told_sink told_flash : Type 0) (layout : Layout) (script rest written now : List ℕ) (old mid new : FlashState) (status : Status)
-    → (told_flash → KeepsAll layout old mid) → mid.faults ≡ old.faults
+    → (told_flash → KeepsAll layout old mid) → (told_flash → OpensBy layout old mid) → mid.faults ≡ old.faults
     → PlaysScript told_source told_sink told_flash layout script rest written now mid new status
     → IsRun told_source told_sink told_flash layout script rest written now old new status
-run_opened told_source told_sink told_flash layout script rest written now old mid new status kept faults played =
+run_opened told_source told_sink told_flash layout script rest written now old mid new status kept opens faults played =
     let plays = played.plays in
     record {
       commands = played.commands;
@@ -439,6 +458,10 @@ run_opened told_source told_sink told_flash layout script rest written now old m
           (IsHistory-kept layout.slots 0 (stored_in layout.slot_size layout.slots) old.told mid.told (kept told)) (plays.history told);
       steps = λ told still. record {
         opened = mid.steps;
+        from_start = λ single.
+            let by = opens told in
+            opened_still layout.slot_size layout.slots old mid single by.single
+            (Leaves-exit old.told mid.told (λ image. stored_in layout.slot_size layout.slots image ≡ stored_in layout.slot_size layout.slots old.told.image) (kept told)) by.steps;
         steps = subst (TakeSteps layout.per_slot layout.slots mid.steps played.commands)
             (Leaves-exit old.told mid.told (λ image. stored_in layout.slot_size layout.slots image ≡ stored_in layout.slot_size layout.slots old.told.image) (kept told))
             (plays.steps told tt (λ h. still (subst (λ (n : ℕ). Rose n new.faults) faults h)));
@@ -467,3 +490,16 @@ kept_by geometry sector per_slot slots old new a b c product kept =
     subst (λ (n : ℕ). KeepsAll (record { per_slot = per_slot; slots = n; slot_size = sector * per_slot }) old new) c
     (subst (λ (n : ℕ). KeepsAll (record { per_slot = per_slot; slots = geometry.slots; slot_size = n }) old new)
     (product ∙ ap (λ (n : ℕ). n * geometry.per_slot) a ∙ ap (λ (n : ℕ). sector * n) b) kept)
+
+pub opens_by : (geometry : Geometry) (store : StoreView) (sector per_slot slots : ℕ) (old : FlashState) → IsOpened geometry store
+    → geometry.sector ≡ sector → geometry.per_slot ≡ per_slot → geometry.slots ≡ slots → geometry.slot_size ≡ geometry.sector * geometry.per_slot
+    → IsSingle store → TakesOneEach geometry old store.flash → OpensBy (layout_by sector per_slot slots) old store.flash
+opens_by geometry store sector per_slot slots old opened a b c product single steps =
+    subst (λ (n : ℕ). OpensBy (record { per_slot = per_slot; slots = n; slot_size = sector * per_slot }) old store.flash) c
+    (subst (λ (n : ℕ). OpensBy (record { per_slot = per_slot; slots = geometry.slots; slot_size = n }) old store.flash)
+    (product ∙ ap (λ (n : ℕ). n * geometry.per_slot) a ∙ ap (λ (n : ℕ). sector * n) b)
+    (record {
+      single = subst (λ (n : ℕ). HasNoSecondCopy geometry.slot_size n store.flash.told.image) opened.slots
+          (subst (λ (n : ℕ). HasNoSecondCopy n store.slots store.flash.told.image) opened.slot_size single);
+      steps = steps;
+    }))

@@ -6,7 +6,7 @@ use Rattle.flash_model.specs.Limits.{IsGeometry}
 use Rattle.record_model.specs.Flash.{FlashState}
 use Rattle.record_recovery.specs.declared.scanning.ScanError.{ScanError}
 use Rattle.record_recovery.specs.declared.scanning.ScanError.TheVariants.{Size, Flash as flash_failed, Memory as no_memory}
-use Rattle.record_model.specs.Records.{stored_in}
+use Rattle.record_model.specs.Records.{stored_in, HasNoSecondCopy}
 use Rattle.record_model.specs.History.{Played, IsHistory, TakeSteps}
 use Rattle.apei_cli.specs.Lines.{lines_of}
 use Rattle.apei_cli.specs.Plan.{IsPlanOf, AreBad}
@@ -37,9 +37,11 @@ pub record PlaysScript (told_source told_sink told_flash : Type 0) (layout : Lay
   pub lines : told_source → EndsBy (room_of layout) script rest commands status
   pub text : told_sink → IsWritten commands written written_now status
 
--- from the step on at which the store was opened, each command took exactly the steps that the map gives it
+-- from the step on at which the store was opened, each command took exactly the steps that the map gives it. An opening
+-- takes no step where no two live slots have one identifier
 pub record TakesItsSteps (layout : Layout) (old : FlashState) (commands : List Played) : Type 0 where
   pub opened : ℕ
+  pub from_start : HasNoSecondCopy layout.slot_size layout.slots old.told.image → opened ≡ old.steps
   pub steps : TakeSteps layout.per_slot layout.slots opened commands (stored_in layout.slot_size layout.slots old.told.image)
 
 -- the commands of a run: they are the history of the flash, their lines are those that the status says, and what was
