@@ -1,11 +1,11 @@
 -- What the calls that look for records answer and leave.
 use Rattle.std.proofs.Common.{◌≡◌, ◌≢◌, ℕ, ◌+◌, ◌-◌, ◌*◌, ◌<◌, ◌≤◌, Bool, true, false, List, ◌++◌, length, take, drop, Option, Some, None, Result, Ok, Err, IfOk, refl, sym, ap, subst, ◌∙◌, arith, inl, inr}
-use Rattle.std.proofs.lemmas.List.{take_at, length-take}
+use Rattle.std.proofs.lemmas.List.{take_at}
 use Rattle.std.specs.FinMap.{get}
 use Rattle.std.proofs.lemmas.Option.{none-some}
 use Rattle.record_model.specs.Flash.{FlashState, Leaves}
 use Rattle.record_model.specs.Records.{Stored, stored_in, is_reserved}
-use Rattle.record_model.proofs.CrashLemmas.{Leaves-weaker, Leaves-then, Leaves-exit}
+use Rattle.record_model.proofs.CrashLemmas.{Leaves-weaker, Leaves-then}
 use Rattle.record_model.specs.RecordMap.{Read, Refusal, NotFound as not_found, Empty as empty, IsNextAbove, refusal_of}
 use Rattle.record_model.specs.History.{Shown}
 use Rattle.record_store.specs.Store.{StoreView, stored, IsReady, DividesAlike, KeepsMap}
@@ -14,7 +14,7 @@ use Rattle.record_store.specs.declared.errors.StoreError.{StoreError}
 use Rattle.record_store.specs.declared.errors.StoreError.TheVariants.{NoSpace, LastGeneration, NotFound, Empty, Flash, Small}
 use Rattle.apei_cli.specs.Records.{AnswersNamed, LooksUp}
 use Rattle.apei_cli.specs.declared.player.HeldRecord.{HeldRecord}
-use Rattle.apei_cli.proofs.RecordLemmas.{stored_says, stored_least, read_taken, some_kept}
+use Rattle.apei_cli.proofs.RecordLemmas.{stored_says, read_taken, some_kept}
 use Rattle.apei_cli.proofs.AnswerLemmas.{map_kept, IsLook-read}
 use Rattle.apei_cli.proofs.PlayLemmas.{Says}
 
@@ -109,13 +109,3 @@ pub read_says : (old : StoreView) (id cursor : ℕ) (bytes : List ℕ) (held : H
 read_says old id cursor bytes held answer =
     let look = IsLook-read old.per_slot old.slots id in
     (answer.0, (answer.1, answer.2), sym (look.same (stored old)))
-
--- a record of a store is not too short
-pub held_long : (old new : StoreView) (id : ℕ) (bytes : List ℕ) (held : HeldRecord) → KeepsMap old new → length new.flash.told.image ≡ old.slot_size * old.slots
-    → AnswersNamed old id bytes (Ok held) → held.len < 128 → ⊥
-held_long old new id bytes held kept sized answer short =
-    let same = Leaves-exit old.flash.told new.flash.told (λ image. stored_in old.slot_size old.slots image ≡ stored old) kept in
-    let here : get (stored_in old.slot_size old.slots new.flash.told.image) held.id ≡ Some (take held.len bytes, answer.2.0) =
-    ap (λ (m : Stored). get m held.id) same ∙ answer.2.1 in
-    let least = stored_least old.slot_size old.slots held.id new.flash.told.image (take held.len bytes, answer.2.0) sized here in
-    absurd (omega (arith, length-take held.len bytes))

@@ -7,16 +7,14 @@ use Rattle.std.specs.Cmp.{nat_cmp_total}
 use Rattle.std.proofs.lemmas.Bool.{and_parts, leb-true, eq-eqb, ne_eqb, cases_eq}
 use Rattle.std.proofs.lemmas.Option.{none-some}
 use Rattle.base_model.specs.Bytes.{part}
-use Rattle.base_model.proofs.BytesLemmas.{length-part, length-part-le}
+use Rattle.base_model.proofs.BytesLemmas.{length-part-le}
 use Rattle.record_model.specs.Records.{Head, head_at, tail_at, is_reserved, is_upright, Entry, entry_of, entry_at, Stored, stored_in}
-use Rattle.record_slots.proofs.Within.{slot_within}
 use Rattle.record_model.specs.RecordMap.{Read, Failed, NotFound, Empty, IsNextAbove, refusal_of}
 use Rattle.record_model.proofs.SelectionLemmas.{get-selected, best_from}
 
 -- what an upright head says
 record IsUpright (size : ℕ) (head : Head) : Type 0 where
   usable : is_reserved head.id ≡ false
-  least : 128 ≤ head.len
   most : head.len ≤ size - 64
 
 not_true : (b : Bool) → not b ≡ true → b ≡ false
@@ -31,7 +29,6 @@ upright_says size head tail up =
     let c = and_parts _ _ b.1 in
     record {
       usable = not_true (is_reserved head.id) a.1;
-      least = leb-true 128 head.len c.0;
       most = leb-true head.len (size - 64) c.1;
     }
 
@@ -80,20 +77,6 @@ stored_says size slots id image kept here =
       usable = ap is_reserved (sym from.4 ∙ is.id) ∙ says.usable;
       most = omega (arith, ap length body, length-part-le image (from.0 * size + 32) is.head.len);
     }
-
--- one of the size of all slots
-pub stored_least : (size slots id : ℕ) (image : List ℕ) (kept : List ℕ × ℕ) → length image ≡ size * slots → get (stored_in size slots image) id ≡ Some kept → 128 ≤ length kept.0
-unfolding stored_in
-stored_least size slots id image kept sized here =
-    let from = best_from (entry_at size image) id slots kept (sym (get-selected (entry_at size image) slots id) ∙ here) in
-    let is = entry_at_says size from.0 image from.1 from.3 in
-    let says = is.says in
-    let body : kept.0 ≡ part image (from.0 * size + 32) is.head.len = sym (ap (λ (p : List ℕ × ℕ). p.0) from.5) ∙ is.body in
-    let least : 128 ≤ is.head.len = says.least in
-    let most : is.head.len ≤ size - 64 = says.most in
-    let ends : from.0 * size + size ≤ size * slots = slot_within from.0 size slots from.2 in
-    let len : length kept.0 ≡ is.head.len = ap length body ∙ length-part image (from.0 * size + 32) is.head.len (omega arith) in
-    omega arith
 
 -- an identifier that no record has is not stored
 pub reserved_absent : (size slots id : ℕ) (image : List ℕ) → is_reserved id ≡ true → get (stored_in size slots image) id ≡ None

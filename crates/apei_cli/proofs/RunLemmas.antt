@@ -3,7 +3,7 @@ use Rattle.std.proofs.Common.{◌≡◌, ℕ, ◌+◌, ◌*◌, ◌^◌, ◌<◌
 use Rattle.std.proofs.lemmas.Bool.{cases_lt}
 use Rattle.std.proofs.lemmas.List.{append-nil}
 use Rattle.record_model.specs.Flash.{FlashState}
-use Rattle.record_model.specs.Records.{Stored, stored_in}
+use Rattle.record_model.specs.Records.{Stored, stored_in, second_copies}
 use Rattle.record_model.specs.RecordMap.{Command}
 use Rattle.record_model.specs.History.{Played, cursor_left, IsHistory, TakeSteps}
 use Rattle.record_model.proofs.HistoryLemmas.{cursor_left-append, IsHistory-none, IsHistory-then}
@@ -239,7 +239,6 @@ IsOpen-then old new is stays =
     record {
       idle = stays.idle;
       slot = subst (λ (n : ℕ). n ≤ 65600) (sym alike.slot_size) is.slot;
-      size = alike.size ∙ is.size ∙ ap (λ (n : ℕ). n * old.slots) (sym alike.slot_size) ∙ ap (λ (n : ℕ). new.slot_size * n) (sym alike.slots);
     }
 
 -- the script was read to its end
@@ -400,7 +399,7 @@ pub run_kept : (told_source told_sink told_flash : Type 0) (layout : Layout) (sc
 run_kept told_source told_sink told_flash layout script written old new status first kept = record {
   commands = [];
   history = λ told. IsHistory-kept layout.slots 0 (stored_in layout.slot_size layout.slots) old.told new.told (kept told);
-  steps = λ told still. record { opened = 0; steps = tt };
+  steps = λ told still. tt;
   cause = λ h. absurd h;
   lines = λ told. ends_first (room_of layout) script script status first;
   text = λ told. written_first written status first;
@@ -425,24 +424,27 @@ run_refused told_source told_sink told_flash layout geometry script written old 
     subst (IsRun told_source told_sink told_flash layout script script written written old back) (sym is)
     (run_kept told_source told_sink told_flash layout script written old back Memory tt kept)
 
+-- the opening took one step for each second copy
+abbrev pub OpensBy : Layout → FlashState → FlashState → Type 0
+OpensBy layout old mid = mid.steps ≡ old.steps + second_copies layout.slot_size layout.slots old.told.image
+
 -- the store was opened, and then commands were played on it
 pub run_opened : (told_source told_sink told_flash : Type 0) (layout : Layout) (script rest written now : List ℕ) (old mid new : FlashState) (status : Status)
-    → (told_flash → KeepsAll layout old mid) → mid.faults ≡ old.faults
+    → (told_flash → KeepsAll layout old mid) → (told_flash → OpensBy layout old mid) → mid.faults ≡ old.faults
     → PlaysScript told_source told_sink told_flash layout script rest written now mid new status
     → IsRun told_source told_sink told_flash layout script rest written now old new status
-run_opened told_source told_sink told_flash layout script rest written now old mid new status kept faults played =
+run_opened told_source told_sink told_flash layout script rest written now old mid new status kept opens faults played =
     let plays = played.plays in
     record {
       commands = played.commands;
       history = λ told.
           IsHistory-then layout.slots 0 (stored_in layout.slot_size layout.slots) old.told mid.told new.told [] played.commands
           (IsHistory-kept layout.slots 0 (stored_in layout.slot_size layout.slots) old.told mid.told (kept told)) (plays.history told);
-      steps = λ told still. record {
-        opened = mid.steps;
-        steps = subst (TakeSteps layout.per_slot layout.slots mid.steps played.commands)
-            (Leaves-exit old.told mid.told (λ image. stored_in layout.slot_size layout.slots image ≡ stored_in layout.slot_size layout.slots old.told.image) (kept told))
-            (plays.steps told tt (λ h. still (subst (λ (n : ℕ). Rose n new.faults) faults h)));
-      };
+      steps = λ told still.
+          subst (λ (n : ℕ). TakeSteps layout.per_slot layout.slots n played.commands (stored_in layout.slot_size layout.slots old.told.image)) (opens told)
+          (subst (TakeSteps layout.per_slot layout.slots mid.steps played.commands)
+          (Leaves-exit old.told mid.told (λ image. stored_in layout.slot_size layout.slots image ≡ stored_in layout.slot_size layout.slots old.told.image) (kept told))
+          (plays.steps told tt (λ h. still (subst (λ (n : ℕ). Rose n new.faults) faults h))));
       cause = λ h. subst (λ (n : ℕ). Rose n new.faults) faults (plays.cause h);
       lines = played.lines;
       text = played.text;
@@ -467,3 +469,11 @@ kept_by geometry sector per_slot slots old new a b c product kept =
     subst (λ (n : ℕ). KeepsAll (record { per_slot = per_slot; slots = n; slot_size = sector * per_slot }) old new) c
     (subst (λ (n : ℕ). KeepsAll (record { per_slot = per_slot; slots = geometry.slots; slot_size = n }) old new)
     (product ∙ ap (λ (n : ℕ). n * geometry.per_slot) a ∙ ap (λ (n : ℕ). sector * n) b) kept)
+
+pub opens_by : (geometry : Geometry) (sector per_slot slots : ℕ) (old new : FlashState)
+    → geometry.sector ≡ sector → geometry.per_slot ≡ per_slot → geometry.slots ≡ slots → geometry.slot_size ≡ geometry.sector * geometry.per_slot
+    → new.steps ≡ old.steps + second_copies geometry.slot_size geometry.slots old.told.image → OpensBy (layout_by sector per_slot slots) old new
+opens_by geometry sector per_slot slots old new a b c product steps =
+    subst (λ (n : ℕ). OpensBy (record { per_slot = per_slot; slots = n; slot_size = sector * per_slot }) old new) c
+    (subst (λ (n : ℕ). OpensBy (record { per_slot = per_slot; slots = geometry.slots; slot_size = n }) old new)
+    (product ∙ ap (λ (n : ℕ). n * geometry.per_slot) a ∙ ap (λ (n : ℕ). sector * n) b) steps)

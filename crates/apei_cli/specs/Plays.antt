@@ -1,5 +1,5 @@
 -- What the playing of lines leaves.
-use Rattle.std.specs.Prelude.{◌≡◌, ℕ, ◌-◌, ◌*◌, ◌≤◌, ◌⊎◌, Bool, true, false, List, [], ◌∷◌, ◌++◌, take, map}
+use Rattle.std.specs.Prelude.{◌≡◌, ℕ, ◌-◌, ◌≤◌, ◌⊎◌, Bool, true, false, List, [], ◌∷◌, ◌++◌, take, map}
 use Rattle.base_model.specs.Faults.{Rose}
 use Rattle.record_model.specs.Flash.{FlashState}
 use Rattle.record_model.specs.Records.{stored_in}
@@ -73,11 +73,10 @@ pub record PartlyWritten (commands : List Played) (written written_now : List �
   pub count : ℕ
   pub text : written_now ≡ written ++ text_of before ++ take count (reply_of last)
 
--- a store that has begun nothing: its slots fill the flash, and have room for records of at most 65,536 bytes
+-- a store that has begun nothing, and whose slots have room for records of at most 65,536 bytes
 pub record IsOpen (store : StoreView) : Type 0 where
   pub idle : store.pending ≡ Idle
   pub slot : store.slot_size ≤ 65600
-  pub size : store.flash.size ≡ store.slot_size * store.slots
 
 -- a store that has begun nothing: it divides its flash as before, its flash's count of faults did not fall, and it is in
 -- doubt only where it was or where that count rose

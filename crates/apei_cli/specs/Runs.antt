@@ -6,7 +6,7 @@ use Rattle.flash_model.specs.Limits.{IsGeometry}
 use Rattle.record_model.specs.Flash.{FlashState}
 use Rattle.record_recovery.specs.declared.scanning.ScanError.{ScanError}
 use Rattle.record_recovery.specs.declared.scanning.ScanError.TheVariants.{Size, Flash as flash_failed, Memory as no_memory}
-use Rattle.record_model.specs.Records.{stored_in}
+use Rattle.record_model.specs.Records.{stored_in, second_copies}
 use Rattle.record_model.specs.History.{Played, IsHistory, TakeSteps}
 use Rattle.apei_cli.specs.Lines.{lines_of}
 use Rattle.apei_cli.specs.Plan.{IsPlanOf, AreBad}
@@ -37,10 +37,12 @@ pub record PlaysScript (told_source told_sink told_flash : Type 0) (layout : Lay
   pub lines : told_source → EndsBy (room_of layout) script rest commands status
   pub text : told_sink → IsWritten commands written written_now status
 
--- from the step on at which the store was opened, each command took exactly the steps that the map gives it
-pub record TakesItsSteps (layout : Layout) (old : FlashState) (commands : List Played) : Type 0 where
-  pub opened : ℕ
-  pub steps : TakeSteps layout.per_slot layout.slots opened commands (stored_in layout.slot_size layout.slots old.told.image)
+-- the opening takes one step for each live slot that is not its identifier's record, and then each command exactly those
+-- that the map gives it
+abbrev pub TakesItsSteps : Layout → FlashState → List Played → Type 0
+TakesItsSteps layout old commands =
+    TakeSteps layout.per_slot layout.slots (old.steps + second_copies layout.slot_size layout.slots old.told.image) commands
+    (stored_in layout.slot_size layout.slots old.told.image)
 
 -- the commands of a run: they are the history of the flash, their lines are those that the status says, and what was
 -- written are their replies. Where the flash's count of faults did not rise no reply says `hardware`, and the steps are

@@ -1,12 +1,12 @@
 // The playing of one line on a store.
-ghost use Rattle.std.specs.Prelude.{◌≡◌, ◌≢◌, ℕ, ◌-◌, ◌<◌, ◌≤◌, ◌⊎◌, List, [], ◌∷◌, ◌++◌, length, take, codes, true, false, None, Some, IfSome, IfOk, IfErr, OnOk, OnErr, MatchOption, MatchResult, MatchBool, vec_len};
+ghost use Rattle.std.specs.Prelude.{◌≡◌, ◌≢◌, ℕ, ◌-◌, ◌≤◌, ◌⊎◌, List, [], ◌∷◌, ◌++◌, length, take, true, false, None, Some, IfSome, IfOk, IfErr, OnOk, OnErr, MatchOption, MatchResult, MatchBool, vec_len};
 ghost use Rattle.hex.specs.Hex.{decode_of};
 ghost use Rattle.base_model.specs.Faults.{Rose};
 ghost use Rattle.record_model.specs.RecordMap.{Command, Write, Clear, Read, Count, Next};
 ghost use Rattle.record_model.specs.Records.{is_reserved};
 ghost use Rattle.record_model.specs.History.{Found, cursor_after};
 ghost use Rattle.apei_cli.specs.Script.{nothing, asked_by, asked_by_hex, IsPlain, IsBuilt, id_of, write_of};
-ghost use Rattle.apei_cli.specs.Replies.{words_of, words_of_record, at_step};
+ghost use Rattle.apei_cli.specs.Replies.{words_of, at_step};
 ghost use Rattle.apei_cli.specs.Records.{IsMarked, AsksToWrite, AnswersNamed, LooksUp};
 ghost use Rattle.apei_cli.specs.Refusals.{answer_of};
 ghost use Rattle.apei_cli.specs.Plays.{IsOpen, StaysIdle, IsReplied, AnswersLine, PlaysLine, PlaysUnheard};
@@ -21,9 +21,6 @@ use std::alloc::Global;
 
 // The most bytes that the hexadecimal text of a line stands for.
 const LONGEST_RECORD: usize = 70_000;
-
-// The least bytes that a record has.
-const SHORTEST_RECORD: usize = 128;
 
 // The offset of a record's identifier.
 const ID: usize = 96;
@@ -177,26 +174,12 @@ impl Desk {
         let read = read_named(store, id, &mut self.bytes);
         let steps = store.flash().steps();
         match read {
-            Ok(held) => self.show(held, steps),
+            Ok(held) => {
+                self.reply.record(&self.bytes[..held.len], steps);
+                self.cursor = held.id;
+            }
             Err(error) => self.refuse_read(error, steps),
         }
-    }
-
-    // Makes the reply to a record that was read, and moves the cursor to it. No store has a record that is too short.
-    fn show(&mut self, held: HeldRecord, steps: u64)
-        requires within { held.len ≤ length self.old.bytes.items }
-        ensures shown { 128 ≤ held.len → self.new.reply ≡ words_of_record (take held.len self.old.bytes.items) ++ at_step steps }
-        ensures moved { 128 ≤ held.len → self.new.cursor ≡ held.id }
-        ensures short { held.len < 128 → self.new.reply ≡ codes "refused failed" ++ at_step steps }
-        ensures stays { held.len < 128 → self.new.cursor ≡ self.old.cursor }
-        ensures room { self.new.room ≡ self.old.room }
-    {
-        if held.len < SHORTEST_RECORD {
-            self.reply.refused(b"failed", steps);
-            return;
-        }
-        self.reply.record(&self.bytes[..held.len], steps);
-        self.cursor = held.id;
     }
 
     // Makes the reply to a refused read, and moves the cursor.
@@ -343,7 +326,7 @@ fn read_named<F: Flash>(
     requires open_store { IsOpen store.old }
     requires out { length out.old ≡ 70000 }
     ensures answer { F.tells → AnswersNamed store.old id out.new result }
-    ensures held { IfOk result (λ held. held.len ≤ length out.new) }
+    ensures held { IfOk result (λ held. (128 ≤ held.len) × (held.len ≤ length out.new)) }
     ensures looks { LooksUp F.tells store.old store.new result }
 {
     match RecordId::new(id) {
@@ -362,7 +345,7 @@ fn read_reserved<F: Flash>(
     requires open_store { IsOpen store.old }
     requires out { length out.old ≡ 70000 }
     ensures answer { F.tells → AnswersNamed store.old id out.new result }
-    ensures held { IfOk result (λ held. held.len ≤ length out.new) }
+    ensures held { IfOk result (λ held. (128 ≤ held.len) × (held.len ≤ length out.new)) }
     ensures looks { LooksUp F.tells store.old store.new result }
 {
     let first = match store.first() {
@@ -389,7 +372,7 @@ fn read_record<F: Flash>(
     requires open_store { IsOpen store.old }
     requires out { length out.old ≡ 70000 }
     ensures answer { F.tells → AnswersNamed store.old id out.new result }
-    ensures held { IfOk result (λ held. held.len ≤ length out.new) }
+    ensures held { IfOk result (λ held. (128 ≤ held.len) × (held.len ≤ length out.new)) }
     ensures id { IfOk result (λ held. held.id ≡ id) }
     ensures looks { LooksUp F.tells store.old store.new result }
 {

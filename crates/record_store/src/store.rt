@@ -223,6 +223,7 @@ impl<F: Flash> Store<F> {
     pub fn read(&mut self, id: RecordId, out: &mut [u8]) -> Result<usize, StoreError>
         requires idle { self.old.pending ≡ Idle }
         ensures answer { F.tells → AnswersRead self.old id out.old out.new result }
+        ensures least { IfOk result (λ size. 128 ≤ size) }
         ensures within { IfOk result (λ size. size ≤ length out.old) }
         ensures out { OnErr result (out.new ≡ out.old) }
         ensures kept { F.tells → KeepsMap self.old self.new }

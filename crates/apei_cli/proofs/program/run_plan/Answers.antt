@@ -2,7 +2,7 @@ use Rattle.std.proofs.Common.{◌≡◌, ℕ, refl, sym, ap, subst, ◌∙◌, a
 use Rattle.record_model.specs.Flash.{FlashState}
 use Rattle.apei_cli.specs.Plays.{Layout}
 use Rattle.apei_cli.specs.Runs.{layout_by, PlaysScript, IsRun}
-use Rattle.apei_cli.proofs.RunLemmas.{run_none, run_refused, run_opened, layout_opened, kept_by}
+use Rattle.apei_cli.proofs.RunLemmas.{run_none, run_refused, run_opened, layout_opened, kept_by, opens_by}
 use Rattle.apei_cli.proofs.program.run_plan.Goals as goal
 
 pub returns-in_default-clause-run : goal.returns-in_default-clause-run
@@ -30,7 +30,9 @@ returns-clause-run g c =
     subst (λ (f : FlashState). IsRun g.I.Source.tells g.O.Sink.tells g.F.Flash.tells (layout_by c.args.plan.now.sector c.args.plan.now.per_slot c.args.plan.now.slots) (g.I.Source.rest c.args.script.now) (g.I.Source.rest c.play_script-status.new.script)
     (g.O.Sink.written c.args.out.now) (g.O.Sink.written c.play_script-status.new.out) (g.F.Flash.state c.args.flash) f c.play_script-status.result) (sym c.into_flash.ensures)
     (run_opened _ _ _ _ _ _ _ _ _ store.flash _ _
-    (λ told. kept_by geometry c.args.plan.now.sector c.args.plan.now.per_slot c.args.plan.now.slots (g.F.Flash.state c.args.flash) store.flash is.sector is.per_slot is.slots geometry.product (c.in-Ok-attach.ensures.kept told)) of.faults
+    (λ told. kept_by geometry c.args.plan.now.sector c.args.plan.now.per_slot c.args.plan.now.slots (g.F.Flash.state c.args.flash) store.flash is.sector is.per_slot is.slots geometry.product (c.in-Ok-attach.ensures.kept told))
+    (λ told. opens_by geometry c.args.plan.now.sector c.args.plan.now.per_slot c.args.plan.now.slots (g.F.Flash.state c.args.flash) store.flash is.sector is.per_slot is.slots geometry.product
+    (c.in-Ok-attach.ensures.steps told)) of.faults
     (subst (λ (l : Layout). PlaysScript g.I.Source.tells g.O.Sink.tells g.F.Flash.tells l (g.I.Source.rest c.args.script.now) (g.I.Source.rest c.play_script-status.new.script)
     (g.O.Sink.written c.args.out.now) (g.O.Sink.written c.play_script-status.new.out) store.flash c.play_script-status.new.store.flash c.play_script-status.result)
     (layout_opened geometry store c.args.plan.now.sector c.args.plan.now.per_slot c.args.plan.now.slots c.in-Ok-attach.ensures.opened is.sector is.per_slot is.slots geometry.product)
