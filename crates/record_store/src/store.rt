@@ -182,6 +182,8 @@ impl<F: Flash> Store<F> {
         ensures crash { F.tells → IsBeforeOrAfter self.old self.new (Write id bytes.now) }
 
         ensures steps { F.tells → TakesExactly self.old self.new (Write id bytes.now) result }
+
+        // Whatever is answered: a store in doubt may first end a second copy, by one change.
         ensures few { F.tells → self.new.flash.steps
             ≤ self.old.flash.steps + 1 + (changes_of self.old.per_slot self.old.slots (Write id bytes.now) (stored self.old)) }
         ensures doubt { HasDoubtOf self.new result }
@@ -380,7 +382,7 @@ impl<F: Flash> Store<F> {
         flash
     }
 
-    // Looks at the slots again where the store is in doubt.
+    // Looks at the slots again where the store is in doubt, and ends a second copy that stands.
     fn settle(&mut self) -> Result<(), StoreError>
         requires idle { self.old.pending ≡ Idle }
         ensures error { FailsByFlash result }
