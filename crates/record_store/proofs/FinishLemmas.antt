@@ -333,3 +333,7 @@ write_steps old mid id bytes kept alike is pending taken =
 pub clear_steps : (old mid : StoreView) (id : ℕ) → mid.pending ≡ Clearing id → refusal_of old.slots (Clear id) (stored old) ≡ None
     → changes_left mid.per_slot mid.pending ≡ changes_of old.per_slot old.slots (Clear id) (stored old)
 clear_steps old mid id pending taken = ap (changes_left mid.per_slot) pending ∙ sym (changes_of-clear old.per_slot old.slots id (stored old) taken)
+
+-- after at most one change at first, at most all changes of a command
+pub few_in_all : (mid new old left all : ℕ) → mid ≤ old + 1 → new ≤ mid + left → left ≡ all → new ≤ old + 1 + all
+few_in_all mid new old left all started made is = omega arith

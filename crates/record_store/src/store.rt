@@ -2,7 +2,7 @@
 ghost use Rattle.std.specs.Prelude.{◌≡◌, ◌↔◌, ℕ, ◌+◌, ◌-◌, ◌*◌, ◌/◌, ◌<◌, ◌≤◌, List, false, length, IsOk, OnOk, OnErr, IfOk, IfErr};
 ghost use Rattle.std.specs.FinMap.{len};
 ghost use Rattle.record_model.specs.Records.{second_copies};
-ghost use Rattle.record_model.specs.RecordMap.{Write, Clear, Read, IsNextAbove};
+ghost use Rattle.record_model.specs.RecordMap.{Write, Clear, Read, IsNextAbove, changes_of};
 ghost use Rattle.record_slots.specs.Slots.{Fits};
 ghost use Rattle.record_store.specs.Store.{Idle, Clearing, stored, map_after, IsBusy, IsWriteOf, IsSingle, IsReady, IsOpened, IsFlashOf, IsBeforeOrAfter, DividesAlike, KeepsMap, KeepsOrMakes, KeepsRecordsOf, abandoned};
 ghost use Rattle.record_store.specs.Finish.{IsUnfinished, map_at_end, changes_left};
@@ -102,6 +102,7 @@ impl<F: Flash> Store<F> {
         ensures doubt { HasDoubtAtStart self.new result }
         ensures kept { F.tells → KeepsMap self.old self.new }
         ensures still { self.old.in_doubt ≡ false → OnlyReadsFlash self.old.flash self.new.flash F.tells }
+        ensures few { F.tells → self.new.flash.steps ≤ self.old.flash.steps + 1 }
         ensures alike { DividesAlike self.old self.new }
         ensures cause { HasFaultsOf self.old.flash.faults self.new.flash.faults result }
     {
@@ -118,6 +119,7 @@ impl<F: Flash> Store<F> {
         ensures doubt { HasDoubtAtStart self.new result }
         ensures kept { F.tells → KeepsMap self.old self.new }
         ensures still { self.old.in_doubt ≡ false → OnlyReadsFlash self.old.flash self.new.flash F.tells }
+        ensures few { F.tells → self.new.flash.steps ≤ self.old.flash.steps + 1 }
         ensures alike { DividesAlike self.old self.new }
         ensures cause { HasFaultsOf self.old.flash.faults self.new.flash.faults result }
     {
@@ -180,6 +182,10 @@ impl<F: Flash> Store<F> {
         ensures crash { F.tells → IsBeforeOrAfter self.old self.new (Write id bytes.now) }
 
         ensures steps { F.tells → TakesExactly self.old self.new (Write id bytes.now) result }
+
+        // Whatever is answered: a store in doubt may first end a second copy, by one change.
+        ensures few { F.tells → self.new.flash.steps
+            ≤ self.old.flash.steps + 1 + (changes_of self.old.per_slot self.old.slots (Write id bytes.now) (stored self.old)) }
         ensures doubt { HasDoubtOf self.new result }
         ensures idle { self.new.pending ≡ Idle }
         ensures alike { DividesAlike self.old self.new }
@@ -197,6 +203,8 @@ impl<F: Flash> Store<F> {
         ensures answer { F.tells → AnswersClear self.old self.new id result }
         ensures crash { F.tells → IsBeforeOrAfter self.old self.new (Clear id) }
         ensures steps { F.tells → TakesExactly self.old self.new (Clear id) result }
+        ensures few { F.tells → self.new.flash.steps
+            ≤ self.old.flash.steps + 1 + (changes_of self.old.per_slot self.old.slots (Clear id) (stored self.old)) }
         ensures doubt { HasDoubtOf self.new result }
         ensures idle { self.new.pending ≡ Idle }
         ensures alike { DividesAlike self.old self.new }
@@ -229,6 +237,7 @@ impl<F: Flash> Store<F> {
         ensures kept { F.tells → KeepsMap self.old self.new }
         ensures still { self.old.in_doubt ≡ false → OnlyReadsFlash self.old.flash self.new.flash F.tells }
         ensures doubt { HasDoubtOf self.new result }
+        ensures few { F.tells → self.new.flash.steps ≤ self.old.flash.steps + 1 }
         ensures idle { self.new.pending ≡ Idle }
         ensures alike { DividesAlike self.old self.new }
         ensures cause { HasFaultsOf self.old.flash.faults self.new.flash.faults result }
@@ -267,6 +276,7 @@ impl<F: Flash> Store<F> {
         ensures kept { F.tells → KeepsMap self.old self.new }
         ensures still { self.old.in_doubt ≡ false → AnswersByItself self.old self.new result }
         ensures doubt { HasDoubtOf self.new result }
+        ensures few { F.tells → self.new.flash.steps ≤ self.old.flash.steps + 1 }
         ensures idle { self.new.pending ≡ Idle }
         ensures alike { DividesAlike self.old self.new }
         ensures cause { HasFaultsOf self.old.flash.faults self.new.flash.faults result }
@@ -283,6 +293,7 @@ impl<F: Flash> Store<F> {
         ensures kept { F.tells → KeepsMap self.old self.new }
         ensures still { self.old.in_doubt ≡ false → AnswersByItself self.old self.new result }
         ensures doubt { HasDoubtOf self.new result }
+        ensures few { F.tells → self.new.flash.steps ≤ self.old.flash.steps + 1 }
         ensures idle { self.new.pending ≡ Idle }
         ensures alike { DividesAlike self.old self.new }
         ensures cause { HasFaultsOf self.old.flash.faults self.new.flash.faults result }
@@ -298,6 +309,7 @@ impl<F: Flash> Store<F> {
         ensures kept { F.tells → KeepsMap self.old self.new }
         ensures still { self.old.in_doubt ≡ false → AnswersByItself self.old self.new result }
         ensures doubt { HasDoubtOf self.new result }
+        ensures few { F.tells → self.new.flash.steps ≤ self.old.flash.steps + 1 }
         ensures idle { self.new.pending ≡ Idle }
         ensures alike { DividesAlike self.old self.new }
         ensures cause { HasFaultsOf self.old.flash.faults self.new.flash.faults result }
@@ -313,6 +325,7 @@ impl<F: Flash> Store<F> {
         ensures kept { F.tells → KeepsMap self.old self.new }
         ensures still { self.old.in_doubt ≡ false → AnswersByItself self.old self.new result }
         ensures doubt { HasDoubtOf self.new result }
+        ensures few { F.tells → self.new.flash.steps ≤ self.old.flash.steps + 1 }
         ensures idle { self.new.pending ≡ Idle }
         ensures alike { DividesAlike self.old self.new }
         ensures cause { HasFaultsOf self.old.flash.faults self.new.flash.faults result }
@@ -330,6 +343,7 @@ impl<F: Flash> Store<F> {
         ensures kept { F.tells → KeepsMap self.old self.new }
         ensures single { OnOk result (F.tells → IsSingle self.new) }
         ensures doubt { HasDoubtOf self.new result }
+        ensures few { F.tells → self.new.flash.steps ≤ self.old.flash.steps + 1 }
         ensures idle { self.new.pending ≡ Idle }
         ensures alike { DividesAlike self.old self.new }
         ensures cause { HasFaultsOf self.old.flash.faults self.new.flash.faults result }
@@ -346,6 +360,7 @@ impl<F: Flash> Store<F> {
         ensures kept { F.tells → KeepsMap self.old self.new }
         ensures single { OnOk result (F.tells → IsSingle self.new) }
         ensures doubt { HasDoubtOf self.new result }
+        ensures few { F.tells → self.new.flash.steps ≤ self.old.flash.steps + 1 }
         ensures idle { self.new.pending ≡ Idle }
         ensures alike { DividesAlike self.old self.new }
         ensures cause { HasFaultsOf self.old.flash.faults self.new.flash.faults result }
@@ -377,7 +392,7 @@ impl<F: Flash> Store<F> {
         flash
     }
 
-    // Looks at the slots again where the store is in doubt.
+    // Looks at the slots again where the store is in doubt, and ends a second copy that stands.
     fn settle(&mut self) -> Result<(), StoreError>
         requires idle { self.old.pending ≡ Idle }
         ensures error { FailsByFlash result }
@@ -385,6 +400,7 @@ impl<F: Flash> Store<F> {
         ensures still { self.old.in_doubt ≡ false → AnswersByItself self.old self.new result }
         ensures single { OnOk result (F.tells → IsSingle self.new) }
         ensures doubt { HasDoubtOf self.new result }
+        ensures few { F.tells → self.new.flash.steps ≤ self.old.flash.steps + 1 }
         ensures idle { self.new.pending ≡ Idle }
         ensures alike { DividesAlike self.old self.new }
         ensures cause { HasFaultsOf self.old.flash.faults self.new.flash.faults result }
@@ -440,6 +456,7 @@ impl<F: Flash> Store<F> {
         ensures made { OnOk result (F.tells → stored self.new ≡ map_at_end self.old.per_slot self.old.pending (stored self.old)) }
         ensures crash { F.tells → KeepsOrMakes self.old self.new (map_at_end self.old.per_slot self.old.pending (stored self.old)) }
         ensures steps { OnOk result (self.new.flash.steps ≡ self.old.flash.steps + changes_left self.old.per_slot self.old.pending) }
+        ensures at_most { self.new.flash.steps ≤ self.old.flash.steps + changes_left self.old.per_slot self.old.pending }
         ensures doubt { HasDoubtOf self.new result }
         ensures idle { self.new.pending ≡ Idle }
         ensures alike { DividesAlike self.old self.new }

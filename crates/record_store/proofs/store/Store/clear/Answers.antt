@@ -1,10 +1,10 @@
-use Rattle.std.proofs.Common.{◌≡◌, ℕ, ◌+◌, ap, ◌∙◌}
+use Rattle.std.proofs.Common.{◌≡◌, ℕ, ◌+◌, ◌≤◌, ap, sym, ◌∙◌, arith}
 use Rattle.std.proofs.lemmas.Result.{on_ok_weaker}
 use Rattle.record_model.specs.RecordMap.{Clear, after, changes_of}
 use Rattle.record_store.specs.Store.{stored}
 use Rattle.record_store.specs.Finish.{map_at_end, changes_left}
 use Rattle.record_store.proofs.StoreLemmas.{kept_map}
-use Rattle.record_store.proofs.FinishLemmas.{begun_then, kept_or_made, clear_end, clear_answers, unless_flash, clear_refused_steps, clear_steps}
+use Rattle.record_store.proofs.FinishLemmas.{begun_then, kept_or_made, clear_end, clear_answers, unless_flash, few_in_all, clear_refused_steps, clear_steps}
 use Rattle.record_store.proofs.store.Store.clear.Goals as goal
 
 pub returns-in-Ok-clause-answer : goal.returns-in-Ok-clause-answer
@@ -45,3 +45,12 @@ returns-in-Err-clause-crash g c tells =
 pub returns-in-Err-clause-steps : goal.returns-in-Err-clause-steps
 returns-in-Err-clause-steps g c tells sure =
     clear_refused_steps c.args.self.now c.start_clear.new.self c.args.id c.in-Err.error (c.in-Err.ensures.answer tells) (c.start_clear.ensures.still sure).steps
+
+pub returns-in-Ok-clause-few : goal.returns-in-Ok-clause-few
+returns-in-Ok-clause-few g c tells =
+    let old = c.args.self.now in
+    let mid = c.start_clear.new.self in
+    let begun = c.in-Ok.ensures.answer tells in
+    let started : mid.flash.steps ≤ old.flash.steps + 1 = c.start_clear.ensures.few tells in
+    let left = clear_steps old mid c.args.id begun.1 begun.0 in
+    few_in_all mid.flash.steps c.finish.new.self.flash.steps old.flash.steps (changes_left mid.per_slot mid.pending) (changes_of old.per_slot old.slots (Clear c.args.id) (stored old)) started c.finish.ensures.at_most left

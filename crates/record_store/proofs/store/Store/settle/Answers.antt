@@ -62,3 +62,15 @@ invariant_of-self-in-Err g c =
       knows = λ tells sure. absurd (cc);
       spare = λ tells. rescanned_spare i.geometry.slot_size i.geometry.slots (g.F.Flash.state i.flash).told (g.F.Flash.state c.rescan.new.flash).told (c.rescan.ensures.lost tells) (c.self.invariant.spare tells);
     }
+
+pub returns-in-Ok-clause-few : goal.returns-in-Ok-clause-few
+returns-in-Ok-clause-few g c tells =
+    let i = c.self.inside in
+    rescanned_few i.geometry (g.F.Flash.state i.flash) i.in_doubt (pending_of i.geometry.per_slot i.buffer.items i.work) c.args.self.now (g.F.Flash.state c.rescan.new.flash) c.self.view_is
+    (c.rescan.ensures.changes tells) (c.self.invariant.spare tells)
+
+pub returns-in-Err-clause-few : goal.returns-in-Err-clause-few
+returns-in-Err-clause-few g c tells =
+    let i = c.self.inside in
+    rescanned_few i.geometry (g.F.Flash.state i.flash) i.in_doubt (pending_of i.geometry.per_slot i.buffer.items i.work) c.args.self.now (g.F.Flash.state c.rescan.new.flash) c.self.view_is
+    (c.rescan.ensures.changes tells) (c.self.invariant.spare tells)

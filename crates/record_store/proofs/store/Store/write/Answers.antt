@@ -1,4 +1,4 @@
-use Rattle.std.proofs.Common.{◌≡◌, ℕ, ◌+◌, refl, ap, ◌∙◌}
+use Rattle.std.proofs.Common.{◌≡◌, ℕ, ◌+◌, ◌≤◌, refl, ap, sym, ◌∙◌, arith}
 use Rattle.std.specs.FinMap.{get}
 use Rattle.std.specs.Prelude.{is_some}
 use Rattle.std.proofs.lemmas.Result.{on_ok_weaker}
@@ -6,7 +6,7 @@ use Rattle.record_model.specs.RecordMap.{Write, after, changes_of}
 use Rattle.record_store.specs.Store.{stored}
 use Rattle.record_store.specs.Finish.{map_at_end, changes_left}
 use Rattle.record_store.proofs.StoreLemmas.{kept_map}
-use Rattle.record_store.proofs.FinishLemmas.{begun_then, kept_or_made, write_end, write_answers, unless_flash, write_refused_steps, write_steps}
+use Rattle.record_store.proofs.FinishLemmas.{begun_then, kept_or_made, write_end, write_answers, unless_flash, few_in_all, write_refused_steps, write_steps}
 use Rattle.record_store.proofs.store.Store.write.Goals as goal
 
 pub returns-in-Ok-clause-answer : goal.returns-in-Ok-clause-answer
@@ -47,3 +47,12 @@ returns-in-Err-clause-crash g c tells =
 pub returns-in-Err-clause-steps : goal.returns-in-Err-clause-steps
 returns-in-Err-clause-steps g c tells sure =
     write_refused_steps c.args.self.now c.start_write.new.self c.args.id c.args.bytes.now c.in-Err.error (c.in-Err.ensures.answer tells) (c.start_write.ensures.still sure).steps
+
+pub returns-in-Ok-clause-few : goal.returns-in-Ok-clause-few
+returns-in-Ok-clause-few g c tells =
+    let old = c.args.self.now in
+    let mid = c.start_write.new.self in
+    let begun = c.in-Ok.ensures.answer tells in
+    let started : mid.flash.steps ≤ old.flash.steps + 1 = c.start_write.ensures.few tells in
+    let left = write_steps old mid c.args.id c.args.bytes.now (get (stored old) c.args.id) c.start_write.ensures.alike.per_slot refl begun.1 begun.0 in
+    few_in_all mid.flash.steps c.finish.new.self.flash.steps old.flash.steps (changes_left mid.per_slot mid.pending) (changes_of old.per_slot old.slots (Write c.args.id c.args.bytes.now) (stored old)) started c.finish.ensures.at_most left
