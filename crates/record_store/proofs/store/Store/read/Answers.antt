@@ -1,4 +1,4 @@
-use Rattle.std.proofs.Common.{◌≡◌, ◌≢◌, ℕ, ◌+◌, ◌*◌, ◌<◌, ◌≤◌, List, ◌++◌, length, drop, Some, None, refl, sym, ap, subst, ◌∙◌, arith}
+use Rattle.std.proofs.Common.{◌≡◌, ◌≢◌, ℕ, ◌+◌, ◌-◌, ◌*◌, ◌<◌, ◌≤◌, List, ◌++◌, length, drop, Some, None, refl, sym, ap, subst, ◌∙◌, arith}
 use Rattle.std.specs.Prelude.{vec_len}
 use Rattle.std.specs.FinMap.{get, len}
 use Rattle.std.proofs.lemmas.Bool.{eqb-true, eqb-false}
@@ -73,6 +73,25 @@ returns-in-Ok-clause-answer g c tells =
           (read_body i.geometry (g.F.Flash.state i.flash) i.in_doubt _ now c.in-Some.place.slot c.in-Some.place.len
           (record { id = c.args.id; generation = c.in-Some.place.generation; body = had.0 }) c.self.view_is (had.1).here (had.1).len),
     )
+
+pub read_record-requires-clause-within : goal.read_record-requires-clause-within
+read_record-requires-clause-within g c =
+    let i = c.self.inside in
+    (c.in-Some.ensures.within i.geometry.slots i.geometry.slot_size c.self.invariant.listing.index).slot
+
+pub read_record-requires-clause-most : goal.read_record-requires-clause-most
+read_record-requires-clause-most g c =
+    let i = c.self.inside in
+    (c.in-Some.ensures.within i.geometry.slots i.geometry.slot_size c.self.invariant.listing.index).most
+
+pub read_record-requires-clause-buffer : goal.read_record-requires-clause-buffer
+read_record-requires-clause-buffer g c =
+    let i = c.self.inside in
+    let within = c.in-Some.ensures.within i.geometry.slots i.geometry.slot_size c.self.invariant.listing.index in
+    let lent : length c.deref_mut.result.now ≡ length i.buffer.items = ap (λ (xs : List ℕ). length xs) c.deref_mut.ensures.value in
+    let room : length i.buffer.items ≡ i.geometry.slot_size - 64 = c.self.invariant.room in
+    let most : c.in-Some.place.len ≤ i.geometry.slot_size - 64 = within.most in
+    omega arith
 
 pub invariant_of-self : goal.invariant_of-self
 invariant_of-self g c =
