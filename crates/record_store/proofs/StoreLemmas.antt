@@ -286,6 +286,27 @@ clearing_store tells geometry flash found buffer doubt work v id place store is 
       spare = store.spare;
     }
 
+-- a record was read by way of the buffer, and nothing is pending
+pub read_store : (tells : Type 0) (geometry : Geometry) (flash new : FlashState) (found : Found) (buffer read : List ℕ) (doubt : Bool) (work : Work) (v : StoreView)
+    → IsStore tells geometry flash found buffer doubt work → view_of geometry flash doubt (pending_of geometry.per_slot buffer work) ≡ v → IsReady v → length read ≡ length buffer
+    → (tells → new.told ≡ flash.told) → new.size ≡ flash.size → new.sector_size ≡ flash.sector_size
+    → IsStore tells geometry new found read doubt work
+read_store tells geometry flash new found buffer read doubt work v store is ready long same new_size new_sector =
+    let idle = idle_work geometry.per_slot buffer work (ap (λ (u : StoreView). u.pending) is ∙ ready.idle) in
+    record {
+      fits = record { size = new_size ∙ store.fits.size; sector_size = new_sector ∙ store.fits.sector_size };
+      listing = store.listing;
+      room = long ∙ store.room;
+      form = store.form;
+      certain = store.certain;
+      knows = λ told sure.
+          let known : KnowsSlots (entry_at geometry.slot_size flash.told.image) geometry.slots found =
+          subst (λ (w : Work). Knows geometry found buffer flash.told.image w) idle (store.knows told sure) in
+          subst (λ (w : Work). Knows geometry found read new.told.image w) (sym idle)
+          (subst (λ (t : Told). KnowsSlots (entry_at geometry.slot_size t.image) geometry.slots found) (sym (same told)) known);
+      spare = λ told. subst (λ (t : Told). IsNearlySingle (entry_at geometry.slot_size t.image) geometry.slots) (sym (same told)) (store.spare told);
+    }
+
 -- the body of a slot's record stands in the slot
 take_length : (n : ℕ) (xs : List ℕ) → take (length (take n xs)) xs ≡ take n xs
 take_length n xs = let front = length-take n xs in elim (cases_lt n (length xs)) [

@@ -1,13 +1,14 @@
-use Rattle.std.proofs.Common.{◌≡◌, ℕ, List, ◌++◌, length, drop, Some, refl, sym, ap, ◌∙◌, arith}
+use Rattle.std.proofs.Common.{◌≡◌, ◌≢◌, ℕ, ◌+◌, ◌-◌, ◌*◌, ◌<◌, ◌≤◌, List, ◌++◌, length, drop, Some, None, refl, sym, ap, subst, ◌∙◌, arith}
 use Rattle.std.specs.Prelude.{vec_len}
-use Rattle.std.specs.FinMap.{get}
+use Rattle.std.specs.FinMap.{get, len}
 use Rattle.std.proofs.lemmas.Bool.{eqb-true, eqb-false}
 use Rattle.record_model.specs.Records.{Stored, entry_at, selected}
 use Rattle.record_model.specs.RecordMap.{Read, NotFound, Empty, refusal_of}
 use Rattle.record_model.proofs.RefusalLemmas.{read_empty, read_missing}
+use Rattle.record_store.specs.Kept.{IsStore}
 use Rattle.record_store.proofs.AnswerLemmas.{place_stored, no_place_stored, none_stored}
 use Rattle.record_store.proofs.CountLemmas.{len_stored}
-use Rattle.record_store.proofs.StoreLemmas.{looked, of_old, read_body}
+use Rattle.record_store.proofs.StoreLemmas.{looked, of_old, read_body, written_back, read_store}
 use Rattle.record_store.proofs.store.Store.read.Goals as goal
 
 pub returns-then-is_empty-clause-answer : goal.returns-then-is_empty-clause-answer
@@ -71,3 +72,33 @@ returns-in-Ok-clause-answer g c tells =
           (read_body i.geometry (g.F.Flash.state i.flash) i.in_doubt _ now c.in-Some.place.slot c.in-Some.place.len
           (record { id = c.args.id; generation = c.in-Some.place.generation; body = had.0 }) c.self.view_is (had.1).here (had.1).len),
     )
+
+pub read_record-requires-clause-within : goal.read_record-requires-clause-within
+read_record-requires-clause-within g c =
+    let i = c.self.inside in
+    (c.in-Some.ensures.within i.geometry.slots i.geometry.slot_size c.self.invariant.listing.index).slot
+
+pub read_record-requires-clause-most : goal.read_record-requires-clause-most
+read_record-requires-clause-most g c =
+    let i = c.self.inside in
+    (c.in-Some.ensures.within i.geometry.slots i.geometry.slot_size c.self.invariant.listing.index).most
+
+pub read_record-requires-clause-buffer : goal.read_record-requires-clause-buffer
+read_record-requires-clause-buffer g c =
+    let i = c.self.inside in
+    let within = c.in-Some.ensures.within i.geometry.slots i.geometry.slot_size c.self.invariant.listing.index in
+    let lent : length c.deref_mut.result.now ≡ length i.buffer.items = ap (λ (xs : List ℕ). length xs) c.deref_mut.ensures.value in
+    let room : length i.buffer.items ≡ i.geometry.slot_size - 64 = c.self.invariant.room in
+    let most : c.in-Some.place.len ≤ i.geometry.slot_size - 64 = within.most in
+    omega arith
+
+pub invariant_of-self : goal.invariant_of-self
+invariant_of-self g c =
+    let i = c.self.inside in
+    let new = c.read_record.new.buffer in
+    let long : length new ≡ length i.buffer.items = c.read_record.auto.buffer ∙ ap (λ (xs : List ℕ). length xs) c.deref_mut.ensures.value in
+    subst (λ (xs : List ℕ). IsStore g.F.Flash.tells i.geometry (g.F.Flash.state c.read_record.new.flash) i.found xs i.in_doubt i.work)
+    (sym (written_back i.buffer.len new i.buffer.items long i.buffer.ok.0))
+    (read_store g.F.Flash.tells i.geometry (g.F.Flash.state i.flash) (g.F.Flash.state c.read_record.new.flash) i.found i.buffer.items new i.in_doubt i.work c.settle.new.self
+    c.self.invariant c.self.view_is c.in_ok-settle.ensures.doubt long
+    c.read_record.ensures.stays.told c.read_record.ensures.stays.size c.read_record.ensures.stays.sector_size)
