@@ -1,20 +1,19 @@
 -- From the answers of a store to the replies.
-use Rattle.std.proofs.Common.{◌≡◌, ℕ, ◌+◌, ◌-◌, ◌≤◌, ◌⊎◌, Bool, true, false, cond, List, [], ◌∷◌, ◌++◌, length, take, Option, Some, None, Result, Ok, Err, refl, sym, ap, subst, ◌∙◌, arith, inl, inr}
+use Rattle.std.proofs.Common.{◌≡◌, ℕ, ◌≤◌, ◌⊎◌, Bool, true, false, cond, List, ◌++◌, length, Option, None, Result, Ok, Err, refl, sym, ap, subst, ◌∙◌, arith, inl}
 use Rattle.std.specs.Prelude.{is_none}
 use Rattle.base_model.specs.Faults.{Rose}
-use Rattle.record_model.specs.Flash.{Told, Leaves}
 use Rattle.record_model.specs.Records.{Stored, stored_in, is_reserved}
 use Rattle.record_model.proofs.CrashLemmas.{Leaves-exit, Leaves-weaker}
 use Rattle.std.specs.FinMap.{len}
 use Rattle.record_model.specs.RecordMap.{Command, Write, Clear, Read, Count, Next, IsNextAbove, refusal_of, made_by, after, changes_of}
-use Rattle.record_model.specs.History.{Answer, Done, Shown, Counted, Found, Refused, Hardware, cursor_after}
-use Rattle.record_store.specs.Store.{StoreView, stored, IsReady, IsBeforeOrAfter, DividesAlike, KeepsMap}
-use Rattle.record_store.specs.Answers.{RefusesWrite, RefusesClear, HasFaultsOf, HasDoubtOf, UnlessFlash, TakesExactly, AnswersByItself}
+use Rattle.record_model.specs.History.{Answer, Counted, Found, Hardware, cursor_after}
+use Rattle.record_store.specs.Store.{StoreView, stored, IsBeforeOrAfter, DividesAlike, KeepsMap}
+use Rattle.record_store.specs.Answers.{RefusesWrite, RefusesClear, HasFaultsOf, UnlessFlash, TakesExactly, AnswersByItself}
 use Rattle.record_store.specs.declared.errors.StoreError.{StoreError}
 use Rattle.record_store.specs.declared.errors.StoreError.TheVariants.{NoSpace, LastGeneration, NotFound, Empty, Flash, Small}
 use Rattle.apei_cli.specs.Replies.{words_of, at_step}
 use Rattle.apei_cli.specs.Refusals.{answer_of}
-use Rattle.apei_cli.specs.Records.{LooksUp, AnswersNamed}
+use Rattle.apei_cli.specs.Records.{AnswersNamed}
 use Rattle.apei_cli.specs.Plays.{IsHardware, IsReplied}
 use Rattle.apei_cli.proofs.PlayLemmas.{Says, IsReplied-one, after_is, same_after}
 

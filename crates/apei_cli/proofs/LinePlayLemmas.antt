@@ -1,5 +1,5 @@
 -- Laws of the playing of one line.
-use Rattle.std.proofs.Common.{◌≡◌, ℕ, ◌-◌, true, false, List, [], ◌∷◌, ◌++◌, take, refl, sym, ap, subst, ◌∙◌}
+use Rattle.std.proofs.Common.{◌≡◌, ℕ, true, false, List, [], ◌∷◌, ◌++◌, take, refl, sym, ap, subst, ◌∙◌}
 use Rattle.std.specs.Prelude.{MatchBool, Bool}
 use Rattle.std.proofs.lemmas.List.{append-nil}
 use Rattle.record_model.specs.RecordMap.{Command}

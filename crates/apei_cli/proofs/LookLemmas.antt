@@ -1,9 +1,8 @@
 -- What the calls that look for records answer and leave.
-use Rattle.std.proofs.Common.{◌≡◌, ◌≢◌, ℕ, ◌+◌, ◌-◌, ◌*◌, ◌<◌, ◌≤◌, Bool, true, false, List, ◌++◌, length, take, drop, Option, Some, None, Result, Ok, Err, IfOk, refl, sym, ap, subst, ◌∙◌, arith, inl, inr}
+use Rattle.std.proofs.Common.{◌≡◌, ◌≢◌, ℕ, ◌-◌, ◌<◌, ◌≤◌, true, false, List, length, take, drop, Option, Some, None, Result, Ok, Err, IfOk, refl, sym, ap, subst, ◌∙◌, arith, inl, inr}
 use Rattle.std.proofs.lemmas.List.{take_at}
 use Rattle.std.specs.FinMap.{get}
 use Rattle.std.proofs.lemmas.Option.{none-some}
-use Rattle.record_model.specs.Flash.{FlashState, Leaves}
 use Rattle.record_model.specs.Records.{Stored, stored_in, is_reserved}
 use Rattle.record_model.proofs.CrashLemmas.{Leaves-weaker, Leaves-then}
 use Rattle.record_model.specs.RecordMap.{Read, Refusal, NotFound as not_found, Empty as empty, IsNextAbove, refusal_of}

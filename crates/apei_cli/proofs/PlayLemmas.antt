@@ -1,19 +1,18 @@
 -- Laws of what the playing of commands leaves.
-use Rattle.std.proofs.Common.{◌≡◌, ℕ, ◌+◌, ◌-◌, ◌≤◌, ◌⊎◌, inl, inr, Bool, true, false, not, cond, eqb, nat_eq, List, [], ◌∷◌, ◌++◌, length, take, map, Option, Some, None, Result, Ok, Err, refl, sym, ap, subst, ◌∙◌, arith}
-use Rattle.std.specs.Prelude.{is_none, is_some, IsSome}
+use Rattle.std.proofs.Common.{◌≡◌, ℕ, ◌+◌, ◌≤◌, ◌⊎◌, inl, inr, Bool, true, false, not, cond, eqb, nat_eq, List, [], ◌∷◌, ◌++◌, length, Option, Some, None, refl, sym, ap, subst, ◌∙◌, arith}
+use Rattle.std.specs.Prelude.{is_none, is_some}
 use Rattle.std.specs.Ordering.{nat_cmp, eq_by_cmp}
 use Rattle.std.specs.FinMap.{get, insert, remove, get-insert, get-remove}
 use Rattle.std.specs.Cmp.{nat_cmp_total}
-use Rattle.std.proofs.lemmas.List.{append-nil}
 use Rattle.std.proofs.lemmas.Bool.{cases_lt, eq-eqb, ne_eqb}
 use Rattle.std.proofs.lemmas.Bool.Decides.{nat_tests}
 use Rattle.base_model.specs.Faults.{Rose}
-use Rattle.record_model.specs.Flash.{Told, FlashState, Leaves}
+use Rattle.record_model.specs.Flash.{FlashState}
 use Rattle.record_model.specs.Records.{Stored, stored_in, is_reserved}
 use Rattle.record_model.proofs.CrashLemmas.{Leaves-exit}
 use Rattle.record_model.specs.RecordMap.{Command, Write, WriteOversize, Clear, Read, Count, Next, Refusal, Failed, NotFound, refusal_of, next_generation, made_by, after, changes_of}
-use Rattle.record_model.specs.History.{Answer, Done, Shown, Counted, Found, Refused, Hardware, Played, IsDone, AsksStore, IsAnswered, cursor_after, cursor_left, left_by, left_by_all, ended_last, TakeSteps, IsHistory}
-use Rattle.record_model.proofs.HistoryLemmas.{IsHistory-none, IsHistory-one, IsHistory-then, TakeSteps-append, cursor_left-append}
+use Rattle.record_model.specs.History.{Answer, Done, Shown, Counted, Found, Refused, Hardware, Played, IsDone, AsksStore, IsAnswered, cursor_after, cursor_left, ended_last, TakeSteps}
+use Rattle.record_model.proofs.HistoryLemmas.{IsHistory-none, IsHistory-one, IsHistory-then, TakeSteps-append}
 use Rattle.record_store.specs.Store.{StoreView, stored, IsBeforeOrAfter, DividesAlike}
 use Rattle.apei_cli.specs.Replies.{words_of, at_step}
 use Rattle.apei_cli.specs.Plays.{IsHardware, HasHardware, Layout, layout_of, Plays, IsReplied}

@@ -1,15 +1,15 @@
 -- The records that an image holds have an identifier that one can have, and a length that fits.
-use Rattle.std.proofs.Common.{◌≡◌, ◌≢◌, ℕ, zero, suc, ◌+◌, ◌-◌, ◌*◌, ◌^◌, ◌<◌, ◌≤◌, ◌⊎◌, Bool, true, false, not, cond, eqb, List, length, take, Option, Some, None, Result, Ok, Err, refl, sym, ap, subst, ◌∙◌, arith, inl, inr}
+use Rattle.std.proofs.Common.{◌≡◌, ◌≢◌, ℕ, zero, suc, ◌+◌, ◌-◌, ◌*◌, ◌≤◌, ◌⊎◌, Bool, true, false, not, cond, eqb, List, length, Option, Some, None, refl, sym, ap, ◌∙◌, arith, inl, inr}
 use Rattle.std.specs.Prelude.{◌||◌, IsSome, is_some}
 use Rattle.std.specs.Ordering.{nat_cmp}
 use Rattle.std.specs.FinMap.{empty, get, len, get-empty, len-empty, empty_of_len, same_map, nat_cmp-IsAntisymmetric}
 use Rattle.std.specs.Cmp.{nat_cmp_total}
-use Rattle.std.proofs.lemmas.Bool.{and_parts, leb-true, eq-eqb, ne_eqb, cases_eq}
+use Rattle.std.proofs.lemmas.Bool.{and_parts, leb-true, eq-eqb, ne_eqb}
 use Rattle.std.proofs.lemmas.Option.{none-some}
 use Rattle.base_model.specs.Bytes.{part}
 use Rattle.base_model.proofs.BytesLemmas.{length-part-le}
 use Rattle.record_model.specs.Records.{Head, head_at, tail_at, is_reserved, is_upright, Entry, entry_of, entry_at, Stored, stored_in}
-use Rattle.record_model.specs.RecordMap.{Read, Failed, NotFound, Empty, IsNextAbove, refusal_of}
+use Rattle.record_model.specs.RecordMap.{Read, NotFound, Empty, IsNextAbove, refusal_of}
 use Rattle.record_model.proofs.SelectionLemmas.{get-selected, best_from}
 
 -- what an upright head says

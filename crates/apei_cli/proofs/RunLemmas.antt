@@ -1,26 +1,26 @@
 -- Laws of a run over the lines of a script.
-use Rattle.std.proofs.Common.{◌≡◌, ℕ, ◌+◌, ◌*◌, ◌^◌, ◌<◌, ◌≤◌, ◌⊎◌, inl, inr, Bool, true, false, List, [], ◌∷◌, ◌++◌, length, take, map, MatchBool, refl, sym, ap, subst, ◌∙◌, arith, append_assoc, length-append}
+use Rattle.std.proofs.Common.{◌≡◌, ℕ, ◌+◌, ◌*◌, ◌^◌, ◌<◌, ◌≤◌, ◌⊎◌, inl, inr, Bool, true, false, List, [], ◌∷◌, ◌++◌, length, take, refl, sym, ap, subst, ◌∙◌, arith, append_assoc, length-append}
 use Rattle.std.proofs.lemmas.Bool.{cases_lt}
 use Rattle.std.proofs.lemmas.List.{append-nil}
 use Rattle.record_model.specs.Flash.{FlashState}
 use Rattle.record_model.specs.Records.{Stored, stored_in, second_copies}
 use Rattle.record_model.specs.RecordMap.{Command}
 use Rattle.record_model.specs.History.{Played, cursor_left, IsHistory, TakeSteps}
-use Rattle.record_model.proofs.HistoryLemmas.{cursor_left-append, IsHistory-none, IsHistory-then}
+use Rattle.record_model.proofs.HistoryLemmas.{cursor_left-append, IsHistory-then}
 use Rattle.record_model.proofs.CrashLemmas.{Leaves-exit, past_grows, IsLater-refl, CrashImage-now}
-use Rattle.record_model.specs.Flash.{Told, Leaves, CrashImage}
+use Rattle.record_model.specs.Flash.{Told, Leaves}
 use Rattle.base_model.specs.Faults.{Rose}
-use Rattle.record_store.specs.Store.{StoreView, stored, DividesAlike, IsOpened, KeepsRecordsOf}
+use Rattle.record_store.specs.Store.{StoreView, DividesAlike, IsOpened, KeepsRecordsOf}
 use Rattle.record_store.specs.Answers.{RefusesFlash}
 use Rattle.flash_model.specs.declared.geometry.Geometry.{Geometry}
 use Rattle.record_recovery.specs.declared.scanning.ScanError.{ScanError}
 use Rattle.record_recovery.specs.declared.scanning.ScanError.TheVariants.{Size, Flash as flash_failed, Memory as no_memory}
 use Rattle.apei_cli.specs.Lines.{Line, Reading, lines_of, ended_lines_of, lines_ahead, IsTooLong, ReadsLine, with_newline, last_one, IsNextLine, IsAtEnd, NextIsTooLong, HasNoLine}
-use Rattle.apei_cli.specs.Script.{Asked, asked_by, IsBuilt, commands_of}
+use Rattle.apei_cli.specs.Script.{asked_by, IsBuilt, commands_of}
 use Rattle.apei_cli.specs.Replies.{reply_of, text_of}
-use Rattle.apei_cli.specs.Plays.{Layout, room_of, layout_of, HasHardware, IsOpen, StaysIdle, Plays, ArePlayable, asked_by_all, commands_in, AreOf, PartlyWritten, PlaysLine, PlaysUnheard}
-use Rattle.apei_cli.specs.Statuses.{EndsBy, IsWritten, PlaysAll, PlaysTaken, PlaysSome, StopsTooLong, StopsNotBuilt}
-use Rattle.apei_cli.specs.Runs.{layout_by, PlaysScript, TakesItsSteps, ComesFirst, IsStatusOf, IsRun}
+use Rattle.apei_cli.specs.Plays.{Layout, room_of, layout_of, IsOpen, StaysIdle, Plays, ArePlayable, asked_by_all, commands_in, AreOf, PartlyWritten, PlaysLine, PlaysUnheard}
+use Rattle.apei_cli.specs.Statuses.{EndsBy, IsWritten}
+use Rattle.apei_cli.specs.Runs.{layout_by, PlaysScript, ComesFirst, IsStatusOf, IsRun}
 use Rattle.apei_cli.specs.declared.status.Status.{Status}
 use Rattle.apei_cli.specs.declared.status.Status.TheVariants.{Done, BadWords, SourceFault, SinkFault, FlashFault, BadGeometry, TooLong, Memory, NotYet}
 use Rattle.apei_cli.proofs.LineLemmas.{lines_of-newline, lines_of-nil, lines_of-last, ended_lines_of-newline, ended_lines_of-one_line}

@@ -1,9 +1,7 @@
 -- Commands that the map refuses without the store being asked.
-use Rattle.std.proofs.Common.{◌≡◌, ℕ, ◌+◌, ◌<◌, ◌≤◌, Bool, true, false, cond, List, [], ◌∷◌, ◌++◌, length, take, drop, codes, Option, Some, None, refl, sym, ap, subst, ◌∙◌, arith, length-append, length-drop}
+use Rattle.std.proofs.Common.{◌≡◌, ℕ, ◌<◌, ◌≤◌, Bool, true, cond, List, ◌++◌, length, take, drop, codes, Option, Some, refl, ap, ◌∙◌, arith, length-append, length-drop}
 use Rattle.std.specs.Prelude.{is_none}
-use Rattle.base_model.specs.Faults.{Rose}
 use Rattle.record_model.specs.Records.{Stored, stored_in, is_reserved}
-use Rattle.record_model.specs.Flash.{Leaves}
 use Rattle.record_model.specs.RecordMap.{Command, Write, WriteOversize, Clear, Refusal, Failed, TooLong, refusal_of, changes_made, changes_of}
 use Rattle.record_model.specs.History.{Refused, cursor_after}
 use Rattle.record_model.proofs.CrashLemmas.{CrashImage-now, IsLater-refl}

@@ -1,5 +1,5 @@
 -- What the playing of lines leaves.
-use Rattle.std.specs.Prelude.{◌≡◌, ℕ, ◌-◌, ◌≤◌, ◌⊎◌, Bool, true, false, List, [], ◌∷◌, ◌++◌, take, map}
+use Rattle.std.specs.Prelude.{◌≡◌, ℕ, ◌-◌, ◌≤◌, ◌⊎◌, true, false, List, [], ◌∷◌, ◌++◌, take, map}
 use Rattle.base_model.specs.Faults.{Rose}
 use Rattle.record_model.specs.Flash.{FlashState}
 use Rattle.record_model.specs.Records.{stored_in}

@@ -1,5 +1,5 @@
 -- Records in memory.
-use Rattle.std.specs.Prelude.{◌≡◌, ℕ, ◌≤◌, false, List, length, take, Result, Ok, Err, None, Some}
+use Rattle.std.specs.Prelude.{◌≡◌, ℕ, false, List, length, take, Result, Ok, Err, None, Some}
 use Rattle.std.specs.FinMap.{get}
 use Rattle.record_model.specs.RecordMap.{Read, NotFound as not_found, Empty as empty, refusal_of}
 use Rattle.record_model.specs.History.{IsNamed}

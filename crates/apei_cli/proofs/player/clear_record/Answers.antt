@@ -1,4 +1,4 @@
-use Rattle.std.proofs.Common.{◌≡◌, ℕ, List, ◌++◌, length, codes, refl, sym, ap, subst, ◌∙◌, arith}
+use Rattle.std.proofs.Common.{◌≡◌, ℕ, ◌++◌, length, codes, refl, ap, subst, ◌∙◌, arith}
 use Rattle.std.specs.Prelude.{decimal}
 use Rattle.record_model.specs.Flash.{FlashState}
 use Rattle.record_model.specs.RecordMap.{Clear}

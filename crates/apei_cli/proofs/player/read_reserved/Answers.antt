@@ -1,6 +1,6 @@
-use Rattle.std.proofs.Common.{◌≡◌, ℕ, List, Option, Some, None, refl, sym, ap, subst, ◌∙◌, arith}
+use Rattle.std.proofs.Common.{subst}
 use Rattle.record_model.specs.RecordMap.{IsNextAbove}
-use Rattle.record_store.specs.Store.{StoreView, stored}
+use Rattle.record_store.specs.Store.{stored}
 use Rattle.apei_cli.proofs.AnswerLemmas.{map_kept}
 use Rattle.apei_cli.proofs.RecordLemmas.{read_empty, read_absent, none_above, reserved_absent, some_kept}
 use Rattle.apei_cli.proofs.LookLemmas.{least_answer, looks_then}

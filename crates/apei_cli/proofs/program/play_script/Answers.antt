@@ -1,7 +1,7 @@
 use Rattle.std.proofs.Common.{◌≡◌, ◌-◌, Err, true, false, refl, sym, ap, ◌∙◌, arith}
 use Rattle.apei_cli.specs.Lines.{Reading}
 use Rattle.apei_cli.proofs.LinePlayLemmas.{on_true, on_false}
-use Rattle.apei_cli.proofs.RunLemmas.{SoFar-start, SoFar-played, IsOpen-then, end_small, ends_done, ends_fault, ends_too_long, ends_not_built, ends_unheard}
+use Rattle.apei_cli.proofs.RunLemmas.{SoFar-start, SoFar-played, IsOpen-then, end_small, ends_done, ends_fault, ends_not_built, ends_unheard}
 use Rattle.apei_cli.proofs.program.play_script.Goals as goal
 
 pub lines-init : goal.lines-init

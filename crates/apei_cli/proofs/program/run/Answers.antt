@@ -1,8 +1,4 @@
-use Rattle.std.proofs.Common.{◌≡◌, Err, refl, ap, subst}
-use Rattle.base_model.specs.Faults.{Rose}
-use Rattle.apei_cli.specs.Lines.{lines_of}
-use Rattle.apei_cli.specs.Plays.{ArePlayable}
-use Rattle.apei_cli.specs.Plan.{IsPlanOf}
+use Rattle.std.proofs.Common.{Err, refl, ap, subst}
 use Rattle.apei_cli.specs.Runs.{layout_of_plan, IsRun, IsOnGeometry}
 use Rattle.apei_cli.specs.declared.job.Plan.{Plan}
 use Rattle.apei_cli.proofs.WordLemmas.{same_plan}

@@ -1,4 +1,4 @@
-use Rattle.std.proofs.Common.{◌≡◌, ℕ, refl, sym, ap, subst, ◌∙◌, arith}
+use Rattle.std.proofs.Common.{refl, sym, subst}
 use Rattle.record_model.specs.Flash.{FlashState}
 use Rattle.apei_cli.specs.Plays.{Layout}
 use Rattle.apei_cli.specs.Runs.{layout_by, PlaysScript, IsRun}

@@ -1,7 +1,6 @@
-use Rattle.std.proofs.Common.{◌≡◌, ℕ, List, ◌++◌, length, codes, refl, sym, ap, subst, ◌∙◌, arith}
+use Rattle.std.proofs.Common.{◌≡◌, length, refl, ap, subst, ◌∙◌}
 use Rattle.record_model.specs.Flash.{FlashState}
 use Rattle.record_model.specs.RecordMap.{Clear, Failed}
-use Rattle.record_model.specs.History.{Refused}
 use Rattle.apei_cli.proofs.StillLemmas.{refused_still, clear_reserved}
 use Rattle.apei_cli.proofs.player.Desk.clear.Goals as goal
 

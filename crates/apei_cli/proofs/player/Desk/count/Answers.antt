@@ -1,4 +1,4 @@
-use Rattle.std.proofs.Common.{◌≡◌, ℕ, List, ◌++◌, length, codes, Err, refl, sym, ap, subst, ◌∙◌, arith}
+use Rattle.std.proofs.Common.{◌≡◌, length, Err, refl, ap, subst, ◌∙◌, arith}
 use Rattle.record_model.specs.Flash.{FlashState}
 use Rattle.record_model.specs.RecordMap.{Count}
 use Rattle.record_model.specs.History.{Counted}

@@ -1,4 +1,4 @@
-use Rattle.std.proofs.Common.{◌≡◌, ℕ, List, ◌++◌, length, codes, Err, refl, sym, ap, subst, ◌∙◌, arith}
+use Rattle.std.proofs.Common.{◌≡◌, length, Err, sym, ap, subst, ◌∙◌, arith}
 use Rattle.record_model.specs.Flash.{FlashState}
 use Rattle.record_model.specs.RecordMap.{Next, IsNextAbove}
 use Rattle.record_model.specs.History.{Found}
