@@ -1,5 +1,5 @@
 -- Laws of a run over the lines of a script.
-use Rattle.std.proofs.Common.{◌≡◌, ℕ, ◌+◌, ◌*◌, ◌^◌, ◌<◌, ◌≤◌, ◌⊎◌, inl, inr, Bool, true, false, List, [], ◌∷◌, ◌++◌, length, take, refl, sym, ap, subst, ◌∙◌, arith, append_assoc, length-append}
+use Rattle.std.proofs.Common.{◌≡◌, ℕ, ◌+◌, ◌*◌, ◌^◌, ◌≤◌, ◌⊎◌, inl, inr, Bool, true, false, List, [], ◌∷◌, ◌++◌, length, take, refl, sym, ap, subst, ◌∙◌, arith, append_assoc, length-append}
 use Rattle.std.proofs.lemmas.Bool.{cases_lt}
 use Rattle.std.proofs.lemmas.List.{append-nil}
 use Rattle.record_model.specs.Flash.{FlashState}
@@ -15,7 +15,7 @@ use Rattle.record_store.specs.Answers.{RefusesFlash}
 use Rattle.flash_model.specs.declared.geometry.Geometry.{Geometry}
 use Rattle.record_recovery.specs.declared.scanning.ScanError.{ScanError}
 use Rattle.record_recovery.specs.declared.scanning.ScanError.TheVariants.{Size, Flash as flash_failed, Memory as no_memory}
-use Rattle.apei_cli.specs.Lines.{Line, Reading, lines_of, ended_lines_of, lines_ahead, IsTooLong, ReadsLine, with_newline, last_one, IsNextLine, IsAtEnd, NextIsTooLong, HasNoLine}
+use Rattle.apei_cli.specs.Lines.{Line, Reading, lines_of, ended_lines_of, lines_ahead, IsTooLong, ReadsLine, with_newline, last_one, IsNextLine, IsAtEnd, HasNoLine}
 use Rattle.apei_cli.specs.Script.{asked_by, IsBuilt, commands_of}
 use Rattle.apei_cli.specs.Replies.{reply_of, text_of}
 use Rattle.apei_cli.specs.Plays.{Layout, room_of, layout_of, IsOpen, StaysIdle, Plays, ArePlayable, asked_by_all, commands_in, AreOf, PartlyWritten, PlaysLine, PlaysUnheard}
@@ -74,19 +74,8 @@ next_taken tells a b script rest rest_now lines next told so_far not_end = by_ki
         }
     by_kind (last_one bytes one some text pending end at_end given empty) = let clash : true ≡ false = sym at_end ∙ not_end in absurd (cc clash)
 
--- the place grows
-pub end_grows : (tells : Type 0) (a b : Reading) (rest rest_now : List ℕ) → IsNextLine tells a b rest rest_now → a.end < b.end
-end_grows tells a b rest rest_now next = by_kind next.read
-  where
-    by_kind : ReadsLine tells a b rest rest_now → a.end < b.end
-    by_kind (with_newline bytes one text end at_end given) = omega arith
-    by_kind (last_one bytes one some text pending end at_end given empty) = omega arith
-
 pub end_small : (tells : Type 0) (a b : Reading) (rest rest_now : List ℕ) → IsNextLine tells a b rest rest_now → b.end ≤ 2 ^ 24
 end_small tells a b rest rest_now next = elim (cases_lt (2 ^ 24) b.end) [ inl far ↦ absurd (next.within (inr far)) | inr near ↦ near ]
-
-pub line_short : (tells : Type 0) (a b : Reading) (rest rest_now : List ℕ) → IsNextLine tells a b rest rest_now → length b.line ≤ 140000
-line_short tells a b rest rest_now next = elim (cases_lt 140000 (length b.line)) [ inl long ↦ absurd (next.within (inl long)) | inr short ↦ short ]
 
 -- playable lines, one after another
 ArePlayable-append : (some more : List Line) → ArePlayable some → ArePlayable more → ArePlayable (some ++ more)
@@ -277,30 +266,6 @@ ends_fault told_source told_sink told_flash script rest rest_now written written
             ∙ ap (λ (bs : List ℕ). before.taken ++ bs) (ap (λ (bs : List ℕ). a.pending ++ bs) (failed.given told) ∙ sym (append_assoc a.pending failed.bytes rest_now))
             ∙ sym (append_assoc before.taken (a.pending ++ failed.bytes) rest_now);
         played = subst (λ (ls : List Line). AreOf (room_of (layout_of old)) ls so_far.commands) (sym lines) so_far.played;
-      };
-  text = so_far.text;
-}
-
--- the next line is too long
-pub ends_too_long : (told_source told_sink told_flash : Type 0) (script rest rest_now written written_now : List ℕ) (old new : StoreView) (cursor : ℕ) (a b : Reading) (number : ℕ)
-    → NextIsTooLong told_source a b rest → number ≡ b.number + 1
-    → SoFar told_source told_sink told_flash script rest written written_now old new cursor a
-    → PlaysScript told_source told_sink told_flash (layout_of old) script rest_now written written_now old.flash new.flash (TooLong number)
-ends_too_long told_source told_sink told_flash script rest rest_now written written_now old new cursor a b number next is so_far = record {
-  commands = so_far.commands;
-  plays = so_far.plays;
-  lines = λ told.
-      let found = next.too_long told in
-      record {
-        line = found.0;
-        stops = record {
-          before = so_far.lines;
-          behind = found.1;
-          lines = so_far.ahead told ∙ ap (λ (ls : List Line). so_far.lines ++ ls) found.2;
-          numbered = omega (arith, is, next.number, so_far.number);
-          played = so_far.played;
-        };
-        too_long = found.3;
       };
   text = so_far.text;
 }

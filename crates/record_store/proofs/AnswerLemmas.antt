@@ -3,7 +3,7 @@ use Rattle.std.proofs.Common.{◌≡◌, ℕ, ◌<◌, ◌≤◌, true, List, le
 use Rattle.std.specs.Prelude.{Contains, is_some, IsSome}
 use Rattle.std.specs.FinMap.{get, len}
 use Rattle.std.proofs.lemmas.List.{get_or_default}
-use Rattle.std.proofs.lemmas.Option.{none-some, same_Some}
+use Rattle.std.proofs.lemmas.Option.{none-some}
 use Rattle.erst_ids.specs.Next.{IsNextAfter}
 use Rattle.record_model.specs.Records.{Entry, selected}
 use Rattle.record_model.specs.RecordMap.{IsNextAbove}
@@ -85,19 +85,6 @@ place_stored entry slots id place is =
 -- where none is found, none is stored
 pub no_place_stored : (entry : ℕ → Option Entry) (slots id : ℕ) → IsPlaceFound entry slots id None → get (selected entry slots) id ≡ None
 no_place_stored entry slots id none = get-no_slot entry slots id none
-
--- of what is stored the place is found
-pub stored_place : (entry : ℕ → Option Entry) (slots id : ℕ) (answer : Option SlotOf) (kept : List ℕ × ℕ) → IsPlaceFound entry slots id answer
-    → get (selected entry slots) id ≡ Some kept → (place : SlotOf) × (answer ≡ Some place) × IsStoredAt entry slots id place kept.0 × (place.generation ≡ kept.1)
-stored_place entry slots id None kept none is = absurd (none-some kept (sym (no_place_stored entry slots id none) ∙ is))
-stored_place entry slots id (Some place) kept found is =
-    let had = place_stored entry slots id place found in
-    let same : (had.0, place.generation) ≡ kept = same_Some _ _ (sym (had.1).stored ∙ is) in (
-      place,
-      refl,
-      subst (λ (body : List ℕ). IsStoredAt entry slots id place body) (ap (λ (p : List ℕ × ℕ). p.0) same) had.1,
-      ap (λ (p : List ℕ × ℕ). p.1) same,
-    )
 
 -- every slot that is listed as free has no record
 pub free_is_free : (entry : ℕ → Option Entry) (slots i : ℕ) (found : Found) → IsListOf entry slots found → i < length found.free.items

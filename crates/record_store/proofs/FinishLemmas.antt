@@ -9,17 +9,11 @@ use Rattle.record_model.specs.RecordMap.{Command, Write, Clear, Refusal, Failed,
 use Rattle.record_model.proofs.MapLemmas.{after-done}
 use Rattle.record_model.proofs.RefusalLemmas.{changes_of-refused, changes_of-new, changes_of-over, changes_of-clear}
 use Rattle.record_model.proofs.CrashLemmas.{Leaves-none, Leaves-weaker, Leaves-then, Leaves-exit}
-use Rattle.record_store.specs.Store.{StoreView, Pending, Idle, Writing, Clearing, stored, map_after, pending_after, changes_before_gate, changes_in_all, IsBusy, KeepsOrMakes, DividesAlike}
+use Rattle.record_store.specs.Store.{StoreView, Pending, Idle, Writing, Clearing, stored, map_after, pending_after, changes_before_gate, changes_in_all, KeepsOrMakes, DividesAlike}
 use Rattle.record_store.specs.Answers.{FailsByFlash, AnswersWrite, AnswersClear, RefusesWrite, RefusesClear, UnlessFlash}
 use Rattle.record_store.specs.declared.errors.StoreError.{StoreError}
 use Rattle.record_store.specs.declared.errors.StoreError.TheVariants.{NoSpace, LastGeneration, NotFound, Empty, Flash, Small}
 use Rattle.record_store.specs.Finish.{IsUnfinished, changes_left, map_at_end, IsOnWay}
-
--- something that is unfinished is pending
-pub unfinished_busy : (per_slot : ℕ) (pending : Pending) → IsUnfinished per_slot pending → IsBusy pending
-unfinished_busy per_slot Idle some = some
-unfinished_busy per_slot (Writing id bytes replaces made) some = tt
-unfinished_busy per_slot (Clearing id) some = tt
 
 -- the tests of a write that has made so many changes, of which so many come before the gate
 record Tests (made before all : ℕ) (at_gate at_end early later : Bool) : Type 0 where

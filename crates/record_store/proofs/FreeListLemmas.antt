@@ -1,5 +1,5 @@
 -- The list of free slots, as a slot joins or leaves it.
-use Rattle.std.proofs.Common.{◌≡◌, ℕ, ◌+◌, ◌<◌, ◌≤◌, Bool, true, cond, List, length, get_or, Option, Ok, Err, refl, sym, ap, subst, ◌∙◌, arith, inl, inr}
+use Rattle.std.proofs.Common.{◌≡◌, ℕ, ◌+◌, ◌<◌, ◌≤◌, Bool, true, cond, List, length, get_or, Option, Err, refl, sym, ap, subst, ◌∙◌, arith, inl, inr}
 use Rattle.std.specs.Prelude.{insert, remove}
 use Rattle.std.specs.Ordering.{nat_cmp}
 use Rattle.std.proofs.lemmas.Bool.{cases_lt}
@@ -14,10 +14,6 @@ use Rattle.record_recovery.proofs.ListedLemmas.{rising-insert}
 use Rattle.record_recovery.proofs.OpenedLemmas.{rising-remove}
 use Rattle.record_recovery.proofs.FreeLemmas.{remove_listed, insert_listed, length-rising, free_slots-are, free_slots-all, free_slots-opened, free_slots-freed}
 use Rattle.record_store.specs.Index.{IsFreed, IsTaken, HasOpened, HasLost}
-
--- slots of a store are slots of a larger one
-pub AreSlots-wider : (few many : ℕ) (free : List ℕ) → few ≤ many → AreSlots few free → AreSlots many free
-AreSlots-wider few many free h slots = record { rising = slots.rising; within = λ i l. let low : get_or free i 0 < few = slots.within i l in omega arith }
 
 AreSlots-inserted : (slots at slot : ℕ) (free : List ℕ) → AreSlots slots free → slot < slots → at ≤ length free
     → ((k : ℕ) → k < at → get_or free k 0 < slot) → ((k : ℕ) → at ≤ k → k < length free → slot < get_or free k 0) → AreSlots slots (insert free at slot)
@@ -48,12 +44,6 @@ freed_at room at slot free after ok had low position succeeds is =
     let place = searched free slot (Err at) position (λ i j h l. rising_le free had.rising i j h l) in
     let more : length free < room = room_for_one room at slot free had low place.0 place.1 place.2 in
     inr (at, place.0, place.1, place.2, is ∙ ap (λ (b : Bool). cond b (insert free at slot) free) (succeeds more))
-
--- a slot that a search finds is listed already
-pub freed_already : (at slot : ℕ) (free : List ℕ) → IsStrictlyIncreasing free → IsBinarySearchResult (λ y. nat_cmp y slot) free (Ok at) → IsFreed free free slot
-freed_already at slot free up position =
-    let place = searched free slot (Ok at) position (λ i j h l. rising_le free up i j h l) in
-    inl ((at, place.0, place.1), refl)
 
 -- a slot that a search does not find is not listed
 pub taken_already : (at slot : ℕ) (free : List ℕ) → IsStrictlyIncreasing free → IsBinarySearchResult (λ y. nat_cmp y slot) free (Err at) → IsTaken free free slot

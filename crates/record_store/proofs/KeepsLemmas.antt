@@ -1,17 +1,12 @@
 -- Steps that keep the records of all other slots and leave the slot free, whatever power lost in them leaves.
-use Rattle.std.proofs.Common.{◌≡◌, ◌≢◌, ℕ, ◌+◌, ◌-◌, ◌*◌, ◌≤◌, List, None, Result, sym, subst, ◌∙◌, arith, inl, inr}
+use Rattle.std.proofs.Common.{◌≡◌, ◌≢◌, ℕ, ◌+◌, ◌-◌, ◌*◌, ◌≤◌, List, None, sym, subst, ◌∙◌, arith, inl, inr}
 use Rattle.base_model.specs.Bytes.{SameOutside, number_at}
-use Rattle.base_model.proofs.BytesLemmas.{SameOutside-wider, SameOutside-then, SameOutside-refl, SameOutside-none, number_at-before}
-use Rattle.record_model.specs.Flash.{Told, FlashState, MayChange, AsksChange, IsErased}
+use Rattle.base_model.proofs.BytesLemmas.{SameOutside-wider, SameOutside-refl, SameOutside-none, number_at-before}
+use Rattle.record_model.specs.Flash.{Told, MayChange, IsErased}
 use Rattle.record_model.specs.Records.{entry_at, tail_at, DiffersInFreeSlot}
-use Rattle.record_model.proofs.CrashLemmas.{Leaves-none, Leaves-change, Leaves-weaker, Leaves-then, Leaves-exit}
+use Rattle.record_model.proofs.CrashLemmas.{Leaves-change}
 use Rattle.record_model.proofs.SlotLemmas.{free_by_gate, free_by_tail, free_by_head, tail_at-after, head_at-before, erased_byte}
-use Rattle.record_store.specs.Slot.{Keeps, StaysFree, IsOneChange}
-
--- nothing was done to a free slot
-pub Keeps-none : (size slot : ℕ) (told : Told) → entry_at size told.image slot ≡ None → Keeps size slot told told
-Keeps-none size slot told free =
-    Leaves-none told (DiffersInFreeSlot size slot told.image) (record { same = SameOutside-refl (slot * size) size told.image; free = free })
+use Rattle.record_store.specs.Slot.{Keeps, StaysFree}
 
 -- one change within a slot that stays free
 pub Keeps-change : (size slot place len : ℕ) (old new : Told) → slot * size ≤ place → place + len ≤ slot * size + size
@@ -19,14 +14,6 @@ pub Keeps-change : (size slot place len : ℕ) (old new : Told) → slot * size 
 Keeps-change size slot place len old new low high free change =
     Leaves-change place len old new (DiffersInFreeSlot size slot old.image) change
     (λ image same. record { same = SameOutside-wider place len (slot * size) size old.image image low high same; free = free image same })
-
--- one step after another
-pub Keeps-then : (size slot : ℕ) (old mid new : Told) → Keeps size slot old mid → Keeps size slot mid new → Keeps size slot old new
-Keeps-then size slot old mid new first second =
-    let at_mid = Leaves-exit old mid (DiffersInFreeSlot size slot old.image) first in
-    Leaves-then old mid new (DiffersInFreeSlot size slot old.image) first
-    (Leaves-weaker mid new (DiffersInFreeSlot size slot mid.image) (DiffersInFreeSlot size slot old.image) second
-    (λ image differs. record { same = SameOutside-then (slot * size) size old.image mid.image image at_mid.same differs.same; free = differs.free }))
 
 -- a slot without its tail mark stays free while the mark is not touched
 pub StaysFree-tail : (size slot place len : ℕ) (image : List ℕ) → 1 ≤ size → place + len ≤ slot * size + (size - 1) → tail_at image (slot * size) size ≢ 0xA5
@@ -62,8 +49,3 @@ MayChange-same place len old new change = elim change [
     | inr empty ↦ subst (λ (xs : List ℕ). SameOutside place len old.image xs) (sym (SameOutside-none 0 old.image new.image empty.image)) (SameOutside-refl place len old.image)
   ]
 ]
-
--- a call for a change asks for one
-pub one_change : {T E : Type 0} → (tells : Type 0) (place len : ℕ) (old new : FlashState) (result : Result T E) → AsksChange tells place len old new result → IsOneChange old new result
-one_change tells place len old new result asks =
-    record { size = asks.size; sector_size = asks.sector_size; steps = asks.steps; reads = asks.reads; cause = asks.cause; counted = asks.counted }

@@ -6,10 +6,8 @@ pub mod FreeListLemmas
 pub mod CountLemmas
 pub mod IndexLemmas
 pub mod AnswerLemmas
-pub mod ChangeLemmas
 pub mod ScanLemmas
 pub mod WalkLemmas
-pub mod StoredLemmas
 pub mod StartLemmas
 pub mod StoreLemmas
 pub mod FinishLemmas

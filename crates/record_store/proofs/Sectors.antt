@@ -67,12 +67,6 @@ IsCleanFromHead-more geometry slot done old new within clean same erased =
           erased);
     }
 
--- all sectors are the slot
-pub IsCleanFromHead-all : (geometry : Geometry) (slot : ℕ) (image : List ℕ) → IsCleanFromHead geometry.slot_size geometry.sector slot geometry.per_slot image
-    → IsErased image (slot * geometry.slot_size) geometry.slot_size
-IsCleanFromHead-all geometry slot image clean =
-    subst (λ (k : ℕ). IsErased image (slot * geometry.slot_size) k) (mul_comm geometry.per_slot geometry.sector ∙ sym geometry.product) clean.erased
-
 erased_tail : (geometry : Geometry) (slot done : ℕ) (image : List ℕ) → done ≤ geometry.per_slot → 1 ≤ done → IsErased image (slot * geometry.slot_size + (geometry.per_slot - done) * geometry.sector) (done * geometry.sector)
     → tail_at image (slot * geometry.slot_size) geometry.slot_size ≢ 0xA5
 unfolding tail_at
@@ -136,14 +130,3 @@ IsCleanFromTail-more geometry slot done old new within clean same erased =
           subst (λ (k : ℕ). IsErased new (place + k * size) ((done + 1) * size)) (sym last)
           (subst (λ (n : ℕ). IsErased new (place + (geometry.per_slot - 1 - done) * size) n) grown joined);
     }
-
--- all sectors are the slot
-pub IsCleanFromTail-all : (geometry : Geometry) (slot : ℕ) (image : List ℕ) → IsCleanFromTail geometry.slot_size geometry.sector geometry.per_slot slot geometry.per_slot image
-    → IsErased image (slot * geometry.slot_size) geometry.slot_size
-IsCleanFromTail-all geometry slot image clean =
-    let from : slot * geometry.slot_size + (geometry.per_slot - geometry.per_slot) * geometry.sector ≡ slot * geometry.slot_size = at_start (geometry.per_slot - geometry.per_slot) (omega arith) in
-    subst (λ (k : ℕ). IsErased image (slot * geometry.slot_size) k) (mul_comm geometry.per_slot geometry.sector ∙ sym geometry.product)
-    (subst (λ (k : ℕ). IsErased image k (geometry.per_slot * geometry.sector)) from clean.erased)
-  where
-    at_start : (k : ℕ) → k ≡ 0 → slot * geometry.slot_size + k * geometry.sector ≡ slot * geometry.slot_size
-    at_start k e = ap (λ (n : ℕ). slot * geometry.slot_size + n * geometry.sector) e ∙ (omega arith)

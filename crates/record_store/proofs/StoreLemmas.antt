@@ -8,9 +8,9 @@ use Rattle.std.proofs.lemmas.List.{length-take, take_all, take-append-le}
 use Rattle.base_model.specs.Bytes.{part}
 use Rattle.flash_model.specs.declared.geometry.Geometry.{Geometry}
 use Rattle.record_model.specs.Flash.{Told, FlashState, Leaves, IsErased}
-use Rattle.record_model.specs.Records.{Entry, Stored, entry_at, entry_of, head_at, tail_at, selected, stored_in, is_reserved, is_upright, AreSingle, HasNoSecondCopy, IsNearlySingle}
-use Rattle.record_model.specs.RecordMap.{Write, Clear, Read, Refusal, Failed, NoSpace as no_space, NotFound as not_found, Empty as empty, LAST_GENERATION, refusal_of, pieces_of}
-use Rattle.record_model.proofs.CrashLemmas.{Leaves-none, Leaves-weaker, Leaves-then, Leaves-exit}
+use Rattle.record_model.specs.Records.{Entry, Stored, entry_at, entry_of, head_at, tail_at, selected, stored_in, is_upright, AreSingle, HasNoSecondCopy, IsNearlySingle}
+use Rattle.record_model.specs.RecordMap.{Write, Failed, NoSpace as no_space, LAST_GENERATION, refusal_of, pieces_of}
+use Rattle.record_model.proofs.CrashLemmas.{Leaves-none, Leaves-exit}
 use Rattle.record_recovery.specs.declared.found.Found.{Found}
 use Rattle.record_recovery.specs.declared.found.SlotOf.{SlotOf}
 use Rattle.record_recovery.specs.Recovered.{KeepsRecords}
@@ -32,9 +32,6 @@ use Rattle.record_store.proofs.AnswerLemmas.{place_stored}
 -- power lost in nothing, or in what kept the records
 pub KeepsMap-none : (v : StoreView) → KeepsMap v v
 KeepsMap-none v = Leaves-none v.flash.told (λ image. stored_in v.slot_size v.slots image ≡ stored v) refl
-
-pub KeepsMap-same : (old new : StoreView) → new.flash.told ≡ old.flash.told → KeepsMap old new
-KeepsMap-same old new same = subst (λ (t : Told). Leaves old.flash.told t (λ image. stored_in old.slot_size old.slots image ≡ stored old)) (sym same) (KeepsMap-none old)
 
 pub kept_since : (geometry : Geometry) (flash : FlashState) (doubt : Bool) (pending : Pending) (v : StoreView) (new : Told) → view_of geometry flash doubt pending ≡ v
     → KeepsRecords geometry.slot_size geometry.slots flash.told new → Leaves v.flash.told new (λ image. stored_in v.slot_size v.slots image ≡ stored v)

@@ -76,7 +76,3 @@ pub record IsStoredAt (entry : ℕ → Option Entry) (slots id : ℕ) (place : S
   pub here : entry place.slot ≡ Some (record { id = id; generation = place.generation; body = body })
   pub stored : get (selected entry slots) id ≡ Some (body, place.generation)
   pub len : length body ≡ place.len
-
--- but for slot j no two slots have one identifier
-abbrev pub AreSingleBut : (ℕ → Option Entry) → ℕ → ℕ → Type 0
-AreSingleBut entry slots j = (i k : ℕ) (one other : Entry) → i < slots → k < slots → i ≢ j → k ≢ j → entry i ≡ Some one → entry k ≡ Some other → one.id ≡ other.id → i ≡ k

@@ -3,7 +3,7 @@ use Rattle.std.specs.Prelude.{◌≡◌, ◌≢◌, ◌⊎◌, ℕ, ◌+◌, ◌
 use Rattle.std.specs.FinMap.{get}
 use Rattle.flash_model.specs.declared.geometry.Geometry.{Geometry}
 use Rattle.record_model.specs.Flash.{Told, FlashState, Leaves}
-use Rattle.record_model.specs.Records.{Entry, Stored, entry_at, selected, stored_in, AreSingle, IsNearlySingle}
+use Rattle.record_model.specs.Records.{Entry, entry_at, selected, stored_in, AreSingle, IsNearlySingle}
 use Rattle.record_model.specs.RecordMap.{next_generation, pieces_of}
 use Rattle.record_slots.specs.Slots.{Fits}
 use Rattle.record_recovery.specs.declared.found.Found.{Found}

@@ -1,4 +1,4 @@
-use Rattle.std.proofs.Common.{◌≡◌, rules}
+use Rattle.std.proofs.Common.{rules}
 use Rattle.record_recovery.proofs.SettledLemmas.{KeepsRecords-none}
 use Rattle.record_model.specs.Records.{entry_at}
 use Rattle.record_model.proofs.SpareLemmas.{IsNearlySingle-single}
