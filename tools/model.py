@@ -1,0 +1,183 @@
+#!/usr/bin/env python3
+"""Plays random scripts on the program and on a plain model of its record store, and compares the replies.
+
+    tools/model.py [PROGRAM] [SCRIPTS] [SEED]
+
+PROGRAM is the built program, by default crates/apei/out/apei; build it by ./apei sim </dev/null. The model keeps the whole
+image of the flash, looks at every slot for every command, and keeps no list: docs/FORMATS.md has the slots and the order of
+changes, docs/SCRIPT.md the words, lines and replies. A script runs on a few small slots, so that it fills them, and mostly
+with one change of the flash that fails and leaves one of the four tears. The number of scripts whose replies differ is printed;
+the exit status is 0 where there is none.
+"""
+
+import os
+import random
+import subprocess
+import sys
+
+TOP = os.path.dirname(os.path.dirname(os.path.abspath(__file__)))
+SECTOR = 256
+HEAD, LEAST, OVERHEAD, PIECE = 32, 128, 64, 256
+LAST = 2**64 - 1
+LAST_GENERATION = 2**32 - 1
+IDENTIFIERS = [0, 1, 2, 3, 7, LAST - 1, LAST]
+LENGTHS = [128, 200, 256, 300, 384, 448, 449, 704, 705]
+
+
+def number(data):
+    return int.from_bytes(data, "little")
+
+
+def record(identifier, length):
+    """A record without sections: its header, and zeros."""
+    header = b"CPER\x01\x01" + b"\xff" * 4 + b"\0\0" + (2).to_bytes(4, "little") + bytes(4) + length.to_bytes(4, "little")
+    return header + bytes(72) + identifier.to_bytes(8, "little") + bytes(length - 104)
+
+
+class FlashFailed(Exception):
+    """The one change of a script that fails."""
+
+
+class Model:
+    """A store on slots of `per_slot` sectors, whose change number `fail` leaves the tear of number `torn`."""
+
+    def __init__(self, per_slot, slots, fail, torn):
+        self.per_slot, self.fail, self.torn = per_slot, fail, torn
+        self.slots = [bytearray(b"\xff" * (SECTOR * per_slot)) for _ in range(slots)]
+        self.room = SECTOR * per_slot - OVERHEAD
+        self.steps = self.cursor = 0
+        self.in_doubt = False
+
+    def change(self, slot, at, data):
+        torn = self.steps == self.fail
+        self.steps += 1
+        left = [self.slots[slot][at : at + len(data)], data, bytes(len(data)), b"\xa5" * len(data)][self.torn if torn else 1]
+        self.slots[slot][at : at + len(data)] = left
+        if torn:
+            raise FlashFailed
+
+    def live(self, slot):
+        """Identifier, generation and body of a live slot."""
+        data = self.slots[slot]
+        identifier, length = number(data[8:16]), number(data[16:20])
+        marks = (data[0], data[1], number(data[2:4]), data[-1]) == (0x5A, 0xFF, 1, 0xA5)
+        if marks and LEAST <= length <= self.room and identifier not in (0, LAST):
+            return identifier, number(data[4:8]), bytes(data[HEAD : HEAD + length])
+        return None
+
+    def records(self):
+        """Of each identifier the slot, the generation and the body of its record."""
+        found = {}
+        for slot in range(len(self.slots)):
+            live = self.live(slot)
+            if live and (live[0] not in found or found[live[0]][1] < live[1]):
+                found[live[0]] = (slot, live[1], live[2])
+        return found
+
+    def settle(self):
+        if self.in_doubt:
+            found = self.records()
+            for slot in range(len(self.slots)):
+                live = self.live(slot)
+                if live and found[live[0]][0] != slot:
+                    self.change(slot, 1, b"\0")
+            self.in_doubt = False
+        return self.records()
+
+    def write(self, text):
+        body = bytearray.fromhex(text)
+        if len(body) > self.room:
+            return f"refused too-long {len(body)} {self.room}"
+        body[108:110] = b"ER"
+        identifier = number(body[96:104])
+        if identifier in (0, LAST):
+            return "refused failed"
+        older = self.settle().get(identifier)
+        free = [slot for slot in range(len(self.slots)) if not self.live(slot)]
+        if older and older[1] == LAST_GENERATION:
+            return "refused failed"
+        if len(free) < (1 if older else 2):
+            return "refused no-space"
+        self.fill(free[0], identifier, older[1] + 1 if older else 1, bytes(body))
+        if older:
+            self.change(older[0], 1, b"\0")
+        return f"wrote {identifier} {len(body)}"
+
+    def fill(self, slot, identifier, generation, body):
+        upwards = self.slots[slot][-1] != 0xA5
+        for sector in range(self.per_slot) if upwards else reversed(range(self.per_slot)):
+            self.change(slot, sector * SECTOR, b"\xff" * SECTOR)
+        fields = b"\1\0" + generation.to_bytes(4, "little") + identifier.to_bytes(8, "little") + len(body).to_bytes(4, "little")
+        self.change(slot, 2, fields)
+        for start in range(0, len(body), PIECE):
+            self.change(slot, HEAD + start, body[start : start + PIECE])
+        self.change(slot, SECTOR * self.per_slot - 1, b"\xa5")
+        self.change(slot, 0, b"\x5a")
+
+    def clear(self, text):
+        identifier = int(text)
+        if identifier in (0, LAST):
+            return "refused failed"
+        found = self.settle().get(identifier)
+        if not found:
+            return "refused not-found"
+        self.change(found[0], 1, b"\0")
+        return f"cleared {identifier}"
+
+    def read(self, text):
+        found = self.settle()
+        if not found:
+            return "refused empty"
+        identifier = int(text) or min(found)
+        if identifier not in found:
+            self.cursor = 0
+            return "refused not-found"
+        self.cursor = identifier
+        body = found[identifier][2]
+        return f"record {number(body[96:104])} {len(body)} {body.hex()}"
+
+    def count(self):
+        return f"count {len(self.settle())}"
+
+    def next(self):
+        above = [identifier for identifier in self.settle() if identifier > self.cursor]
+        self.cursor = min(above, default=0)
+        return f"next {self.cursor}" if above else "next end"
+
+    def play(self, line):
+        word, *rest = line.split()
+        try:
+            reply = getattr(self, word)(*rest)
+        except FlashFailed:
+            self.in_doubt = True
+            reply = "refused hardware"
+        return f"{reply} @{self.steps}\n"
+
+
+def line(chance):
+    kind = random.random()
+    if kind < 0.5:
+        return "write " + record(chance(IDENTIFIERS), chance(LENGTHS)).hex()
+    if kind < 0.8:
+        return chance(["clear", "read"]) + f" {chance(IDENTIFIERS)}"
+    return chance(["count", "next", "next"])
+
+
+program = sys.argv[1] if len(sys.argv) > 1 else os.path.join(TOP, "crates/apei/out/apei")
+scripts = int(sys.argv[2]) if len(sys.argv) > 2 else 1000
+random.seed(int(sys.argv[3]) if len(sys.argv) > 3 else 1)
+different = 0
+for _ in range(scripts):
+    slots, per_slot, torn = random.choice([2, 3, 4, 5, 8]), random.choice([2, 3]), random.randrange(4)
+    fail = random.choice([None] + [random.randrange(60) for _ in range(4)])
+    lines = [line(random.choice) for _ in range(random.randrange(1, 25))]
+    words = ["sim", f"--sector={SECTOR}", f"--per-slot={per_slot}", f"--slots={slots}"]
+    words += [] if fail is None else [f"--fail={fail}", f"--torn={torn}"]
+    model = Model(per_slot, slots, fail, torn)
+    wanted = "".join(map(model.play, lines))
+    done = subprocess.run([program] + words, input="\n".join(lines).encode(), capture_output=True)
+    if done.returncode != 0 or done.stdout.decode() != wanted:
+        different += 1
+        print("different:", " ".join(words), file=sys.stderr)
+print(f"{scripts} scripts, {different} different")
+sys.exit(1 if different else 0)
