@@ -1,15 +1,17 @@
 -- What a change of a simulated flash leaves is what every flash owes.
-use Rattle.std.proofs.Common.{◌≡◌, ℕ, ◌+◌, ◌-◌, ◌^◌, ◌<◌, ◌≤◌, ◌⊎◌, inl, inr, ◌↔◌, true, false, List, [], ◌∷◌, length, replicate, Option, Some, None, Result, Ok, Err, is_err, IsErr, OnOk, OnErr, is_some, refl, sym, ap, subst, ◌∙◌, arith, length-append}
+use Rattle.std.proofs.Common.{◌≡◌, ℕ, ◌+◌, ◌-◌, ◌^◌, ◌<◌, ◌≤◌, ◌⊎◌, inl, inr, ◌↔◌, Bool, true, false, cond, List, [], ◌∷◌, length, replicate, Option, Some, None, Result, Ok, Err, is_err, IsErr, OnOk, OnErr, is_some, refl, sym, ap, subst, ◌∙◌, arith, length-append}
+use Rattle.std.specs.Prelude.{◌==◌}
 use Rattle.std.proofs.lemmas.List.{length-replicate}
 use Rattle.base_model.specs.Bytes.{put_at, SameOutside}
 use Rattle.base_model.specs.Faults.{Rose}
 use Rattle.base_model.proofs.BytesLemmas.{SameOutside-refl, SameOutside-put_at}
-use Rattle.record_model.specs.Flash.{Told, Changed, MayChange, AsksChange, next_count}
+use Rattle.flash_words.specs.Flash.{Told, Changed, MayChange, AsksChange, LosesOnlyByChange, next_count}
+use Rattle.flash_model.specs.declared.cut.Cut.{Cut}
 use Rattle.flash_model.specs.declared.tear.Tear.{Tear}
 use Rattle.flash_model.specs.declared.tear.Tear.TheVariants.{Nothing, Whole, Zeros, Marks}
 use Rattle.flash_model.specs.declared.power.Power.{Power}
 use Rattle.flash_model.specs.declared.power.Power.TheVariants.{On, Until, Lost}
-use Rattle.flash_model.specs.Simulation.{Simulation, Fate, Uncounted, Unpowered, Reaches, steps_of, state_of, tear_at, fate_under, fate_of, image_left, with_change, faults_after, after_starved, MayFollow, FailsBy, ChangeFails}
+use Rattle.flash_model.specs.Simulation.{Simulation, has_power, power_after, listed_tear, Fate, Uncounted, Unpowered, Reaches, steps_of, state_of, tear_at, fate_under, fate_of, image_left, with_change, faults_after, after_starved, MayFollow, FailsBy, ChangeFails}
 
 -- the fate, by the count and the power
 pub fate_of-last : (flash : Simulation) → steps_of flash ≡ 2 ^ 64 - 1 → fate_of flash ≡ Uncounted
@@ -58,18 +60,57 @@ Changed-with_change old new at len image is_new same = record {
 same_length : (old new : Told) (at len : ℕ) → Changed at len old new → length new.image ≡ length old.image
 same_length old new at len changed = changed.image.same_length
 
+has_power-after : (power : Power) (step : ℕ) → has_power (power_after power step) ≡ true → has_power power ≡ true
+has_power-after Lost step on = on
+has_power-after On step on = refl
+has_power-after (Until cut) step on = refl
+
+-- a change that is told may lose power, and one that is not told leaves it
+power-changed : (at len : ℕ) (image : List ℕ) (old new : Simulation) → new.told ≡ with_change old.told at len image
+    → new.power ≡ power_after old.power (steps_of old) → LosesOnlyByChange (state_of old) (state_of new)
+power-changed at len image old new told power = record {
+  never_back = λ on. has_power-after old.power (steps_of old) (ap has_power (sym power) ∙ on);
+  lost = inr (let more : steps_of new ≡ steps_of old + 1 =
+      ap (λ (t : Told). length t.past) told ∙ length-append old.told.past (record { before = old.told.image; at = at; len = len } ∷ []) in omega arith);
+}
+
+power-kept : (old new : Simulation) → new.power ≡ old.power → LosesOnlyByChange (state_of old) (state_of new)
+power-kept old new power = record { never_back = λ on. ap has_power (sym power) ∙ on; lost = inl (ap has_power power) }
+
+-- a change that is not torn leaves power
+whole_powered : (power : Power) (failing : List (ℕ × Tear)) (step : ℕ) → fate_under power (tear_at power failing step) ≡ Reaches None
+    → has_power (power_after power step) ≡ true
+whole_powered On failing step whole = refl
+whole_powered Lost failing step whole = (cc)
+whole_powered (Until cut) failing step whole = by_step (cut.step == step) whole
+  where
+    by_step : (b : Bool) → Reaches (cond b (Some cut.tear) (listed_tear failing step)) ≡ Reaches None → has_power (cond b Lost (Until cut)) ≡ true
+    by_step true torn = (cc)
+    by_step false torn = refl
+
+fate-powered : (last : Bool) (power : Power) (failing : List (ℕ × Tear)) (step : ℕ)
+    → cond last Uncounted (fate_under power (tear_at power failing step)) ≡ Reaches None → has_power (power_after power step) ≡ true
+fate-powered true power failing step whole = (cc)
+fate-powered false power failing step whole = whole_powered power failing step whole
+
+reaches_powered : (old : Simulation) → fate_of old ≡ Reaches None → has_power (power_after old.power (steps_of old)) ≡ true
+unfolding fate_of
+reaches_powered old whole = fate-powered (steps_of old == 2 ^ 64 - 1) old.power old.failing (steps_of old) whole
+
 -- what a failed call for a change owes
 AsksChange-failed : {T E : Type 0} (at len : ℕ) (old new : Simulation) (result : Result T E) → IsErr result
     → MayChange at len old.told new.told → length new.told.image ≡ length old.told.image → new.sector_size ≡ old.sector_size
     → steps_of new ≡ next_count (steps_of old) → new.reads ≡ old.reads → old.faults < 2 ^ 64 → new.faults ≡ next_count old.faults
-    → AsksChange (Unit {0}) at len (state_of old) (state_of new) result
-AsksChange-failed at len old new (Ok x) failed told size sector steps reads small faults = (cc)
-AsksChange-failed at len old new (Err e) failed told size sector steps reads small faults = record {
+    → LosesOnlyByChange (state_of old) (state_of new) → AsksChange (Unit {0}) at len (state_of old) (state_of new) result
+AsksChange-failed at len old new (Ok x) failed told size sector steps reads small faults power = (cc)
+AsksChange-failed at len old new (Err e) failed told size sector steps reads small faults power = record {
   told = λ _. told;
   size = size;
   sector_size = sector;
   steps = steps;
   reads = reads;
+  power = power;
+  powered = tt;
   cause = record { never_falls = omega (arith, faults); ok = tt; err = rose old.faults new.faults small faults };
   counted = tt;
   done = tt;
@@ -82,14 +123,16 @@ AsksChange-failed at len old new (Err e) failed told size sector steps reads sma
 AsksChange-done : {T E : Type 0} (at len : ℕ) (old new : Simulation) (result : Result T E) → (IsErr result → ⊥)
     → Changed at len old.told new.told → new.sector_size ≡ old.sector_size
     → steps_of new ≡ next_count (steps_of old) → new.reads ≡ old.reads → new.faults ≡ old.faults
-    → AsksChange (Unit {0}) at len (state_of old) (state_of new) result
-AsksChange-done at len old new (Err e) succeeded changed sector steps reads faults = absurd (succeeded refl)
-AsksChange-done at len old new (Ok x) succeeded changed sector steps reads faults = record {
+    → LosesOnlyByChange (state_of old) (state_of new) → has_power new.power ≡ true → AsksChange (Unit {0}) at len (state_of old) (state_of new) result
+AsksChange-done at len old new (Err e) succeeded changed sector steps reads faults power powered = absurd (succeeded refl)
+AsksChange-done at len old new (Ok x) succeeded changed sector steps reads faults power powered = record {
   told = λ _. inr (inl changed);
   size = changed.image.same_length;
   sector_size = sector;
   steps = steps;
   reads = reads;
+  power = power;
+  powered = powered;
   cause = record { never_falls = omega (arith, faults); ok = faults; err = tt };
   counted = ap length changed.past ∙ length-append old.told.past (record { before = old.told.image; at = at; len = len } ∷ []);
   done = λ _. changed;
@@ -104,24 +147,27 @@ AsksChange-starved at len old new result failed steps small follows =
     (ap (λ (flash : Simulation). length flash.told.image) follows)
     (ap (λ (flash : Simulation). flash.sector_size) follows) steps (ap (λ (flash : Simulation). flash.reads) follows) small
     (ap (λ (flash : Simulation). flash.faults) follows)
+    (power-changed 0 0 old.told.image old new (ap (λ (flash : Simulation). flash.told) follows) (ap (λ (flash : Simulation). flash.power) follows))
 
 -- whatever its fate
 AsksChange-by : {T E : Type 0} (fate : Fate) (at : ℕ) (bytes : List ℕ) (old new : Simulation) (result : Result T E)
     → at + length bytes ≤ length old.told.image → steps_of new ≡ next_count (steps_of old) → old.faults < 2 ^ 64
-    → MayFollow fate old at bytes new → IsErr result ↔ FailsBy fate old new
+    → (fate ≡ Reaches None → has_power (power_after old.power (steps_of old)) ≡ true) → MayFollow fate old at bytes new → IsErr result ↔ FailsBy fate old new
     → AsksChange (Unit {0}) at (length bytes) (state_of old) (state_of new) result
-AsksChange-by Uncounted at bytes old new result within steps small follows fails =
+AsksChange-by Uncounted at bytes old new result within steps small powered follows fails =
     AsksChange-failed at (length bytes) old new result (fails.1 tt)
     (inl (ap (λ (flash : Simulation). flash.told) follows)) (ap (λ (flash : Simulation). length flash.told.image) follows)
     (ap (λ (flash : Simulation). flash.sector_size) follows) steps (ap (λ (flash : Simulation). flash.reads) follows) small
     (ap (λ (flash : Simulation). flash.faults) follows)
-AsksChange-by Unpowered at bytes old new result within steps small follows fails =
+    (power-kept old new (ap (λ (flash : Simulation). flash.power) follows))
+AsksChange-by Unpowered at bytes old new result within steps small powered follows fails =
     AsksChange-failed at (length bytes) old new result (fails.1 tt)
     (inr (inr (Changed-with_change old.told new.told 0 0 old.told.image (ap (λ (flash : Simulation). flash.told) follows) (SameOutside-refl 0 0 old.told.image))))
     (ap (λ (flash : Simulation). length flash.told.image) follows)
     (ap (λ (flash : Simulation). flash.sector_size) follows) steps (ap (λ (flash : Simulation). flash.reads) follows) small
     (ap (λ (flash : Simulation). flash.faults) follows)
-AsksChange-by (Reaches None) at bytes old new result within steps small (inl follows) fails =
+    (power-kept old new (ap (λ (flash : Simulation). flash.power) follows))
+AsksChange-by (Reaches None) at bytes old new result within steps small powered (inl follows) fails =
     AsksChange-done at (length bytes) old new result
     (λ failed. let rose : old.starved < new.starved = fails.0 failed in
     let same : new.starved ≡ old.starved = ap (λ (flash : Simulation). flash.starved) follows in absurd (omega arith))
@@ -129,17 +175,20 @@ AsksChange-by (Reaches None) at bytes old new result within steps small (inl fol
     (ap (λ (flash : Simulation). flash.told) follows) (SameOutside-image_left None old.told.image at bytes within))
     (ap (λ (flash : Simulation). flash.sector_size) follows) steps (ap (λ (flash : Simulation). flash.reads) follows)
     (ap (λ (flash : Simulation). flash.faults) follows)
-AsksChange-by (Reaches (Some tear)) at bytes old new result within steps small (inl follows) fails =
+    (power-changed at (length bytes) (image_left None old.told.image at bytes) old new (ap (λ (flash : Simulation). flash.told) follows) (ap (λ (flash : Simulation). flash.power) follows))
+    (ap has_power (ap (λ (flash : Simulation). flash.power) follows) ∙ powered refl)
+AsksChange-by (Reaches (Some tear)) at bytes old new result within steps small powered (inl follows) fails =
     let changed = Changed-with_change old.told new.told at (length bytes) (image_left (Some tear) old.told.image at bytes)
     (ap (λ (flash : Simulation). flash.told) follows) (SameOutside-image_left (Some tear) old.told.image at bytes within) in
     AsksChange-failed at (length bytes) old new result (fails.1 tt)
     (inr (inl changed)) changed.image.same_length
     (ap (λ (flash : Simulation). flash.sector_size) follows) steps (ap (λ (flash : Simulation). flash.reads) follows) small
     (ap (λ (flash : Simulation). flash.faults) follows)
-AsksChange-by (Reaches None) at bytes old new result within steps small (inr follows) fails =
+    (power-changed at (length bytes) (image_left (Some tear) old.told.image at bytes) old new (ap (λ (flash : Simulation). flash.told) follows) (ap (λ (flash : Simulation). flash.power) follows))
+AsksChange-by (Reaches None) at bytes old new result within steps small powered (inr follows) fails =
     let rose : new.starved ≡ old.starved + 1 = ap (λ (flash : Simulation). flash.starved) follows in
     AsksChange-starved at (length bytes) old new result (fails.1 (omega arith)) steps small follows
-AsksChange-by (Reaches (Some tear)) at bytes old new result within steps small (inr follows) fails =
+AsksChange-by (Reaches (Some tear)) at bytes old new result within steps small powered (inr follows) fails =
     AsksChange-starved at (length bytes) old new result (fails.1 tt) steps small follows
 
 pub AsksChange-follows : {T E : Type 0} (at : ℕ) (bytes : List ℕ) (old new : Simulation) (result : Result T E)
@@ -147,7 +196,7 @@ pub AsksChange-follows : {T E : Type 0} (at : ℕ) (bytes : List ℕ) (old new :
     → MayFollow (fate_of old) old at bytes new → IsErr result ↔ ChangeFails old new
     → AsksChange (Unit {0}) at (length bytes) (state_of old) (state_of new) result
 AsksChange-follows at bytes old new result within steps small follows fails =
-    AsksChange-by (fate_of old) at bytes old new result within steps small follows fails
+    AsksChange-by (fate_of old) at bytes old new result within steps small (reaches_powered old) follows fails
 
 -- an Ok did the change
 image-by : {T E : Type 0} (fate : Fate) (at : ℕ) (bytes : List ℕ) (old new : Simulation) (result : Result T E)

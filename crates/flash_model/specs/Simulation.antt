@@ -2,7 +2,7 @@
 use Rattle.std.specs.Prelude.{◌≡◌, ◌⊎◌, ℕ, ◌+◌, ◌-◌, ◌^◌, ◌<◌, Bool, true, false, ◌==◌, if◌then◌else◌, List, [], ◌∷◌, ◌++◌, length, replicate, Contains, find, Option, Some, None}
 use Rattle.std.specs.Option.{option_map}
 use Rattle.base_model.specs.Bytes.{put_at}
-use Rattle.record_model.specs.Flash.{Told, FlashState, next_count}
+use Rattle.flash_words.specs.Flash.{Told, FlashState, next_count}
 use Rattle.flash_model.specs.declared.cut.Cut.{Cut}
 use Rattle.flash_model.specs.declared.tear.Tear.{Tear}
 use Rattle.flash_model.specs.declared.tear.Tear.TheVariants.{Nothing, Whole, Zeros, Marks}
@@ -25,6 +25,11 @@ pub record Simulation : Type 0 where
 abbrev pub steps_of : Simulation → ℕ
 steps_of flash = length flash.told.past
 
+abbrev pub has_power : Power → Bool
+has_power On = true
+has_power (Until cut) = true
+has_power Lost = false
+
 abbrev pub state_of : Simulation → FlashState
 state_of flash = record {
   told = flash.told;
@@ -33,6 +38,7 @@ state_of flash = record {
   steps = steps_of flash;
   reads = flash.reads;
   faults = flash.faults;
+  powered = has_power flash.power;
 }
 
 -- power as a flash begins with it

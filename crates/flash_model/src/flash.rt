@@ -1,7 +1,7 @@
 // The trait of a flash.
-ghost use Rattle.std.specs.Prelude.{◌≡◌, ◌↔◌, ℕ, ◌+◌, ◌*◌, ◌<◌, ◌≤◌, length, replicate, Result, OnOk, IsErr};
+ghost use Rattle.std.specs.Prelude.{true, ◌≡◌, ◌↔◌, ℕ, ◌+◌, ◌*◌, ◌<◌, ◌≤◌, length, replicate, Result, OnOk, IsErr};
 ghost use Rattle.base_model.specs.Bytes.{part, put_at};
-ghost use Rattle.record_model.specs.Flash.{FlashState, OnlyReads, AsksChange, IsErased, next_count};
+ghost use Rattle.flash_words.specs.Flash.{FlashState, OnlyReads, AsksChange, IsErased, next_count};
 
 /// The flash failed.
 #[derive(Clone, Copy, Debug, PartialEq, Eq)]
@@ -16,7 +16,8 @@ pub trait Flash {
     /// Whether a flash of this type tells its content: clauses on content hold where it does.
     ghost tells: { Type 0 };
 
-    /// What is seen of it.
+    /// What is seen of it. Power that is lost in a change stays lost until a restart; a flash that is never without it has
+    /// it always.
     ghost state: { Self → FlashState };
 
     /// When a read fails, by the flash before it.
@@ -37,7 +38,7 @@ pub trait Flash {
     fn read(&mut self, at: u64, buf: &mut [u8]) -> Result<(), FlashFailed>
         requires { at + length buf.old ≤ (state self.old).size }
         ensures bytes { OnOk result (tells → buf.new ≡ part (state self.old).told.image at (length buf.old)) }
-        ensures stays { OnlyReads tells (state self.old) (state self.new) result }
+        ensures stays { OnlyReads tells 1 (state self.old) (state self.new) result }
         ensures counted { (state self.new).reads ≡ next_count (state self.old).reads }
         ensures fails { IsErr result ↔ read_fails self.old };
 
@@ -64,7 +65,7 @@ pub trait Flash {
 
     /// Ends a loss of power. No byte, count or past image changes.
     fn restart(&mut self)
-        ensures { state self.new ≡ state self.old };
+        ensures { state self.new ≡ record (state self.old) { powered = true } };
 
     /// An image has the flash's size.
     ghost sized: { (flash : Self) → tells → length (state flash).told.image ≡ (state flash).size };

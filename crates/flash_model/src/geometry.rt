@@ -1,5 +1,5 @@
 // The geometry of a store, and the bytes of an erased one.
-ghost use Rattle.std.specs.Prelude.{◌≡◌, ◌↔◌, ℕ, ◌+◌, ◌-◌, ◌*◌, ◌^◌, ◌≤◌, replicate, IsTrue, IsOk, IfOk};
+ghost use Rattle.std.specs.Prelude.{◌≡◌, ◌↔◌, ℕ, ◌+◌, ◌-◌, ◌*◌, ◌^◌, ◌≤◌, min, replicate, IsTrue, IsOk, IfOk};
 ghost use Rattle.flash_model.specs.Limits.{IsGeometry, IsSectorSize};
 
 use std::alloc::{AllocError, Global};
@@ -12,6 +12,8 @@ const OVERHEAD: u64 = 64;
 const SECTOR_SIZES: [u64; 8] = [256, 512, 1024, 2048, 4096, 8192, 16384, 32768];
 
 const MAX_ROOM: u64 = 65536;
+
+const MAX_RECORD: u64 = 65536;
 
 const MAX_IMAGE: u64 = 1 << 26;
 
@@ -32,6 +34,7 @@ pub struct Geometry {
     pub per_slot: u64,
     pub slots: u64,
     pub slot_size: u64,
+    pub ghost limits: { IsGeometry sector per_slot slots },
     pub ghost product: { slot_size ≡ sector * per_slot },
     pub ghost least_sector: { 256 ≤ sector },
     pub ghost greatest_sector: { sector ≤ 32768 },
@@ -109,11 +112,18 @@ impl Geometry {
         self.slot_size * self.slots
     }
 
-    /// The greatest length of a record in a slot, in bytes.
+    /// The bytes of a record that a slot has room for.
     pub fn room(&self) -> u64
         ensures { result ≡ self.now.slot_size - 64 }
     {
         self.slot_size - OVERHEAD
+    }
+
+    /// The greatest length of a record in bytes: it may take up to four slots.
+    pub fn reach(&self) -> u64
+        ensures { result ≡ min (4 * (self.now.slot_size - 64)) 65536 }
+    {
+        (4 * self.room()).min(MAX_RECORD)
     }
 }
 

@@ -1,7 +1,7 @@
 // A flash in memory.
-ghost use Rattle.std.specs.Prelude.{◌≡◌, ◌↔◌, ℕ, ◌+◌, ◌*◌, ◌^◌, ◌<◌, ◌≤◌, [], ◌∷◌, ◌++◌, length, replicate, Result, OnOk, OnErr, is_err, IsErr};
+ghost use Rattle.std.specs.Prelude.{true, ◌≡◌, ◌↔◌, ℕ, ◌+◌, ◌*◌, ◌^◌, ◌<◌, ◌≤◌, [], ◌∷◌, ◌++◌, length, replicate, Result, OnOk, OnErr, is_err, IsErr};
 ghost use Rattle.base_model.specs.Bytes.{part, put_at};
-ghost use Rattle.record_model.specs.Flash.{FlashState, OnlyReads, AsksChange, IsErased, next_count};
+ghost use Rattle.flash_words.specs.Flash.{FlashState, OnlyReads, AsksChange, IsErased, next_count};
 
 use crate::content::Content;
 use crate::entry::{Entry, note};
@@ -182,7 +182,7 @@ impl Flash for SimFlash {
     fn read(&mut self, at: u64, buf: &mut [u8]) -> Result<(), FlashFailed>
         requires { at + length buf.old ≤ length self.old.told.image }
         ensures bytes { OnOk result (buf.new ≡ part self.old.told.image at (length buf.old)) }
-        ensures stays { OnlyReads (Unit {0}) (state_of self.old) (state_of self.new) result }
+        ensures stays { OnlyReads (Unit {0}) 1 (state_of self.old) (state_of self.new) result }
         ensures counted { self.new.reads ≡ next_count self.old.reads }
         ensures fails { IsErr result ↔ ReadFails self.old }
         ensures after { self.new ≡ after_read (is_err result) self.old }
@@ -227,7 +227,7 @@ impl Flash for SimFlash {
     }
 
     fn restart(&mut self)
-        ensures same { state_of self.new ≡ state_of self.old }
+        ensures same { state_of self.new ≡ record (state_of self.old) { powered = true } }
         ensures power { self.new ≡ record self.old { power = power_restored self.old.power } }
     {
         self.power = self.power.restored();

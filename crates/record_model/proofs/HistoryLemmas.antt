@@ -2,11 +2,12 @@
 use Rattle.std.proofs.Common.{◌≡◌, ℕ, ◌<◌, ◌≤◌, ◌⊎◌, Bool, true, false, List, [], ◌∷◌, ◌++◌, length, refl, sym, ap, subst, ◌∙◌, arith, inl, inr}
 use Rattle.std.specs.Prelude.{nat_le, MatchBool}
 use Rattle.std.proofs.lemmas.Bool.{cases_lt, le-leb, lt-leb}
-use Rattle.record_model.specs.Flash.{Told, IsLater, Leaves}
+use Rattle.flash_words.specs.Flash.{Told, IsLater, Leaves}
+use Rattle.flash_words.specs.Layout.{Layout}
 use Rattle.record_model.specs.Records.{Stored}
 use Rattle.record_model.specs.RecordMap.{after}
 use Rattle.record_model.specs.History.{Played, IsAnswered, cursor_after, cursor_left, left_by, left_by_all, AreAnswered, TakeSteps, ended_last, EndInOrder, Shows, ShowsEach, IsHistory}
-use Rattle.record_model.proofs.CrashLemmas.{IsLater-refl, IsLater-then, past_grows, image_at-later, image_at-now, CrashImage-earlier, CrashImage-now}
+use Rattle.flash_words.proofs.CrashLemmas.{IsLater-refl, IsLater-then, past_grows, image_at-later, image_at-now, CrashImage-earlier, CrashImage-now}
 
 on_true : (b : Bool) (P Q : Type 0) → b ≡ true → P → MatchBool b P Q
 on_true true P Q e p = p
@@ -20,28 +21,28 @@ of_true : (b : Bool) (P Q : Type 0) → b ≡ true → MatchBool b P Q → P
 of_true true P Q e p = p
 of_true false P Q e p = absurd (cc)
 
-pub left_by_all-append : (slots : ℕ) (some more : List Played) (stored : Stored)
-    → left_by_all slots (some ++ more) stored ≡ left_by_all slots more (left_by_all slots some stored)
-left_by_all-append slots [] more stored = refl
-left_by_all-append slots (played ∷ rest) more stored = left_by_all-append slots rest more (left_by slots played stored)
+pub left_by_all-append : (layout : Layout) (some more : List Played) (stored : Stored)
+    → left_by_all layout (some ++ more) stored ≡ left_by_all layout more (left_by_all layout some stored)
+left_by_all-append layout [] more stored = refl
+left_by_all-append layout (played ∷ rest) more stored = left_by_all-append layout rest more (left_by layout played stored)
 
 pub cursor_left-append : (some more : List Played) (cursor : ℕ) → cursor_left (some ++ more) cursor ≡ cursor_left more (cursor_left some cursor)
 cursor_left-append [] more cursor = refl
 cursor_left-append (played ∷ rest) more cursor = cursor_left-append rest more (cursor_after played.command played.answer cursor)
 
-AreAnswered-append : (slots cursor : ℕ) (some more : List Played) (stored : Stored)
-    → AreAnswered slots cursor some stored → AreAnswered slots (cursor_left some cursor) more (left_by_all slots some stored)
-    → AreAnswered slots cursor (some ++ more) stored
-AreAnswered-append slots cursor [] more stored first second = second
-AreAnswered-append slots cursor (played ∷ rest) more stored first second =
-    (first.0, AreAnswered-append slots (cursor_after played.command played.answer cursor) rest more (left_by slots played stored) first.1 second)
+AreAnswered-append : (layout : Layout) (cursor : ℕ) (some more : List Played) (stored : Stored)
+    → AreAnswered layout cursor some stored → AreAnswered layout (cursor_left some cursor) more (left_by_all layout some stored)
+    → AreAnswered layout cursor (some ++ more) stored
+AreAnswered-append layout cursor [] more stored first second = second
+AreAnswered-append layout cursor (played ∷ rest) more stored first second =
+    (first.0, AreAnswered-append layout (cursor_after played.command played.answer cursor) rest more (left_by layout played stored) first.1 second)
 
-pub TakeSteps-append : (per_slot slots from mid : ℕ) (some more : List Played) (stored : Stored) → ended_last from some ≡ mid
-    → TakeSteps per_slot slots from some stored → TakeSteps per_slot slots mid more (left_by_all slots some stored)
-    → TakeSteps per_slot slots from (some ++ more) stored
-TakeSteps-append per_slot slots from mid [] more stored last first second = subst (λ (n : ℕ). TakeSteps per_slot slots n more stored) (sym last) second
-TakeSteps-append per_slot slots from mid (played ∷ rest) more stored last first second =
-    (first.0, TakeSteps-append per_slot slots played.ended mid rest more (left_by slots played stored) last first.1 second)
+pub TakeSteps-append : (layout : Layout) (from mid : ℕ) (some more : List Played) (stored : Stored) → ended_last from some ≡ mid
+    → TakeSteps layout from some stored → TakeSteps layout mid more (left_by_all layout some stored)
+    → TakeSteps layout from (some ++ more) stored
+TakeSteps-append layout from mid [] more stored last first second = subst (λ (n : ℕ). TakeSteps layout n more stored) (sym last) second
+TakeSteps-append layout from mid (played ∷ rest) more stored last first second =
+    (first.0, TakeSteps-append layout played.ended mid rest more (left_by layout played stored) last first.1 second)
 
 EndInOrder-earlier : (from start : ℕ) (played : List Played) (to : ℕ) → from ≤ start → EndInOrder start played to → EndInOrder from played to
 EndInOrder-earlier from start [] to h order = omega arith
@@ -58,48 +59,48 @@ EndInOrder-append : (from mid to : ℕ) (some more : List Played) → EndInOrder
 EndInOrder-append from mid to [] more first second = EndInOrder-earlier from mid more to first second
 EndInOrder-append from mid to (played ∷ rest) more first second = (first.0, EndInOrder-append played.ended mid to rest more first.1 second)
 
-ShowsEach-append : (slots : ℕ) (view : List ℕ → Stored) (told : Told) (some more : List Played) (stored : Stored)
-    → ShowsEach slots view told some stored → ShowsEach slots view told more (left_by_all slots some stored) → ShowsEach slots view told (some ++ more) stored
-ShowsEach-append slots view told [] more stored first second = second
-ShowsEach-append slots view told (played ∷ rest) more stored first second =
-    (first.0, ShowsEach-append slots view told rest more (left_by slots played stored) first.1 second)
+ShowsEach-append : (layout : Layout) (view : List ℕ → Stored) (told : Told) (some more : List Played) (stored : Stored)
+    → ShowsEach layout view told some stored → ShowsEach layout view told more (left_by_all layout some stored) → ShowsEach layout view told (some ++ more) stored
+ShowsEach-append layout view told [] more stored first second = second
+ShowsEach-append layout view told (played ∷ rest) more stored first second =
+    (first.0, ShowsEach-append layout view told rest more (left_by layout played stored) first.1 second)
 
 -- what stood in the past of mid stands in the past of what is later
-ShowsEach-later : (slots : ℕ) (view : List ℕ → Stored) (mid new : Told) (from : ℕ) (some : List Played) (stored : Stored)
-    → IsLater mid new → EndInOrder from some (length mid.past) → ShowsEach slots view mid some stored → ShowsEach slots view new some stored
-ShowsEach-later slots view mid new from [] stored later order shown = tt
-ShowsEach-later slots view mid new from (played ∷ rest) stored later order shown =
+ShowsEach-later : (layout : Layout) (view : List ℕ → Stored) (mid new : Told) (from : ℕ) (some : List Played) (stored : Stored)
+    → IsLater mid new → EndInOrder from some (length mid.past) → ShowsEach layout view mid some stored → ShowsEach layout view new some stored
+ShowsEach-later layout view mid new from [] stored later order shown = tt
+ShowsEach-later layout view mid new from (played ∷ rest) stored later order shown =
     let bound : played.ended ≤ length mid.past = EndInOrder-le played.ended rest (length mid.past) order.1 in
-    (ap view (image_at-later mid new played.ended later bound) ∙ shown.0, ShowsEach-later slots view mid new played.ended rest (left_by slots played stored) later order.1 shown.1)
+    (ap view (image_at-later mid new played.ended later bound) ∙ shown.0, ShowsEach-later layout view mid new played.ended rest (left_by layout played stored) later order.1 shown.1)
 
 -- commands that end after step s add nothing to what power lost at s may show
-Shows-before : (slots s mid to : ℕ) (some more : List Played) (stored shown : Stored)
-    → s < mid → EndInOrder mid more to → Shows slots s some stored shown → Shows slots s (some ++ more) stored shown
-Shows-before slots s mid to [] [] stored shown h order was = was
-Shows-before slots s mid to [] (played ∷ rest) stored shown h order was =
+Shows-before : (layout : Layout) (s mid to : ℕ) (some more : List Played) (stored shown : Stored)
+    → s < mid → EndInOrder mid more to → Shows layout s some stored shown → Shows layout s (some ++ more) stored shown
+Shows-before layout s mid to [] [] stored shown h order was = was
+Shows-before layout s mid to [] (played ∷ rest) stored shown h order was =
     let first : mid ≤ played.ended = order.0 in
     on_false (nat_le played.ended s) _ _ (lt-leb played.ended s (omega arith)) (inl was)
-Shows-before slots s mid to (played ∷ rest) more stored shown h order was =
-    choose (λ more_of_it. Shows-before slots s mid to rest more (left_by slots played stored) shown h order more_of_it) (nat_le played.ended s) was
+Shows-before layout s mid to (played ∷ rest) more stored shown h order was =
+    choose (λ more_of_it. Shows-before layout s mid to rest more (left_by layout played stored) shown h order more_of_it) (nat_le played.ended s) was
   where
-    choose : (Shows slots s rest (left_by slots played stored) shown → Shows slots s (rest ++ more) (left_by slots played stored) shown)
-        → (b : Bool) → MatchBool b (Shows slots s rest (left_by slots played stored) shown) ((shown ≡ stored) ⊎ (shown ≡ after slots played.command stored))
-        → MatchBool b (Shows slots s (rest ++ more) (left_by slots played stored) shown) ((shown ≡ stored) ⊎ (shown ≡ after slots played.command stored))
+    choose : (Shows layout s rest (left_by layout played stored) shown → Shows layout s (rest ++ more) (left_by layout played stored) shown)
+        → (b : Bool) → MatchBool b (Shows layout s rest (left_by layout played stored) shown) ((shown ≡ stored) ⊎ (shown ≡ after layout played.command stored))
+        → MatchBool b (Shows layout s (rest ++ more) (left_by layout played stored) shown) ((shown ≡ stored) ⊎ (shown ≡ after layout played.command stored))
     choose later true more_of_it = later more_of_it
     choose later false no_more = no_more
 
 -- commands that had ended by step s are all in what power lost at s may show
-Shows-after : (slots s from mid : ℕ) (some more : List Played) (stored shown : Stored)
-    → mid ≤ s → EndInOrder from some mid → Shows slots s more (left_by_all slots some stored) shown → Shows slots s (some ++ more) stored shown
-Shows-after slots s from mid [] more stored shown h order was = was
-Shows-after slots s from mid (played ∷ rest) more stored shown h order was =
+Shows-after : (layout : Layout) (s from mid : ℕ) (some more : List Played) (stored shown : Stored)
+    → mid ≤ s → EndInOrder from some mid → Shows layout s more (left_by_all layout some stored) shown → Shows layout s (some ++ more) stored shown
+Shows-after layout s from mid [] more stored shown h order was = was
+Shows-after layout s from mid (played ∷ rest) more stored shown h order was =
     let bound : played.ended ≤ mid = EndInOrder-le played.ended rest mid order.1 in
     on_true (nat_le played.ended s) _ _ (le-leb played.ended s (omega arith))
-    (Shows-after slots s played.ended mid rest more (left_by slots played stored) shown h order.1 was)
+    (Shows-after layout s played.ended mid rest more (left_by layout played stored) shown h order.1 was)
 
 -- nothing was played
-pub IsHistory-none : (slots cursor : ℕ) (view : List ℕ → Stored) (told : Told) → IsHistory slots cursor view told told []
-IsHistory-none slots cursor view told = record {
+pub IsHistory-none : (layout : Layout) (cursor : ℕ) (view : List ℕ → Stored) (told : Told) → IsHistory layout cursor view told told []
+IsHistory-none layout cursor view told = record {
   later = IsLater-refl told;
   in_order = omega arith;
   answered = tt;
@@ -109,13 +110,13 @@ IsHistory-none slots cursor view told = record {
 }
 
 -- one command, at whose every step power lost shows the map before it or what its Ok makes of it
-pub IsHistory-one : (slots cursor : ℕ) (view : List ℕ → Stored) (old new : Told) (played : Played)
+pub IsHistory-one : (layout : Layout) (cursor : ℕ) (view : List ℕ → Stored) (old new : Told) (played : Played)
     → played.ended ≡ length new.past
-    → IsAnswered slots cursor played.command played.answer played.taken (view old.image)
-    → view new.image ≡ left_by slots played (view old.image)
-    → Leaves old new (λ image. (view image ≡ view old.image) ⊎ (view image ≡ after slots played.command (view old.image)))
-    → IsHistory slots cursor view old new (played ∷ [])
-IsHistory-one slots cursor view old new played ended answered now leaves = record {
+    → IsAnswered layout cursor played.command played.answer played.taken (view old.image)
+    → view new.image ≡ left_by layout played (view old.image)
+    → Leaves old new (λ image. (view image ≡ view old.image) ⊎ (view image ≡ after layout played.command (view old.image)))
+    → IsHistory layout cursor view old new (played ∷ [])
+IsHistory-one layout cursor view old new played ended answered now leaves = record {
   later = leaves.later;
   in_order = let grown = past_grows old new leaves.later in (omega arith, omega arith);
   answered = (answered, tt);
@@ -128,25 +129,25 @@ IsHistory-one slots cursor view old new played ended answered now leaves = recor
 }
 
 -- a history and then a history
-pub IsHistory-then : (slots cursor : ℕ) (view : List ℕ → Stored) (old mid new : Told) (some more : List Played)
-    → IsHistory slots cursor view old mid some → IsHistory slots (cursor_left some cursor) view mid new more → IsHistory slots cursor view old new (some ++ more)
-IsHistory-then slots cursor view old mid new some more first second =
-    let at_mid : view mid.image ≡ left_by_all slots some (view old.image) = first.now in
+pub IsHistory-then : (layout : Layout) (cursor : ℕ) (view : List ℕ → Stored) (old mid new : Told) (some more : List Played)
+    → IsHistory layout cursor view old mid some → IsHistory layout (cursor_left some cursor) view mid new more → IsHistory layout cursor view old new (some ++ more)
+IsHistory-then layout cursor view old mid new some more first second =
+    let at_mid : view mid.image ≡ left_by_all layout some (view old.image) = first.now in
     record {
       later = IsLater-then old mid new first.later second.later;
       in_order = EndInOrder-append (length old.past) (length mid.past) (length new.past) some more first.in_order second.in_order;
-      answered = AreAnswered-append slots cursor some more (view old.image) first.answered
-          (subst (λ (m : Stored). AreAnswered slots (cursor_left some cursor) more m) at_mid second.answered);
-      now = second.now ∙ ap (left_by_all slots more) at_mid ∙ sym (left_by_all-append slots some more (view old.image));
-      ends = ShowsEach-append slots view new some more (view old.image)
-          (ShowsEach-later slots view mid new (length old.past) some (view old.image) second.later first.in_order first.ends)
-          (subst (λ (m : Stored). ShowsEach slots view new more m) at_mid second.ends);
+      answered = AreAnswered-append layout cursor some more (view old.image) first.answered
+          (subst (λ (m : Stored). AreAnswered layout (cursor_left some cursor) more m) at_mid second.answered);
+      now = second.now ∙ ap (left_by_all layout more) at_mid ∙ sym (left_by_all-append layout some more (view old.image));
+      ends = ShowsEach-append layout view new some more (view old.image)
+          (ShowsEach-later layout view mid new (length old.past) some (view old.image) second.later first.in_order first.ends)
+          (subst (λ (m : Stored). ShowsEach layout view new more m) at_mid second.ends);
       crash = λ s image from crash. elim (cases_lt s (length mid.past)) [
         | inl before ↦
-            Shows-before slots s (length mid.past) (length new.past) some more (view old.image) (view image) before second.in_order
+            Shows-before layout s (length mid.past) (length new.past) some more (view old.image) (view image) before second.in_order
             (first.crash s image from (CrashImage-earlier mid new s image second.later before crash))
         | inr after_mid ↦
-            Shows-after slots s (length old.past) (length mid.past) some more (view old.image) (view image) after_mid first.in_order
-            (subst (λ (m : Stored). Shows slots s more m (view image)) at_mid (second.crash s image after_mid crash))
+            Shows-after layout s (length old.past) (length mid.past) some more (view old.image) (view image) after_mid first.in_order
+            (subst (λ (m : Stored). Shows layout s more m (view image)) at_mid (second.crash s image after_mid crash))
       ];
     }

@@ -1,29 +1,30 @@
 -- Laws of the record map.
-use Rattle.std.proofs.Common.{◌≡◌, ℕ, ◌+◌, ◌-◌, Bool, false, cond, List, Option, Some, None, ap, ◌∙◌, arith}
+use Rattle.std.proofs.Common.{◌≡◌, ℕ, ◌+◌, ◌-◌, Bool, false, cond, List, length, Option, Some, None, ap, ◌∙◌, arith}
 use Rattle.std.specs.Prelude.{nat_lt, is_none}
-use Rattle.std.specs.FinMap.{get, insert, len}
-use Rattle.record_model.specs.Records.{Stored, is_reserved}
-use Rattle.record_model.specs.RecordMap.{Command, Write, Refusal, Failed, NoSpace, is_last_generation, slots_wanted, next_generation, refusal_of, made_by, after}
+use Rattle.std.specs.FinMap.{get, insert}
+use Rattle.flash_words.specs.Layout.{Layout, room_of}
+use Rattle.record_model.specs.Records.{Stored, is_reserved, parts_of, parts_in}
+use Rattle.record_model.specs.RecordMap.{free_by, Command, Write, Refusal, Failed, NoSpace, is_last_generation, slots_wanted, next_generation, refusal_of, made_by, after}
 
 -- a new identifier is refused only for want of space
-pub refusal_of-new : (slots free id : ℕ) (bytes : List ℕ) (stored : Stored) → is_reserved id ≡ false → get stored id ≡ None → free + len stored ≡ slots
-    → refusal_of slots (Write id bytes) stored ≡ cond (nat_lt free 2) (Some NoSpace) None
+pub refusal_of-new : (layout : Layout) (free id : ℕ) (bytes : List ℕ) (stored : Stored) → is_reserved id ≡ false → get stored id ≡ None → free + parts_in (room_of layout) stored ≡ layout.slots
+    → refusal_of layout (Write id bytes) stored ≡ cond (nat_lt free (parts_of (room_of layout) (length bytes) + 1)) (Some NoSpace) None
 unfolding refusal_of
-refusal_of-new slots free id bytes stored reserved new counted =
-    let left : slots - len stored ≡ free = omega arith in
-    ap (λ (b : Bool). cond {A = Option Refusal} b (Some Failed) (cond (is_last_generation (get stored id)) (Some Failed) (cond (nat_lt (slots - len stored) (slots_wanted (get stored id))) (Some NoSpace) None))) reserved
-    ∙ ap (λ (o : Option (List ℕ × ℕ)). cond {A = Option Refusal} (is_last_generation o) (Some Failed) (cond (nat_lt (slots - len stored) (slots_wanted o)) (Some NoSpace) None)) new
-    ∙ ap (λ (n : ℕ). cond {A = Option Refusal} (nat_lt n 2) (Some NoSpace) None) left
+refusal_of-new layout free id bytes stored reserved new counted =
+    let left : layout.slots - parts_in (room_of layout) stored ≡ free = omega arith in
+    ap (λ (b : Bool). cond {A = Option Refusal} b (Some Failed) (cond (is_last_generation (get stored id)) (Some Failed) (cond (nat_lt (free_by layout stored) (slots_wanted (parts_of (room_of layout) (length bytes)) (get stored id))) (Some NoSpace) None))) reserved
+    ∙ ap (λ (o : Option (List ℕ × ℕ)). cond {A = Option Refusal} (is_last_generation o) (Some Failed) (cond (nat_lt (free_by layout stored) (slots_wanted (parts_of (room_of layout) (length bytes)) o)) (Some NoSpace) None)) new
+    ∙ ap (λ (n : ℕ). cond {A = Option Refusal} (nat_lt n (parts_of (room_of layout) (length bytes) + 1)) (Some NoSpace) None) left
 
 -- a command that is not refused is done
-pub after-done : (slots : ℕ) (command : Command) (stored : Stored) → refusal_of slots command stored ≡ None → after slots command stored ≡ made_by command stored
+pub after-done : (layout : Layout) (command : Command) (stored : Stored) → refusal_of layout command stored ≡ None → after layout command stored ≡ made_by command stored
 unfolding after
-after-done slots command stored none = ap (λ (o : Option Refusal). cond (is_none o) (made_by command stored) stored) none
+after-done layout command stored none = ap (λ (o : Option Refusal). cond (is_none o) (made_by command stored) stored) none
 
 -- a refused one leaves the map
-pub after-refused : (slots : ℕ) (command : Command) (stored : Stored) (refusal : Refusal) → refusal_of slots command stored ≡ Some refusal → after slots command stored ≡ stored
+pub after-refused : (layout : Layout) (command : Command) (stored : Stored) (refusal : Refusal) → refusal_of layout command stored ≡ Some refusal → after layout command stored ≡ stored
 unfolding after
-after-refused slots command stored refusal some = ap (λ (o : Option Refusal). cond (is_none o) (made_by command stored) stored) some
+after-refused layout command stored refusal some = ap (λ (o : Option Refusal). cond (is_none o) (made_by command stored) stored) some
 
 -- a write of a new identifier gives it generation 1
 pub made_by-new : (id : ℕ) (bytes : List ℕ) (stored : Stored) → get stored id ≡ None → made_by (Write id bytes) stored ≡ insert stored id (bytes, 1)

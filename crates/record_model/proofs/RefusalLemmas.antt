@@ -1,10 +1,12 @@
 -- When the map refuses a command, by what it has under the identifier and by how many slots are free.
-use Rattle.std.proofs.Common.{◌≡◌, ◌≢◌, ℕ, ◌+◌, ◌-◌, ◌<◌, ◌≤◌, Bool, true, false, cond, nat_eq, List, length, Option, Some, None, refl, sym, ap, ◌∙◌, arith}
+use Rattle.std.proofs.Common.{◌≡◌, ◌≢◌, ℕ, suc, ◌+◌, ◌-◌, ◌*◌, ◌<◌, ◌≤◌, Bool, true, false, cond, nat_eq, List, length, Option, Some, None, refl, sym, ap, ◌∙◌, arith}
 use Rattle.std.specs.Prelude.{nat_lt, is_none, is_some, ◌||◌}
 use Rattle.std.specs.FinMap.{get, insert, remove, len}
 use Rattle.std.proofs.lemmas.Bool.{lt-ltb, le-ltb, eq-eqb, ne_eqb}
-use Rattle.record_model.specs.Records.{Stored, is_reserved}
-use Rattle.record_model.specs.RecordMap.{Command, Write, Clear, Read, Refusal, Failed, NoSpace, NotFound, Empty, LAST_GENERATION, is_last_generation, slots_wanted, next_generation, pieces_of, changes_of_write, changes_made, changes_of, refusal_of, made_by}
+use Rattle.std.proofs.Math.Nat.{add-mul}
+use Rattle.flash_words.specs.Layout.{Layout, room_of}
+use Rattle.record_model.specs.Records.{Stored, is_reserved, parts_of, part_len, parts_in}
+use Rattle.record_model.specs.RecordMap.{free_by, changes_of_parts, pieces_of_parts, Command, Write, Clear, Read, Refusal, Failed, NoSpace, NotFound, Empty, LAST_GENERATION, is_last_generation, slots_wanted, next_generation, pieces_of, changes_of_write, changes_made, changes_of, refusal_of, made_by}
 use Rattle.record_model.proofs.MapLemmas.{refusal_of-new}
 
 -- no record has identifier 0
@@ -16,86 +18,86 @@ allowed_not_zero id allowed zero_id = differ (sym (ap (λ (b : Bool). cond b tru
     differ e = cc
 
 -- a write, by what the map has under its identifier
-write_by : (slots id : ℕ) (bytes : List ℕ) (stored : Stored) (kept : Option (List ℕ × ℕ)) → is_reserved id ≡ false → get stored id ≡ kept
-    → refusal_of slots (Write id bytes) stored
-    ≡ cond {A = Option Refusal} (is_last_generation kept) (Some Failed) (cond (nat_lt (slots - len stored) (slots_wanted kept)) (Some NoSpace) None)
+write_by : (layout : Layout) (id : ℕ) (bytes : List ℕ) (stored : Stored) (kept : Option (List ℕ × ℕ)) → is_reserved id ≡ false → get stored id ≡ kept
+    → refusal_of layout (Write id bytes) stored
+    ≡ cond {A = Option Refusal} (is_last_generation kept) (Some Failed) (cond (nat_lt (free_by layout stored) (slots_wanted (parts_of (room_of layout) (length bytes)) kept)) (Some NoSpace) None)
 unfolding refusal_of
-write_by slots id bytes stored kept allowed is =
-    ap (λ (b : Bool). cond {A = Option Refusal} b (Some Failed) (cond (is_last_generation (get stored id)) (Some Failed) (cond (nat_lt (slots - len stored) (slots_wanted (get stored id))) (Some NoSpace) None))) allowed
-    ∙ ap (λ (o : Option (List ℕ × ℕ)). cond {A = Option Refusal} (is_last_generation o) (Some Failed) (cond (nat_lt (slots - len stored) (slots_wanted o)) (Some NoSpace) None)) is
+write_by layout id bytes stored kept allowed is =
+    ap (λ (b : Bool). cond {A = Option Refusal} b (Some Failed) (cond (is_last_generation (get stored id)) (Some Failed) (cond (nat_lt (free_by layout stored) (slots_wanted (parts_of (room_of layout) (length bytes)) (get stored id))) (Some NoSpace) None))) allowed
+    ∙ ap (λ (o : Option (List ℕ × ℕ)). cond {A = Option Refusal} (is_last_generation o) (Some Failed) (cond (nat_lt (free_by layout stored) (slots_wanted (parts_of (room_of layout) (length bytes)) o)) (Some NoSpace) None)) is
 
 -- the record that is stored has the last generation
-pub write_at_last : (slots id : ℕ) (bytes body : List ℕ) (stored : Stored) → is_reserved id ≡ false → get stored id ≡ Some (body, LAST_GENERATION)
-    → refusal_of slots (Write id bytes) stored ≡ Some Failed
-write_at_last slots id bytes body stored allowed is = write_by slots id bytes stored (Some (body, LAST_GENERATION)) allowed is
+pub write_at_last : (layout : Layout) (id : ℕ) (bytes body : List ℕ) (stored : Stored) → is_reserved id ≡ false → get stored id ≡ Some (body, LAST_GENERATION)
+    → refusal_of layout (Write id bytes) stored ≡ Some Failed
+write_at_last layout id bytes body stored allowed is = write_by layout id bytes stored (Some (body, LAST_GENERATION)) allowed is
 
 -- a new identifier wants two free slots
-pub write_new_no_space : (slots free id : ℕ) (bytes : List ℕ) (stored : Stored) → is_reserved id ≡ false → get stored id ≡ None → free + len stored ≡ slots → free < 2
-    → refusal_of slots (Write id bytes) stored ≡ Some NoSpace
-write_new_no_space slots free id bytes stored allowed is counted few =
-    refusal_of-new slots free id bytes stored allowed is counted
-    ∙ ap (λ (b : Bool). cond {A = Option Refusal} b (Some NoSpace) None) (lt-ltb free 2 few)
+pub write_new_no_space : (layout : Layout) (free id : ℕ) (bytes : List ℕ) (stored : Stored) → is_reserved id ≡ false → get stored id ≡ None → free + parts_in (room_of layout) stored ≡ layout.slots → free < parts_of (room_of layout) (length bytes) + 1
+    → refusal_of layout (Write id bytes) stored ≡ Some NoSpace
+write_new_no_space layout free id bytes stored allowed is counted few =
+    refusal_of-new layout free id bytes stored allowed is counted
+    ∙ ap (λ (b : Bool). cond {A = Option Refusal} b (Some NoSpace) None) (lt-ltb free (parts_of (room_of layout) (length bytes) + 1) few)
 
-pub write_new_taken : (slots free id : ℕ) (bytes : List ℕ) (stored : Stored) → is_reserved id ≡ false → get stored id ≡ None → free + len stored ≡ slots → 2 ≤ free
-    → refusal_of slots (Write id bytes) stored ≡ None
-write_new_taken slots free id bytes stored allowed is counted enough =
-    refusal_of-new slots free id bytes stored allowed is counted
-    ∙ ap (λ (b : Bool). cond {A = Option Refusal} b (Some NoSpace) None) (le-ltb free 2 enough)
+pub write_new_taken : (layout : Layout) (free id : ℕ) (bytes : List ℕ) (stored : Stored) → is_reserved id ≡ false → get stored id ≡ None → free + parts_in (room_of layout) stored ≡ layout.slots → parts_of (room_of layout) (length bytes) + 1 ≤ free
+    → refusal_of layout (Write id bytes) stored ≡ None
+write_new_taken layout free id bytes stored allowed is counted enough =
+    refusal_of-new layout free id bytes stored allowed is counted
+    ∙ ap (λ (b : Bool). cond {A = Option Refusal} b (Some NoSpace) None) (le-ltb free (parts_of (room_of layout) (length bytes) + 1) enough)
 
 -- one that is stored wants one
-write_over : (slots free id generation : ℕ) (bytes body : List ℕ) (stored : Stored) → is_reserved id ≡ false → get stored id ≡ Some (body, generation) → generation ≢ LAST_GENERATION
-    → free + len stored ≡ slots → refusal_of slots (Write id bytes) stored ≡ cond (nat_lt free 1) (Some NoSpace) None
-write_over slots free id generation bytes body stored allowed is apart counted =
-    let left : slots - len stored ≡ free = omega arith in
-    write_by slots id bytes stored (Some (body, generation)) allowed is
-    ∙ ap (λ (b : Bool). cond {A = Option Refusal} b (Some Failed) (cond (nat_lt (slots - len stored) 1) (Some NoSpace) None)) (ne_eqb generation LAST_GENERATION apart)
-    ∙ ap (λ (n : ℕ). cond {A = Option Refusal} (nat_lt n 1) (Some NoSpace) None) left
+write_over : (layout : Layout) (free id generation : ℕ) (bytes body : List ℕ) (stored : Stored) → is_reserved id ≡ false → get stored id ≡ Some (body, generation) → generation ≢ LAST_GENERATION
+    → free + parts_in (room_of layout) stored ≡ layout.slots → refusal_of layout (Write id bytes) stored ≡ cond (nat_lt free (parts_of (room_of layout) (length bytes))) (Some NoSpace) None
+write_over layout free id generation bytes body stored allowed is apart counted =
+    let left : layout.slots - parts_in (room_of layout) stored ≡ free = omega arith in
+    write_by layout id bytes stored (Some (body, generation)) allowed is
+    ∙ ap (λ (b : Bool). cond {A = Option Refusal} b (Some Failed) (cond (nat_lt (free_by layout stored) (parts_of (room_of layout) (length bytes))) (Some NoSpace) None)) (ne_eqb generation LAST_GENERATION apart)
+    ∙ ap (λ (n : ℕ). cond {A = Option Refusal} (nat_lt n (parts_of (room_of layout) (length bytes))) (Some NoSpace) None) left
 
-pub write_over_no_space : (slots free id generation : ℕ) (bytes body : List ℕ) (stored : Stored) → is_reserved id ≡ false → get stored id ≡ Some (body, generation)
-    → generation ≢ LAST_GENERATION → free + len stored ≡ slots → free < 1 → refusal_of slots (Write id bytes) stored ≡ Some NoSpace
-write_over_no_space slots free id generation bytes body stored allowed is apart counted few =
-    write_over slots free id generation bytes body stored allowed is apart counted
-    ∙ ap (λ (b : Bool). cond {A = Option Refusal} b (Some NoSpace) None) (lt-ltb free 1 few)
+pub write_over_no_space : (layout : Layout) (free id generation : ℕ) (bytes body : List ℕ) (stored : Stored) → is_reserved id ≡ false → get stored id ≡ Some (body, generation)
+    → generation ≢ LAST_GENERATION → free + parts_in (room_of layout) stored ≡ layout.slots → free < parts_of (room_of layout) (length bytes) → refusal_of layout (Write id bytes) stored ≡ Some NoSpace
+write_over_no_space layout free id generation bytes body stored allowed is apart counted few =
+    write_over layout free id generation bytes body stored allowed is apart counted
+    ∙ ap (λ (b : Bool). cond {A = Option Refusal} b (Some NoSpace) None) (lt-ltb free (parts_of (room_of layout) (length bytes)) few)
 
-pub write_over_taken : (slots free id generation : ℕ) (bytes body : List ℕ) (stored : Stored) → is_reserved id ≡ false → get stored id ≡ Some (body, generation)
-    → generation ≢ LAST_GENERATION → free + len stored ≡ slots → 1 ≤ free → refusal_of slots (Write id bytes) stored ≡ None
-write_over_taken slots free id generation bytes body stored allowed is apart counted enough =
-    write_over slots free id generation bytes body stored allowed is apart counted
-    ∙ ap (λ (b : Bool). cond {A = Option Refusal} b (Some NoSpace) None) (le-ltb free 1 enough)
+pub write_over_taken : (layout : Layout) (free id generation : ℕ) (bytes body : List ℕ) (stored : Stored) → is_reserved id ≡ false → get stored id ≡ Some (body, generation)
+    → generation ≢ LAST_GENERATION → free + parts_in (room_of layout) stored ≡ layout.slots → parts_of (room_of layout) (length bytes) ≤ free → refusal_of layout (Write id bytes) stored ≡ None
+write_over_taken layout free id generation bytes body stored allowed is apart counted enough =
+    write_over layout free id generation bytes body stored allowed is apart counted
+    ∙ ap (λ (b : Bool). cond {A = Option Refusal} b (Some NoSpace) None) (le-ltb free (parts_of (room_of layout) (length bytes)) enough)
 
 -- a clear is refused only where the identifier is not stored
-clear_by : (slots id : ℕ) (stored : Stored) (kept : Option (List ℕ × ℕ)) → is_reserved id ≡ false → get stored id ≡ kept
-    → refusal_of slots (Clear id) stored ≡ cond {A = Option Refusal} (is_some kept) None (Some NotFound)
+clear_by : (layout : Layout) (id : ℕ) (stored : Stored) (kept : Option (List ℕ × ℕ)) → is_reserved id ≡ false → get stored id ≡ kept
+    → refusal_of layout (Clear id) stored ≡ cond {A = Option Refusal} (is_some kept) None (Some NotFound)
 unfolding refusal_of
-clear_by slots id stored kept allowed is =
+clear_by layout id stored kept allowed is =
     ap (λ (b : Bool). cond {A = Option Refusal} b (Some Failed) (cond (is_some (get stored id)) None (Some NotFound))) allowed
     ∙ ap (λ (o : Option (List ℕ × ℕ)). cond {A = Option Refusal} (is_some o) None (Some NotFound)) is
 
-pub clear_missing : (slots id : ℕ) (stored : Stored) → is_reserved id ≡ false → get stored id ≡ None → refusal_of slots (Clear id) stored ≡ Some NotFound
-clear_missing slots id stored allowed is = clear_by slots id stored None allowed is
+pub clear_missing : (layout : Layout) (id : ℕ) (stored : Stored) → is_reserved id ≡ false → get stored id ≡ None → refusal_of layout (Clear id) stored ≡ Some NotFound
+clear_missing layout id stored allowed is = clear_by layout id stored None allowed is
 
-pub clear_taken : (slots id : ℕ) (stored : Stored) (kept : List ℕ × ℕ) → is_reserved id ≡ false → get stored id ≡ Some kept → refusal_of slots (Clear id) stored ≡ None
-clear_taken slots id stored kept allowed is = clear_by slots id stored (Some kept) allowed is
+pub clear_taken : (layout : Layout) (id : ℕ) (stored : Stored) (kept : List ℕ × ℕ) → is_reserved id ≡ false → get stored id ≡ Some kept → refusal_of layout (Clear id) stored ≡ None
+clear_taken layout id stored kept allowed is = clear_by layout id stored (Some kept) allowed is
 
 -- a read of an identifier that a record can have
-pub read_empty : (slots id : ℕ) (stored : Stored) → len stored ≡ 0 → refusal_of slots (Read id) stored ≡ Some Empty
+pub read_empty : (layout : Layout) (id : ℕ) (stored : Stored) → len stored ≡ 0 → refusal_of layout (Read id) stored ≡ Some Empty
 unfolding refusal_of
-read_empty slots id stored none =
+read_empty layout id stored none =
     ap (λ (b : Bool). cond {A = Option Refusal} b (Some Empty) (cond (nat_eq id 0 || is_some (get stored id)) None (Some NotFound))) (eq-eqb (len stored) 0 none)
 
-read_by : (slots id : ℕ) (stored : Stored) (kept : Option (List ℕ × ℕ)) → len stored ≢ 0 → id ≢ 0 → get stored id ≡ kept
-    → refusal_of slots (Read id) stored ≡ cond {A = Option Refusal} (is_some kept) None (Some NotFound)
+read_by : (layout : Layout) (id : ℕ) (stored : Stored) (kept : Option (List ℕ × ℕ)) → len stored ≢ 0 → id ≢ 0 → get stored id ≡ kept
+    → refusal_of layout (Read id) stored ≡ cond {A = Option Refusal} (is_some kept) None (Some NotFound)
 unfolding refusal_of
-read_by slots id stored kept some apart is =
+read_by layout id stored kept some apart is =
     ap (λ (b : Bool). cond {A = Option Refusal} b (Some Empty) (cond (nat_eq id 0 || is_some (get stored id)) None (Some NotFound))) (ne_eqb (len stored) 0 some)
     ∙ ap (λ (b : Bool). cond {A = Option Refusal} (b || is_some (get stored id)) None (Some NotFound)) (ne_eqb id 0 apart)
     ∙ ap (λ (o : Option (List ℕ × ℕ)). cond {A = Option Refusal} (is_some o) None (Some NotFound)) is
 
-pub read_missing : (slots id : ℕ) (stored : Stored) → len stored ≢ 0 → is_reserved id ≡ false → get stored id ≡ None → refusal_of slots (Read id) stored ≡ Some NotFound
-read_missing slots id stored some allowed is = read_by slots id stored None some (allowed_not_zero id allowed) is
+pub read_missing : (layout : Layout) (id : ℕ) (stored : Stored) → len stored ≢ 0 → is_reserved id ≡ false → get stored id ≡ None → refusal_of layout (Read id) stored ≡ Some NotFound
+read_missing layout id stored some allowed is = read_by layout id stored None some (allowed_not_zero id allowed) is
 
-pub read_taken : (slots id : ℕ) (stored : Stored) (kept : List ℕ × ℕ) → len stored ≢ 0 → is_reserved id ≡ false → get stored id ≡ Some kept → refusal_of slots (Read id) stored ≡ None
-read_taken slots id stored kept some allowed is = read_by slots id stored (Some kept) some (allowed_not_zero id allowed) is
+pub read_taken : (layout : Layout) (id : ℕ) (stored : Stored) (kept : List ℕ × ℕ) → len stored ≢ 0 → is_reserved id ≡ false → get stored id ≡ Some kept → refusal_of layout (Read id) stored ≡ None
+read_taken layout id stored kept some allowed is = read_by layout id stored (Some kept) some (allowed_not_zero id allowed) is
 
 -- a write gives a stored identifier the next generation
 pub made_by-over : (id generation : ℕ) (bytes body : List ℕ) (stored : Stored) → get stored id ≡ Some (body, generation) → made_by (Write id bytes) stored ≡ insert stored id (bytes, generation + 1)
@@ -107,25 +109,34 @@ unfolding made_by
 made_by-clear id stored = refl
 
 -- the flash changes that a command takes
-pub changes_of-done : (per_slot slots : ℕ) (command : Command) (stored : Stored) → refusal_of slots command stored ≡ None → changes_of per_slot slots command stored ≡ changes_made per_slot command stored
+pub changes_of-done : (layout : Layout) (command : Command) (stored : Stored) → refusal_of layout command stored ≡ None → changes_of layout command stored ≡ changes_made layout command stored
 unfolding changes_of
-changes_of-done per_slot slots command stored none = ap (λ (o : Option Refusal). cond (is_none o) (changes_made per_slot command stored) 0) none
+changes_of-done layout command stored none = ap (λ (o : Option Refusal). cond (is_none o) (changes_made layout command stored) 0) none
 
-pub changes_of-refused : (per_slot slots : ℕ) (command : Command) (stored : Stored) (refusal : Refusal) → refusal_of slots command stored ≡ Some refusal → changes_of per_slot slots command stored ≡ 0
+pub changes_of-refused : (layout : Layout) (command : Command) (stored : Stored) (refusal : Refusal) → refusal_of layout command stored ≡ Some refusal → changes_of layout command stored ≡ 0
 unfolding changes_of
-changes_of-refused per_slot slots command stored refusal some = ap (λ (o : Option Refusal). cond (is_none o) (changes_made per_slot command stored) 0) some
+changes_of-refused layout command stored refusal some = ap (λ (o : Option Refusal). cond (is_none o) (changes_made layout command stored) 0) some
 
-pub changes_of-new : (per_slot slots id : ℕ) (bytes : List ℕ) (stored : Stored) → refusal_of slots (Write id bytes) stored ≡ None → get stored id ≡ None
-    → changes_of per_slot slots (Write id bytes) stored ≡ per_slot + 3 + pieces_of (length bytes)
-changes_of-new per_slot slots id bytes stored taken is =
-    changes_of-done per_slot slots (Write id bytes) stored taken
-    ∙ ap (λ (o : Option (List ℕ × ℕ)). changes_of_write per_slot (length bytes) o) is
+pub changes_of-new : (layout : Layout) (id : ℕ) (bytes : List ℕ) (stored : Stored) → refusal_of layout (Write id bytes) stored ≡ None → get stored id ≡ None
+    → changes_of layout (Write id bytes) stored ≡ changes_of_parts layout (length bytes) (parts_of (room_of layout) (length bytes)) + 1
+changes_of-new layout id bytes stored taken is =
+    changes_of-done layout (Write id bytes) stored taken
+    ∙ ap (λ (o : Option (List ℕ × ℕ)). changes_of_write layout (length bytes) o) is
 
-pub changes_of-over : (per_slot slots id : ℕ) (bytes : List ℕ) (stored : Stored) (kept : List ℕ × ℕ) → refusal_of slots (Write id bytes) stored ≡ None → get stored id ≡ Some kept
-    → changes_of per_slot slots (Write id bytes) stored ≡ per_slot + 4 + pieces_of (length bytes)
-changes_of-over per_slot slots id bytes stored kept taken is =
-    changes_of-done per_slot slots (Write id bytes) stored taken
-    ∙ ap (λ (o : Option (List ℕ × ℕ)). changes_of_write per_slot (length bytes) o) is
+pub changes_of-over : (layout : Layout) (id : ℕ) (bytes : List ℕ) (stored : Stored) (kept : List ℕ × ℕ) → refusal_of layout (Write id bytes) stored ≡ None → get stored id ≡ Some kept
+    → changes_of layout (Write id bytes) stored ≡ changes_of_parts layout (length bytes) (parts_of (room_of layout) (length bytes)) + 2
+changes_of-over layout id bytes stored kept taken is =
+    changes_of-done layout (Write id bytes) stored taken
+    ∙ ap (λ (o : Option (List ℕ × ℕ)). changes_of_write layout (length bytes) o) is
 
-pub changes_of-clear : (per_slot slots id : ℕ) (stored : Stored) → refusal_of slots (Clear id) stored ≡ None → changes_of per_slot slots (Clear id) stored ≡ 1
-changes_of-clear per_slot slots id stored taken = changes_of-done per_slot slots (Clear id) stored taken
+pub changes_of-clear : (layout : Layout) (id : ℕ) (stored : Stored) → refusal_of layout (Clear id) stored ≡ None → changes_of layout (Clear id) stored ≡ 1
+changes_of-clear layout id stored taken = changes_of-done layout (Clear id) stored taken
+
+-- one more part takes its erases, its head, its pieces and its tail mark
+pub changes_of_parts-more : (layout : Layout) (size n : ℕ) → changes_of_parts layout size (n + 1) ≡ changes_of_parts layout size n + (layout.per_slot + 2 + pieces_of (part_len (room_of layout) size n))
+unfolding pieces_of_parts
+changes_of_parts-more layout size n =
+    let spread : (n + 1) * (layout.per_slot + 2) ≡ n * (layout.per_slot + 2) + 1 * (layout.per_slot + 2) = add-mul n 1 (layout.per_slot + 2) in
+    let next : n + 1 ≡ suc n = omega arith in
+    let one : pieces_of_parts (room_of layout) size (n + 1) ≡ pieces_of_parts (room_of layout) size (suc n) = ap (pieces_of_parts (room_of layout) size) next in
+    omega arith

@@ -1,16 +1,14 @@
--- What a change of bytes does to the record of a slot. Nothing above these lemmas speaks of a slot's bytes.
-use Rattle.std.proofs.Common.{◌≡◌, ◌≢◌, ℕ, ◌+◌, ◌-◌, ◌*◌, ◌<◌, ◌≤◌, Bool, true, false, cond, List, ◌++◌, length, replicate, Option, Some, None, refl, sym, ap, ◌∙◌, arith, inl, inr}
+-- What a change of bytes does to what is seen of a slot. Nothing above these lemmas speaks of a slot's bytes.
+use Rattle.std.proofs.Common.{◌≡◌, ◌≢◌, ℕ, ◌+◌, ◌-◌, ◌*◌, ◌<◌, ◌≤◌, true, false, List, [], ◌∷◌, ◌++◌, replicate, Option, sym, ap, ◌∙◌, arith, inl, inr}
 use Rattle.std.specs.Prelude.{take, drop}
 use Rattle.std.proofs.Math.Nat.{add-mul, mul-le-mul_right}
 use Rattle.std.proofs.lemmas.List.{take-replicate, drop-replicate, replicate-append-replicate}
-use Rattle.std.proofs.lemmas.Bool.{cases_eq, cases_order, ne_eqb, le-leb, leb-true, eqb-true, and_parts}
-use Rattle.std.proofs.lemmas.Option.{none-some, same_Some}
+use Rattle.std.proofs.lemmas.Bool.{cases_eq, cases_order, eqb-true, and_parts, both_ways, false_from_ne_true}
 use Rattle.base_model.specs.Bytes.{part, little, number_at, SameOutside}
-use Rattle.base_model.proofs.BytesLemmas.{part-before, part-after, number_at-before, number_at-after, part-part, part-append}
-use Rattle.std.specs.FinMap.{insert}
-use Rattle.record_model.specs.Flash.{IsErased}
-use Rattle.record_model.specs.Records.{Head, head_at, tail_at, is_reserved, is_upright, Entry, entry_of, entry_at, stored_in, HasNoSecondCopy, DiffersInFreeSlot, IsReady}
-use Rattle.record_model.proofs.SelectionLemmas.{selected-stays, selected-gains}
+use Rattle.base_model.proofs.BytesLemmas.{part-before, part-after, number_at-before, number_at-after, part-part, part-append, SameOutside-wider}
+use Rattle.flash_words.specs.Flash.{IsErased}
+use Rattle.record_model.specs.Records.{Head, head_at, tail_at, is_upright, slot_at, is_up, Entry, entry_at, selected, stored_in, is_taken, OnlyFirstUp, DiffersInFreeSlot}
+use Rattle.record_model.proofs.LiveLemmas.{law_entries, law_only, IsKilled}
 
 -- a slot ends before a later one begins
 pub slots_apart : (k j size : ℕ) → k < j → k * size + size ≤ j * size
@@ -20,7 +18,7 @@ slots_apart k j size h =
     omega arith
 
 -- a head or a tail mark outside the range is the same
-pub head_at-before : (place len at : ℕ) (old new : List ℕ) → SameOutside place len old new → at + 20 ≤ place → head_at new at ≡ head_at old at
+pub head_at-before : (place len at : ℕ) (old new : List ℕ) → SameOutside place len old new → at + 26 ≤ place → head_at new at ≡ head_at old at
 unfolding head_at
 head_at-before place len at old new same h =
     let gate = number_at-before place len at 1 old new same (omega arith) in
@@ -29,7 +27,10 @@ head_at-before place len at old new same h =
     let generation = number_at-before place len (at + 4) 4 old new same (omega arith) in
     let id = number_at-before place len (at + 8) 8 old new same (omega arith) in
     let size = number_at-before place len (at + 16) 4 old new same (omega arith) in
-    λ i. record { gate = gate i; kill = kill i; format = format i; generation = generation i; id = id i; len = size i }
+    let one = number_at-before place len (at + 20) 2 old new same (omega arith) in
+    let two = number_at-before place len (at + 22) 2 old new same (omega arith) in
+    let three = number_at-before place len (at + 24) 2 old new same (omega arith) in
+    λ i. record { gate = gate i; kill = kill i; format = format i; generation = generation i; id = id i; len = size i; next = one i ∷ two i ∷ three i ∷ [] }
 
 pub head_at-after : (place len at : ℕ) (old new : List ℕ) → SameOutside place len old new → place + len ≤ at → head_at new at ≡ head_at old at
 unfolding head_at
@@ -40,7 +41,10 @@ head_at-after place len at old new same h =
     let generation = number_at-after place len (at + 4) 4 old new same (omega arith) in
     let id = number_at-after place len (at + 8) 8 old new same (omega arith) in
     let size = number_at-after place len (at + 16) 4 old new same (omega arith) in
-    λ i. record { gate = gate i; kill = kill i; format = format i; generation = generation i; id = id i; len = size i }
+    let one = number_at-after place len (at + 20) 2 old new same (omega arith) in
+    let two = number_at-after place len (at + 22) 2 old new same (omega arith) in
+    let three = number_at-after place len (at + 24) 2 old new same (omega arith) in
+    λ i. record { gate = gate i; kill = kill i; format = format i; generation = generation i; id = id i; len = size i; next = one i ∷ two i ∷ three i ∷ [] }
 
 pub tail_at-before : (place len at size : ℕ) (old new : List ℕ) → SameOutside place len old new → 1 ≤ size → at + size ≤ place → tail_at new at size ≡ tail_at old at size
 unfolding tail_at
@@ -50,115 +54,85 @@ pub tail_at-after : (place len at size : ℕ) (old new : List ℕ) → SameOutsi
 unfolding tail_at
 tail_at-after place len at size old new same some h = number_at-after place len (at + (size - 1)) 1 old new same h
 
--- an upright head has a length that lies in the slot
-upright_len : (size : ℕ) (head : Head) (tail : ℕ) → is_upright size head tail ≡ true → head.len ≤ size - 64
-unfolding is_upright
-upright_len size head tail up =
-    let a = and_parts _ _ up in
-    let b = and_parts _ _ a.0 in
-    let c = and_parts _ _ b.1 in
-    leb-true head.len (size - 64) c.1
-
--- the record of a slot goes by its head, its tail mark and its body
-entry_of-same : (size place : ℕ) (old new : List ℕ) (head : Head) (tail : ℕ)
-    → (head.len ≤ size - 64 → part new (place + 32) head.len ≡ part old (place + 32) head.len)
-    → entry_of size new place head tail ≡ entry_of size old place head tail
-unfolding entry_of
-entry_of-same size place old new head tail body = by_case (is_upright size head tail) refl
-  where
-    by_case : (b : Bool) → is_upright size head tail ≡ b
-        → cond {A = Option Entry} (is_upright size head tail) (Some (record { id = head.id; generation = head.generation; body = part new (place + 32) head.len })) None
-        ≡ cond {A = Option Entry} (is_upright size head tail) (Some (record { id = head.id; generation = head.generation; body = part old (place + 32) head.len })) None
-    by_case true up =
-        let same = body (upright_len size head tail up) in
-        ap (λ (xs : List ℕ). cond {A = Option Entry} (is_upright size head tail) (Some (record { id = head.id; generation = head.generation; body = xs })) None) same
-    by_case false up = rw up refl
-
--- a change within slot j leaves the record of every other slot
-pub entry_at-other : (size j k : ℕ) (old new : List ℕ) → 64 ≤ size → SameOutside (j * size) size old new → k ≢ j → entry_at size new k ≡ entry_at size old k
-unfolding entry_at
-entry_at-other size j k old new some same apart = elim (cases_order k j) [
+-- a change within slot j leaves what is seen of every other slot
+pub slot_at-other : (size j k : ℕ) (old new : List ℕ) → 64 ≤ size → SameOutside (j * size) size old new → k ≢ j → slot_at size new k ≡ slot_at size old k
+unfolding slot_at
+slot_at-other size j k old new some same apart = elim (cases_order k j) [
   | inl equal ↦ absurd (apart equal)
   | inr order ↦ elim order [
     | inl before ↦
         let gap = slots_apart k j size before in
         let head = head_at-before (j * size) size (k * size) old new same (omega arith) in
         let tail = tail_at-before (j * size) size (k * size) size old new same (omega arith) (omega arith) in
-        ap (λ (h : Head). entry_of size new (k * size) h (tail_at new (k * size) size)) head
-        ∙ ap (λ (t : ℕ). entry_of size new (k * size) (head_at old (k * size)) t) tail
-        ∙ entry_of-same size (k * size) old new (head_at old (k * size)) (tail_at old (k * size) size)
-        (λ fits. part-before (j * size) size (k * size + 32) (head_at old (k * size)).len old new same (omega arith))
+        let body = part-before (j * size) size (k * size + 32) (size - 64) old new same (omega arith) in
+        λ i. record { head = head i; tail = tail i; body = body i }
     | inr after ↦
         let gap = slots_apart j k size after in
         let head = head_at-after (j * size) size (k * size) old new same (omega arith) in
         let tail = tail_at-after (j * size) size (k * size) size old new same (omega arith) (omega arith) in
-        ap (λ (h : Head). entry_of size new (k * size) h (tail_at new (k * size) size)) head
-        ∙ ap (λ (t : ℕ). entry_of size new (k * size) (head_at old (k * size)) t) tail
-        ∙ entry_of-same size (k * size) old new (head_at old (k * size)) (tail_at old (k * size) size)
-        (λ fits. part-after (j * size) size (k * size + 32) (head_at old (k * size)).len old new same (omega arith))
+        let body = part-after (j * size) size (k * size + 32) (size - 64) old new same (omega arith) in
+        λ i. record { head = head i; tail = tail i; body = body i }
   ]
 ]
 
--- a slot with a closed gate is free
-free_head : (size place : ℕ) (image : List ℕ) (head : Head) (tail : ℕ) → is_upright size head tail ≡ false → entry_of size image place head tail ≡ None
-unfolding entry_of
-free_head size place image head tail down = rw down refl
+-- what an upright slot has
+pub record UprightParts (head : Head) (tail : ℕ) : Type 0 where
+  pub gate : head.gate ≡ 0x5A
+  pub kill : head.kill ≡ 0xFF
+  pub mark : tail ≡ 0xA5
 
-closed : (size : ℕ) (head : Head) (tail : ℕ) → head.gate ≢ 0x5A → is_upright size head tail ≡ false
+pub upright_parts : (room slots : ℕ) (head : Head) (tail : ℕ) → is_upright room slots head tail ≡ true → UprightParts head tail
 unfolding is_upright
-closed size head tail gate = rw (ne_eqb head.gate 0x5A gate) refl
+upright_parts room slots head tail up =
+    let a = and_parts _ _ up in
+    let b = and_parts _ _ a.0 in
+    let c = and_parts _ _ b.0 in
+    let d = and_parts _ _ c.0 in
+    let e = and_parts _ _ d.0 in
+    record { gate = eqb-true head.gate 0x5A e.0; kill = eqb-true head.kill 0xFF e.1; mark = eqb-true tail 0xA5 d.1 }
 
-unmarked : (size : ℕ) (head : Head) (tail : ℕ) → tail ≢ 0xA5 → is_upright size head tail ≡ false
-unfolding is_upright
-unmarked size head tail mark = last (is_upright size head tail) refl
-  where
-    last : (b : Bool) → is_upright size head tail ≡ b → b ≡ false
-    last false e = refl
-    last true e =
-        let a = and_parts _ _ e in
-        let b = and_parts _ _ a.0 in
-        let c = and_parts _ _ b.0 in
-        absurd (mark (eqb-true tail 0xA5 c.1))
+-- a slot is not upright with its gate closed, without its tail mark, or killed
+pub down_by_gate : (size slots k : ℕ) (image : List ℕ) → number_at image (k * size) 1 ≢ 0x5A → is_up (size - 64) slots (slot_at size image k) ≡ false
+unfolding is_up slot_at head_at
+down_by_gate size slots k image gate = false_from_ne_true _ (λ up. gate (upright_parts (size - 64) slots (head_at image (k * size)) (tail_at image (k * size) size) up).gate)
 
-pub free_by_gate : (size k : ℕ) (image : List ℕ) → number_at image (k * size) 1 ≢ 0x5A → entry_at size image k ≡ None
-unfolding entry_at head_at
-free_by_gate size k image gate =
-    free_head size (k * size) image (head_at image (k * size)) (tail_at image (k * size) size)
-    (closed size (head_at image (k * size)) (tail_at image (k * size) size) gate)
+pub down_by_tail : (size slots k : ℕ) (image : List ℕ) → tail_at image (k * size) size ≢ 0xA5 → is_up (size - 64) slots (slot_at size image k) ≡ false
+unfolding is_up slot_at
+down_by_tail size slots k image mark = false_from_ne_true _ (λ up. mark (upright_parts (size - 64) slots (head_at image (k * size)) (tail_at image (k * size) size) up).mark)
 
--- so is one without its tail mark
-pub free_by_tail : (size k : ℕ) (image : List ℕ) → tail_at image (k * size) size ≢ 0xA5 → entry_at size image k ≡ None
+pub down_by_kill : (size slots k : ℕ) (image : List ℕ) → number_at image (k * size + 1) 1 ≢ 0xFF → is_up (size - 64) slots (slot_at size image k) ≡ false
+unfolding is_up slot_at head_at
+down_by_kill size slots k image mark = false_from_ne_true _ (λ up. mark (upright_parts (size - 64) slots (head_at image (k * size)) (tail_at image (k * size) size) up).kill)
+
+-- one with its tail mark is not upright by its head, whatever becomes of the mark
+pub down_by_head : (size slots k : ℕ) (old new : List ℕ) → is_up (size - 64) slots (slot_at size old k) ≡ false → tail_at old (k * size) size ≡ 0xA5
+    → head_at new (k * size) ≡ head_at old (k * size) → is_up (size - 64) slots (slot_at size new k) ≡ false
+unfolding is_up slot_at
+down_by_head size slots k old new down mark same = false_from_ne_true _ (λ up.
+    both_ways (is_upright (size - 64) slots (head_at old (k * size)) (tail_at old (k * size) size)) down
+    (ap (is_upright (size - 64) slots (head_at old (k * size))) (mark ∙ sym (upright_parts (size - 64) slots (head_at new (k * size)) (tail_at new (k * size) size) up).mark)
+    ∙ ap (λ (h : Head). is_upright (size - 64) slots h (tail_at new (k * size) size)) (sym same) ∙ up))
+
+-- the law on an image: it differs from the first one only in a slot that is free in it, and is not upright there
+pub differs_entries : (size slots j : ℕ) (first image : List ℕ) → 64 ≤ size → j < slots → OnlyFirstUp size slots first → is_taken (entry_at size slots first) slots j ≡ false
+    → DiffersInFreeSlot size slots j first image → entry_at size slots image ≡ entry_at size slots first
 unfolding entry_at
-free_by_tail size k image mark =
-    free_head size (k * size) image (head_at image (k * size)) (tail_at image (k * size) size)
-    (unmarked size (head_at image (k * size)) (tail_at image (k * size) size) mark)
+differs_entries size slots j first image some within only free differs =
+    law_entries (size - 64) slots (slot_at size first) (slot_at size image) j only free
+    (λ n apart. slot_at-other size j n first image some differs.same apart) differs.down within
 
--- a free slot with its tail mark is free by its head, whatever becomes of the mark
-head_down : (size : ℕ) (head : Head) (tail : ℕ) → is_upright size head 0xA5 ≡ false → is_upright size head tail ≡ false
-head_down size head tail down = elim (cases_eq tail 0xA5) [
-  | inl mark ↦ ap (is_upright size head) mark ∙ down
-  | inr other ↦ unmarked size head tail other
-]
-
-is_down : (size place : ℕ) (image : List ℕ) (head : Head) (tail : ℕ) → entry_of size image place head tail ≡ None → is_upright size head tail ≡ false
-unfolding entry_of
-is_down size place image head tail none = by_case (is_upright size head tail) refl
-  where
-    by_case : (b : Bool) → is_upright size head tail ≡ b → b ≡ false
-    by_case false e = refl
-    by_case true e =
-        let entry : Entry = record { id = head.id; generation = head.generation; body = part image (place + 32) head.len } in
-        let some : cond {A = Option Entry} (is_upright size head tail) (Some entry) None ≡ Some entry = rw e refl in
-        absurd (none-some entry (sym none ∙ some))
-
-pub free_by_head : (size k : ℕ) (old new : List ℕ) → entry_at size old k ≡ None → tail_at old (k * size) size ≡ 0xA5
-    → head_at new (k * size) ≡ head_at old (k * size) → entry_at size new k ≡ None
+pub differs_only : (size slots j : ℕ) (first image : List ℕ) → 64 ≤ size → j < slots → OnlyFirstUp size slots first → is_taken (entry_at size slots first) slots j ≡ false
+    → DiffersInFreeSlot size slots j first image → OnlyFirstUp size slots image
 unfolding entry_at
-free_by_head size k old new none mark same =
-    let down = is_down size (k * size) old (head_at old (k * size)) (tail_at old (k * size) size) none in
-    let marked : is_upright size (head_at old (k * size)) 0xA5 ≡ false = ap (is_upright size (head_at old (k * size))) (sym mark) ∙ down in
-    free_head size (k * size) new (head_at new (k * size)) (tail_at new (k * size) size)
-    (ap (λ (h : Head). is_upright size h (tail_at new (k * size) size)) same ∙ head_down size (head_at old (k * size)) (tail_at new (k * size) size) marked)
+differs_only size slots j first image some within only free differs =
+    law_only (size - 64) slots (slot_at size first) (slot_at size image) j only free
+    (λ n apart. slot_at-other size j n first image some differs.same apart) differs.down within
+
+pub differs_stored : (size slots j : ℕ) (first image : List ℕ) → 64 ≤ size → j < slots → OnlyFirstUp size slots first → is_taken (entry_at size slots first) slots j ≡ false
+    → DiffersInFreeSlot size slots j first image → stored_in size slots image ≡ stored_in size slots first
+unfolding stored_in
+differs_stored size slots j first image some within only free differs =
+    ap (λ (entry : ℕ → Option Entry). selected entry slots) (differs_entries size slots j first image some within only free differs)
 
 -- a byte of an erased range
 pub erased_byte : (image : List ℕ) (place len at : ℕ) → IsErased image place len → place ≤ at → at < place + len → number_at image at 1 ≡ 0xFF
@@ -199,91 +173,37 @@ IsErased-append image place n m first second =
     sym (part-append image place n m) ∙ ap (λ (xs : List ℕ). xs ++ part image (place + n) m) first ∙ ap (λ (xs : List ℕ). replicate n 0xFF ++ xs) second
     ∙ replicate-append-replicate n m 0xFF
 
--- the whole ready slot, where the gate is open
-open_head : (size k id generation : ℕ) (body image : List ℕ) → IsReady size k id generation body image → number_at image (k * size) 1 ≡ 0x5A
-    → head_at image (k * size) ≡ record { gate = 0x5A; kill = 0xFF; format = 1; generation = generation; id = id; len = length body }
-unfolding head_at
-open_head size k id generation body image ready gate =
-    λ i. record { gate = gate i; kill = ready.kill i; format = ready.format i; generation = ready.its_generation i; id = ready.its_id i; len = ready.len i }
-
-upright_when : (size id generation len : ℕ) → 128 ≤ len → len ≤ size - 64 → is_reserved id ≡ false
-    → is_upright size (record { gate = 0x5A; kill = 0xFF; format = 1; generation = generation; id = id; len = len }) 0xA5 ≡ true
-unfolding is_upright
-upright_when size id generation len least most reserved = rw (le-leb 128 len least, le-leb len (size - 64) most, reserved) refl
-
--- a ready slot whose gate is open has the record
-pub ready_opened : (size k id generation : ℕ) (body image : List ℕ) → IsReady size k id generation body image → number_at image (k * size) 1 ≡ 0x5A
-    → 128 ≤ length body → length body ≤ size - 64 → is_reserved id ≡ false
-    → entry_at size image k ≡ Some (record { id = id; generation = generation; body = body })
-unfolding entry_at entry_of
-ready_opened size k id generation body image ready gate least most reserved =
-    ap (λ (h : Head). entry_of size image (k * size) h (tail_at image (k * size) size)) (open_head size k id generation body image ready gate)
-    ∙ ap (λ (t : ℕ). entry_of size image (k * size) (record { gate = 0x5A; kill = 0xFF; format = 1; generation = generation; id = id; len = length body }) t) ready.tail
-    ∙ (rw (upright_when size id generation (length body) least most reserved) refl)
-    ∙ ap (λ (xs : List ℕ). Some (record { id = id; generation = generation; body = xs })) ready.its_body
-
--- a change of the gate alone leaves the slot ready
-pub IsReady-gate : (size k id generation : ℕ) (body old new : List ℕ) → 512 ≤ size → IsReady size k id generation body old → SameOutside (k * size) 1 old new → IsReady size k id generation body new
-IsReady-gate size k id generation body old new large ready same = record {
-  kill = number_at-after (k * size) 1 (k * size + 1) 1 old new same (omega arith) ∙ ready.kill;
-  format = number_at-after (k * size) 1 (k * size + 2) 2 old new same (omega arith) ∙ ready.format;
-  its_generation = number_at-after (k * size) 1 (k * size + 4) 4 old new same (omega arith) ∙ ready.its_generation;
-  its_id = number_at-after (k * size) 1 (k * size + 8) 8 old new same (omega arith) ∙ ready.its_id;
-  len = number_at-after (k * size) 1 (k * size + 16) 4 old new same (omega arith) ∙ ready.len;
-  its_body = part-after (k * size) 1 (k * size + 32) (length body) old new same (omega arith) ∙ ready.its_body;
-  tail = tail_at-after (k * size) 1 (k * size) size old new same (omega arith) (omega arith) ∙ ready.tail;
+-- a change of the kill byte of an upright slot: it is as it was, or not upright
+pub kill_byte : (size slots j : ℕ) (old new : List ℕ) → 64 ≤ size → is_up (size - 64) slots (slot_at size old j) ≡ true → SameOutside (j * size + 1) 1 old new
+    → IsKilled (size - 64) slots (slot_at size old) (slot_at size new) j
+unfolding slot_at is_up head_at tail_at
+kill_byte size slots j old new some up same = record {
+  same = λ n apart. slot_at-other size j n old new some (SameOutside-wider (j * size + 1) 1 (j * size) size old new (omega arith) (omega arith) same) apart;
+  up = up;
+  gate = gate;
+  here = elim (cases_eq (number_at new (j * size + 1) 1) 0xFF) [
+    | inr apart ↦ inr (down_by_kill size slots j new apart)
+    | inl mark ↦ inl (stays (mark ∙ sym (upright_parts (size - 64) slots (head_at old (j * size)) (tail_at old (j * size) size) up).kill))
+  ];
 }
+  where
+    gate : number_at new (j * size) 1 ≡ number_at old (j * size) 1
+    gate = number_at-before (j * size + 1) 1 (j * size) 1 old new same (omega arith)
 
--- an image that differs from the first one only in a slot that is free in both holds the same records
-pub stored_in-free : (size slots j : ℕ) (first image : List ℕ) → 64 ≤ size → entry_at size first j ≡ None → DiffersInFreeSlot size j first image
-    → stored_in size slots image ≡ stored_in size slots first
-unfolding stored_in
-stored_in-free size slots j first image some free differs =
-    selected-stays (entry_at size first) (entry_at size image) slots j (λ k h apart. entry_at-other size j k first image some differs.same apart) free differs.free
-
--- a slot that was free has a record that is newer than all of its identifier: the map gains it, or has it in place of
--- an older one
-pub stored_in-opened : (size slots j : ℕ) (first image : List ℕ) (opened : Entry) → 64 ≤ size → j < slots → entry_at size first j ≡ None
-    → SameOutside (j * size) size first image → entry_at size image j ≡ Some opened
-    → ((k : ℕ) (other : Entry) → k < slots → entry_at size first k ≡ Some other → other.id ≡ opened.id → other.generation < opened.generation)
-    → stored_in size slots image ≡ insert (stored_in size slots first) opened.id (opened.body, opened.generation)
-unfolding stored_in
-stored_in-opened size slots j first image opened some within free same here newer =
-    selected-gains (entry_at size first) (entry_at size image) slots j opened within
-    (λ k h apart. entry_at-other size j k first image some same apart) free here newer
-
--- the record of a new identifier has no second copy
-pub HasNoSecondCopy-opened : (size slots j : ℕ) (first image : List ℕ) (opened : Entry) → 64 ≤ size → HasNoSecondCopy size slots first
-    → SameOutside (j * size) size first image → entry_at size image j ≡ Some opened
-    → ((k : ℕ) (other : Entry) → k < slots → entry_at size first k ≡ Some other → other.id ≡ opened.id → ⊥)
-    → HasNoSecondCopy size slots image
-unfolding HasNoSecondCopy
-HasNoSecondCopy-opened size slots j first image opened some single same here new k l one other h i at_k at_l equal =
-    elim (cases_eq k j) [
-      | inl k_is ↦ elim (cases_eq l j) [
-        | inl l_is ↦ k_is ∙ sym l_is
-        | inr l_apart ↦
-            let mine : opened ≡ one = same_Some opened one (sym here ∙ ap (entry_at size image) (sym k_is) ∙ at_k) in
-            absurd (new l other i (sym (entry_at-other size j l first image some same l_apart) ∙ at_l) (sym equal ∙ ap (λ (e : Entry). e.id) (sym mine)))
-      ]
-      | inr k_apart ↦ elim (cases_eq l j) [
-        | inl l_is ↦
-            let mine : opened ≡ other = same_Some opened other (sym here ∙ ap (entry_at size image) (sym l_is) ∙ at_l) in
-            absurd (new k one h (sym (entry_at-other size j k first image some same k_apart) ∙ at_k) (equal ∙ ap (λ (e : Entry). e.id) (sym mine)))
-        | inr l_apart ↦
-            single k l one other h i (sym (entry_at-other size j k first image some same k_apart) ∙ at_k) (sym (entry_at-other size j l first image some same l_apart) ∙ at_l) equal
-      ]
-    ]
-
--- nor does a change in a slot that stays free make one
-pub HasNoSecondCopy-free : (size slots j : ℕ) (first image : List ℕ) → 64 ≤ size → HasNoSecondCopy size slots first → DiffersInFreeSlot size j first image → HasNoSecondCopy size slots image
-unfolding HasNoSecondCopy
-HasNoSecondCopy-free size slots j first image some single differs k l one other h i at_k at_l equal =
-    elim (cases_eq k j) [
-      | inl k_is ↦ absurd (none-some one (sym differs.free ∙ ap (entry_at size image) (sym k_is) ∙ at_k))
-      | inr k_apart ↦ elim (cases_eq l j) [
-        | inl l_is ↦ absurd (none-some other (sym differs.free ∙ ap (entry_at size image) (sym l_is) ∙ at_l))
-        | inr l_apart ↦
-            single k l one other h i (sym (entry_at-other size j k first image some differs.same k_apart) ∙ at_k) (sym (entry_at-other size j l first image some differs.same l_apart) ∙ at_l) equal
-      ]
-    ]
+    stays : number_at new (j * size + 1) 1 ≡ number_at old (j * size + 1) 1 → slot_at size new j ≡ slot_at size old j
+    stays mark =
+        let at = j * size in
+        let format = number_at-after (at + 1) 1 (at + 2) 2 old new same (omega arith) in
+        let generation = number_at-after (at + 1) 1 (at + 4) 4 old new same (omega arith) in
+        let id = number_at-after (at + 1) 1 (at + 8) 8 old new same (omega arith) in
+        let len = number_at-after (at + 1) 1 (at + 16) 4 old new same (omega arith) in
+        let one = number_at-after (at + 1) 1 (at + 20) 2 old new same (omega arith) in
+        let two = number_at-after (at + 1) 1 (at + 22) 2 old new same (omega arith) in
+        let three = number_at-after (at + 1) 1 (at + 24) 2 old new same (omega arith) in
+        let tail = number_at-after (at + 1) 1 (at + (size - 1)) 1 old new same (omega arith) in
+        let body = part-after (at + 1) 1 (at + 32) (size - 64) old new same (omega arith) in
+        λ i. record {
+          head = record { gate = gate i; kill = mark i; format = format i; generation = generation i; id = id i; len = len i; next = one i ∷ two i ∷ three i ∷ [] };
+          tail = tail i;
+          body = body i;
+        }

@@ -2,7 +2,8 @@
 -- make one after another, and what power lost at any step shows.
 use Rattle.std.specs.Prelude.{◌≡◌, ◌≢◌, ℕ, ◌+◌, ◌≤◌, ◌⊎◌, Bool, true, false, nat_le, MatchBool, if◌then◌else◌, List, [], ◌∷◌, length, Option, Some, None}
 use Rattle.std.specs.FinMap.{get, len}
-use Rattle.record_model.specs.Flash.{Told, CrashImage, IsLater, image_at}
+use Rattle.flash_words.specs.Flash.{Told, CrashImage, IsLater, image_at}
+use Rattle.flash_words.specs.Layout.{Layout}
 use Rattle.record_model.specs.Records.{Stored, is_reserved}
 use Rattle.record_model.specs.RecordMap.{Command, Write, WriteOversize, Clear, Read, Count, Next, Refusal, NotFound, IsNextAbove, refusal_of, after, changes_of}
 
@@ -46,12 +47,12 @@ AsksStore (Read id) = Unit {0}
 AsksStore Count = Unit {0}
 AsksStore Next = Unit {0}
 
--- the answer that a map with this many slots gives. A command that the flash failed is in or out of the map
-abbrev pub IsAnswered : ℕ → ℕ → Command → Answer → Bool → Stored → Type 0
-IsAnswered slots cursor command (Refused refusal) taken stored = (refusal_of slots command stored ≡ Some refusal) × (taken ≡ false)
-IsAnswered slots cursor command Hardware taken stored = AsksStore command
-IsAnswered slots cursor command answer taken stored =
-    (refusal_of slots command stored ≡ None) × IsDone command answer cursor stored × (taken ≡ true)
+-- the answer that a map of this layout gives. A command that the flash failed is in or out of the map
+abbrev pub IsAnswered : Layout → ℕ → Command → Answer → Bool → Stored → Type 0
+IsAnswered layout cursor command (Refused refusal) taken stored = (refusal_of layout command stored ≡ Some refusal) × (taken ≡ false)
+IsAnswered layout cursor command Hardware taken stored = AsksStore command
+IsAnswered layout cursor command answer taken stored =
+    (refusal_of layout command stored ≡ None) × IsDone command answer cursor stored × (taken ≡ true)
 
 -- the cursor after a command: the identifier that was shown or found, and the start after the end or after a read of what
 -- is not there
@@ -63,13 +64,13 @@ cursor_after (Read id) (Refused NotFound) cursor = 0
 cursor_after command answer cursor = cursor
 
 -- the map that a played command leaves
-abbrev pub left_by : ℕ → Played → Stored → Stored
-left_by slots played stored = if played.taken then after slots played.command stored else stored
+abbrev pub left_by : Layout → Played → Stored → Stored
+left_by layout played stored = if played.taken then after layout played.command stored else stored
 
 -- the map that played commands leave, one after another
-abbrev pub left_by_all : ℕ → List Played → Stored → Stored
-left_by_all slots [] stored = stored
-left_by_all slots (played ∷ rest) stored = left_by_all slots rest (left_by slots played stored)
+abbrev pub left_by_all : Layout → List Played → Stored → Stored
+left_by_all layout [] stored = stored
+left_by_all layout (played ∷ rest) stored = left_by_all layout rest (left_by layout played stored)
 
 -- the cursor that they leave
 abbrev pub cursor_left : List Played → ℕ → ℕ
@@ -77,11 +78,11 @@ cursor_left [] cursor = cursor
 cursor_left (played ∷ rest) cursor = cursor_left rest (cursor_after played.command played.answer cursor)
 
 -- each command is answered by the map and the cursor that the ones before it leave
-abbrev pub AreAnswered : ℕ → ℕ → List Played → Stored → Type 0
-AreAnswered slots cursor [] stored = Unit {0}
-AreAnswered slots cursor (played ∷ rest) stored =
-    IsAnswered slots cursor played.command played.answer played.taken stored
-    × AreAnswered slots (cursor_after played.command played.answer cursor) rest (left_by slots played stored)
+abbrev pub AreAnswered : Layout → ℕ → List Played → Stored → Type 0
+AreAnswered layout cursor [] stored = Unit {0}
+AreAnswered layout cursor (played ∷ rest) stored =
+    IsAnswered layout cursor played.command played.answer played.taken stored
+    × AreAnswered layout (cursor_after played.command played.answer cursor) rest (left_by layout played stored)
 
 -- the step at which the last of some commands ended, that began at a step
 abbrev pub ended_last : ℕ → List Played → ℕ
@@ -89,11 +90,11 @@ ended_last from [] = from
 ended_last from (played ∷ rest) = ended_last played.ended rest
 
 -- each command takes exactly the flash steps that the map gives it, from a step on
-abbrev pub TakeSteps : ℕ → ℕ → ℕ → List Played → Stored → Type 0
-TakeSteps per_slot slots from [] stored = Unit {0}
-TakeSteps per_slot slots from (played ∷ rest) stored =
-    (played.ended ≡ from + changes_of per_slot slots played.command stored)
-    × TakeSteps per_slot slots played.ended rest (left_by slots played stored)
+abbrev pub TakeSteps : Layout → ℕ → List Played → Stored → Type 0
+TakeSteps layout from [] stored = Unit {0}
+TakeSteps layout from (played ∷ rest) stored =
+    (played.ended ≡ from + changes_of layout played.command stored)
+    × TakeSteps layout played.ended rest (left_by layout played stored)
 
 -- the commands end one after another, between these steps
 abbrev pub EndInOrder : ℕ → List Played → ℕ → Type 0
@@ -101,26 +102,26 @@ EndInOrder from [] to = from ≤ to
 EndInOrder from (played ∷ rest) to = (from ≤ played.ended) × EndInOrder played.ended rest to
 
 -- what power lost at step s may show: the map after the commands that ended by s, or after the next one too
-abbrev pub Shows : ℕ → ℕ → List Played → Stored → Stored → Type 0
-Shows slots s [] stored shown = shown ≡ stored
-Shows slots s (played ∷ rest) stored shown =
+abbrev pub Shows : Layout → ℕ → List Played → Stored → Stored → Type 0
+Shows layout s [] stored shown = shown ≡ stored
+Shows layout s (played ∷ rest) stored shown =
     MatchBool (nat_le played.ended s)
-    (Shows slots s rest (left_by slots played stored) shown)
-    ((shown ≡ stored) ⊎ (shown ≡ after slots played.command stored))
+    (Shows layout s rest (left_by layout played stored) shown)
+    ((shown ≡ stored) ⊎ (shown ≡ after layout played.command stored))
 
 -- at the step at which each command ended, the image showed the map that it leaves
-abbrev pub ShowsEach : ℕ → (List ℕ → Stored) → Told → List Played → Stored → Type 0
-ShowsEach slots view told [] stored = Unit {0}
-ShowsEach slots view told (played ∷ rest) stored =
-    (view (image_at told played.ended) ≡ left_by slots played stored) × ShowsEach slots view told rest (left_by slots played stored)
+abbrev pub ShowsEach : Layout → (List ℕ → Stored) → Told → List Played → Stored → Type 0
+ShowsEach layout view told [] stored = Unit {0}
+ShowsEach layout view told (played ∷ rest) stored =
+    (view (image_at told played.ended) ≡ left_by layout played stored) × ShowsEach layout view told rest (left_by layout played stored)
 
--- These are the commands that led from old to new, over a map with this many slots and from this cursor; `view` is the
+-- These are the commands that led from old to new, over a map of this layout and from this cursor; `view` is the
 -- map that an image shows. The answers are the map's, and power lost at any step on the way shows a prefix of the
 -- commands that has each one that had ended.
-pub record IsHistory (slots cursor : ℕ) (view : List ℕ → Stored) (old new : Told) (commands : List Played) : Type 0 where
+pub record IsHistory (layout : Layout) (cursor : ℕ) (view : List ℕ → Stored) (old new : Told) (commands : List Played) : Type 0 where
   pub later : IsLater old new
   pub in_order : EndInOrder (length old.past) commands (length new.past)
-  pub answered : AreAnswered slots cursor commands (view old.image)
-  pub now : view new.image ≡ left_by_all slots commands (view old.image)
-  pub ends : ShowsEach slots view new commands (view old.image)
-  pub crash : (s : ℕ) (image : List ℕ) → length old.past ≤ s → CrashImage new s image → Shows slots s commands (view old.image) (view image)
+  pub answered : AreAnswered layout cursor commands (view old.image)
+  pub now : view new.image ≡ left_by_all layout commands (view old.image)
+  pub ends : ShowsEach layout view new commands (view old.image)
+  pub crash : (s : ℕ) (image : List ℕ) → length old.past ≤ s → CrashImage new s image → Shows layout s commands (view old.image) (view image)

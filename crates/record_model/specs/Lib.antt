@@ -1,4 +1,5 @@
-pub mod Flash
 pub mod Records
+pub mod Filling
+pub mod Plan
 pub mod RecordMap
 pub mod History

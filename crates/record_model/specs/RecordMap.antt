@@ -1,9 +1,10 @@
 -- The record map: what the commands on records make of it, and when each is refused. It knows no flash.
-use Rattle.std.specs.Prelude.{◌≡◌, ℕ, ◌+◌, ◌-◌, ◌/◌, ◌^◌, ◌<◌, ◌≤◌, Bool, false, ◌==◌, ◌||◌, nat_lt, if◌then◌else◌, List, length, Option, Some, None, is_none, is_some, IsSome}
+use Rattle.std.specs.Prelude.{◌≡◌, ℕ, zero, suc, ◌+◌, ◌-◌, ◌*◌, ◌/◌, ◌^◌, ◌<◌, ◌≤◌, Bool, false, ◌==◌, ◌||◌, nat_lt, if◌then◌else◌, List, length, Option, Some, None, is_none, is_some, IsSome}
 use Rattle.std.specs.FinMap.{get, insert, remove, len}
-use Rattle.record_model.specs.Records.{Stored, is_reserved}
+use Rattle.flash_words.specs.Layout.{Layout, room_of}
+use Rattle.record_model.specs.Records.{Stored, is_reserved, parts_of, part_len, parts_in}
 
--- a command. An oversize write is one of a record of so many bytes, for which no slot has room
+-- a command. An oversize write is one of a record of so many bytes, which is longer than the longest record
 pub data Command : Type 0 where
   Write : (id : ℕ) (bytes : List ℕ) → Command
   WriteOversize : (len room : ℕ) → Command
@@ -32,28 +33,32 @@ abbrev pub is_last_generation : Option (List ℕ × ℕ) → Bool
 is_last_generation None = false
 is_last_generation (Some kept) = kept.1 == LAST_GENERATION
 
--- the free slots that a write wants: a new identifier leaves one free for the replacements to come
-abbrev pub slots_wanted : Option (List ℕ × ℕ) → ℕ
-slots_wanted None = 2
-slots_wanted (Some kept) = 1
+-- the free slots that a write of so many parts wants: a new identifier leaves one free for the replacements to come
+abbrev pub slots_wanted : ℕ → Option (List ℕ × ℕ) → ℕ
+slots_wanted parts None = parts + 1
+slots_wanted parts (Some kept) = parts
 
--- why a command is refused by a map that has this many slots: the first that applies. A read of identifier 0 asks for
+-- the slots that are free by the map
+abbrev pub free_by : Layout → Stored → ℕ
+free_by layout stored = layout.slots - parts_in (room_of layout) stored
+
+-- why a command is refused by the map of a store of this layout: the first that applies. A read of identifier 0 asks for
 -- the least one
-unfoldable pub refusal_of : ℕ → Command → Stored → Option Refusal
-refusal_of slots (Write id bytes) stored =
+unfoldable pub refusal_of : Layout → Command → Stored → Option Refusal
+refusal_of layout (Write id bytes) stored =
     if is_reserved id then Some Failed
     else (if is_last_generation (get stored id) then Some Failed
-    else (if nat_lt (slots - len stored) (slots_wanted (get stored id)) then Some NoSpace
+    else (if nat_lt (free_by layout stored) (slots_wanted (parts_of (room_of layout) (length bytes)) (get stored id)) then Some NoSpace
     else None))
-refusal_of slots (WriteOversize size room) stored = Some TooLong
-refusal_of slots (Clear id) stored =
+refusal_of layout (WriteOversize size room) stored = Some TooLong
+refusal_of layout (Clear id) stored =
     if is_reserved id then Some Failed
     else (if is_some (get stored id) then None else Some NotFound)
-refusal_of slots (Read id) stored =
+refusal_of layout (Read id) stored =
     if len stored == 0 then Some Empty
     else (if (id == 0) || is_some (get stored id) then None else Some NotFound)
-refusal_of slots Count stored = None
-refusal_of slots Next stored = None
+refusal_of layout Count stored = None
+refusal_of layout Next stored = None
 
 -- what a command makes of the map
 unfoldable pub made_by : Command → Stored → Stored
@@ -65,8 +70,8 @@ made_by Count stored = stored
 made_by Next stored = stored
 
 -- the map after a command, which a refused one leaves as it is
-unfoldable pub after : ℕ → Command → Stored → Stored
-after slots command stored = if is_none (refusal_of slots command stored) then made_by command stored else stored
+unfoldable pub after : Layout → Command → Stored → Stored
+after layout command stored = if is_none (refusal_of layout command stored) then made_by command stored else stored
 
 -- an identifier is the least stored one above a cursor
 pub record IsLeast (cursor : ℕ) (stored : Stored) (id : ℕ) : Type 0 where
@@ -79,20 +84,30 @@ abbrev pub IsNextAbove : ℕ → Stored → Option ℕ → Type 0
 IsNextAbove cursor stored None = (id : ℕ) → cursor < id → get stored id ≡ None
 IsNextAbove cursor stored (Some id) = IsLeast cursor stored id
 
--- the flash changes that a body takes, one for each 256 bytes or part of them
+-- the flash changes that so many bytes take, one for each 256 bytes or part of them
 abbrev pub pieces_of : ℕ → ℕ
 pieces_of size = (size + 255) / 256
 
-abbrev pub changes_of_write : ℕ → ℕ → Option (List ℕ × ℕ) → ℕ
-changes_of_write per_slot size None = per_slot + 3 + pieces_of size
-changes_of_write per_slot size (Some kept) = per_slot + 4 + pieces_of size
+-- the flash changes that the bytes of the first n parts of a record of so many bytes take
+unfoldable pub pieces_of_parts : ℕ → ℕ → ℕ → ℕ
+pieces_of_parts room size zero = 0
+pieces_of_parts room size (suc n) = pieces_of_parts room size n + pieces_of (part_len room size n)
 
--- the flash changes that a command takes which is not refused: a write erases its slot, programs the head, the pieces of
--- the body, the tail mark and the gate, and kills the slot of the record that it replaces; a clear kills a slot
-abbrev pub changes_made : ℕ → Command → Stored → ℕ
-changes_made per_slot (Write id bytes) stored = changes_of_write per_slot (length bytes) (get stored id)
-changes_made per_slot (Clear id) stored = 1
-changes_made per_slot command stored = 0
+-- and those that fill the slots of these parts: for each slot the erases, the head and the tail mark, and the pieces
+abbrev pub changes_of_parts : Layout → ℕ → ℕ → ℕ
+changes_of_parts layout size n = n * (layout.per_slot + 2) + pieces_of_parts (room_of layout) size n
 
-unfoldable pub changes_of : ℕ → ℕ → Command → Stored → ℕ
-changes_of per_slot slots command stored = if is_none (refusal_of slots command stored) then changes_made per_slot command stored else 0
+-- one more opens the gate, and one ends the record that is replaced
+abbrev pub changes_of_write : Layout → ℕ → Option (List ℕ × ℕ) → ℕ
+changes_of_write layout size None = changes_of_parts layout size (parts_of (room_of layout) size) + 1
+changes_of_write layout size (Some kept) = changes_of_parts layout size (parts_of (room_of layout) size) + 2
+
+-- the flash changes that a command takes which is not refused: a write fills the slot of each part, opens the gate of the
+-- first one, and kills the first slot of the record that it replaces; a clear kills a slot
+abbrev pub changes_made : Layout → Command → Stored → ℕ
+changes_made layout (Write id bytes) stored = changes_of_write layout (length bytes) (get stored id)
+changes_made layout (Clear id) stored = 1
+changes_made layout command stored = 0
+
+unfoldable pub changes_of : Layout → Command → Stored → ℕ
+changes_of layout command stored = if is_none (refusal_of layout command stored) then changes_made layout command stored else 0

@@ -1,15 +1,16 @@
 -- How far each pass of a scan has come.
-use Rattle.std.proofs.Common.{◌≡◌, ℕ, ◌≤◌, List, Option, vec_len}
-use Rattle.std.specs.Prelude.{vec_capacity}
-use Rattle.record_model.specs.Flash.{FlashState}
+use Rattle.std.proofs.Common.{◌≡◌, ℕ, ◌-◌, ◌≤◌, Bool, List, vec_len}
+use Rattle.std.specs.Prelude.{vec_capacity, not}
+use Rattle.std.specs.List.{list_any}
+use Rattle.flash_words.specs.Flash.{FlashState}
 use Rattle.record_model.specs.Records.{entry_at}
 use Rattle.record_recovery.specs.declared.found.Found.{Found}
-use Rattle.record_recovery.specs.Listed.{AreListed, AreSlots, IsIndex, HoldsIds}
-use Rattle.record_recovery.specs.Recovered.{KeepsRecords, OnlyFreesSlots}
+use Rattle.record_recovery.specs.Listed.{AreListed, IsIndex, HoldsUp, list_below, takes}
+use Rattle.record_recovery.specs.Recovered.{KeepsRecords, StaysNearly}
 use Rattle.record_recovery.specs.Settling.{IsSettled, CountsCopies}
 
 -- the first n slots were looked at, and nothing was changed
-pub record HasListed (tells : Type 0) (slots slot_size n : ℕ) (first found : Found) (held : List (Option ℕ)) (old now : FlashState) : Type 0 where
+pub record HasListed (tells : Type 0) (slots slot_size n : ℕ) (first found : Found) (up : List Bool) (old now : FlashState) : Type 0 where
   pub index : IsIndex slots slot_size found.ids.items found.places.items
   pub few : vec_len found.ids ≤ n
   pub ids : vec_capacity found.ids ≡ vec_capacity first.ids
@@ -21,22 +22,24 @@ pub record HasListed (tells : Type 0) (slots slot_size n : ℕ) (first found : F
   pub steps : now.steps ≡ old.steps
   pub reads : old.reads ≤ now.reads
   pub faults : now.faults ≡ old.faults
-  pub listed : tells → AreListed (entry_at slot_size old.told.image) n found.ids.items found.places.items
-  pub each_held : tells → HoldsIds (entry_at slot_size old.told.image) n held
+  pub listed : tells → AreListed (entry_at slot_size slots old.told.image) n found.ids.items found.places.items
+  pub each_up : tells → HoldsUp slot_size slots old.told.image n up
 
 -- the first n slots were settled, and the records kept
-pub record HasSettled (tells : Type 0) (slots slot_size n : ℕ) (first found : Found) (old now : FlashState) : Type 0 where
-  pub ids : found.ids ≡ first.ids
-  pub places : found.places ≡ first.places
-  pub few : vec_len found.free ≤ n
-  pub capacity : vec_capacity found.free ≡ vec_capacity first.free
-  pub free : AreSlots n found.free.items
-  pub index : IsIndex slots slot_size found.ids.items found.places.items
+pub record HasSettled (tells : Type 0) (slots slot_size n : ℕ) (found : Found) (old now : FlashState) : Type 0 where
   pub flash_size : now.size ≡ old.size
   pub sector_size : now.sector_size ≡ old.sector_size
   pub reads : old.reads ≤ now.reads
   pub faults : now.faults ≡ old.faults
   pub crash : tells → KeepsRecords slot_size slots old.told now.told
-  pub lost : tells → OnlyFreesSlots slot_size slots old.told now.told
+  pub nearly : tells → StaysNearly slot_size slots old.told now.told
   pub counted : tells → CountsCopies slot_size slots old now
   pub settled : tells → IsSettled slot_size slots n old now found
+
+-- the free ones of the first n slots were listed
+pub record HasFreed (slot_size n : ℕ) (first found : Found) : Type 0 where
+  pub ids : found.ids ≡ first.ids
+  pub places : found.places ≡ first.places
+  pub capacity : vec_capacity found.free ≡ vec_capacity first.free
+  pub few : vec_len found.free ≤ n
+  pub free : found.free.items ≡ list_below (λ slot. not (list_any (λ place. takes (slot_size - 64) place slot) first.places.items)) n

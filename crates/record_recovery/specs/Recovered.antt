@@ -1,8 +1,8 @@
 -- What a scan leaves.
 use Rattle.std.specs.Prelude.{◌≡◌, ℕ, ◌+◌, ◌≤◌, Result}
 use Rattle.base_model.specs.Faults.{HasCause}
-use Rattle.record_model.specs.Flash.{Told, FlashState, Leaves}
-use Rattle.record_model.specs.Records.{entry_at, stored_in, free_among, HasNoSecondCopy, LosesOnly, second_copies}
+use Rattle.flash_words.specs.Flash.{Told, FlashState, Leaves}
+use Rattle.record_model.specs.Records.{entry_at, stored_in, OnlyFirstUp, NearlyOnlyFirstUp, second_copies}
 use Rattle.record_recovery.specs.declared.found.Found.{Found}
 use Rattle.record_recovery.specs.Listed.{AreListed, free_slots}
 
@@ -11,24 +11,23 @@ abbrev pub KeepsRecords : ℕ → ℕ → Told → Told → Type 0
 KeepsRecords slot_size slots old new =
     Leaves old new (λ image. stored_in slot_size slots image ≡ stored_in slot_size slots old.image)
 
--- power lost on the way leaves in each slot the record that it had at the start, or none
-abbrev pub OnlyFreesSlots : ℕ → ℕ → Told → Told → Type 0
-OnlyFreesSlots slot_size slots old new =
-    Leaves old new (λ image. LosesOnly (entry_at slot_size old.image) (entry_at slot_size image) slots)
+-- where at most one upright slot was not the first slot of its identifier's record, power lost on the way leaves at most one
+abbrev pub StaysNearly : ℕ → ℕ → Told → Told → Type 0
+StaysNearly slot_size slots old new =
+    Leaves old new (λ image. NearlyOnlyFirstUp slot_size slots old.image → NearlyOnlyFirstUp slot_size slots image)
 
--- no more changes were made than there were second copies
+-- no more changes were made than there were upright slots that are not the first slot of their identifier's record
 abbrev pub ChangesFew : ℕ → ℕ → FlashState → FlashState → Type 0
 ChangesFew slot_size slots old new = new.steps ≤ old.steps + second_copies slot_size slots old.told.image
 
--- what was found are the records of the old image with their places, which are those of the new one too; there no other
--- slot has a record, and each slot that lost one took one change
+-- what was found are the records of the old image with their places, which are those of the new one too; there only first
+-- slots of records are upright, and each slot that is not upright any more took one change
 pub record IsRecovered (slot_size slots : ℕ) (old new : FlashState) (found : Found) : Type 0 where
-  pub before : AreListed (entry_at slot_size old.told.image) slots found.ids.items found.places.items
-  pub after : AreListed (entry_at slot_size new.told.image) slots found.ids.items found.places.items
-  pub single : HasNoSecondCopy slot_size slots new.told.image
-  pub free : found.free.items ≡ free_slots (entry_at slot_size new.told.image) slots
-  pub steps : new.steps + free_among (entry_at slot_size old.told.image) slots
-      ≡ old.steps + free_among (entry_at slot_size new.told.image) slots
+  pub before : AreListed (entry_at slot_size slots old.told.image) slots found.ids.items found.places.items
+  pub after : AreListed (entry_at slot_size slots new.told.image) slots found.ids.items found.places.items
+  pub only : OnlyFirstUp slot_size slots new.told.image
+  pub free : found.free.items ≡ free_slots (entry_at slot_size slots new.told.image) slots
+  pub steps : new.steps ≡ old.steps + second_copies slot_size slots old.told.image
 
 -- of a flash that was read and changed the size and the size of its sectors stay, and a failure has its cause
 pub record KeepsShape {T E : Type 0} (old new : FlashState) (result : Result T E) : Type 0 where

@@ -1,9 +1,10 @@
 -- What was programmed or erased stands there.
-use Rattle.std.proofs.Common.{◌≡◌, ℕ, ◌+◌, ◌-◌, ◌≤◌, List, [], ◌∷◌, length, replicate, refl, ap, subst, ◌∙◌, arith}
+use Rattle.std.proofs.Common.{◌≡◌, ℕ, ◌+◌, ◌-◌, ◌≤◌, List, [], ◌∷◌, length, replicate, refl, sym, ap, subst, ◌∙◌, arith}
 use Rattle.std.proofs.lemmas.List.{length-replicate}
 use Rattle.base_model.specs.Bytes.{part, little, number_at, put_at, spelled}
 use Rattle.base_model.proofs.BytesLemmas.{part-put_at}
-use Rattle.record_model.specs.Flash.{IsErased}
+use Rattle.record_slots.proofs.Heads.{three_fields}
+use Rattle.flash_words.specs.Flash.{IsErased}
 use Rattle.record_model.specs.Records.{Head, head_fields, tail_at}
 
 -- bytes of this many stand at their place
@@ -25,7 +26,12 @@ pub tail_at_place : (old new : List ℕ) (place size byte : ℕ) → place + (si
 unfolding tail_at
 tail_at_place old new place size byte fits is = byte_at_place old new (place + (size - 1)) byte fits is
 
--- the fields of a head are 18 bytes
-pub length-head_fields : (head : Head) → length (head_fields head) ≡ 18
+-- the fields of a head are 24 bytes
+pub length-head_fields : (head : Head) → length head.next ≡ 3 → length (head_fields head) ≡ 24
 unfolding head_fields spelled
-length-head_fields head = refl
+length-head_fields head three =
+    let is = three_fields head.next three in
+    subst (λ (next : List ℕ). length (head_fields (record head { next = next })) ≡ 24) (sym is.3) (of_three head is.0 is.1 is.2)
+  where
+    of_three : (h : Head) (a b c : ℕ) → length (head_fields (record h { next = a ∷ b ∷ c ∷ [] })) ≡ 24
+    of_three h a b c = refl

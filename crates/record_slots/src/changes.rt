@@ -1,19 +1,23 @@
 // The changes of a slot, one a call. Each makes at most the one change of the range that its clauses name.
-ghost use Rattle.std.specs.Prelude.{◌≡◌, ◌+◌, ◌-◌, ◌*◌, ◌<◌, ◌≤◌, [], ◌∷◌, length, replicate, OnOk};
+ghost use Rattle.std.specs.Prelude.{◌≡◌, ◌+◌, ◌-◌, ◌*◌, ◌<◌, ◌≤◌, [], ◌∷◌, length, take, replicate, OnOk};
 ghost use Rattle.base_model.specs.Bytes.{number_at, part, put_at};
-ghost use Rattle.record_model.specs.Flash.{AsksChange, IsErased};
-ghost use Rattle.record_model.specs.Records.{head_fields, tail_at};
+ghost use Rattle.flash_words.specs.Flash.{AsksChange, IsErased};
+ghost use Rattle.record_model.specs.Records.{head_fields, head_bytes, tail_at};
+ghost use Rattle.record_slots.specs.Parts.{part_numbers};
 ghost use Rattle.record_slots.specs.Slots.{Fits, numbers_of};
 
-use crate::Head;
 use crate::live::{GATE_OPEN, KILLED, TAIL_MARK};
 use crate::places::{BODY_AT, place_of, sector_of};
+use crate::{Head, PartHead};
 use flash_model::{Flash, FlashFailed, Geometry};
 
 // Where the fields of a head begin that are programmed with it, and where they end.
 const FIELDS_AT: usize = 2;
 
-const FIELDS_END: usize = 20;
+const FIELDS_END: usize = 26;
+
+// Where the fields of the head of a further slot end.
+const PART_FIELDS_END: usize = 24;
 
 const KILL_AT: u64 = 1;
 
@@ -40,7 +44,7 @@ pub fn erase_one<F: Flash>(
     flash.erase(sector_of(geometry, slot, sector))
 }
 
-/// Programs format, generation, identifier and length of a head, bytes 2 to 19 of a slot. Its gate stays closed.
+/// Programs format, generation, identifier, length and further slots of a head, bytes 2 to 25 of a slot. Its gate stays closed.
 pub fn put_head<F: Flash>(
     flash: &mut F,
     geometry: &Geometry,
@@ -49,17 +53,39 @@ pub fn put_head<F: Flash>(
 ) -> Result<(), FlashFailed>
     requires fits { Fits geometry.now (F.state flash.old) }
     requires slot { slot < geometry.now.slots }
-    requires erased { F.tells → IsErased (F.state flash.old).told.image (slot * geometry.now.slot_size + 2) 18 }
+    requires erased { F.tells → IsErased (F.state flash.old).told.image (slot * geometry.now.slot_size + 2) 24 }
 
     ensures bytes { OnOk result (F.tells → (F.state flash.new).told.image
         ≡ put_at (F.state flash.old).told.image (slot * geometry.now.slot_size + 2) (head_fields (numbers_of head.now))) }
-    ensures stands { OnOk result (F.tells → part (F.state flash.new).told.image (slot * geometry.now.slot_size + 2) 18
+    ensures stands { OnOk result (F.tells → part (F.state flash.new).told.image (slot * geometry.now.slot_size + 2) 24
         ≡ head_fields (numbers_of head.now)) }
-    ensures change { AsksChange F.tells (slot * geometry.now.slot_size + 2) 18 (F.state flash.old) (F.state flash.new) result }
+    ensures change { AsksChange F.tells (slot * geometry.now.slot_size + 2) 24 (F.state flash.old) (F.state flash.new) result }
 {
     let bytes = head.encode();
     let place = place_of(geometry, slot);
     flash.program(place + 2, &bytes[FIELDS_AT..FIELDS_END])
+}
+
+/// Programs the head of a further slot, bytes 0 to 23 of a slot.
+pub fn put_part_head<F: Flash>(
+    flash: &mut F,
+    geometry: &Geometry,
+    slot: u32,
+    head: &PartHead,
+) -> Result<(), FlashFailed>
+    requires fits { Fits geometry.now (F.state flash.old) }
+    requires slot { slot < geometry.now.slots }
+    requires erased { F.tells → IsErased (F.state flash.old).told.image (slot * geometry.now.slot_size) 24 }
+
+    ensures bytes { OnOk result (F.tells → (F.state flash.new).told.image
+        ≡ put_at (F.state flash.old).told.image (slot * geometry.now.slot_size) (take 24 (head_bytes (part_numbers head.now)))) }
+    ensures stands { OnOk result (F.tells → part (F.state flash.new).told.image (slot * geometry.now.slot_size) 24
+        ≡ take 24 (head_bytes (part_numbers head.now))) }
+    ensures change { AsksChange F.tells (slot * geometry.now.slot_size) 24 (F.state flash.old) (F.state flash.new) result }
+{
+    let bytes = head.head().encode();
+    let place = place_of(geometry, slot);
+    flash.program(place, &bytes[..PART_FIELDS_END])
 }
 
 /// Programs piece number `piece` of a body, up to 256 bytes from byte 32 + 256 * piece of a slot on.

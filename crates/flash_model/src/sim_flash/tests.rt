@@ -1,5 +1,5 @@
 ghost use Rattle.std.specs.Prelude.{◌≡◌, ℕ, ◌+◌, ◌≤◌, length, IfOk};
-ghost use Rattle.record_model.specs.Flash.{IsErased};
+ghost use Rattle.flash_words.specs.Flash.{IsErased};
 
 use super::*;
 use crate::{Geometry, erased};

@@ -1,6 +1,6 @@
 use Rattle.std.proofs.Common.{◌≡◌, ℕ, ◌+◌, ◌*◌, ◌≤◌, List, length, refl, sym, ap, subst, ◌∙◌}
 use Rattle.std.proofs.lemmas.List.{length-replicate}
-use Rattle.record_model.specs.Flash.{IsErased}
+use Rattle.flash_words.specs.Flash.{IsErased}
 use Rattle.flash_model.specs.Simulation.{Simulation}
 use Rattle.flash_model.proofs.Telling.{part-replicate}
 use Rattle.flash_model.proofs.sim_flash.tests.flash.Goals as goal
