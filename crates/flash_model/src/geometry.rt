@@ -1,5 +1,6 @@
 // The geometry of a store, and the bytes of an erased one.
-ghost use Rattle.std.specs.Prelude.{◌≡◌, ◌↔◌, ℕ, ◌+◌, ◌-◌, ◌*◌, ◌^◌, ◌≤◌, min, replicate, IsTrue, IsOk, IfOk};
+ghost use Rattle.std.specs.Prelude.{◌≡◌, ◌↔◌, ℕ, ◌+◌, ◌-◌, ◌*◌, ◌^◌, ◌≤◌, replicate, IsTrue, IsOk, IfOk};
+ghost use Rattle.flash_words.specs.Layout.{reach_of};
 ghost use Rattle.flash_model.specs.Limits.{IsGeometry, IsSectorSize};
 
 use std::alloc::{AllocError, Global};
@@ -120,8 +121,9 @@ impl Geometry {
     }
 
     /// The greatest length of a record in bytes: it may take up to four slots.
+    #[tactic(auto, unfolding(flash_words::specs::Layout::reach_of))]
     pub fn reach(&self) -> u64
-        ensures { result ≡ min (4 * (self.now.slot_size - 64)) 65536 }
+        ensures { result ≡ reach_of (self.now.slot_size - 64) }
     {
         (4 * self.room()).min(MAX_RECORD)
     }

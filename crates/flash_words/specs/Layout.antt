@@ -1,5 +1,5 @@
 -- How a store divides its flash into slots.
-use Rattle.std.specs.Prelude.{◌≡◌, ℕ, ◌*◌, ◌-◌, ◌^◌, ◌≤◌}
+use Rattle.std.specs.Prelude.{◌≡◌, ℕ, ◌*◌, ◌-◌, ◌≤◌, min}
 
 -- slots one after another, each of so many sectors of so many bytes. A slot has 64 bytes of its own, a head of 32 and at
 -- the end another 32; the rest of it is room for a record
@@ -18,3 +18,7 @@ pub record Layout : Type 0 where
 
 abbrev pub room_of : Layout → ℕ
 room_of layout = layout.slot_size - 64
+
+-- the length of the longest record, for slots of this room: it may take up to four of them
+unfoldable pub reach_of : ℕ → ℕ
+reach_of room = min (4 * room) 65536

@@ -3,7 +3,7 @@ ghost use Rattle.std.specs.Prelude.{◌≡◌, ◌+◌, ◌-◌, ◌*◌, ◌<�
 ghost use Rattle.base_model.specs.Bytes.{part};
 ghost use Rattle.flash_words.specs.Flash.{OnlyReads};
 ghost use Rattle.record_model.specs.Records.{head_at, tail_at, slot_at, are_parts, further_of};
-ghost use Rattle.record_slots.specs.Slots.{Fits, numbers_of, NamesParts};
+ghost use Rattle.record_slots.specs.Slots.{Fits, Reads, numbers_of, NamesParts};
 
 use crate::Head;
 use crate::live::{has_part, parts_of};
@@ -23,7 +23,7 @@ pub fn look<F: Flash>(
         numbers_of found.0 ≡ head_at (F.state flash.old).told.image (slot * geometry.now.slot_size)) }
     ensures tail { IfOk result (λ found. F.tells →
         found.1 ≡ tail_at (F.state flash.old).told.image (slot * geometry.now.slot_size) geometry.now.slot_size) }
-    ensures stays { OnlyReads F.tells (F.state flash.old) (F.state flash.new) result }
+    ensures stays { OnlyReads F.tells 2 (F.state flash.old) (F.state flash.new) result }
 {
     let place = place_of(geometry, slot);
     let mut head = [0u8; 32];
@@ -46,7 +46,7 @@ pub fn read_body<F: Flash>(
 
     ensures bytes { OnOk result (F.tells → buf.new
         ≡ part (F.state flash.old).told.image (slot * geometry.now.slot_size + 32) (length buf.old)) }
-    ensures stays { OnlyReads F.tells (F.state flash.old) (F.state flash.new) result }
+    ensures stays { OnlyReads F.tells 1 (F.state flash.old) (F.state flash.new) result }
 {
     let place = place_of(geometry, slot);
     flash.read(place + BODY_AT, buf)
@@ -65,7 +65,7 @@ pub fn has_parts<F: Flash>(
 
     ensures parts { IfOk result (λ has. F.tells → has ≡ are_parts (geometry.now.slot_size - 64) slot (numbers_of head.now)
         (slot_at geometry.now.slot_size (F.state flash.old).told.image) 1 (further_of (geometry.now.slot_size - 64) (numbers_of head.now))) }
-    ensures stays { OnlyReads F.tells (F.state flash.old) (F.state flash.new) result }
+    ensures stays { Reads F.tells (F.state flash.old) (F.state flash.new) result }
 {
     let further = parts_of(geometry, head.len) - 1;
     for at in 0..further {
