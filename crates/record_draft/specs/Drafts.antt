@@ -2,6 +2,7 @@
 use Rattle.std.specs.Prelude.{◌≡◌, ℕ, ◌-◌, ◌<◌, ◌≤◌, Bool, false, ◌==◌, if◌then◌else◌, List, [], ◌∷◌, length, take, drop, slice_index}
 use Rattle.flash_model.specs.declared.geometry.Geometry.{Geometry}
 use Rattle.record_model.specs.Filling as filling
+use Rattle.record_model.specs.Filling.{Target}
 use Rattle.flash_model.specs.Layouts.{layout_of}
 use Rattle.record_model.specs.Plan as planned
 use Rattle.record_model.specs.Plan.{Plan, IsPlan, target_of}
@@ -34,6 +35,10 @@ step_of (EraseFromTail done) = filling.EraseFromTail done
 step_of PutHead = filling.PutHead
 step_of (Piece piece) = filling.Piece piece
 step_of TailMark = filling.TailMark
+
+-- what is to stand in the slot of one of its parts
+abbrev pub target_in : Geometry → Draft → List ℕ → ℕ → Target
+target_in geometry draft body number = target_of (layout_of geometry) (plan_of draft body) number
 
 -- a draft for a record of this length
 pub record IsDraft (geometry : Geometry) (draft : Draft) (body : List ℕ) : Type 0 where

@@ -3,11 +3,10 @@ ghost use Rattle.std.specs.Prelude.{◌≡◌, ◌<◌, ◌≤◌, ◌+◌, ◌*
 ghost use Rattle.flash_words.specs.Flash.{AsksChange, IsErased};
 ghost use Rattle.record_model.specs.Filling as TheStep;
 ghost use Rattle.record_model.specs.Filling.{IsStep, StandsAt, IsBegun, IsWritten, place_of, len_of};
-ghost use Rattle.record_model.specs.Plan.{target_of};
 ghost use Rattle.record_slots.specs.Slots.{Fits, numbers_of};
 ghost use Rattle.record_slots.specs.Parts.{part_numbers};
 ghost use Rattle.flash_model.specs.Layouts.{layout_of};
-ghost use Rattle.record_draft.specs.Drafts.{IsDraft, plan_of, step_of};
+ghost use Rattle.record_draft.specs.Drafts.{IsDraft, target_in, plan_of, step_of};
 
 use crate::{Draft, Step};
 use flash_model::{Flash, FlashFailed, Geometry};
@@ -17,7 +16,7 @@ use record_slots::{
 };
 
 /// Makes the change of a step in the slot of a part.
-pub fn fill<F: Flash>(
+pub(crate) fn fill<F: Flash>(
     flash: &mut F,
     geometry: &Geometry,
     draft: &Draft,
@@ -28,11 +27,11 @@ pub fn fill<F: Flash>(
     requires fits { Fits geometry.now (F.state flash.old) }
     requires draft { IsDraft geometry.now draft.now body.now }
     requires number { number < draft.now.parts }
-    requires form { IsStep (layout_of geometry.now) (length (target_of (layout_of geometry.now) (plan_of draft.now body.now) number).bytes) (step_of step) }
-    requires stands { F.tells → StandsAt (layout_of geometry.now) (target_of (layout_of geometry.now) (plan_of draft.now body.now) number) (F.state flash.old).told.image (step_of step) }
-    ensures written { OnOk result (F.tells → IsWritten (layout_of geometry.now) number (target_of (layout_of geometry.now) (plan_of draft.now body.now) number) (step_of step) (F.state flash.new).told.image) }
-    ensures change { AsksChange F.tells (place_of (layout_of geometry.now) number (target_of (layout_of geometry.now) (plan_of draft.now body.now) number) (step_of step))
-        (len_of (layout_of geometry.now) (target_of (layout_of geometry.now) (plan_of draft.now body.now) number) (step_of step)) (F.state flash.old) (F.state flash.new) result }
+    requires form { IsStep (layout_of geometry.now) (length (target_in geometry.now draft.now body.now number).bytes) (step_of step) }
+    requires stands { F.tells → StandsAt (layout_of geometry.now) (target_in geometry.now draft.now body.now number) (F.state flash.old).told.image (step_of step) }
+    ensures written { OnOk result (F.tells → IsWritten (layout_of geometry.now) number (target_in geometry.now draft.now body.now number) (step_of step) (F.state flash.new).told.image) }
+    ensures change { AsksChange F.tells (place_of (layout_of geometry.now) number (target_in geometry.now draft.now body.now number) (step_of step))
+        (len_of (layout_of geometry.now) (target_in geometry.now draft.now body.now number) (step_of step)) (F.state flash.old) (F.state flash.new) result }
 {
     let slot = u32::from(draft.slots[number as usize]);
     match step {
@@ -56,9 +55,9 @@ fn fill_head<F: Flash>(
     requires fits { Fits geometry.now (F.state flash.old) }
     requires draft { IsDraft geometry.now draft.now body.now }
     requires number { number < draft.now.parts }
-    requires stands { F.tells → IsErased (F.state flash.old).told.image ((target_of (layout_of geometry.now) (plan_of draft.now body.now) number).slot * geometry.now.slot_size) geometry.now.slot_size }
-    ensures written { OnOk result (F.tells → IsWritten (layout_of geometry.now) number (target_of (layout_of geometry.now) (plan_of draft.now body.now) number) TheStep.PutHead (F.state flash.new).told.image) }
-    ensures change { AsksChange F.tells (place_of (layout_of geometry.now) number (target_of (layout_of geometry.now) (plan_of draft.now body.now) number) TheStep.PutHead)
+    requires stands { F.tells → IsErased (F.state flash.old).told.image ((target_in geometry.now draft.now body.now number).slot * geometry.now.slot_size) geometry.now.slot_size }
+    ensures written { OnOk result (F.tells → IsWritten (layout_of geometry.now) number (target_in geometry.now draft.now body.now number) TheStep.PutHead (F.state flash.new).told.image) }
+    ensures change { AsksChange F.tells (place_of (layout_of geometry.now) number (target_in geometry.now draft.now body.now number) TheStep.PutHead)
         24 (F.state flash.old) (F.state flash.new) result }
 {
     let slot = u32::from(draft.slots[number as usize]);
@@ -74,7 +73,7 @@ fn fill_head<F: Flash>(
 // The head of the first slot, behind a closed gate.
 fn first_head(geometry: &Geometry, draft: &Draft, body: &[u8]) -> Head
     requires { IsDraft geometry.now draft.now body.now }
-    ensures { numbers_of result ≡ (target_of (layout_of geometry.now) (plan_of draft.now body.now) 0).head }
+    ensures { numbers_of result ≡ (target_in geometry.now draft.now body.now 0).head }
 {
     Head {
         gate: 0xFF,
@@ -103,7 +102,7 @@ fn part_head(geometry: &Geometry, draft: &Draft, number: u32, body: &[u8]) -> Pa
     requires draft { IsDraft geometry.now draft.now body.now }
     requires number { number < draft.now.parts }
     requires further { 0 < number }
-    ensures { part_numbers result ≡ (target_of (layout_of geometry.now) (plan_of draft.now body.now) number).head }
+    ensures { part_numbers result ≡ (target_in geometry.now draft.now body.now number).head }
 {
     PartHead {
         generation: draft.generation,
@@ -125,11 +124,11 @@ fn fill_piece<F: Flash>(
     requires fits { Fits geometry.now (F.state flash.old) }
     requires draft { IsDraft geometry.now draft.now body.now }
     requires number { number < draft.now.parts }
-    requires form { 256 * piece < length (target_of (layout_of geometry.now) (plan_of draft.now body.now) number).bytes }
-    requires stands { F.tells → IsBegun geometry.now.slot_size (target_of (layout_of geometry.now) (plan_of draft.now body.now) number) (256 * piece) (F.state flash.old).told.image }
-    ensures written { OnOk result (F.tells → IsWritten (layout_of geometry.now) number (target_of (layout_of geometry.now) (plan_of draft.now body.now) number) (TheStep.Piece piece) (F.state flash.new).told.image) }
-    ensures change { AsksChange F.tells (place_of (layout_of geometry.now) number (target_of (layout_of geometry.now) (plan_of draft.now body.now) number) (TheStep.Piece piece))
-        (len_of (layout_of geometry.now) (target_of (layout_of geometry.now) (plan_of draft.now body.now) number) (TheStep.Piece piece)) (F.state flash.old) (F.state flash.new) result }
+    requires form { 256 * piece < length (target_in geometry.now draft.now body.now number).bytes }
+    requires stands { F.tells → IsBegun geometry.now.slot_size (target_in geometry.now draft.now body.now number) (256 * piece) (F.state flash.old).told.image }
+    ensures written { OnOk result (F.tells → IsWritten (layout_of geometry.now) number (target_in geometry.now draft.now body.now number) (TheStep.Piece piece) (F.state flash.new).told.image) }
+    ensures change { AsksChange F.tells (place_of (layout_of geometry.now) number (target_in geometry.now draft.now body.now number) (TheStep.Piece piece))
+        (len_of (layout_of geometry.now) (target_in geometry.now draft.now body.now number) (TheStep.Piece piece)) (F.state flash.old) (F.state flash.new) result }
 {
     let slot = u32::from(draft.slots[number as usize]);
     let bytes = piece_of(geometry, draft, number, piece, body);
@@ -146,10 +145,10 @@ fn piece_of<'a>(
 ) -> &'a [u8]
     requires draft { IsDraft geometry.now draft.now body.now }
     requires number { number < draft.now.parts }
-    requires form { 256 * piece < length (target_of (layout_of geometry.now) (plan_of draft.now body.now) number).bytes }
-    ensures bytes { result.now ≡ take (min 256 (length (target_of (layout_of geometry.now) (plan_of draft.now body.now) number).bytes - 256 * piece))
-        (drop (256 * piece) (target_of (layout_of geometry.now) (plan_of draft.now body.now) number).bytes) }
-    ensures len { length result.now ≡ min 256 (length (target_of (layout_of geometry.now) (plan_of draft.now body.now) number).bytes - 256 * piece) }
+    requires form { 256 * piece < length (target_in geometry.now draft.now body.now number).bytes }
+    ensures bytes { result.now ≡ take (min 256 (length (target_in geometry.now draft.now body.now number).bytes - 256 * piece))
+        (drop (256 * piece) (target_in geometry.now draft.now body.now number).bytes) }
+    ensures len { length result.now ≡ min 256 (length (target_in geometry.now draft.now body.now number).bytes - 256 * piece) }
 {
     let room = geometry.room() as usize;
     let len = part_len(geometry, draft.len, number) as usize;

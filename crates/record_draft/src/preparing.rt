@@ -4,13 +4,13 @@ ghost use Rattle.flash_words.specs.Flash.{AsksChange, Leaves};
 ghost use Rattle.record_model.specs.Filling as TheStep;
 ghost use Rattle.record_model.specs.Filling.{IsStep, place_of, len_of};
 ghost use Rattle.record_model.specs.Plan as ThePlan;
-ghost use Rattle.record_model.specs.Plan.{target_of, KnowsPlan, StandsAtStage, stage_after};
+ghost use Rattle.record_model.specs.Plan.{KnowsPlan, StandsAtStage, stage_after};
 ghost use Rattle.record_model.proofs.PlanLemmas.{StaysKnown, Opens};
 ghost use Rattle.record_model.specs.Records.{stored_in};
 ghost use Rattle.std.specs.FinMap.{insert};
 ghost use Rattle.record_slots.specs.Slots.{Fits};
 ghost use Rattle.flash_model.specs.Layouts.{layout_of};
-ghost use Rattle.record_draft.specs.Drafts.{IsDraft, IsStage, plan_of, step_of, stage_of};
+ghost use Rattle.record_draft.specs.Drafts.{IsDraft, target_in, IsStage, plan_of, step_of, stage_of};
 
 use crate::filling::fill;
 use crate::{Draft, Stage, Step};
@@ -29,7 +29,7 @@ pub fn prepare<F: Flash>(
     requires fits { Fits geometry.now (F.state flash.old) }
     requires draft { IsDraft geometry.now draft.now body.now }
     requires number { number < draft.now.parts }
-    requires form { IsStep (layout_of geometry.now) (length (target_of (layout_of geometry.now) (plan_of draft.now body.now) number).bytes) (step_of step) }
+    requires form { IsStep (layout_of geometry.now) (length (target_in geometry.now draft.now body.now number).bytes) (step_of step) }
     requires knows { F.tells → KnowsPlan (layout_of geometry.now) (plan_of draft.now body.now) (F.state flash.old).told.image }
     requires stands { F.tells → StandsAtStage (layout_of geometry.now) (plan_of draft.now body.now) (F.state flash.old).told.image (ThePlan.Fill number (step_of step)) }
     ensures kept { F.tells → Leaves (F.state flash.old).told (F.state flash.new).told
@@ -37,8 +37,8 @@ pub fn prepare<F: Flash>(
     ensures form { IfOk result (IsStage geometry.now draft.now body.now) }
     ensures next { IfOk result (λ stage. stage_of stage ≡ stage_after (layout_of geometry.now) (plan_of draft.now body.now) number (step_of step)) }
     ensures stands { IfOk result (λ stage. F.tells → StandsAtStage (layout_of geometry.now) (plan_of draft.now body.now) (F.state flash.new).told.image (stage_of stage)) }
-    ensures change { AsksChange F.tells (place_of (layout_of geometry.now) number (target_of (layout_of geometry.now) (plan_of draft.now body.now) number) (step_of step))
-        (len_of (layout_of geometry.now) (target_of (layout_of geometry.now) (plan_of draft.now body.now) number) (step_of step)) (F.state flash.old) (F.state flash.new) result }
+    ensures change { AsksChange F.tells (place_of (layout_of geometry.now) number (target_in geometry.now draft.now body.now number) (step_of step))
+        (len_of (layout_of geometry.now) (target_in geometry.now draft.now body.now number) (step_of step)) (F.state flash.old) (F.state flash.new) result }
 {
     fill(flash, geometry, draft, number, step, body)?;
     Ok(next_stage(geometry, draft, number, step, body))
@@ -47,7 +47,7 @@ pub fn prepare<F: Flash>(
 fn next_stage(geometry: &Geometry, draft: &Draft, number: u32, step: Step, body: &[u8]) -> Stage
     requires draft { IsDraft geometry.now draft.now body.now }
     requires number { number < draft.now.parts }
-    requires form { IsStep (layout_of geometry.now) (length (target_of (layout_of geometry.now) (plan_of draft.now body.now) number).bytes) (step_of step) }
+    requires form { IsStep (layout_of geometry.now) (length (target_in geometry.now draft.now body.now number).bytes) (step_of step) }
     ensures is { stage_of result ≡ stage_after (layout_of geometry.now) (plan_of draft.now body.now) number (step_of step) }
     ensures form { IsStage geometry.now draft.now body.now result }
 {
