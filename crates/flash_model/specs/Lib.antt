@@ -1,5 +1,6 @@
 pub mod Limits
 pub mod Layouts
 pub mod Journal
+pub mod Entries
 pub mod Content
 pub mod Simulation

@@ -3,9 +3,9 @@
 
 mod content;
 mod cut;
-mod entry;
 mod flash;
 mod geometry;
+mod journal;
 mod power;
 mod sim_flash;
 mod tear;

@@ -4,7 +4,7 @@ ghost use Rattle.base_model.specs.Bytes.{part, put_at};
 ghost use Rattle.flash_words.specs.Flash.{FlashState, OnlyReads, AsksChange, IsErased, next_count};
 
 use crate::content::Content;
-use crate::entry::{Entry, note};
+use crate::journal::Journal;
 use crate::power::Power;
 use crate::{Cut, Flash, FlashFailed, Tear};
 use std::alloc::Global;
@@ -19,10 +19,9 @@ const ERASED: u8 = 0xFF;
 /// fails until `restart`.
 #[derive(Drop)]
 pub struct SimFlash {
-    alloc: Global,
     sector: u32,
     image: Vec<u8>,
-    journal: Vec<Entry>,
+    journal: Journal,
     power: Power,
     failing: Vec<(u64, Tear)>,
     failing_reads: Vec<u64>,
@@ -40,7 +39,7 @@ impl Model for SimFlash {
     ghost Value = { Simulation };
 
     ghost view = { λ flash. record {
-      told = told_by flash.journal.items flash.steps flash.image.items;
+      told = told_by flash.journal flash.steps flash.image.items;
       sector_size = flash.sector;
       power = flash.power;
       failing = flash.failing.items;
@@ -50,7 +49,7 @@ impl Model for SimFlash {
       starved = flash.starved;
     } };
 
-    ghost invariant = { λ flash. AreBelow flash.steps flash.journal.items × (flash.starved ≤ flash.steps) };
+    ghost invariant = { λ flash. AreBelow flash.steps flash.journal × (flash.starved ≤ flash.steps) };
 }
 
 // A count that stands still at the last value of its type.
@@ -89,10 +88,9 @@ impl SimFlash {
         ensures tells { ⟦<SimFlash as Flash>⟧.tells }
     {
         SimFlash {
-            alloc,
             sector,
             image,
-            journal: Vec::new(alloc),
+            journal: Journal::new(alloc),
             power: Power::new(cut),
             failing,
             failing_reads,
@@ -136,13 +134,9 @@ impl SimFlash {
         }
         let step = self.steps;
         let tear = self.power.tear_at(&self.failing, step);
-        let noted = note(
-            &mut self.journal,
-            self.alloc,
-            step,
-            at,
-            &self.image[at..at + content.len()],
-        );
+        let noted = self
+            .journal
+            .note(step, at, &self.image[at..at + content.len()]);
         self.power = self.power.after(step);
         self.steps += 1;
         if noted.is_err() {

@@ -13,13 +13,13 @@ use Rattle.flash_model.proofs.sim_flash.SimFlash.change.Goals as goal
 
 pub returns-then-self-clause-after : goal.returns-then-self-clause-after
 returns-then-self-clause-after c =
-    let steps = length-first_changes c.self.inside.journal.items c.self.inside.steps c.self.inside.image.items in
+    let steps = length-first_changes c.self.inside.journal c.self.inside.steps c.self.inside.image.items in
     let fate = fate_of-last (the_view c.self.inside) (steps ∙ c.if-self.true) in
     rw (← c.self.view_is, fate, c.next_count-self-inside.ensures) refl
 
 pub returns-then-self-clause-fails : goal.returns-then-self-clause-fails
 returns-then-self-clause-fails c =
-    let steps = length-first_changes c.self.inside.journal.items c.self.inside.steps c.self.inside.image.items in
+    let steps = length-first_changes c.self.inside.journal c.self.inside.steps c.self.inside.image.items in
     rw (← c.self.view_is) (λ _. ChangeFails-last _ _ (steps ∙ c.if-self.true), λ _. refl)
 
 pub invariant_of-self-then-is_lost : goal.invariant_of-self-then-is_lost
@@ -27,37 +27,37 @@ invariant_of-self-then-is_lost c = (AreBelow-more _ _ c.self.invariant.0, omega 
 
 pub returns-then-is_lost-clause-after : goal.returns-then-is_lost-clause-after
 returns-then-is_lost-clause-after c =
-    let steps = length-first_changes c.self.inside.journal.items c.self.inside.steps c.self.inside.image.items in
+    let steps = length-first_changes c.self.inside.journal c.self.inside.steps c.self.inside.image.items in
     let more = λ (e : steps_of (the_view c.self.inside) ≡ 2 ^ 64 - 1). c.if-self.false (sym steps ∙ e) in
     let fate = fate_of-lost (the_view c.self.inside) more (c.is_lost.ensures.0 c.if-is_lost.true) in
-    let past = first_changes-unnoted c.self.inside.journal.items c.self.inside.steps c.self.inside.image.items c.self.invariant.0 in
+    let past = first_changes-unnoted c.self.inside.journal c.self.inside.steps c.self.inside.image.items c.self.invariant.0 in
     rw (← c.self.view_is, fate, past, c.next_count-self-inside-then-is_lost.ensures) refl
 
 pub returns-then-is_lost-clause-fails : goal.returns-then-is_lost-clause-fails
 returns-then-is_lost-clause-fails c =
-    let steps = length-first_changes c.self.inside.journal.items c.self.inside.steps c.self.inside.image.items in
+    let steps = length-first_changes c.self.inside.journal c.self.inside.steps c.self.inside.image.items in
     let more = λ (e : steps_of (the_view c.self.inside) ≡ 2 ^ 64 - 1). c.if-self.false (sym steps ∙ e) in
     rw (← c.self.view_is) (λ _. ChangeFails-lost _ _ more (c.is_lost.ensures.0 c.if-is_lost.true), λ _. refl)
 
 pub invariant_of-self-then-is_err : goal.invariant_of-self-then-is_err
 invariant_of-self-then-is_err c =
-    let same : c.note-noted.new.journal.items ≡ c.self.inside.journal.items = at_err c.note-noted.result (sym c.is_err.ensures.value ∙ c.if-is_err.true) c.note-noted.ensures.err in
+    let same : c.note-noted.new.self ≡ c.self.inside.journal = at_err c.note-noted.result (sym c.is_err.ensures.value ∙ c.if-is_err.true) c.note-noted.ensures.err in
     let starved : c.self.inside.starved ≤ c.self.inside.steps = c.self.invariant.1 in
     (rw same (AreBelow-more _ _ c.self.invariant.0), omega arith)
 
 pub returns-then-is_err-clause-after : goal.returns-then-is_err-clause-after
 returns-then-is_err-clause-after c =
-    let steps = length-first_changes c.self.inside.journal.items c.self.inside.steps c.self.inside.image.items in
+    let steps = length-first_changes c.self.inside.journal c.self.inside.steps c.self.inside.image.items in
     let more = λ (e : steps_of (the_view c.self.inside) ≡ 2 ^ 64 - 1). c.if-self.false (sym steps ∙ e) in
     let powered = λ (lost : c.self.inside.power ≡ Lost). absurd (let e : true ≡ false = sym (c.is_lost.ensures.1 lost) ∙ c.if-is_lost.false in cc) in
     let fate = fate_of-powered (the_view c.self.inside) more powered in
-    let same : c.note-noted.new.journal.items ≡ c.self.inside.journal.items = at_err c.note-noted.result (sym c.is_err.ensures.value ∙ c.if-is_err.true) c.note-noted.ensures.err in
-    let past = first_changes-unnoted c.self.inside.journal.items c.self.inside.steps c.self.inside.image.items c.self.invariant.0 in
+    let same : c.note-noted.new.self ≡ c.self.inside.journal = at_err c.note-noted.result (sym c.is_err.ensures.value ∙ c.if-is_err.true) c.note-noted.ensures.err in
+    let past = first_changes-unnoted c.self.inside.journal c.self.inside.steps c.self.inside.image.items c.self.invariant.0 in
     rw (← c.self.view_is, fate) (inr (rw (same, past, steps, c.after-self-inside.ensures, c.next_count-self-inside-then-is_err.ensures) refl))
 
 pub returns-then-is_err-clause-fails : goal.returns-then-is_err-clause-fails
 returns-then-is_err-clause-fails c =
-    let steps = length-first_changes c.self.inside.journal.items c.self.inside.steps c.self.inside.image.items in
+    let steps = length-first_changes c.self.inside.journal c.self.inside.steps c.self.inside.image.items in
     let more = λ (e : steps_of (the_view c.self.inside) ≡ 2 ^ 64 - 1). c.if-self.false (sym steps ∙ e) in
     let powered = λ (lost : c.self.inside.power ≡ Lost). absurd (let e : true ≡ false = sym (c.is_lost.ensures.1 lost) ∙ c.if-is_lost.false in cc) in
     let fate = fate_of-powered (the_view c.self.inside) more powered in
@@ -71,7 +71,7 @@ invariant_of-self-then-is_some c =
 
 pub returns-then-is_some-clause-after : goal.returns-then-is_some-clause-after
 returns-then-is_some-clause-after c =
-    let steps = length-first_changes c.self.inside.journal.items c.self.inside.steps c.self.inside.image.items in
+    let steps = length-first_changes c.self.inside.journal c.self.inside.steps c.self.inside.image.items in
     let more = λ (e : steps_of (the_view c.self.inside) ≡ 2 ^ 64 - 1). c.if-self.false (sym steps ∙ e) in
     let powered = λ (lost : c.self.inside.power ≡ Lost). absurd (let e : true ≡ false = sym (c.is_lost.ensures.1 lost) ∙ c.if-is_lost.false in cc) in
     let fate = fate_of-powered (the_view c.self.inside) more powered in
@@ -82,11 +82,11 @@ returns-then-is_some-clause-after c =
     c.leave.ensures ∙ ap (λ (image : List ℕ). image_left c.tear_at-tear.result image c.args.at (bytes_of c.args.content)) c.deref_mut.ensures.value in
     let within : c.args.at + length (bytes_of c.args.content) ≤ length c.self.inside.image.items = rw (← c.self.view_is) at c.requires in
     let replaced = part-range c.self.inside.image.items c.deref-2.result.now c.args.at c.len.result (length (bytes_of c.args.content)) c.deref-2.ensures.value c.len.ensures in
-    let past : first_changes c.note-noted.new.journal.items (c.self.inside.steps + 1) c.leave.new.image
-    ≡ first_changes c.self.inside.journal.items c.self.inside.steps c.self.inside.image.items
+    let past : first_changes c.note-noted.new.self (c.self.inside.steps + 1) c.leave.new.image
+    ≡ first_changes c.self.inside.journal c.self.inside.steps c.self.inside.image.items
     ++ (record { before = c.self.inside.image.items; at = c.args.at; len = length (bytes_of c.args.content) }) ∷ [] =
     ap (λ (journal : List Noted). first_changes journal (c.self.inside.steps + 1) c.leave.new.image) noted
-    ∙ first_changes-noted c.self.inside.journal.items c.self.inside.steps c.args.at (length (bytes_of c.args.content)) c.self.inside.image.items c.leave.new.image
+    ∙ first_changes-noted c.self.inside.journal c.self.inside.steps c.args.at (length (bytes_of c.args.content)) c.self.inside.image.items c.leave.new.image
     _ c.self.invariant.0 within replaced
     (subst (λ (image : List ℕ). SameOutside c.args.at (length (bytes_of c.args.content)) c.self.inside.image.items image) (sym left)
     (SameOutside-image_left c.tear_at-tear.result c.self.inside.image.items c.args.at (bytes_of c.args.content) within)) in
@@ -95,7 +95,7 @@ returns-then-is_some-clause-after c =
 
 pub returns-then-is_some-clause-fails : goal.returns-then-is_some-clause-fails
 returns-then-is_some-clause-fails c =
-    let steps = length-first_changes c.self.inside.journal.items c.self.inside.steps c.self.inside.image.items in
+    let steps = length-first_changes c.self.inside.journal c.self.inside.steps c.self.inside.image.items in
     let more = λ (e : steps_of (the_view c.self.inside) ≡ 2 ^ 64 - 1). c.if-self.false (sym steps ∙ e) in
     let powered = λ (lost : c.self.inside.power ≡ Lost). absurd (let e : true ≡ false = sym (c.is_lost.ensures.1 lost) ∙ c.if-is_lost.false in cc) in
     let fate = fate_of-powered (the_view c.self.inside) more powered in
@@ -111,7 +111,7 @@ invariant_of-self-else-is_some c =
 
 pub returns-clause-after : goal.returns-clause-after
 returns-clause-after c =
-    let steps = length-first_changes c.self.inside.journal.items c.self.inside.steps c.self.inside.image.items in
+    let steps = length-first_changes c.self.inside.journal c.self.inside.steps c.self.inside.image.items in
     let more = λ (e : steps_of (the_view c.self.inside) ≡ 2 ^ 64 - 1). c.if-self.false (sym steps ∙ e) in
     let powered = λ (lost : c.self.inside.power ≡ Lost). absurd (let e : true ≡ false = sym (c.is_lost.ensures.1 lost) ∙ c.if-is_lost.false in cc) in
     let fate = fate_of-powered (the_view c.self.inside) more powered in
@@ -122,11 +122,11 @@ returns-clause-after c =
     c.leave.ensures ∙ ap (λ (image : List ℕ). image_left c.tear_at-tear.result image c.args.at (bytes_of c.args.content)) c.deref_mut.ensures.value in
     let within : c.args.at + length (bytes_of c.args.content) ≤ length c.self.inside.image.items = rw (← c.self.view_is) at c.requires in
     let replaced = part-range c.self.inside.image.items c.deref-2.result.now c.args.at c.len.result (length (bytes_of c.args.content)) c.deref-2.ensures.value c.len.ensures in
-    let past : first_changes c.note-noted.new.journal.items (c.self.inside.steps + 1) c.leave.new.image
-    ≡ first_changes c.self.inside.journal.items c.self.inside.steps c.self.inside.image.items
+    let past : first_changes c.note-noted.new.self (c.self.inside.steps + 1) c.leave.new.image
+    ≡ first_changes c.self.inside.journal c.self.inside.steps c.self.inside.image.items
     ++ (record { before = c.self.inside.image.items; at = c.args.at; len = length (bytes_of c.args.content) }) ∷ [] =
     ap (λ (journal : List Noted). first_changes journal (c.self.inside.steps + 1) c.leave.new.image) noted
-    ∙ first_changes-noted c.self.inside.journal.items c.self.inside.steps c.args.at (length (bytes_of c.args.content)) c.self.inside.image.items c.leave.new.image
+    ∙ first_changes-noted c.self.inside.journal c.self.inside.steps c.args.at (length (bytes_of c.args.content)) c.self.inside.image.items c.leave.new.image
     _ c.self.invariant.0 within replaced
     (subst (λ (image : List ℕ). SameOutside c.args.at (length (bytes_of c.args.content)) c.self.inside.image.items image) (sym left)
     (SameOutside-image_left c.tear_at-tear.result c.self.inside.image.items c.args.at (bytes_of c.args.content) within)) in
@@ -135,7 +135,7 @@ returns-clause-after c =
 
 pub returns-clause-fails : goal.returns-clause-fails
 returns-clause-fails c =
-    let steps = length-first_changes c.self.inside.journal.items c.self.inside.steps c.self.inside.image.items in
+    let steps = length-first_changes c.self.inside.journal c.self.inside.steps c.self.inside.image.items in
     let more = λ (e : steps_of (the_view c.self.inside) ≡ 2 ^ 64 - 1). c.if-self.false (sym steps ∙ e) in
     let powered = λ (lost : c.self.inside.power ≡ Lost). absurd (let e : true ≡ false = sym (c.is_lost.ensures.1 lost) ∙ c.if-is_lost.false in cc) in
     let fate = fate_of-powered (the_view c.self.inside) more powered in
@@ -145,31 +145,31 @@ returns-clause-fails c =
 
 pub returns-then-self-clause-counted : goal.returns-then-self-clause-counted
 returns-then-self-clause-counted c =
-    let old = length-first_changes c.self.inside.journal.items c.self.inside.steps c.self.inside.image.items in
+    let old = length-first_changes c.self.inside.journal c.self.inside.steps c.self.inside.image.items in
     rw (← c.self.view_is, old) (omega arith)
 
 pub returns-then-is_lost-clause-counted : goal.returns-then-is_lost-clause-counted
 returns-then-is_lost-clause-counted c =
-    let old = length-first_changes c.self.inside.journal.items c.self.inside.steps c.self.inside.image.items in
-    let new = length-first_changes c.self.inside.journal.items (c.self.inside.steps + 1) c.self.inside.image.items in
+    let old = length-first_changes c.self.inside.journal c.self.inside.steps c.self.inside.image.items in
+    let new = length-first_changes c.self.inside.journal (c.self.inside.steps + 1) c.self.inside.image.items in
     rw (← c.self.view_is, old, new) (omega arith)
 
 pub returns-then-is_err-clause-counted : goal.returns-then-is_err-clause-counted
 returns-then-is_err-clause-counted c =
-    let old = length-first_changes c.self.inside.journal.items c.self.inside.steps c.self.inside.image.items in
-    let new = length-first_changes c.note-noted.new.journal.items (c.self.inside.steps + 1) c.self.inside.image.items in
+    let old = length-first_changes c.self.inside.journal c.self.inside.steps c.self.inside.image.items in
+    let new = length-first_changes c.note-noted.new.self (c.self.inside.steps + 1) c.self.inside.image.items in
     rw (← c.self.view_is, old, new) (omega arith)
 
 pub returns-then-is_some-clause-counted : goal.returns-then-is_some-clause-counted
 returns-then-is_some-clause-counted c =
-    let old = length-first_changes c.self.inside.journal.items c.self.inside.steps c.self.inside.image.items in
+    let old = length-first_changes c.self.inside.journal c.self.inside.steps c.self.inside.image.items in
     let written = with_items_is c.self.inside.image c.leave.new.image (c.leave.auto.image ∙ c.deref_mut.ensures.len) in
-    let new = length-first_changes c.note-noted.new.journal.items (c.self.inside.steps + 1) c.leave.new.image in
+    let new = length-first_changes c.note-noted.new.self (c.self.inside.steps + 1) c.leave.new.image in
     rw (← c.self.view_is, written, old, new) (omega arith)
 
 pub returns-clause-counted : goal.returns-clause-counted
 returns-clause-counted c =
-    let old = length-first_changes c.self.inside.journal.items c.self.inside.steps c.self.inside.image.items in
+    let old = length-first_changes c.self.inside.journal c.self.inside.steps c.self.inside.image.items in
     let written = with_items_is c.self.inside.image c.leave.new.image (c.leave.auto.image ∙ c.deref_mut.ensures.len) in
-    let new = length-first_changes c.note-noted.new.journal.items (c.self.inside.steps + 1) c.leave.new.image in
+    let new = length-first_changes c.note-noted.new.self (c.self.inside.steps + 1) c.leave.new.image in
     rw (← c.self.view_is, written, old, new) (omega arith)
