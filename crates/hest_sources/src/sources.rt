@@ -7,7 +7,7 @@ ghost use Rattle.hest_sources.specs.Layout.{type_of, size_of, ghes_fields, ack_f
 
 use crate::tables::HestError;
 use apei_bytes::{get_u16, get_u32, get_u64};
-use apei_fields::{array_at, byte_at, put_1, put_2, put_4, put_8, put_array};
+use apei_fields::{array_at, byte_at, write_u8, write_u16, write_u32, write_u64, write_array};
 use apei_gas::Gas;
 
 /// A generic hardware error source (ACPI 6.4, 18.3.2.7), and where it has a read acknowledgement, of version 2
@@ -119,17 +119,17 @@ impl Ghes {
         requires { 64 ≤ length out.old }
         ensures { Wrote out.old out.new 0 64 (joined (ghes_fields self.now)) }
     {
-        let id = put_2(out, 0, self.kind());
-        let related = put_2(out, id, self.id);
-        let flags = put_2(out, related, self.related);
-        let enabled = put_1(out, flags, self.flags);
-        let records = put_1(out, enabled, self.enabled);
-        let sections = put_4(out, records, self.records);
-        let raw = put_4(out, sections, self.sections);
-        let status = put_4(out, raw, self.raw);
+        let id = write_u16(out, 0, self.kind());
+        let related = write_u16(out, id, self.id);
+        let flags = write_u16(out, related, self.related);
+        let enabled = write_u8(out, flags, self.flags);
+        let records = write_u8(out, enabled, self.enabled);
+        let sections = write_u32(out, records, self.records);
+        let raw = write_u32(out, sections, self.sections);
+        let status = write_u32(out, raw, self.raw);
         let notify = put_gas(out, status, &self.status);
-        let block_len = put_array(out, notify, &self.notify);
-        put_4(out, block_len, self.block_len);
+        let block_len = write_array(out, notify, &self.notify);
+        write_u32(out, block_len, self.block_len);
     }
 }
 
@@ -140,8 +140,8 @@ impl Ack {
         ensures end { result ≡ 92 }
     {
         let preserve = put_gas(out, 64, &self.register);
-        let write = put_8(out, preserve, self.preserve);
-        put_8(out, write, self.write)
+        let write = write_u64(out, preserve, self.preserve);
+        write_u64(out, write, self.write)
     }
 }
 
@@ -150,7 +150,7 @@ fn put_gas(out: &mut [u8], at: usize, gas: &Gas) -> usize
     ensures wrote { Wrote out.old out.new at result (spelling gas.now) }
     ensures end { result ≡ at + 12 }
 {
-    put_array(out, at, &gas.encode())
+    write_array(out, at, &gas.encode())
 }
 
 /// The length of a structure with machine check banks, whose number stands at a place.
