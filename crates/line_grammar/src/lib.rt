@@ -1,0 +1,13 @@
+//! Languages of lines that begin with a keyword, and the column at which a line leaves its language.
+//!
+//! A function that reads a text of a language answers, where the text isn't in it, how many of its first bytes some text of
+//! the language begins with.
+#![tactic(auto)]
+
+mod keywords;
+mod parts;
+#[cfg(test)]
+mod tests;
+
+pub use keywords::{Keyword, common_len, keyword_of};
+pub use parts::{end, number, pairs, two_numbers};

@@ -1,0 +1,5 @@
+pub mod CheckLemmas
+pub mod OneCheckLine
+pub mod OneLine
+pub mod ScriptLemmas
+pub mod TurnLemmas

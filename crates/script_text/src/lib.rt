@@ -1,0 +1,14 @@
+//! The language of scripts: its lines, the column at which a text leaves them, and the words of refusals.
+#![tactic(auto)]
+
+mod check_line;
+mod laws;
+mod script_line;
+mod script_word;
+#[cfg(test)]
+mod tests;
+mod turns;
+
+pub use check_line::CheckLine;
+pub use laws::{one_check_column, one_check_line, one_column, one_line};
+pub use script_line::{BadLine, ScriptLine};

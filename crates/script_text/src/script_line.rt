@@ -1,0 +1,171 @@
+// A line of a script.
+ghost use Rattle.std.specs.Prelude.{◌≡◌, ℕ, ◌+◌, ◌<◌, ◌≤◌, ◌++◌, length, MatchResult};
+ghost use Rattle.line_grammar.specs.Columns.{Breaks, BreaksAt};
+ghost use Rattle.script_text.specs.ScriptGrammar.{IsLine};
+ghost use Rattle.script_text.specs.ScriptText.{IsText, IsTextBehind};
+ghost use Rattle.script_text.specs.ScriptWords.{Follows, IsTable};
+
+use crate::script_word::{SCRIPT_WORDS, ScriptWord};
+use crate::turns::turns;
+use line_grammar::{Keyword, common_len, end, keyword_of, number, pairs, two_numbers};
+
+/// A line of a script. Hexadecimal digits and letters are parts of its text as they stand.
+#[derive(Clone, Copy, Debug, PartialEq, Eq)]
+pub enum ScriptLine<'a> {
+    /// An empty line, or one that begins with `#`.
+    Blank,
+    Write { hex: &'a [u8] },
+    Read { id: u64 },
+    Clear { id: u64 },
+    Count,
+    Next,
+    Dummy,
+    /// An action of the table's programs, and the value that it is given.
+    Action { code: u64, value: u64 },
+    Table { hex: &'a [u8] },
+    TableOwn,
+    TableShadow,
+    Error { hex: &'a [u8] },
+    /// 1 to 4,096 letters, `F` for a turn of the firmware and `R` for one of the reader.
+    Turns { letters: &'a [u8] },
+    /// An address, and a length of 1 to 4,096 bytes.
+    Peek { at: u64, len: u64 },
+    Fatal { hex: &'a [u8] },
+    Bert,
+    Heard,
+    Reset,
+    Power,
+    Bridge { id: u64 },
+}
+
+/// A text that is no line.
+#[derive(Clone, Copy, Debug, PartialEq, Eq)]
+pub struct BadLine {
+    /// One more than the length of its longest beginning with which some line begins.
+    pub column: u32,
+}
+
+impl ScriptLine<'_> {
+    /// The line that a text without a newline is.
+    pub fn parse(text: &[u8]) -> Result<ScriptLine<'_>, BadLine>
+        requires { length text.now ≤ 140_000 }
+        ensures { MatchResult result (λ line. IsText text.now line) (λ bad. BreaksAt IsLine text.now bad.column) }
+    {
+        if text.is_empty() {
+            return Ok(ScriptLine::Blank);
+        }
+        match ScriptLine::begun(text) {
+            Ok(line) => Ok(line),
+            Err(reach) => Err(BadLine {
+                column: reach as u32 + 1,
+            }),
+        }
+    }
+
+    // The line that a text is which isn't empty, or how far it goes along with a line.
+    fn begun(text: &[u8]) -> Result<ScriptLine<'_>, usize>
+        requires { 1 ≤ length text.now }
+        ensures { MatchResult result (λ line. IsText text.now line) (λ reach. Breaks IsLine text.now reach) }
+    {
+        let word = match keyword_of(text, &SCRIPT_WORDS) {
+            Ok(word) => word,
+            Err(reach) => return Err(reach),
+        };
+        let at = word.bytes().len();
+        match ScriptLine::behind(word, &text[at..]) {
+            Ok(line) => Ok(line),
+            Err(reach) => Err(at + reach),
+        }
+    }
+
+    // The line of a keyword and what follows it.
+    fn behind(word: ScriptWord, rest: &[u8]) -> Result<ScriptLine<'_>, usize>
+        ensures { MatchResult result (λ line. IsTextBehind word rest.now line) (λ reach. Breaks (Follows word) rest.now reach) }
+    {
+        match word {
+            ScriptWord::Comment => Ok(ScriptLine::Blank),
+            ScriptWord::Write => {
+                pairs(rest)?;
+                Ok(ScriptLine::Write { hex: rest })
+            }
+            ScriptWord::Read => {
+                let id = number(rest, 0, u64::MAX)?;
+                Ok(ScriptLine::Read { id })
+            }
+            ScriptWord::Clear => {
+                let id = number(rest, 0, u64::MAX)?;
+                Ok(ScriptLine::Clear { id })
+            }
+            ScriptWord::Count => {
+                end(rest)?;
+                Ok(ScriptLine::Count)
+            }
+            ScriptWord::Next => {
+                end(rest)?;
+                Ok(ScriptLine::Next)
+            }
+            ScriptWord::Dummy => {
+                end(rest)?;
+                Ok(ScriptLine::Dummy)
+            }
+            ScriptWord::Action => {
+                let (code, value) = two_numbers(rest, 255, 0, u64::MAX)?;
+                Ok(ScriptLine::Action { code, value })
+            }
+            ScriptWord::Table => ScriptLine::table(rest),
+            ScriptWord::Error => {
+                pairs(rest)?;
+                Ok(ScriptLine::Error { hex: rest })
+            }
+            ScriptWord::Turns => {
+                turns(rest)?;
+                Ok(ScriptLine::Turns { letters: rest })
+            }
+            ScriptWord::Peek => {
+                let (at, len) = two_numbers(rest, u64::MAX, 1, 4096)?;
+                Ok(ScriptLine::Peek { at, len })
+            }
+            ScriptWord::Fatal => {
+                pairs(rest)?;
+                Ok(ScriptLine::Fatal { hex: rest })
+            }
+            ScriptWord::Bert => {
+                end(rest)?;
+                Ok(ScriptLine::Bert)
+            }
+            ScriptWord::Heard => {
+                end(rest)?;
+                Ok(ScriptLine::Heard)
+            }
+            ScriptWord::Reset => {
+                end(rest)?;
+                Ok(ScriptLine::Reset)
+            }
+            ScriptWord::Power => {
+                end(rest)?;
+                Ok(ScriptLine::Power)
+            }
+            ScriptWord::Bridge => {
+                let id = number(rest, 0, u64::MAX)?;
+                Ok(ScriptLine::Bridge { id })
+            }
+        }
+    }
+
+    // The line that takes a table into use: one in hexadecimal digits, the machine's own, or its shadow.
+    fn table(rest: &[u8]) -> Result<ScriptLine<'_>, usize>
+        ensures { MatchResult result (λ line. IsTextBehind ScriptWord.Table rest.now line) (λ reach. Breaks IsTable rest.now reach) }
+    {
+        if rest == b"own".as_slice() {
+            return Ok(ScriptLine::TableOwn);
+        }
+        if rest == b"shadow".as_slice() {
+            return Ok(ScriptLine::TableShadow);
+        }
+        let reach = match pairs(rest) {
+            Ok(()) => return Ok(ScriptLine::Table { hex: rest }),
+            Err(reach) => reach,
+        };
+        Err(reach.max(common_len(rest, b"own").max(common_len(rest, b"shadow"))))
+    }
+}
