@@ -4,6 +4,7 @@ pub mod SizeLemmas
 pub mod LiveLemmas
 pub mod SlotLemmas
 pub mod CountLemmas
+pub mod FirstLemmas
 pub mod PartsLemmas
 pub mod GateLemmas
 pub mod OldLemmas

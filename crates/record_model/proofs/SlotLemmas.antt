@@ -134,6 +134,15 @@ unfolding stored_in
 differs_stored size slots j first image some within only free differs =
     ap (λ (entry : ℕ → Option Entry). selected entry slots) (differs_entries size slots j first image some within only free differs)
 
+-- The law that all rests on. Where only first slots of records are upright, a change that lies in a free slot and leaves that
+-- slot not upright keeps the records, and only first slots of records are upright afterwards
+pub free_slot_change_keeps_records : (size slots j : ℕ) (old new : List ℕ) → 64 ≤ size → j < slots → OnlyFirstUp size slots old → is_taken (entry_at size slots old) slots j ≡ false
+    → SameOutside (j * size) size old new → is_up (size - 64) slots (slot_at size new j) ≡ false
+    → (stored_in size slots new ≡ stored_in size slots old) × OnlyFirstUp size slots new
+free_slot_change_keeps_records size slots j old new some within only free same down =
+    let differs : DiffersInFreeSlot size slots j old new = record { same = same; down = down } in
+    (differs_stored size slots j old new some within only free differs, differs_only size slots j old new some within only free differs)
+
 -- a byte of an erased range
 pub erased_byte : (image : List ℕ) (place len at : ℕ) → IsErased image place len → place ≤ at → at < place + len → number_at image at 1 ≡ 0xFF
 unfolding number_at part

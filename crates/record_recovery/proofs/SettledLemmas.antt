@@ -22,8 +22,7 @@ use Rattle.record_recovery.specs.Listed.{AreListed, HasFirst, takes, with_number
 use Rattle.record_recovery.specs.Recovered.{KeepsRecords, StaysNearly, ChangesFew, IsRecovered}
 use Rattle.record_recovery.specs.Settling.{IsSettled, CountsCopies}
 use Rattle.record_recovery.proofs.FreeLemmas.{list_below-same, list_below-are, list_below-rising}
-use Rattle.record_model.proofs.SpareLemmas.{second_copies-none}
-use Rattle.record_recovery.proofs.CopiesLemmas.{second_copies-some, second_copies-fewer}
+use Rattle.record_model.proofs.SpareLemmas.{second_copies-none, second_copies-some, second_copies-fewer}
 
 -- what passes in a list stands at an index
 any_at : (test : SlotOf → Bool) (places : List SlotOf) → list_any test places ≡ true → (i : ℕ) × (i < length places) × ((d : SlotOf) → test (get_or places i d) ≡ true)
@@ -107,11 +106,13 @@ kill_nearly size slots n old new some within up other change =
 pub killed_counted : (size slots n : ℕ) (old new : FlashState) → 64 ≤ size → n < slots → is_up (size - 64) slots (slot_at size old.told.image n) ≡ true
     → ((e : Entry) → IsChosen (entry_at size slots old.told.image) slots n e → ⊥) → Changed (n * size + 1) 1 old.told new.told → number_at new.told.image (n * size + 1) 1 ≡ 0
     → new.steps ≡ old.steps + 1 → CountsCopies size slots old new
+unfolding entry_at
 killed_counted size slots n old new some within up other changed mark counted =
     let killed = kill_byte size slots n old.told.image new.told.image some up changed.image in
     let down = down_by_kill size slots n new.told.image (λ open_mark. absurd (not_erased (sym mark ∙ open_mark))) in
     let fewer : second_copies size slots new.told.image + 1 ≡ second_copies size slots old.told.image =
-    second_copies-fewer size slots n old.told.image new.told.image within up down killed.same (scan_kill size slots n old.told.image new.told.image some within up other changed.image) in
+    second_copies-fewer size slots n old.told.image new.told.image within up down other killed.same
+    (killed_others (size - 64) slots (slot_at size old.told.image) (slot_at size new.told.image) n killed) (down_entry (size - 64) slots (slot_at size new.told.image) n down) in
     omega arith
   where
     not_erased : ◌≡◌ {A = ℕ} 0 0xFF → ⊥

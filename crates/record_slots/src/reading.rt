@@ -2,11 +2,10 @@
 ghost use Rattle.std.specs.Prelude.{◌≡◌, ◌+◌, ◌-◌, ◌*◌, ◌<◌, ◌≤◌, length, IfOk, OnOk};
 ghost use Rattle.base_model.specs.Bytes.{part};
 ghost use Rattle.flash_words.specs.Flash.{OnlyReads};
-ghost use Rattle.record_model.specs.Records.{head_at, tail_at, slot_at, are_parts, further_of};
-ghost use Rattle.record_slots.specs.Slots.{Fits, Reads, numbers_of, NamesParts};
+ghost use Rattle.record_model.specs.Records.{head_at, tail_at};
+ghost use Rattle.record_slots.specs.Slots.{Fits, numbers_of};
 
 use crate::Head;
-use crate::live::{has_part, parts_of};
 use crate::places::{BODY_AT, place_of};
 use flash_model::{Flash, FlashFailed, Geometry};
 
@@ -50,30 +49,4 @@ pub fn read_body<F: Flash>(
 {
     let place = place_of(geometry, slot);
     flash.read(place + BODY_AT, buf)
-}
-
-/// Whether the further slots that the head of an upright slot names have the further parts of its record, by one look at
-/// each.
-pub fn has_parts<F: Flash>(
-    flash: &mut F,
-    geometry: &Geometry,
-    slot: u32,
-    head: &Head,
-) -> Result<bool, FlashFailed>
-    requires fits { Fits geometry.now (F.state flash.old) }
-    requires upright { NamesParts geometry.now (numbers_of head.now) }
-
-    ensures parts { IfOk result (λ has. F.tells → has ≡ are_parts (geometry.now.slot_size - 64) slot (numbers_of head.now)
-        (slot_at geometry.now.slot_size (F.state flash.old).told.image) 1 (further_of (geometry.now.slot_size - 64) (numbers_of head.now))) }
-    ensures stays { Reads F.tells (F.state flash.old) (F.state flash.new) result }
-{
-    let further = parts_of(geometry, head.len) - 1;
-    for at in 0..further {
-        let next = u32::from(head.next[at as usize]);
-        let (found, tail) = look(flash, geometry, next)?;
-        if !has_part(&found, tail, geometry, slot, head, at + 1) {
-            return Ok(false);
-        }
-    }
-    Ok(true)
 }
