@@ -1,7 +1,11 @@
 pub mod CheckGrammar
 pub mod CheckText
 pub mod CheckWords
+pub mod FrameWords
+pub mod RunWords
 pub mod ScriptGrammar
 pub mod ScriptText
 pub mod ScriptWords
+pub mod TableWords
 pub mod Turns
+pub mod Words

@@ -1,0 +1,43 @@
+-- The words of tables that are refused.
+use Rattle.std.specs.Prelude.{ℕ, List, [], codes}
+use Rattle.script_text.specs.Words.{word_and_number, word_and_two_numbers}
+use Rattle.apei_tables.specs.declared.headers.TableError.{TableError}
+use Rattle.apei_tables.specs.declared.headers.TableError.TheVariants.{Short, Signature, Length, Sum}
+use Rattle.erst_entries.specs.declared.tables.ErstError.{ErstError}
+use Rattle.erst_entries.specs.declared.tables.ErstError.TheVariants.{Table, HeaderSize, Count, Memory}
+use Rattle.hest_sources.specs.declared.tables.HestError.{HestError}
+use Rattle.hest_sources.specs.declared.tables.HestError.TheVariants.{Table as hest_table, UnknownType, Cut, Count as hest_count, Memory as hest_memory}
+
+abbrev pub words_of_table : TableError → List ℕ
+words_of_table (Short have) = word_and_number (codes "short ") have
+words_of_table (Signature found) = codes "signature"
+words_of_table (Length found) = word_and_number (codes "length ") found
+words_of_table (Sum found) = word_and_number (codes "sum ") found
+
+abbrev pub words_of_erst : ErstError → List ℕ
+words_of_erst (Table why) = words_of_table why
+words_of_erst (HeaderSize found) = word_and_number (codes "header-size ") found
+words_of_erst (Count found length) = word_and_two_numbers (codes "count ") found length
+words_of_erst Memory = []
+
+-- want of memory has no words
+abbrev pub ErstHasWords : ErstError → Type 0
+ErstHasWords (Table why) = Unit {0}
+ErstHasWords (HeaderSize found) = Unit {0}
+ErstHasWords (Count found length) = Unit {0}
+ErstHasWords Memory = ⊥
+
+abbrev pub words_of_hest : HestError → List ℕ
+words_of_hest (hest_table why) = words_of_table why
+words_of_hest (UnknownType at code) = word_and_two_numbers (codes "unknown ") at code
+words_of_hest (Cut at) = word_and_number (codes "cut ") at
+words_of_hest (hest_count declared found) = word_and_two_numbers (codes "count ") declared found
+words_of_hest hest_memory = []
+
+-- want of memory has no words
+abbrev pub HestHasWords : HestError → Type 0
+HestHasWords (hest_table why) = Unit {0}
+HestHasWords (UnknownType at code) = Unit {0}
+HestHasWords (Cut at) = Unit {0}
+HestHasWords (hest_count declared found) = Unit {0}
+HestHasWords hest_memory = ⊥

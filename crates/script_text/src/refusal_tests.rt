@@ -1,0 +1,79 @@
+// The words of refusals.
+use crate::refusal::Refusal;
+use crate::refusal_text::RefusalText;
+use apei_bytes::{MemSink, SinkFault};
+use apei_space::SpaceFault;
+use apei_tables::TableError;
+use cper_frame::FrameError;
+use erst_entries::ErstError;
+use erst_interp::RunStop;
+use ghes_block::BlockError;
+use hest_sources::HestError;
+use std::test::Fail;
+
+#[test]
+fn a_refusal_is_put(rt: HostRuntime) -> Result<(), Fail> {
+    let stop = RunStop::Space {
+        index: 3,
+        fault: SpaceFault::NotMemory { at: 8192 },
+    };
+    let mut out = MemSink::new(rt.alloc(), Vec::new(rt.alloc()));
+    assert_eq!(rt; stop.put(&mut out), Ok(()));
+    assert_eq!(rt; out.bytes(), b"space 3 not-memory 8192".as_slice());
+
+    let mut failing = MemSink::new(rt.alloc(), vec![in rt.alloc(); 0u64]?);
+    assert_eq!(rt; stop.put(&mut failing), Err(SinkFault));
+    assert_eq!(rt; failing.bytes(), b"".as_slice());
+    Ok(())
+}
+
+#[test]
+fn stops(rt: HostRuntime) -> Result<(), Fail> {
+    let stops: [(RunStop, &[u8]); 5] = [
+        (RunStop::Budget, b"budget"),
+        (RunStop::Goto { index: 0, to: 1 }, b"goto 0 1"),
+        (
+            RunStop::MoveTooLong {
+                index: 2,
+                len: 65537,
+            },
+            b"move 2 65537",
+        ),
+        (
+            RunStop::UnknownInstruction { index: 1, code: 19 },
+            b"unknown 1 19",
+        ),
+        (RunStop::NoAction { code: 12 }, b"no-action 12"),
+    ];
+    for (stop, want) in stops {
+        let mut text = RefusalText::new();
+        stop.add_to(&mut text);
+        assert_eq!(rt; text.bytes(), want);
+    }
+    Ok(())
+}
+
+#[test]
+fn frames_and_blocks(rt: HostRuntime) -> Result<(), Fail> {
+    let mut text = RefusalText::new();
+    FrameError::Need { more: 126 }.add_to(&mut text);
+    text.add(b"|");
+    BlockError::NotPublished.add_to(&mut text);
+    text.add(b"|");
+    BlockError::Entry { index: 1, at: 84 }.add_to(&mut text);
+    assert_eq!(rt;
+        text.bytes(),
+        b"need 126|not-published|entry 1 84".as_slice()
+    );
+    Ok(())
+}
+
+#[test]
+fn tables(rt: HostRuntime) -> Result<(), Fail> {
+    let mut text = RefusalText::new();
+    ErstError::Table(TableError::Sum { found: 1 }).add_to(&mut text);
+    text.add(b"|");
+    HestError::UnknownType { at: 40, code: 5 }.add_to(&mut text);
+    assert_eq!(rt; text.bytes(), b"sum 1|unknown 40 5".as_slice());
+    Ok(())
+}

@@ -1,0 +1,83 @@
+// The words of a refusal, made without memory.
+ghost use Rattle.std.specs.Prelude.{◌≡◌, ℕ, ◌+◌, ◌≤◌, List, [], ◌++◌, length, decimal};
+ghost use Rattle.script_text.specs.Words.{word_and_number, word_and_two_numbers};
+
+use itoa::Buffer;
+use std::marker::Model;
+
+// The most bytes that words have.
+const CAPACITY: usize = 128;
+
+/// Up to 128 bytes of text.
+#[derive(Drop)]
+pub struct RefusalText {
+    bytes: [u8; CAPACITY],
+    len: usize,
+}
+
+impl Model for RefusalText {
+    ghost use Rattle.std.specs.Prelude.{ℕ, List, ◌≤◌, take};
+
+    ghost Value = { List ℕ };
+
+    ghost view = { λ t. take t.len t.bytes };
+
+    ghost invariant = { λ t. t.len ≤ 128 };
+}
+
+impl RefusalText {
+    /// No text.
+    pub fn new() -> RefusalText
+        ensures { result ≡ [] }
+    {
+        RefusalText {
+            bytes: [0; CAPACITY],
+            len: 0,
+        }
+    }
+
+    /// The bytes of the text.
+    pub fn bytes(&self) -> &[u8]
+        ensures { result.now ≡ self.now }
+    {
+        &self.bytes[..self.len]
+    }
+
+    /// Appends a word.
+    pub fn add(&mut self, word: &[u8])
+        requires { length self.old + length word.now ≤ 128 }
+        ensures { self.new ≡ self.old ++ word.now }
+    {
+        self.bytes[self.len..self.len + word.len()].copy_from_slice(word);
+        self.len += word.len();
+    }
+
+    /// Appends a number in decimal digits.
+    pub fn add_number(&mut self, n: u64)
+        requires { length self.old ≤ 108 }
+        ensures text { self.new ≡ self.old ++ decimal n }
+        ensures short { length self.new ≤ length self.old + 20 }
+    {
+        self.add(Buffer::new().format(n).as_bytes());
+    }
+
+    /// Appends a word and a number.
+    pub fn add_one(&mut self, word: &[u8], n: u64)
+        requires { length self.old + length word.now ≤ 108 }
+        ensures text { self.new ≡ self.old ++ word_and_number word.now n }
+        ensures short { length self.new ≤ length self.old + length word.now + 20 }
+    {
+        self.add(word);
+        self.add_number(n);
+    }
+
+    /// Appends a word and two numbers.
+    pub fn add_two(&mut self, word: &[u8], m: u64, n: u64)
+        requires { length self.old + length word.now ≤ 87 }
+        ensures text { self.new ≡ self.old ++ word_and_two_numbers word.now m n }
+        ensures short { length self.new ≤ length self.old + length word.now + 41 }
+    {
+        self.add_one(word, m);
+        self.add_one(b" ", n);
+    }
+}
