@@ -107,7 +107,7 @@ entries_within offset raw data_len h = elim (cases_Bool (raw == 0)) [
 ]
 
 -- bytes that follow change nothing
-number_at-front : (bytes more : List ℕ) (at n : ℕ) → at + n ≤ length bytes → number_at (bytes ++ more) at n ≡ number_at bytes at n
+pub number_at-front : (bytes more : List ℕ) (at n : ℕ) → at + n ≤ length bytes → number_at (bytes ++ more) at n ≡ number_at bytes at n
 unfolding number_at
 number_at-front bytes more at n h = ap little (part-append_left bytes more at n h)
 

@@ -1,5 +1,5 @@
 -- The checks of a head one by one, and what a whole block's bytes hold.
-use Rattle.std.proofs.Common.{◌≡◌, ℕ, zero, suc, ◌+◌, ◌-◌, ◌<◌, ◌≤◌, ◌^◌, inl, inr, false, List, [], ◌∷◌, ◌++◌, length, take, drop, Some, Result, Ok, Err, refl, sym, ap, subst, ◌∙◌, arith, length-append, append_assoc}
+use Rattle.std.proofs.Common.{◌≡◌, ℕ, zero, suc, ◌+◌, ◌-◌, ◌<◌, ◌≤◌, ◌^◌, inl, inr, false, List, [], ◌∷◌, ◌++◌, length, take, drop, Some, Result, Ok, Err, refl, sym, ap, subst, ◌∙◌, arith, length-append, append-nil, append_assoc}
 use Rattle.std.specs.Prelude.{All, ◌==◌, nat_lt, slice_get, MatchResult}
 use Rattle.std.proofs.lemmas.Bool.{lt-ltb, eq-eqb, ne_eqb, le-ltb, cond-true, cond-false, cases_lt}
 use Rattle.std.proofs.lemmas.Result.{MatchResult-weaker}
@@ -13,9 +13,9 @@ use Rattle.ghes_block.specs.declared.error.BlockError.{BlockError}
 use Rattle.ghes_block.specs.declared.error.BlockError.TheVariants.{Need, NotPublished, RawOffset}
 use Rattle.ghes_block.specs.Grammar.{EntryValue, BlockValue, entry_bytes, entries_bytes, IsEntry, IsBlock}
 use Rattle.ghes_block.specs.Reading.{head_size, entry_size, entry_head_at, first_entry, counted, status_at, raw_offset, raw_length, data_length, data_of, entry_count, block_of, sized, judged, checked, IsWhole, IsReadBlock}
-use Rattle.ghes_block.specs.Entries.{place_of, IsPlace, EntryAt, RestAt}
+use Rattle.ghes_block.specs.Entries.{place_of, HasHead, IsPlace, EntryAt, RestAt}
 use Rattle.ghes_block.proofs.Walks.{counts, first_of}
-use Rattle.ghes_block.proofs.Blocks.{Passed, passed, passes, block_length, passed_front, same_count, entries_within, is_block, found_again, reads_again}
+use Rattle.ghes_block.proofs.Blocks.{Passed, passed, passes, block_length, passed_front, same_count, entries_within, is_block, found_again, reads_again, number_at-front}
 
 pub at_short : (bytes : List ℕ) → length bytes < 20 → checked bytes ≡ Err (Need (20 - length bytes))
 unfolding checked
@@ -93,6 +93,28 @@ front bytes len count each h k =
         are_bytes = AreBytes-take len bytes each;
       };
     }
+
+-- its head is there
+pub head_there : (bytes : List ℕ) (len : ℕ) → checked bytes ≡ Ok len → HasHead bytes (block_of (take len bytes)) len
+unfolding block_of
+head_there bytes len h =
+    let p = passed bytes len h in
+    let low = entries_within (raw_offset bytes) (raw_length bytes) (data_length bytes) p.0.behind in
+    let len_is = p.1 in
+    let there = p.0.there in
+    let size : length (take len bytes) ≡ len = length-take len bytes ∙ omega arith in
+    let same : status_at (take len bytes) ≡ status_at bytes =
+    sym (number_at-front (take len bytes) (drop len bytes) 0 4 (omega arith)) ∙ ap (λ (xs : List ℕ). number_at xs 0 4) (take-append-drop len bytes) in
+    record { long = omega arith; size_is = size; status_is = same; published = subst (λ (n : ℕ). 0 < n) (sym same) p.0.published }
+
+-- so has every block
+pub block_has_head : (value : BlockValue) (bytes : List ℕ) → IsBlock value bytes → HasHead bytes value (length bytes)
+block_has_head value bytes is =
+    let again = found_again value bytes [] is in
+    let all : bytes ++ [] ≡ bytes = append-nil bytes in
+    let found : checked bytes ≡ Ok (length bytes) = ap checked (sym all) ∙ again in
+    let same : block_of (take (length bytes) bytes) ≡ value = ap block_of (take_all (length bytes) bytes (omega arith)) ∙ (reads_again value bytes is).value_is in
+    subst (λ (v : BlockValue). HasHead bytes v (length bytes)) same (head_there bytes (length bytes) found)
 
 pub whole_block : (bytes : List ℕ) → AreBytes bytes → IsWhole bytes → IsBlock (block_of bytes) bytes
 whole_block bytes h w = let p = passed bytes (length bytes) w in is_block bytes h p.0 p.1

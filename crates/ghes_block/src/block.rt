@@ -3,7 +3,7 @@ ghost use Rattle.std.specs.Prelude.{◌≡◌, ℕ, ◌+◌, ◌-◌, ◌*◌, �
 ghost use Rattle.base_model.specs.Bytes.{part};
 ghost use Rattle.ghes_block.specs.Grammar.{BlockValue, IsBlock};
 ghost use Rattle.ghes_block.specs.Reading.{checked, counted, sized, entry_count};
-ghost use Rattle.ghes_block.specs.Entries.{value_of, place_of, IsPlace, EntryAt, RestAt};
+ghost use Rattle.ghes_block.specs.Entries.{value_of, place_of, HasHead, IsPlace, EntryAt, RestAt};
 
 use crate::entry::{DataEntry, HEAD, size_of_entry};
 use crate::error::BlockError;
@@ -117,6 +117,8 @@ impl<'a> Block<'a> {
         ensures only { (value : BlockValue) (n : ℕ) → n ≤ length bytes.now → IsBlock value (take n bytes.now) → IsOkAnd result (λ x. (x.0 ≡ value) × (x.1 ≡ n)) }
         // The error is the first check that fails.
         ensures exact { MatchResult result (λ x. checked bytes.now ≡ Ok x.1) (λ e. checked bytes.now ≡ Err e) }
+        // It has a head of 20 bytes, with a status other than 0.
+        ensures head { IfOk result (λ x. HasHead bytes.now x.0 x.1) }
         // The first entry, or the end, is at 20.
         ensures first { IfOk result (λ x. IsPlace x.0.entries 20) }
     {
