@@ -1,0 +1,5 @@
+pub mod Machine
+pub mod Maps
+pub mod Elsewhere
+pub mod Handovers
+pub mod Schedules
