@@ -13,7 +13,7 @@ returns-in-None c =
 pub returns-else-is_err : goal.returns-else-is_err
 returns-else-is_err c =
     some_step c.args.reader.now c.feed.new.self c.advance.new.self c.args.rest.now c.in-Ok.fed (contents c.args.records.now.items) (contents c.push.new.self.items) c.in-Some.field-0 c.requires.waits
-    c.feed.ensures.reader (sym c.in-Ok.is ∙ c.feed.ensures.answer) (sym c.in-Some.is ∙ c.frame.ensures.found) c.in-Some.ensures.record c.advance.ensures
+    c.feed.ensures.reader (sym c.in-Ok.is ∙ c.feed.ensures.answer) (sym c.in-Some.is ∙ c.frame.ensures.found) c.in-Some.ensures.record c.advance.ensures.reader
     (ap contents (c.push.ensures.items ∙ ap (λ b. cond b (c.args.records.now.items ++ c.in-Ok-from_slice.record ∷ []) c.args.records.now.items) c.if-is_err.ensures.negation)
     ∙ map_push (λ v. v.items) c.args.records.now.items c.in-Ok-from_slice.record
     ∙ ap (λ (xs : List ℕ). contents c.args.records.now.items ++ xs ∷ []) (c.in-Ok-from_slice.ensures.items ∙ c.bytes.ensures))

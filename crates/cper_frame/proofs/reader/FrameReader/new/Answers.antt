@@ -7,5 +7,5 @@ use Rattle.cper_frame.proofs.reader.FrameReader.new.Goals as goal
 pub invariant_of-result : goal.invariant_of-result
 invariant_of-result c =
     let short : c.args.limit < 2 ^ 32 = omega arith in
-    subst (λ (xs : List ℕ). IsReader c.args.limit xs (vec_capacity c.in-Ok.held) 128) (sym c.in-Ok.ensures.items)
-    (empty c.args.limit (vec_capacity c.in-Ok.held) c.requires short c.in-Ok.ensures.exact)
+    subst (λ (xs : List ℕ). IsReader c.args.limit xs (vec_capacity c.in_ok-held.held) 128) (sym c.in_ok-held.ensures.items)
+    (empty c.args.limit (vec_capacity c.in_ok-held.held) c.requires short c.in_ok-held.ensures.exact)
