@@ -46,7 +46,8 @@ impl FrameReader {
     /// A reader of records of at most `limit` bytes.
     pub fn new(alloc: Global, limit: u32) -> Result<FrameReader, Memory>
         requires { 128 ≤ limit }
-        ensures { IfOk result (λ r. r ≡ record { limit = limit; held = []; failed = None }) }
+        ensures reader { IfOk result (λ r. r ≡ record { limit = limit; held = []; failed = None }) }
+        ensures none { IfOk result (λ r. frame_of r ≡ None) }
     {
         let held = Vec::with_capacity(alloc, limit as usize)?;
         Ok(FrameReader {

@@ -7,7 +7,7 @@ use Rattle.cper_frame.proofs.pieces.frames_in.Goals as goal
 
 pub loop-piece-init : goal.loop-piece-init
 loop-piece-init c =
-    subst (λ vs. StreamSoFar c.args.limit c.in_ok-reader.reader [] (contents vs)) (sym c.new-records.ensures.items) (stream_begins c.args.limit c.in_ok-reader.reader c.in_ok-reader.ensures)
+    subst (λ vs. StreamSoFar c.args.limit c.in_ok-reader.reader [] (contents vs)) (sym c.new-records.ensures.items) (stream_begins c.args.limit c.in_ok-reader.reader c.in_ok-reader.ensures.reader)
 
 pub returns-in-Ok-Some-clause-split : goal.returns-in-Ok-Some-clause-split
 returns-in-Ok-Some-clause-split c =
