@@ -69,16 +69,14 @@ impl FrameReader {
     {
         match self.failed {
             Some(error) => Err(error),
-            None => match self.fill(piece) {
-                Ok(first) => match self.fill(&piece[first..]) {
-                    Ok(second) => Ok(Fed {
-                        taken: first + second,
-                        whole: self.is_whole(),
-                    }),
-                    Err(error) => Err(error),
-                },
-                Err(error) => Err(error),
-            },
+            None => {
+                let first = self.fill(piece)?;
+                let second = self.fill(&piece[first..])?;
+                Ok(Fed {
+                    taken: first + second,
+                    whole: self.is_whole(),
+                })
+            }
         }
     }
 
