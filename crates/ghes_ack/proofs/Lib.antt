@@ -4,3 +4,8 @@ pub mod StepLemmas
 pub mod ScheduleLemmas
 pub mod CallLemmas
 pub mod EffectLemmas
+pub mod RoomLemmas
+pub mod TurnLemmas
+pub mod SideLemmas
+pub mod ElsewhereLemmas
+pub mod StartLemmas

@@ -9,6 +9,7 @@ use Rattle.base_model.proofs.BytesLemmas.{length-spelled}
 use Rattle.ghes_ack.specs.declared.events.Side.{Side}
 use Rattle.ghes_ack.specs.declared.events.Side.TheVariants.{Firmware, Reader}
 use Rattle.ghes_ack.specs.Machine.{Machine, Situation, Filling, Published, Reading, Cleared, Acknowledged, Fits, block_at, at_work, pieces, hidden, with_piece, with_status, Turned, filling, offered, reading, firmware_turn, reader_turn, turned, started, submitted, IsFilling, IsWhole, IsEmptied, IsReading, InSituation, IsState}
+use Rattle.ghes_ack.proofs.RoomLemmas.{All-one}
 use Rattle.ghes_ack.proofs.PieceLemmas.{length-hidden, next_bytes, published_whole, number_at-take, status-cleared, status-hidden, length-with_piece, length-with_status}
 
 pub fits_at_work : (len : ℕ) (m : Machine) → All (Fits len) m.blocks → m.acknowledged < length m.blocks → Fits len (at_work m)
@@ -240,10 +241,6 @@ submit_in m block Reading (inl h) = inl (rw (same_at_work m block h.1.there) h.0
 submit_in m block Reading (inr h) = inr (rw (same_at_work m block h.1.there) h.0, whole_keeps m block 1 h.1)
 submit_in m block Cleared h = emptied_keeps m block 1 h
 submit_in m block Acknowledged h = emptied_keeps m block 0 h
-
-pub All-one : {X : Type 0} (P : X → Type 0) (x : X) → P x → All P (x ∷ [])
-All-one P x p zero d h = p
-All-one P x p (suc k) d h = absurd (omega (arith, h))
 
 pub submit_keeps : (len : ℕ) (m : Machine) (block : List ℕ) → Fits len block → IsState len m → IsState len (submitted m block)
 submit_keeps len m block good st = record {
