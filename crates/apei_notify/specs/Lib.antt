@@ -1,0 +1,3 @@
+pub mod Masks
+pub mod Telling
+pub mod Chains

@@ -1,0 +1,28 @@
+-- What it is to be told of errors.
+use Rattle.std.specs.Prelude.{◌≡◌, ℕ, ◌+◌, ◌-◌, ◌^◌, Bool, true, false, min, List, [], ◌∷◌, count_by}
+use Rattle.base_model.specs.Bytes.{number_at}
+
+-- one more, held at 2 ^ 64 - 1
+abbrev pub one_more : ℕ → ℕ
+one_more n = min (n + 1) (2 ^ 64 - 1)
+
+-- a listener before and after it was told of an error: it heard of it where it wants the severity, and is as before where
+-- it does not
+pub record IsTold {L : Type 0} (interest : L → ℕ → Bool) (hearings : L → ℕ) (severity : ℕ) (old new : L) : Type 0 where
+  pub heard : interest old severity ≡ true → hearings new ≡ one_more (hearings old)
+  pub unheard : interest old severity ≡ false → new ≡ old
+  pub steady : (any : ℕ) → interest new any ≡ interest old any
+
+-- the severity of the error whose status block this is
+abbrev pub severity_of : List ℕ → ℕ
+severity_of block = number_at block 16 4
+
+-- before and after it was told of the errors of these status blocks, one after another
+abbrev pub IsToldOfAll : {L : Type 0} → (L → ℕ → Bool) → (L → ℕ) → List (List ℕ) → L → L → Type 0
+IsToldOfAll interest hearings [] old new = new ≡ old
+IsToldOfAll {L} interest hearings (block ∷ blocks) old new =
+    (between : L) × IsTold interest hearings (severity_of block) old between × IsToldOfAll interest hearings blocks between new
+
+-- how many of these status blocks are of errors that a listener wants
+abbrev pub wanted : (ℕ → Bool) → List (List ℕ) → ℕ
+wanted interest blocks = count_by (λ block. interest (severity_of block)) blocks

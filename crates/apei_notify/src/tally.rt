@@ -1,0 +1,39 @@
+// A listener that only counts.
+ghost use Rattle.std.specs.Prelude.{◌≡◌, ◌&&◌, nat_lt};
+ghost use Rattle.apei_notify.specs.Masks.{has_bit};
+
+use crate::listener::Listener;
+
+/// Counts the errors whose severity is below 4 and whose bit of a mask is set.
+#[derive(Clone, Copy, Debug, PartialEq, Eq)]
+pub struct Tally {
+    mask: u8,
+    heard: u64,
+}
+
+impl Tally {
+    /// Bit 0 is for recoverable errors, 1 for fatal ones, 2 for corrected ones and 3 for those of severity 3.
+    pub fn new(mask: u8) -> Tally
+        ensures { result ≡ record { mask = mask; heard = 0 } }
+    {
+        Tally { mask, heard: 0 }
+    }
+}
+
+impl Listener for Tally {
+    ghost interest = { λ tally severity. nat_lt severity 4 && has_bit tally.mask severity };
+
+    ghost hearings = { λ tally. tally.heard };
+
+    fn wants(&self, severity: u32) -> bool {
+        severity < 4 && self.mask >> severity & 1 == 1
+    }
+
+    fn hear(&mut self, _severity: u32, _block: &[u8]) {
+        self.heard = self.heard.saturating_add(1);
+    }
+
+    fn heard(&self) -> u64 {
+        self.heard
+    }
+}

@@ -1,0 +1,80 @@
+-- What the calls of the two sides leave in memory.
+use Rattle.std.proofs.Common.{◌≡◌, ◌∙◌, ℕ, ◌+◌, ◌-◌, ◌*◌, ◌<◌, ◌≤◌, ◌++◌, min, List, length, take, drop, refl, sym, ap, subst, arith, bit_and}
+use Rattle.std.proofs.lemmas.List.{take_at}
+use Rattle.base_model.specs.Bytes.{part, number_at, spelled, put_at, AreBytes}
+use Rattle.base_model.proofs.BytesLemmas.{length-spelled, spelled-number_at}
+use Rattle.apei_space.specs.RamState.{RamState}
+use Rattle.ghes_ack.specs.declared.maps.HandoverMap.{HandoverMap}
+use Rattle.ghes_ack.specs.Machine.{zeros, hidden, with_piece, with_status}
+use Rattle.ghes_ack.specs.Maps.{HasWindows, IsSet, IsClear, ack_read, ack_mask, with_ack, with_window, with_address, window, with_set, with_clear, memory_started}
+use Rattle.ghes_ack.proofs.PieceLemmas.{part-front, part_min, length-hidden, hidden_front, hidden_behind, length-with_status}
+use Rattle.ghes_ack.proofs.MemoryLemmas.{length-window, window-with_window, window-with_ack, window-with_address, ack-with_window, ack-with_address, HasWindows-with_window, HasWindows-with_ack, HasWindows-with_address}
+
+pub windows_address : (map : HandoverMap) (ram new : RamState) → new ≡ with_address map ram → HasWindows map ram → HasWindows map new
+windows_address map ram new is w = subst (HasWindows map) (sym is) (HasWindows-with_address map ram w)
+
+pub windows_ack : (map : HandoverMap) (ram new : RamState) (x : ℕ) → new ≡ with_ack map ram x → HasWindows map ram → HasWindows map new
+windows_ack map ram new x is w = subst (HasWindows map) (sym is) (HasWindows-with_ack map ram x w)
+
+pub windows_window : (map : HandoverMap) (ram new : RamState) (bytes : List ℕ) → new ≡ with_window map ram bytes → length bytes ≡ map.len → HasWindows map ram → HasWindows map new
+windows_window map ram new bytes is n w = subst (HasWindows map) (sym is) (HasWindows-with_window map ram bytes w n)
+
+pub length-status : (map : HandoverMap) (ram : RamState) (word : List ℕ) → length word ≡ 4 → HasWindows map ram → length (with_status (window map ram) word) ≡ map.len
+length-status map ram word four w =
+    let n = length-window map ram w in
+    let head = w.head in
+    length-with_status (window map ram) word four (omega (arith, n, head)) ∙ n
+
+-- a start
+pub started_memory : (map : HandoverMap) (ram a b new : RamState) → HasWindows map ram → a ≡ with_address map ram → b ≡ with_ack map a (with_set map (ack_read map a)) →
+    new ≡ with_window map b (with_status (window map b) (spelled 4 0)) → new ≡ memory_started map ram
+started_memory map ram a b new w is_a is_b is =
+    let w_a = windows_address map ram a is_a w in
+    let same : window map b ≡ window map ram = ap (window map) is_b ∙ window-with_ack map a (with_set map (ack_read map a)) w_a ∙ ap (window map) is_a ∙ window-with_address map ram w in
+    let read : ack_read map a ≡ ack_read map ram = ap (ack_read map) is_a ∙ ack-with_address map ram w in
+    is
+    ∙ ap (λ (bytes : List ℕ). with_window map b (with_status bytes (spelled 4 0))) same
+    ∙ ap (λ (r : RamState). with_window map r (with_status (window map ram) (spelled 4 0)))
+    (is_b ∙ ap (λ (x : ℕ). with_ack map a (with_set map x)) read ∙ ap (λ (r : RamState). with_ack map r (with_set map (ack_read map ram))) is_a)
+
+pub started_set : (map : HandoverMap) (ram a b new : RamState) → HasWindows map ram → a ≡ with_address map ram → b ≡ with_ack map a (with_set map (ack_read map a)) →
+    new ≡ with_window map b (with_status (window map b) (spelled 4 0)) → IsSet map b → IsSet map new
+started_set map ram a b new w is_a is_b is set =
+    let w_b = windows_ack map a b (with_set map (ack_read map a)) is_b (windows_address map ram a is_a w) in
+    let n = length-status map b (spelled 4 0) (length-spelled 4 0) w_b in
+    let e : ack_read map new ≡ ack_read map b = ap (ack_read map) is ∙ ack-with_window map b (with_status (window map b) (spelled 4 0)) w_b n in
+    subst (λ (r : ℕ). bit_and r (ack_mask map) ≡ ack_mask map) (sym e) set
+
+-- a publication
+pub record IsPublished (map : HandoverMap) (ram new : RamState) (block : List ℕ) : Type 0 where
+  pub memory : new ≡ with_window map (with_ack map ram (with_clear map (ack_read map ram))) (with_status (window map ram) (take 4 block))
+  pub clear : IsClear map new
+
+pub published_memory : (map : HandoverMap) (ram a new : RamState) (block : List ℕ) (word : ℕ) → HasWindows map ram → 20 ≤ length block → AreBytes block → word ≡ number_at block 0 4 →
+    a ≡ with_ack map ram (with_clear map (ack_read map ram)) → IsClear map a → new ≡ with_window map a (put_at (window map a) 0 (spelled 4 word)) → IsPublished map ram new block
+published_memory map ram a new block word w head bytes is_word is_a clear is =
+    let w_a = windows_ack map ram a (with_clear map (ack_read map ram)) is_a w in
+    let front : spelled 4 word ≡ take 4 block = ap (spelled 4) is_word ∙ spelled-number_at block 0 4 bytes (omega (arith, head)) ∙ part-front block 4 in
+    let same : window map a ≡ window map ram = ap (window map) is_a ∙ window-with_ack map ram (with_clear map (ack_read map ram)) w in
+    let n = length-status map a (spelled 4 word) (length-spelled 4 word) w_a in
+    record {
+      memory = is
+          ∙ ap (λ (bytes : List ℕ). with_window map a (put_at bytes 0 (spelled 4 word))) same
+          ∙ ap (λ (f : List ℕ). with_window map a (put_at (window map ram) 0 f)) front
+          ∙ ap (λ (r : RamState). with_window map r (with_status (window map ram) (take 4 block))) is_a;
+      clear = let e : ack_read map new ≡ ack_read map a = ap (ack_read map) is ∙ ack-with_window map a (put_at (window map a) 0 (spelled 4 word)) w_a n in
+          subst (λ (r : ℕ). bit_and r (ack_mask map) ≡ 0) (sym e) clear;
+    }
+
+-- a piece
+pub filled_first : (map : HandoverMap) (ram new : RamState) (block bytes : List ℕ) → bytes ≡ part (hidden block) 0 64 → new ≡ with_window map ram (put_at (window map ram) 0 bytes) → new ≡ with_window map ram (with_piece (window map ram) block 0)
+filled_first map ram new block bytes e is = is ∙ ap (λ (x : List ℕ). with_window map ram (put_at (window map ram) 0 x)) e
+
+pub filled_behind : (map : HandoverMap) (ram new : RamState) (block bytes : List ℕ) (piece : ℕ) → 0 < piece → 64 * piece < length block → bytes ≡ part block (64 * piece) (min (length block) (64 * piece + 64) - 64 * piece) →
+    new ≡ with_window map ram (put_at (window map ram) (64 * piece) bytes) → new ≡ with_window map ram (with_piece (window map ram) block piece)
+filled_behind map ram new block bytes piece some more e is =
+    let n = length-hidden block in
+    let whole : bytes ≡ part (hidden block) (64 * piece) 64 =
+    e ∙ sym (hidden_behind block (64 * piece) (min (length block) (64 * piece + 64) - 64 * piece) (omega (arith, some)) (omega (arith, more)))
+    ∙ part_min (hidden block) (64 * piece) (min (length block) (64 * piece + 64) - 64 * piece) 64 (omega (arith, n, more)) in
+    is ∙ ap (λ (x : List ℕ). with_window map ram (put_at (window map ram) (64 * piece) x)) whole

@@ -1,0 +1,11 @@
+pub mod PieceLemmas
+pub mod MemoryLemmas
+pub mod StepLemmas
+pub mod ScheduleLemmas
+pub mod CallLemmas
+pub mod EffectLemmas
+pub mod RoomLemmas
+pub mod TurnLemmas
+pub mod SideLemmas
+pub mod ElsewhereLemmas
+pub mod StartLemmas

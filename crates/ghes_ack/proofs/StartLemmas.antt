@@ -1,0 +1,123 @@
+-- A start and a submission.
+use Rattle.std.proofs.Common.{◌≡◌, ◌∙◌, ℕ, ◌+◌, ◌<◌, ◌≤◌, ◌⊎◌, inl, inr, nat_lt, ◌==◌, Bool, true, false, List, [], ◌∷◌, ◌++◌, length, map, Option, Some, None, option_to_list, Result, Ok, Err, Vec, refl, sym, ap, subst, arith, append_assoc, length-append, bit_and}
+use Rattle.std.specs.declared.alloc.Global.{Global}
+use Rattle.std.proofs.lemmas.List.{drop-append-le, get_or_append_left}
+use Rattle.std.proofs.lemmas.Bool.Decides.{nat_tests}
+use Rattle.std.proofs.lemmas.Bool.{cases_lt}
+use Rattle.base_model.specs.Bytes.{number_at, spelled}
+use Rattle.base_model.proofs.BytesLemmas.{length-spelled}
+use Rattle.apei_space.specs.RamState.{RamState}
+use Rattle.ghes_block.specs.declared.error.BlockError.{BlockError}
+use Rattle.ghes_block.specs.Reading.{checked, judged, status_at}
+use Rattle.ghes_ack.specs.declared.maps.HandoverMap.{HandoverMap}
+use Rattle.ghes_ack.specs.declared.ends.Ends.{Ends}
+use Rattle.ghes_ack.specs.declared.ends.Ends.TheVariants.{FirmHolds}
+use Rattle.ghes_ack.specs.declared.blocks.Blocks.{Blocks}
+use Rattle.ghes_ack.specs.Machine.{Machine, Situation, Filling, Published, Reading, Cleared, Acknowledged, Fits, with_status, started, submitted, waiting_in, InSituation, IsState}
+use Rattle.ghes_ack.specs.Maps.{HasWindows, address_in, ack_read, ack_mask, window, with_window, with_ack, with_address, with_set, memory_started, IsSet}
+use Rattle.ghes_ack.specs.Handovers.{HandoverState, fresh, StandsFor}
+use Rattle.ghes_ack.specs.Sides.{IsEmpty, state_of, in_work}
+use Rattle.ghes_ack.proofs.StepLemmas.{start_is, submit_keeps}
+use Rattle.ghes_ack.proofs.ScheduleLemmas.{state_in_order}
+use Rattle.ghes_ack.proofs.MemoryLemmas.{length-window, window-with_window, address-with_window, address-with_ack, address-with_address, HasWindows-with_ack, HasWindows-with_address}
+use Rattle.ghes_ack.proofs.EffectLemmas.{windows_window, length-status}
+
+-- the two sides of a start, with no block
+pub fresh_is : (firm os : HandoverMap) (b : Blocks) → IsEmpty b → state_of (FirmHolds firm os) b ≡ fresh b.map
+fresh_is firm os b e =
+    let waiting : map (λ v. v.items) b.waiting.items ≡ [] = ap (map (λ v. v.items)) e.waiting in
+    let work : in_work Filling b.at_work b.last ≡ None = ap (λ (o : Option (Vec ℕ Global)). in_work Filling o b.last) e.at_work in
+    let filled = e.filled in
+    let copied = e.copied in
+    let last = e.last in
+    cc
+
+pub fresh_stands : (at : HandoverMap) (ram new : RamState) → HasWindows at ram → new ≡ memory_started at ram → IsSet at new → StandsFor (fresh at) new (started (window at ram))
+fresh_stands at ram new w is set =
+    let n = length-window at ram w in
+    let head = w.head in
+    let a : RamState = with_address at ram in
+    let x : ℕ = with_set at (ack_read at ram) in
+    let w_a = HasWindows-with_address at ram w in
+    let w_b = HasWindows-with_ack at a x w_a in
+    let wide = length-status at ram (spelled 4 0) (length-spelled 4 0) w in
+    record {
+      state = subst (λ (k : ℕ). IsState k (started (window at ram))) n (start_is (window at ram) (omega (arith, n, head)));
+      windows = windows_window at (with_ack at a x) new (with_status (window at ram) (spelled 4 0)) is wide w_b;
+      address = ap (address_in at) is ∙ address-with_window at (with_ack at a x) (with_status (window at ram) (spelled 4 0)) w_b wide ∙ address-with_ack at a x w_a ∙ address-with_address at ram w;
+      acks = set;
+      window_is = sym (ap (window at) is ∙ window-with_window at (with_ack at a x) (with_status (window at ram) (spelled 4 0)) w_b wide);
+      situation = refl;
+      blocks = refl;
+      wait = refl;
+      filled = refl;
+      copied = refl;
+      last = refl;
+    }
+
+pub record IsBegun (at : HandoverMap) (h : HandoverState) (ram new : RamState) : Type 0 where
+  pub fresh_is : h ≡ fresh at
+  pub stands : StandsFor h new (started (window at ram))
+
+pub begun : (at firm os : HandoverMap) (b : Blocks) (ram new : RamState) → b.map ≡ at → IsEmpty b → HasWindows at ram → new ≡ memory_started at ram → IsSet at new → IsBegun at (state_of (FirmHolds firm os) b) ram new
+begun at firm os b ram new same e w is set =
+    let all : state_of (FirmHolds firm os) b ≡ fresh at = fresh_is firm os b e ∙ ap fresh same in
+    record {
+      fresh_is = all;
+      stands = subst (λ (h : HandoverState). StandsFor h new (started (window at ram))) (sym all) (fresh_stands at ram new w is set);
+    }
+
+-- a block that was read whole has a head and is published
+pub checked_fits : (bytes : List ℕ) (n len : ℕ) → checked bytes ≡ Ok n → length bytes ≤ len → Fits len bytes
+unfolding checked judged
+checked_fits bytes n len is room = go (nat_lt (length bytes) 20) (status_at bytes == 0) refl refl where
+  go : (a b : Bool) → nat_lt (length bytes) 20 ≡ a → (status_at bytes == 0) ≡ b → Fits len bytes
+  go true b e f = absurd (let x = rw e at is in cc)
+  go false true e f = absurd (let x = rw (e, f) at is in cc)
+  go false false e f = record { head = grind (arith, nat_tests); fits = room; published = grind (arith, nat_tests) }
+
+-- a block whose pieces are filled is one of those submitted
+filled_in : (m : Machine) (s : Situation) → InSituation m s → 0 < m.filled → m.published < length m.blocks
+filled_in m Filling h some = let b = h.begun some in let p = h.published in omega (arith, b, p)
+filled_in m Published h some = let z = h.none_filled in absurd (omega (arith, z, some))
+filled_in m Reading (inl h) some = let z = h.1.none_filled in absurd (omega (arith, z, some))
+filled_in m Reading (inr h) some = let z = h.1.none_filled in absurd (omega (arith, z, some))
+filled_in m Cleared h some = let z = h.none_filled in absurd (omega (arith, z, some))
+filled_in m Acknowledged h some = let z = h.none_filled in absurd (omega (arith, z, some))
+
+-- one more waits
+waits_more : (m : Machine) (block : List ℕ) → m.published ≤ length m.blocks → (0 < m.filled → m.published < length m.blocks) → waiting_in m + 1 ≡ waiting_in (submitted m block)
+waits_more m block few begun = go (cases_lt 0 m.filled) where
+  n : length (m.blocks ++ block ∷ []) ≡ length m.blocks + 1
+  n = length-append m.blocks (block ∷ [])
+
+  go : (0 < m.filled) ⊎ (m.filled ≤ 0) → waiting_in m + 1 ≡ waiting_in (submitted m block)
+  go (inl some) =
+      let e : (m.filled == 0) ≡ false = grind (arith, nat_tests) in
+      let b = begun some in
+      let k = n in
+      rw e (omega (arith, b, k))
+  go (inr none) =
+      let e : (m.filled == 0) ≡ true = grind (arith, nat_tests) in
+      let k = n in
+      rw e (omega (arith, few, k))
+
+pub submits : (h : HandoverState) (ram : RamState) (m : Machine) (block : List ℕ) → Fits h.map.len block → StandsFor h ram m → StandsFor (record h { waiting = h.waiting ++ block ∷ [] }) ram (submitted m block)
+submits h ram m block good st =
+    let o = state_in_order h.map.len m st.state in
+    let a = o.acknowledged in
+    let t = o.taken in
+    let s = o.submitted in
+    record {
+      state = submit_keeps h.map.len m block good st.state;
+      windows = st.windows;
+      address = st.address;
+      acks = st.acks;
+      window_is = st.window_is;
+      situation = st.situation;
+      blocks = sym (append_assoc (option_to_list h.at_work) h.waiting (block ∷ [])) ∙ ap (λ (xs : List (List ℕ)). xs ++ block ∷ []) st.blocks ∙ sym (drop-append-le m.acknowledged m.blocks (block ∷ []) (omega (arith, a, t, s)));
+      wait = length-append h.waiting (block ∷ []) ∙ ap (λ (n : ℕ). n + 1) st.wait ∙ waits_more m block s (filled_in m m.situation st.state.holds);
+      filled = st.filled;
+      copied = st.copied;
+      last = st.last ∙ sym (get_or_append_left ([] ∷ m.blocks) (block ∷ []) [] m.taken (omega (arith, t, s)));
+    }

@@ -1,0 +1,67 @@
+-- What a handover keeps, and the states of the machine that it stands for.
+use Rattle.std.specs.Prelude.{◌≡◌, ℕ, nat_lt, if◌then◌else◌, ◌-◌, List, [], ◌∷◌, ◌++◌, length, drop, Option, Some, None, Result, Ok, Err, option_to_list}
+use Rattle.ghes_block.specs.declared.error.BlockError.{BlockError}
+use Rattle.ghes_block.specs.Reading.{checked}
+use Rattle.apei_space.specs.RamState.{RamState}
+use Rattle.ghes_ack.specs.declared.maps.HandoverMap.{HandoverMap}
+use Rattle.ghes_ack.specs.declared.events.Side.{Side}
+use Rattle.ghes_ack.specs.declared.events.Event.{Event}
+use Rattle.ghes_ack.specs.declared.submission.SubmitError.{SubmitError}
+use Rattle.ghes_ack.specs.declared.submission.SubmitError.TheVariants.{Long, Malformed, Trailing, Full}
+use Rattle.ghes_ack.specs.Machine.{Machine, Situation, Filling, Published, Reading, Cleared, Acknowledged, IsState, turned, last_taken, waiting_in}
+use Rattle.ghes_ack.specs.Maps.{HasWindows, address_in, window, IsSet, IsClear, memory_after}
+
+-- the blocks that wait, the one that is filled or published and not yet acknowledged, and the one taken last
+pub record HandoverState : Type 0 where
+  pub map : HandoverMap
+  pub situation : Situation
+  pub waiting : List (List ℕ)
+  pub at_work : Option (List ℕ)
+  pub filled : ℕ
+  pub copied : ℕ
+  pub last : List ℕ
+
+-- right after a start
+abbrev pub fresh : HandoverMap → HandoverState
+fresh at = record { map = at; situation = Filling; waiting = []; at_work = None; filled = 0; copied = 0; last = [] }
+
+-- the blocks that are not acknowledged, oldest first
+abbrev pub kept : HandoverState → List (List ℕ)
+kept h = option_to_list h.at_work ++ h.waiting
+
+-- the acknowledge bits in each situation
+abbrev pub AcksAre : Situation → HandoverMap → RamState → Type 0
+AcksAre Filling at ram = IsSet at ram
+AcksAre Published at ram = IsClear at ram
+AcksAre Reading at ram = IsClear at ram
+AcksAre Cleared at ram = IsClear at ram
+AcksAre Acknowledged at ram = IsSet at ram
+
+-- a state of the machine agrees with what the handover keeps (the blocks from number acknowledged on, how many of them
+-- wait, the block taken last, the pieces, the situation, and by it the differences of the numbers) and with the memory
+pub record StandsFor (h : HandoverState) (ram : RamState) (m : Machine) : Type 0 where
+  pub state : IsState h.map.len m
+  pub windows : HasWindows h.map ram
+  pub address : address_in h.map ram ≡ h.map.block
+  pub acks : AcksAre h.situation h.map ram
+  pub window_is : m.window ≡ window h.map ram
+  pub situation : m.situation ≡ h.situation
+  pub blocks : kept h ≡ drop m.acknowledged m.blocks
+  pub wait : length h.waiting ≡ waiting_in m
+  pub filled : h.filled ≡ m.filled
+  pub copied : h.copied ≡ m.copied
+  pub last : h.last ≡ last_taken m
+
+-- a turn, from a state of the machine: the machine's event, and afterwards it stands for the machine's next state
+pub record IsTurned (side : Side) (event : Event) (after : HandoverState) (memory : RamState) (m : Machine) : Type 0 where
+  pub event_is : event ≡ (turned side m).0
+  pub stands : StandsFor after memory (turned side m).1
+
+-- the first reason why a block is refused: none where it is exactly one block of at most the window's length, and fewer
+-- than 64 wait
+abbrev pub reason : Result ℕ BlockError → ℕ → ℕ → Option SubmitError
+reason (Err error) n waiting = Some (Malformed error)
+reason (Ok size) n waiting = if nat_lt size n then Some (Trailing (n - size)) else (if nat_lt waiting 64 then None else Some Full)
+
+abbrev pub refusal : HandoverState → List ℕ → Option SubmitError
+refusal h block = if nat_lt h.map.len (length block) then Some (Long (length block)) else reason (checked block) (length block) (length h.waiting)

@@ -1,0 +1,109 @@
+-- The three windows of a handover in memory: the block's address, the acknowledge register and the block.
+use Rattle.std.specs.Prelude.{◌≡◌, ℕ, ◌+◌, ◌-◌, ◌*◌, ◌/◌, ◌%◌, ◌^◌, ◌<◌, ◌≤◌, List, [], Result, Ok, Err, bit_and, bit_or}
+use Rattle.base_model.specs.Bytes.{part, little, number_at, spelled, put_at}
+use Rattle.apei_gas.specs.declared.registers.Place.{Place}
+use Rattle.apei_gas.specs.declared.registers.Place.TheVariants.{Memory}
+use Rattle.apei_gas.specs.Access.{bits}
+use Rattle.apei_space.specs.declared.faults.SpaceFault.{SpaceFault}
+use Rattle.apei_space.specs.RamState.{RamState, FillsWindows, located, stored}
+use Rattle.apei_space.specs.Mapped.{AreMapped, AreDisjoint}
+use Rattle.ghes_ack.specs.declared.maps.HandoverMap.{HandoverMap}
+use Rattle.ghes_ack.specs.declared.events.Event.{Event}
+use Rattle.ghes_ack.specs.declared.events.Event.TheVariants.{Idle, Fill, Publish, Free, Wait, Nothing, Found, Copied, Took, Clear, Ack}
+use Rattle.ghes_ack.specs.Machine.{with_status}
+
+-- the n bytes at a place, none where they are not mapped
+abbrev pub bytes_in : Result ℕ SpaceFault → List ℕ → ℕ → List ℕ
+bytes_in (Ok start) bytes n = part bytes start n
+bytes_in (Err fault) bytes n = []
+
+abbrev pub bytes_at : RamState → Place → ℕ → List ℕ
+bytes_at ram at n = bytes_in (located ram.windows at n) ram.bytes n
+
+-- the bytes of an access of the acknowledge register
+abbrev pub ack_bytes : HandoverMap → ℕ
+ack_bytes map = bits map.ack.access / 8
+
+-- the acknowledge bits, and the bits that an acknowledgement keeps, both moved up to the register's field
+abbrev pub ack_mask : HandoverMap → ℕ
+ack_mask map = map.write * 2 ^ map.ack.offset % 2 ^ 64
+
+abbrev pub kept_mask : HandoverMap → ℕ
+kept_mask map = map.preserve * 2 ^ map.ack.offset % 2 ^ 64
+
+-- there is an acknowledge bit, and all of them lie in the register's access
+pub record HasAckBits (map : HandoverMap) : Type 0 where
+  pub some : 0 < ack_mask map
+  pub inside : map.write * 2 ^ map.ack.offset < 2 ^ bits map.ack.access
+
+-- the memory has the map's three windows, they are apart, and the block's has room for a block's head
+pub record HasWindows (map : HandoverMap) (ram : RamState) : Type 0 where
+  pub head : 20 ≤ map.len
+  pub fills : FillsWindows ram
+  pub status : AreMapped ram.windows (Memory map.status) 8
+  pub ack : AreMapped ram.windows map.ack.place (ack_bytes map)
+  pub block : AreMapped ram.windows (Memory map.block) map.len
+  pub status_ack : AreDisjoint (Memory map.status) 8 map.ack.place (ack_bytes map)
+  pub status_block : AreDisjoint (Memory map.status) 8 (Memory map.block) map.len
+  pub ack_block : AreDisjoint map.ack.place (ack_bytes map) (Memory map.block) map.len
+
+-- what the three windows hold
+abbrev pub address_in : HandoverMap → RamState → ℕ
+address_in map ram = little (bytes_at ram (Memory map.status) 8)
+
+abbrev pub ack_read : HandoverMap → RamState → ℕ
+ack_read map ram = little (bytes_at ram map.ack.place (ack_bytes map))
+
+abbrev pub window : HandoverMap → RamState → List ℕ
+window map ram = bytes_at ram (Memory map.block) map.len
+
+abbrev pub status_word : HandoverMap → RamState → ℕ
+status_word map ram = number_at (window map ram) 0 4
+
+-- the acknowledge bits are set, or clear
+abbrev pub IsSet : HandoverMap → RamState → Type 0
+IsSet map ram = bit_and (ack_read map ram) (ack_mask map) ≡ ack_mask map
+
+abbrev pub IsClear : HandoverMap → RamState → Type 0
+IsClear map ram = bit_and (ack_read map ram) (ack_mask map) ≡ 0
+
+-- the memory with other bytes in one of the windows, and nothing else changed
+abbrev pub with_address : HandoverMap → RamState → RamState
+with_address map ram = stored (located ram.windows (Memory map.status) 8) ram (spelled 8 map.block)
+
+abbrev pub with_ack : HandoverMap → RamState → ℕ → RamState
+with_ack map ram value = stored (located ram.windows map.ack.place (ack_bytes map)) ram (spelled (ack_bytes map) value)
+
+abbrev pub with_window : HandoverMap → RamState → List ℕ → RamState
+with_window map ram bytes = stored (located ram.windows (Memory map.block) map.len) ram bytes
+
+-- a register with the acknowledge bits set and all else kept, with them clear and all else kept, and as the reader
+-- acknowledges
+abbrev pub with_set : HandoverMap → ℕ → ℕ
+with_set map read = bit_or read (ack_mask map)
+
+abbrev pub with_clear : HandoverMap → ℕ → ℕ
+with_clear map read = bit_and read (2 ^ 64 - 1 - ack_mask map)
+
+abbrev pub acknowledged : HandoverMap → ℕ → ℕ
+acknowledged map read = bit_or (bit_and read (kept_mask map)) (ack_mask map)
+
+-- what a start leaves of a memory: the address, the acknowledge bits set, the status word 0, and all else as before
+abbrev pub memory_started : HandoverMap → RamState → RamState
+memory_started map ram =
+    with_window map (with_ack map (with_address map ram) (with_set map (ack_read map ram))) (with_status (window map ram) (spelled 4 0))
+
+-- what a turn leaves of a memory, where the window then holds these bytes: all else is as before, but that a publication
+-- clears the acknowledge bits, and an acknowledgement writes the register
+abbrev pub memory_after : HandoverMap → Event → RamState → List ℕ → RamState
+memory_after map Idle ram bytes = ram
+memory_after map Fill ram bytes = with_window map ram bytes
+memory_after map Publish ram bytes = with_window map (with_ack map ram (with_clear map (ack_read map ram))) bytes
+memory_after map Free ram bytes = ram
+memory_after map Wait ram bytes = ram
+memory_after map Nothing ram bytes = ram
+memory_after map Found ram bytes = ram
+memory_after map Copied ram bytes = ram
+memory_after map Took ram bytes = ram
+memory_after map Clear ram bytes = with_window map ram bytes
+memory_after map Ack ram bytes = with_ack map ram (acknowledged map (ack_read map ram))

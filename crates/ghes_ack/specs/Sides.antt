@@ -1,0 +1,157 @@
+-- The two sides and the blocks of a handover, and what they are together.
+use Rattle.std.specs.Prelude.{◌≡◌, ℕ, ◌+◌, ◌*◌, ◌<◌, ◌≤◌, List, Vec, Option, Some, None, option_to_list, [], ◌∷◌, ◌++◌, ◌^◌, length, map, All, vec_len, vec_capacity}
+use Rattle.std.specs.VecDeque.{deque_len, deque_capacity}
+use Rattle.std.specs.declared.alloc.Global.{Global}
+use Rattle.apei_space.specs.RamState.{RamState}
+use Rattle.ghes_ack.specs.declared.maps.HandoverMap.{HandoverMap}
+use Rattle.ghes_ack.specs.declared.events.Side.{Side}
+use Rattle.ghes_ack.specs.declared.events.Event.{Event}
+use Rattle.ghes_ack.specs.declared.ends.Ends.{Ends}
+use Rattle.ghes_ack.specs.declared.ends.Ends.TheVariants.{FirmHolds, Shown, OsHolds, Emptied, Returned}
+use Rattle.ghes_ack.specs.declared.blocks.Blocks.{Blocks}
+use Rattle.ghes_ack.specs.Machine.{Machine, Situation, Filling, Published, Reading, Cleared, Acknowledged}
+use Rattle.ghes_ack.specs.Maps.{HasAckBits, window, memory_after}
+use Rattle.ghes_ack.specs.Handovers.{HandoverState, fresh, StandsFor, IsTurned}
+
+-- the two sides in each situation
+abbrev pub situation_of : Ends → Situation
+situation_of (FirmHolds firm os) = Filling
+situation_of (Shown firm os) = Published
+situation_of (OsHolds firm os) = Reading
+situation_of (Emptied firm os) = Cleared
+situation_of (Returned firm os) = Acknowledged
+
+-- both sides are of one map
+abbrev pub AreSides : HandoverMap → Ends → Type 0
+AreSides at (FirmHolds firm os) = (firm ≡ at) × (os ≡ at)
+AreSides at (Shown firm os) = (firm ≡ at) × (os ≡ at)
+AreSides at (OsHolds firm os) = (firm ≡ at) × (os ≡ at)
+AreSides at (Emptied firm os) = (firm ≡ at) × (os ≡ at)
+AreSides at (Returned firm os) = (firm ≡ at) × (os ≡ at)
+
+-- the block at work: once it is copied whole it is the one taken last
+abbrev pub in_work : Situation → Option (Vec ℕ Global) → Vec ℕ Global → Option (List ℕ)
+in_work Filling None last = None
+in_work Published None last = None
+in_work Reading None last = Some last.items
+in_work Cleared None last = Some last.items
+in_work Acknowledged None last = None
+in_work situation (Some block) last = Some block.items
+
+abbrev pub state_of : Ends → Blocks → HandoverState
+state_of ends b = record {
+  map = b.map;
+  situation = situation_of ends;
+  waiting = map (λ v. v.items) b.waiting.items;
+  at_work = in_work (situation_of ends) b.at_work b.last;
+  filled = b.filled;
+  copied = b.copied;
+  last = b.last.items;
+}
+
+-- how many blocks are at work apart from the one taken last
+abbrev pub count_of : Option (Vec ℕ Global) → ℕ
+count_of None = 0
+count_of (Some block) = 1
+
+-- a buffer takes the longest block
+abbrev pub IsWide : ℕ → Vec ℕ Global → Type 0
+IsWide len v = len ≤ vec_capacity v
+
+abbrev pub IsWideIfSome : ℕ → Option (Vec ℕ Global) → Type 0
+IsWideIfSome len None = Unit {0}
+IsWideIfSome len (Some v) = IsWide len v
+
+-- 66 places, so many of them in hand: for blocks that wait, of which there are at most 64, for the one at work and for the
+-- one taken last, each with room for the longest block
+pub record HasRoom (in_hand : ℕ) (b : Blocks) : Type 0 where
+  pub places : deque_len b.waiting + count_of b.at_work + vec_len b.spare + in_hand ≡ 65
+  pub few : deque_len b.waiting ≤ 64
+  pub counted : length b.waiting.items ≡ deque_len b.waiting
+  pub queue : 64 ≤ deque_capacity b.waiting
+  pub stack : 65 ≤ vec_capacity b.spare
+  pub waiting_room : All (IsWide b.map.len) b.waiting.items
+  pub work_room : IsWideIfSome b.map.len b.at_work
+  pub spare_room : All (IsWide b.map.len) b.spare.items
+  pub last_room : IsWide b.map.len b.last
+
+-- a published block is at work until its last piece is copied
+abbrev pub IsCopiedSoFar : ℕ → Option (Vec ℕ Global) → Vec ℕ Global → Type 0
+IsCopiedSoFar copied None last = length last.items ≤ 64 * copied
+IsCopiedSoFar copied (Some block) last = 64 * copied < length block.items
+
+abbrev pub IsUnderWay : Ends → Blocks → Type 0
+IsUnderWay (FirmHolds firm os) b = Unit {0}
+IsUnderWay (Shown firm os) b = count_of b.at_work ≡ 1
+IsUnderWay (OsHolds firm os) b = IsCopiedSoFar b.copied b.at_work b.last
+IsUnderWay (Emptied firm os) b = b.at_work ≡ None
+IsUnderWay (Returned firm os) b = b.at_work ≡ None
+
+-- the sides and the blocks belong together
+pub record IsConsistent (ends : Ends) (b : Blocks) : Type 0 where
+  pub bits : HasAckBits b.map
+  pub short : b.map.len < 2 ^ 32
+  pub sides : AreSides b.map ends
+  pub room : HasRoom 0 b
+  pub under_way : IsUnderWay ends b
+
+-- the two sides are always there between two calls
+abbrev pub whole_of : Option Ends → Blocks → HandoverState
+whole_of None b = fresh b.map
+whole_of (Some ends) b = state_of ends b
+
+abbrev pub AreConsistent : Option Ends → Blocks → Type 0
+AreConsistent None b = ⊥
+AreConsistent (Some ends) b = IsConsistent ends b
+
+-- a turn, for each state that it stood for, and what it leaves of the memory
+pub record Turns (side : Side) (event : Event) (old : HandoverState) (ram : RamState) (after : HandoverState) (memory : RamState) (m : Machine) : Type 0 where
+  pub turned : IsTurned side event after memory m
+  pub map : after.map ≡ old.map
+  pub memory_is : memory ≡ memory_after old.map event ram (window old.map memory)
+
+-- it stands for some state: this is its memory, which only it wrote
+abbrev pub Stands : HandoverState → RamState → Type 0
+Stands h ram = (m : Machine) × StandsFor h ram m
+
+-- right after a start
+pub record IsEmpty (b : Blocks) : Type 0 where
+  pub waiting : b.waiting.items ≡ []
+  pub at_work : b.at_work ≡ None
+  pub filled : b.filled ≡ 0
+  pub copied : b.copied ≡ 0
+  pub last : b.last.items ≡ []
+
+-- the block at work, if any, and those that wait, while the firmware holds the block
+abbrev pub held_of : Blocks → List (List ℕ)
+held_of b = option_to_list (in_work Filling b.at_work b.last) ++ map (λ v. v.items) b.waiting.items
+
+-- all but the blocks that are not published is as before
+pub record SameButHeld (old new : Blocks) : Type 0 where
+  pub map : new.map ≡ old.map
+  pub filled : new.filled ≡ old.filled
+  pub copied : new.copied ≡ old.copied
+  pub last : new.last ≡ old.last
+
+-- there was no block
+pub record HoldsNone (old new : Blocks) : Type 0 where
+  pub held : held_of old ≡ []
+  pub at_work : new.at_work ≡ None
+  pub waiting : new.waiting.items ≡ []
+  pub same : SameButHeld old new
+  pub room : HasRoom 0 new
+
+-- the oldest block is in hand
+pub record TakesOut (old new : Blocks) (block : Vec ℕ Global) : Type 0 where
+  pub held : held_of old ≡ block.items ∷ map (λ v. v.items) new.waiting.items
+  pub at_work : new.at_work ≡ None
+  pub same : SameButHeld old new
+  pub wide : IsWide old.map.len block
+  pub room : HasRoom 1 new
+
+-- one block more waits
+pub record Adds (old new : Blocks) (block : List ℕ) : Type 0 where
+  pub waiting : map (λ v. v.items) new.waiting.items ≡ map (λ v. v.items) old.waiting.items ++ block ∷ []
+  pub at_work : new.at_work ≡ old.at_work
+  pub same : SameButHeld old new
+  pub room : HasRoom 0 new

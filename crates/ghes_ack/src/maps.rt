@@ -1,0 +1,161 @@
+// The windows of a handover in memory.
+ghost use Rattle.std.specs.Prelude.{◌≡◌, ◌+◌, ◌*◌, ◌%◌, ◌^◌, ◌<◌, ◌≤◌, length, min, IsTrue, ◌↔◌};
+ghost use Rattle.base_model.specs.Bytes.{part, put_at, spelled};
+ghost use Rattle.apei_gas.specs.Access.{bits};
+ghost use Rattle.ghes_ack.specs.Machine.{with_piece};
+ghost use Rattle.ghes_ack.specs.Maps.{HasAckBits, HasWindows, IsSet, IsClear, ack_mask, kept_mask, ack_read, window, status_word, with_window, with_ack, with_address, with_set, with_clear, acknowledged};
+
+use crate::pieces::copy_hidden;
+use apei_gas::{Place, Register, Width};
+use apei_space::{Ram, Space};
+
+/// Where the two sides meet (ACPI 6.4, 18.3.2.8): the 8 bytes at `status` hold the block's address, the register `ack`
+/// acknowledges a block by its bits `write` and keeps its bits `preserve`, and the block's window has `len` bytes at `block`.
+/// Both masks are moved up by the register's bit offset.
+#[derive(Clone, Copy, Debug, PartialEq, Eq)]
+pub struct HandoverMap {
+    pub status: u64,
+    pub ack: Register,
+    pub preserve: u64,
+    pub write: u64,
+    pub block: u64,
+    pub len: u32,
+}
+
+/// The bits of a mask moved up by a bit offset; those past bit 63 are lost.
+fn moved_up(mask: u64, offset: u8) -> u64
+    ensures { result ≡ mask * 2 ^ offset % 2 ^ 64 }
+{
+    if offset < 64 { mask << offset } else { 0 }
+}
+
+impl HandoverMap {
+    /// The acknowledge bits in an access of the register.
+    fn ack_mask(&self) -> u64
+        ensures { result ≡ ack_mask self.now }
+    {
+        moved_up(self.write, self.ack.offset)
+    }
+
+    /// The bits that an acknowledgement keeps.
+    fn kept_mask(&self) -> u64
+        ensures { result ≡ kept_mask self.now }
+    {
+        moved_up(self.preserve, self.ack.offset)
+    }
+
+    fn read_ack(&self, ram: &Ram) -> u64
+        ensures value { result ≡ ack_read self.now ram.now }
+        ensures small { result < 2 ^ bits self.now.ack.access }
+    {
+        ram.look(self.ack.place, self.ack.access).unwrap_or(0)
+    }
+
+    fn write_ack(&self, ram: &mut Ram, value: u64)
+        ensures { ram.new ≡ with_ack self.now ram.old value }
+    {
+        let _ = ram.write(self.ack.place, self.ack.access, value);
+    }
+
+    /// Writes the block's address.
+    pub(crate) fn write_address(&self, ram: &mut Ram)
+        ensures { ram.new ≡ with_address self.now ram.old }
+    {
+        let _ = ram.write(Place::Memory(self.status), Width::B64, self.block);
+    }
+
+    /// Whether the acknowledge bits are set.
+    pub(crate) fn is_acknowledged(&self, ram: &Ram) -> bool
+        ensures { IsTrue result ↔ IsSet self.now ram.now }
+    {
+        let mask = self.ack_mask();
+        self.read_ack(ram) & mask == mask
+    }
+
+    /// Sets the acknowledge bits.
+    pub(crate) fn set_ack(&self, ram: &mut Ram)
+        requires { HasWindows self.now ram.old }
+        ensures memory { ram.new ≡ with_ack self.now ram.old (with_set self.now (ack_read self.now ram.old)) }
+        ensures set { HasAckBits self.now → IsSet self.now ram.new }
+    {
+        let value = self.read_ack(ram) | self.ack_mask();
+        self.write_ack(ram, value);
+    }
+
+    /// Clears the acknowledge bits.
+    pub(crate) fn clear_ack(&self, ram: &mut Ram)
+        requires { HasWindows self.now ram.old }
+        ensures memory { ram.new ≡ with_ack self.now ram.old (with_clear self.now (ack_read self.now ram.old)) }
+        ensures clear { IsClear self.now ram.new }
+    {
+        let value = self.read_ack(ram) & !self.ack_mask();
+        self.write_ack(ram, value);
+    }
+
+    /// Acknowledges.
+    pub(crate) fn acknowledge(&self, ram: &mut Ram)
+        requires { HasWindows self.now ram.old }
+        ensures memory { ram.new ≡ with_ack self.now ram.old (acknowledged self.now (ack_read self.now ram.old)) }
+        ensures set { HasAckBits self.now → IsSet self.now ram.new }
+    {
+        let value = self.read_ack(ram) & self.kept_mask() | self.ack_mask();
+        self.write_ack(ram, value);
+    }
+
+    /// The block status.
+    pub(crate) fn status_word(&self, ram: &Ram) -> u64
+        requires { HasWindows self.now ram.now }
+        ensures { result ≡ status_word self.now ram.now }
+    {
+        ram.look(Place::Memory(self.block), Width::B32).unwrap_or(0)
+    }
+
+    /// Sets the block status to 0.
+    pub(crate) fn hide(&self, ram: &mut Ram)
+        requires { HasWindows self.now ram.old }
+        ensures { ram.new ≡ with_window self.now ram.old (put_at (window self.now ram.old) 0 (spelled 4 0)) }
+    {
+        let _ = ram.write(Place::Memory(self.block), Width::B32, 0);
+    }
+
+    /// Writes the block status of a block that is filled. The acknowledge bits are clear by then, so that a reader that
+    /// sees the block never finds the acknowledgement of the one before it.
+    pub(crate) fn show(&self, ram: &mut Ram, word: u32)
+        requires windows { HasWindows self.now ram.old }
+        requires clear { IsClear self.now ram.old }
+        ensures { ram.new ≡ with_window self.now ram.old (put_at (window self.now ram.old) 0 (spelled 4 word)) }
+    {
+        let _ = ram.write(Place::Memory(self.block), Width::B32, u64::from(word));
+    }
+
+    /// Writes bytes into the window.
+    pub(crate) fn write_part(&self, ram: &mut Ram, at: u64, bytes: &[u8])
+        requires windows { HasWindows self.now ram.old }
+        requires some { 0 < length bytes.now }
+        requires inside { at + length bytes.now ≤ self.now.len }
+        ensures { ram.new ≡ with_window self.now ram.old (put_at (window self.now ram.old) at bytes.now) }
+    {
+        let _ = ram.write_bytes(self.block + at, bytes);
+    }
+
+    /// Writes the first piece of a block, its status word as 0. The buffer is as long as the piece.
+    pub(crate) fn write_first(&self, ram: &mut Ram, block: &[u8], buffer: &mut [u8])
+        requires windows { HasWindows self.now ram.old }
+        requires fits { length block.now ≤ self.now.len }
+        requires some { 0 < length block.now }
+        requires piece { length buffer.old ≡ min (length block.now) 64 }
+        ensures { ram.new ≡ with_window self.now ram.old (with_piece (window self.now ram.old) block.now 0) }
+    {
+        copy_hidden(block, buffer);
+        self.write_part(ram, 0, buffer);
+    }
+
+    /// Reads bytes of the window.
+    pub(crate) fn read_part(&self, ram: &Ram, at: u64, out: &mut [u8])
+        requires windows { HasWindows self.now ram.now }
+        requires inside { at + length out.old ≤ self.now.len }
+        ensures { out.new ≡ part (window self.now ram.now) at (length out.old) }
+    {
+        let _ = ram.look_bytes(self.block + at, out);
+    }
+}

@@ -1,0 +1,25 @@
+// The pieces of a block: 64 bytes each, the last one shorter.
+ghost use Rattle.std.specs.Prelude.{◌≡◌, ◌^◌, ◌<◌, length, min};
+ghost use Rattle.base_model.specs.Bytes.{part};
+ghost use Rattle.ghes_ack.specs.Machine.{hidden, pieces};
+
+/// The bytes of a piece.
+pub const PIECE: usize = 64;
+
+/// How many pieces a block has.
+pub fn pieces_of(block: &[u8]) -> u32
+    requires { length block.now < 2 ^ 32 }
+    ensures { result ≡ pieces block.now }
+{
+    block.len().div_ceil(PIECE) as u32
+}
+
+/// Copies the first piece of a block, its status word as 0.
+pub fn copy_hidden(block: &[u8], out: &mut [u8])
+    requires { length out.old ≡ min (length block.now) 64 }
+    ensures { out.new ≡ part (hidden block.now) 0 64 }
+{
+    let end = out.len();
+    out.copy_from_slice(&block[..end]);
+    out[..end.min(4)].fill(0);
+}

@@ -1,0 +1,223 @@
+// The two sides of a handover, as values that must be spent: none of these types may be dropped.
+ghost use Rattle.std.specs.Prelude.{◌≡◌, ◌+◌, ◌*◌, ◌<◌, ◌≤◌, length, take, drop, MatchResult};
+ghost use Rattle.base_model.specs.Bytes.{part, number_at, spelled};
+ghost use Rattle.ghes_ack.specs.Machine.{with_piece, with_status};
+ghost use Rattle.ghes_ack.specs.Maps.{HasAckBits, HasWindows, IsSet, IsClear, ack_read, window, status_word, with_window, with_ack, with_clear, acknowledged, memory_started};
+
+use crate::maps::HandoverMap;
+use crate::pieces::PIECE;
+use apei_bytes::get_u32;
+use apei_space::Ram;
+use std::marker::Model;
+
+/// The firmware may write the block.
+pub struct FirmBlock {
+    map: HandoverMap,
+}
+
+/// The firmware waits for the acknowledgement of a published block.
+pub struct AwaitAck {
+    map: HandoverMap,
+}
+
+/// The reader waits for a block.
+pub struct OsIdle {
+    map: HandoverMap,
+}
+
+/// The reader may read the block.
+pub struct OsBlock {
+    map: HandoverMap,
+}
+
+/// The reader has cleared the block status, and has still to acknowledge.
+pub struct Cleared {
+    map: HandoverMap,
+}
+
+impl Model for FirmBlock {
+    ghost use Rattle.ghes_ack.specs.declared.maps.HandoverMap.{HandoverMap};
+
+    ghost Value = { HandoverMap };
+
+    ghost view = { λ side. side.map };
+}
+
+impl Model for AwaitAck {
+    ghost use Rattle.ghes_ack.specs.declared.maps.HandoverMap.{HandoverMap};
+
+    ghost Value = { HandoverMap };
+
+    ghost view = { λ side. side.map };
+}
+
+impl Model for OsIdle {
+    ghost use Rattle.ghes_ack.specs.declared.maps.HandoverMap.{HandoverMap};
+
+    ghost Value = { HandoverMap };
+
+    ghost view = { λ side. side.map };
+}
+
+impl Model for OsBlock {
+    ghost use Rattle.ghes_ack.specs.declared.maps.HandoverMap.{HandoverMap};
+
+    ghost Value = { HandoverMap };
+
+    ghost view = { λ side. side.map };
+}
+
+impl Model for Cleared {
+    ghost use Rattle.ghes_ack.specs.declared.maps.HandoverMap.{HandoverMap};
+
+    ghost Value = { HandoverMap };
+
+    ghost view = { λ side. side.map };
+}
+
+/// Begins a handover: writes the block's address, sets the acknowledge bits, and sets the block status to 0.
+pub fn start(map: HandoverMap, ram: &mut Ram) -> (FirmBlock, OsIdle)
+    requires { HasWindows map ram.old }
+    ensures memory { ram.new ≡ memory_started map ram.old }
+    ensures set { HasAckBits map → IsSet map ram.new }
+    ensures firm { result.0 ≡ map }
+    ensures os { result.1 ≡ map }
+{
+    map.write_address(ram);
+    map.set_ack(ram);
+    map.hide(ram);
+    (FirmBlock { map }, OsIdle { map })
+}
+
+/// Ends a handover that both sides are done with.
+pub fn stop(firm: FirmBlock, os: OsIdle) {
+    let FirmBlock { map: _ } = firm;
+    let OsIdle { map: _ } = os;
+}
+
+impl FirmBlock {
+    /// Writes the piece of 64 bytes with this number, the last one shorter, with a block status of 0.
+    pub fn fill(&mut self, ram: &mut Ram, block: &[u8], piece: u32)
+        requires windows { HasWindows self.old ram.old }
+        requires fits { length block.now ≤ self.old.len }
+        requires begins { 64 * piece < length block.now }
+        ensures memory { ram.new ≡ with_window self.old ram.old (with_piece (window self.old ram.old) block.now piece) }
+        ensures same { self.new ≡ self.old }
+    {
+        let at = PIECE * piece as usize;
+        let end = block.len().min(at + PIECE);
+        if piece == 0 {
+            self.map.write_first(ram, block, &mut [0; PIECE][..end]);
+        } else {
+            self.map.write_part(ram, at as u64, &block[at..end]);
+        }
+    }
+
+    /// Clears the acknowledge bits, and then shows the block by its block status.
+    pub fn publish(self, ram: &mut Ram, block: &[u8]) -> AwaitAck
+        requires windows { HasWindows self ram.old }
+        requires head { 20 ≤ length block.now }
+        requires fits { length block.now ≤ self.len }
+        requires status { 0 < number_at block.now 0 4 }
+        requires filled { drop 4 (take (length block.now) (window self ram.old)) ≡ drop 4 block.now }
+        ensures memory { ram.new ≡ with_window self (with_ack self ram.old (with_clear self (ack_read self ram.old))) (with_status (window self ram.old) (take 4 block.now)) }
+        ensures clear { IsClear self ram.new }
+        ensures map { result ≡ self }
+    {
+        let FirmBlock { map } = self;
+        map.clear_ack(ram);
+        map.show(ram, get_u32(block, 0));
+        AwaitAck { map }
+    }
+}
+
+impl AwaitAck {
+    /// The block is the firmware's again exactly where the acknowledge bits are set.
+    pub fn poll(self, ram: &Ram) -> Result<FirmBlock, AwaitAck>
+        ensures { MatchResult result (λ firm. (firm ≡ self) × IsSet self ram.now) (λ wait. (wait ≡ self) × (¬ IsSet self ram.now)) }
+    {
+        let AwaitAck { map } = self;
+        if map.is_acknowledged(ram) {
+            Ok(FirmBlock { map })
+        } else {
+            Err(AwaitAck { map })
+        }
+    }
+}
+
+impl OsIdle {
+    /// There is a block exactly where the block status isn't 0.
+    pub fn poll(self, ram: &Ram) -> Result<OsBlock, OsIdle>
+        requires { HasWindows self ram.now }
+        ensures { MatchResult result (λ block. (block ≡ self) × (0 < status_word self ram.now)) (λ idle. (idle ≡ self) × (status_word self ram.now ≡ 0)) }
+    {
+        let OsIdle { map } = self;
+        if map.status_word(ram) == 0 {
+            Err(OsIdle { map })
+        } else {
+            Ok(OsBlock { map })
+        }
+    }
+}
+
+impl OsBlock {
+    /// Copies bytes of the block from the start of the piece with this number on, as many as `out` has.
+    pub fn copy(&mut self, ram: &Ram, piece: u32, out: &mut [u8])
+        requires windows { HasWindows self.old ram.now }
+        requires inside { 64 * piece + length out.old ≤ self.old.len }
+        ensures bytes { out.new ≡ part (window self.old ram.now) (64 * piece) (length out.old) }
+        ensures same { self.new ≡ self.old }
+    {
+        self.map.read_part(ram, 64 * u64::from(piece), out);
+    }
+
+    /// Sets the block status to 0.
+    pub fn clear(self, ram: &mut Ram) -> Cleared
+        requires { HasWindows self ram.old }
+        ensures memory { ram.new ≡ with_window self ram.old (with_status (window self ram.old) (spelled 4 0)) }
+        ensures map { result ≡ self }
+    {
+        let OsBlock { map } = self;
+        map.hide(ram);
+        Cleared { map }
+    }
+}
+
+impl Cleared {
+    /// Acknowledges: writes `(read & preserve) | write` to the acknowledge register.
+    pub fn ack(self, ram: &mut Ram) -> OsIdle
+        requires { HasWindows self ram.old }
+        ensures memory { ram.new ≡ with_ack self ram.old (acknowledged self (ack_read self ram.old)) }
+        ensures set { HasAckBits self → IsSet self ram.new }
+        ensures map { result ≡ self }
+    {
+        let Cleared { map } = self;
+        map.acknowledge(ram);
+        OsIdle { map }
+    }
+}
+
+impl AwaitAck {
+    /// Spends it in the middle of a handover.
+    pub(crate) fn give_up(self) {
+        let AwaitAck { map: _ } = self;
+    }
+}
+
+impl OsIdle {
+    pub(crate) fn give_up(self) {
+        let OsIdle { map: _ } = self;
+    }
+}
+
+impl OsBlock {
+    pub(crate) fn give_up(self) {
+        let OsBlock { map: _ } = self;
+    }
+}
+
+impl Cleared {
+    pub(crate) fn give_up(self) {
+        let Cleared { map: _ } = self;
+    }
+}

@@ -1,0 +1,138 @@
+// The turns of both sides.
+ghost use Rattle.std.specs.Prelude.{◌≡◌, ◌+◌, ◌-◌, ◌*◌, ◌<◌, ◌≤◌, min, length};
+ghost use Rattle.base_model.specs.Bytes.{part, put_at};
+ghost use Rattle.ghes_ack.specs.declared.events.Side.TheVariants.{Firmware as OfFirmware, Reader as OfReader};
+ghost use Rattle.ghes_ack.specs.declared.ends.Ends.TheVariants.{FirmHolds as OfFirm, OsHolds as OfOs};
+ghost use Rattle.ghes_ack.specs.Machine.{Machine};
+ghost use Rattle.ghes_ack.specs.Maps.{HasWindows, window};
+ghost use Rattle.ghes_ack.specs.Handovers.{StandsFor};
+ghost use Rattle.ghes_ack.specs.Sides.{Stands, Turns, IsConsistent, state_of};
+
+use crate::blocks::Blocks;
+use crate::ends::Ends;
+use crate::events::Event;
+use crate::pieces::PIECE;
+use crate::states::{AwaitAck, FirmBlock, OsBlock, OsIdle};
+use apei_space::Ram;
+
+/// A turn of the firmware.
+pub fn firmware_turn(ends: Ends, blocks: &mut Blocks, ram: &mut Ram) -> (Ends, Event)
+    requires consistent { IsConsistent ends blocks.old }
+    requires stands { Stands (state_of ends blocks.old) ram.old }
+    ensures consistent { IsConsistent result.0 blocks.new }
+    ensures turns { (m : Machine) → StandsFor (state_of ends blocks.old) ram.old m → Turns OfFirmware result.1 (state_of ends blocks.old) ram.old (state_of result.0 blocks.new) ram.new m }
+{
+    match ends {
+        Ends::FirmHolds(firm, idle) => fill_or_publish(firm, idle, blocks, ram),
+        Ends::Shown(wait, idle) => match wait.poll(ram) {
+            Ok(_firm) => unreachable!(),
+            Err(wait) => (Ends::Shown(wait, idle), Event::Wait),
+        },
+        Ends::OsHolds(wait, block) => match wait.poll(ram) {
+            Ok(_firm) => unreachable!(),
+            Err(wait) => (Ends::OsHolds(wait, block), Event::Wait),
+        },
+        Ends::Emptied(wait, cleared) => match wait.poll(ram) {
+            Ok(_firm) => unreachable!(),
+            Err(wait) => (Ends::Emptied(wait, cleared), Event::Wait),
+        },
+        Ends::Returned(wait, idle) => match wait.poll(ram) {
+            Ok(firm) => (Ends::FirmHolds(firm, idle), Event::Free),
+            Err(_wait) => unreachable!(),
+        },
+    }
+}
+
+/// Writes the next piece, or publishes a block all of whose pieces are written.
+fn fill_or_publish(
+    mut firm: FirmBlock,
+    idle: OsIdle,
+    blocks: &mut Blocks,
+    ram: &mut Ram,
+) -> (Ends, Event)
+    requires consistent { IsConsistent (OfFirm firm idle) blocks.old }
+    requires stands { Stands (state_of (OfFirm firm idle) blocks.old) ram.old }
+    ensures consistent { IsConsistent result.0 blocks.new }
+    ensures turns { (m : Machine) → StandsFor (state_of (OfFirm firm idle) blocks.old) ram.old m → Turns OfFirmware result.1 (state_of (OfFirm firm idle) blocks.old) ram.old (state_of result.0 blocks.new) ram.new m }
+{
+    let Some(block) = blocks.next() else {
+        return (Ends::FirmHolds(firm, idle), Event::Idle);
+    };
+    if PIECE * (blocks.filled as usize) < block.len() {
+        firm.fill(ram, &block, blocks.filled);
+        blocks.filled += 1;
+        blocks.at_work = Some(block);
+        return (Ends::FirmHolds(firm, idle), Event::Fill);
+    }
+    let wait = firm.publish(ram, &block);
+    blocks.filled = 0;
+    blocks.at_work = Some(block);
+    (Ends::Shown(wait, idle), Event::Publish)
+}
+
+/// A turn of the reader.
+pub fn reader_turn(ends: Ends, blocks: &mut Blocks, ram: &mut Ram) -> (Ends, Event)
+    requires consistent { IsConsistent ends blocks.old }
+    requires stands { Stands (state_of ends blocks.old) ram.old }
+    ensures consistent { IsConsistent result.0 blocks.new }
+    ensures turns { (m : Machine) → StandsFor (state_of ends blocks.old) ram.old m → Turns OfReader result.1 (state_of ends blocks.old) ram.old (state_of result.0 blocks.new) ram.new m }
+{
+    match ends {
+        Ends::FirmHolds(firm, idle) => match idle.poll(ram) {
+            Ok(_block) => unreachable!(),
+            Err(idle) => (Ends::FirmHolds(firm, idle), Event::Nothing),
+        },
+        Ends::Shown(wait, idle) => match idle.poll(ram) {
+            Ok(block) => {
+                blocks.copied = 0;
+                (Ends::OsHolds(wait, block), Event::Found)
+            }
+            Err(_idle) => unreachable!(),
+        },
+        Ends::OsHolds(wait, block) => copy_or_clear(wait, block, blocks, ram),
+        Ends::Emptied(wait, cleared) => (Ends::Returned(wait, cleared.ack(ram)), Event::Ack),
+        Ends::Returned(wait, idle) => match idle.poll(ram) {
+            Ok(_block) => unreachable!(),
+            Err(idle) => (Ends::Returned(wait, idle), Event::Nothing),
+        },
+    }
+}
+
+/// Copies the next piece, or clears the block status once all are copied. The block at work holds the same bytes already, so
+/// its own buffer takes them.
+fn copy_or_clear(
+    wait: AwaitAck,
+    mut block: OsBlock,
+    blocks: &mut Blocks,
+    ram: &mut Ram,
+) -> (Ends, Event)
+    requires consistent { IsConsistent (OfOs wait block) blocks.old }
+    requires stands { Stands (state_of (OfOs wait block) blocks.old) ram.old }
+    ensures consistent { IsConsistent result.0 blocks.new }
+    ensures turns { (m : Machine) → StandsFor (state_of (OfOs wait block) blocks.old) ram.old m → Turns OfReader result.1 (state_of (OfOs wait block) blocks.old) ram.old (state_of result.0 blocks.new) ram.new m }
+{
+    let Some(mut bytes) = blocks.at_work.take() else {
+        return (Ends::Emptied(wait, block.clear(ram)), Event::Clear);
+    };
+    copy_piece(&mut block, ram, blocks.copied, &mut bytes);
+    blocks.copied += 1;
+    if PIECE * (blocks.copied as usize) < bytes.len() {
+        blocks.at_work = Some(bytes);
+        return (Ends::OsHolds(wait, block), Event::Copied);
+    }
+    blocks.take(bytes);
+    (Ends::OsHolds(wait, block), Event::Took)
+}
+
+/// Copies a piece of the window to its place.
+fn copy_piece(block: &mut OsBlock, ram: &Ram, piece: u32, bytes: &mut [u8])
+    requires windows { HasWindows block.old ram.now }
+    requires begins { 64 * piece < length bytes.old }
+    requires fits { length bytes.old ≤ block.old.len }
+    ensures bytes { bytes.new ≡ put_at bytes.old (64 * piece) (part (window block.old ram.now) (64 * piece) (min 64 (length bytes.old - 64 * piece))) }
+    ensures same { block.new ≡ block.old }
+{
+    let at = PIECE * piece as usize;
+    let end = bytes.len().min(at + PIECE);
+    block.copy(ram, piece, &mut bytes[at..end]);
+}
