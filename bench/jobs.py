@@ -18,6 +18,8 @@ JOBS = [
     ("move", 10_000, 65_536, "GB a second by MOVE_DATA of 65,536 bytes"),
     ("records", 100_000, 4_096, "GB a second through a reader of error records, in pieces of 4 KiB"),
     ("blocks", 100_000, 30, "ns an entry of an error status block, decoding included"),
+    ("lines", 100_000, 1, "ns to parse a `write` line of 16,384 digits"),
+    ("readings", 100_000, 1, "ns to add the bytes of such a line twice"),
 ]
 
 program = sys.argv[1] if len(sys.argv) > 1 else os.path.join(TOP, "crates/apei_bench/out/apei_bench")

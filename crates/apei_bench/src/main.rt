@@ -2,6 +2,7 @@
 #![tactic(auto)]
 
 mod frames;
+mod lines;
 mod programs;
 
 use std::alloc::Global;
@@ -33,6 +34,8 @@ fn done(alloc: Global, job: &str, times: u64) -> Option<u64> {
         "move" => programs::move_bytes(alloc, times),
         "records" => frames::read_records(alloc, times),
         "blocks" => frames::walk_blocks(times),
+        "lines" => lines::parse_lines(times),
+        "readings" => lines::read_lines(times),
         _ => None,
     }
 }

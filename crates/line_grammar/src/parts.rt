@@ -44,9 +44,18 @@ fn are_digits(text: &[u8]) -> bool
 {
     let mut all = true;
     for byte in text {
-        all &= byte.is_ascii_hexdigit();
+        all &= is_digit(*byte);
     }
     all
+}
+
+// Whether a byte is a hexadecimal digit, without a branch and in the byte's own width.
+fn is_digit(byte: u8) -> bool
+    ensures { result ≡ is_ascii_hexdigit byte }
+{
+    (b'0' <= byte) & (byte <= b'9')
+        | (b'A' <= byte) & (byte <= b'F')
+        | (b'a' <= byte) & (byte <= b'f')
 }
 
 /// A decimal number from `least` to `most`, without a zero before other digits.
