@@ -16,7 +16,6 @@ pub mod MapLemmas
 pub mod HistoryLemmas
 pub mod RefusalLemmas
 pub mod SpareLemmas
-pub mod NearlyLemmas
 pub mod StepLemmas
 pub mod MadeLemmas
 pub mod LeavesLemmas

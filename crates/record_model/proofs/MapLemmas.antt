@@ -20,13 +20,3 @@ refusal_of-new layout free id bytes stored reserved new counted =
 pub after-done : (layout : Layout) (command : Command) (stored : Stored) → refusal_of layout command stored ≡ None → after layout command stored ≡ made_by command stored
 unfolding after
 after-done layout command stored none = ap (λ (o : Option Refusal). cond (is_none o) (made_by command stored) stored) none
-
--- a refused one leaves the map
-pub after-refused : (layout : Layout) (command : Command) (stored : Stored) (refusal : Refusal) → refusal_of layout command stored ≡ Some refusal → after layout command stored ≡ stored
-unfolding after
-after-refused layout command stored refusal some = ap (λ (o : Option Refusal). cond (is_none o) (made_by command stored) stored) some
-
--- a write of a new identifier gives it generation 1
-pub made_by-new : (id : ℕ) (bytes : List ℕ) (stored : Stored) → get stored id ≡ None → made_by (Write id bytes) stored ≡ insert stored id (bytes, 1)
-unfolding made_by
-made_by-new id bytes stored new = ap (λ (o : Option (List ℕ × ℕ)). insert stored id (bytes, next_generation o)) new

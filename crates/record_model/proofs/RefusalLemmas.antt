@@ -99,15 +99,6 @@ read_missing layout id stored some allowed is = read_by layout id stored None so
 pub read_taken : (layout : Layout) (id : ℕ) (stored : Stored) (kept : List ℕ × ℕ) → len stored ≢ 0 → is_reserved id ≡ false → get stored id ≡ Some kept → refusal_of layout (Read id) stored ≡ None
 read_taken layout id stored kept some allowed is = read_by layout id stored (Some kept) some (allowed_not_zero id allowed) is
 
--- a write gives a stored identifier the next generation
-pub made_by-over : (id generation : ℕ) (bytes body : List ℕ) (stored : Stored) → get stored id ≡ Some (body, generation) → made_by (Write id bytes) stored ≡ insert stored id (bytes, generation + 1)
-unfolding made_by
-made_by-over id generation bytes body stored is = ap (λ (o : Option (List ℕ × ℕ)). insert stored id (bytes, next_generation o)) is
-
-pub made_by-clear : (id : ℕ) (stored : Stored) → made_by (Clear id) stored ≡ remove stored id
-unfolding made_by
-made_by-clear id stored = refl
-
 -- the flash changes that a command takes
 pub changes_of-done : (layout : Layout) (command : Command) (stored : Stored) → refusal_of layout command stored ≡ None → changes_of layout command stored ≡ changes_made layout command stored
 unfolding changes_of
@@ -131,12 +122,3 @@ changes_of-over layout id bytes stored kept taken is =
 
 pub changes_of-clear : (layout : Layout) (id : ℕ) (stored : Stored) → refusal_of layout (Clear id) stored ≡ None → changes_of layout (Clear id) stored ≡ 1
 changes_of-clear layout id stored taken = changes_of-done layout (Clear id) stored taken
-
--- one more part takes its erases, its head, its pieces and its tail mark
-pub changes_of_parts-more : (layout : Layout) (size n : ℕ) → changes_of_parts layout size (n + 1) ≡ changes_of_parts layout size n + (layout.per_slot + 2 + pieces_of (part_len (room_of layout) size n))
-unfolding pieces_of_parts
-changes_of_parts-more layout size n =
-    let spread : (n + 1) * (layout.per_slot + 2) ≡ n * (layout.per_slot + 2) + 1 * (layout.per_slot + 2) = add-mul n 1 (layout.per_slot + 2) in
-    let next : n + 1 ≡ suc n = omega arith in
-    let one : pieces_of_parts (room_of layout) size (n + 1) ≡ pieces_of_parts (room_of layout) size (suc n) = ap (pieces_of_parts (room_of layout) size) next in
-    omega arith

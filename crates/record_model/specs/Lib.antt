@@ -1,3 +1,10 @@
+pub mod Heads
+pub mod Slots
+pub mod Entries
+pub mod Selection
+pub mod Free
+pub mod Copies
+pub mod Further
 pub mod Records
 pub mod Filling
 pub mod Plan

@@ -16,14 +16,6 @@ pub or_false : (b : Bool) → (b || false) ≡ b
 or_false true = refl
 or_false false = refl
 
--- with one more mark set
-pub marked_set : (n at : ℕ) (test other : ℕ → Bool) (marks : List Bool) → at < length marks → other at ≡ true → ((k : ℕ) → k ≢ at → other k ≡ test k)
-    → AreMarked n test marks → AreMarked n other (set marks at true)
-marked_set n at test other marks within here same had k d h = elim (cases_eq k at) [
-  | inl is ↦ subst (λ (i : ℕ). get_or (set marks at true) i d ≡ other i) (sym is) (get_or-set_same marks at true d within ∙ sym here)
-  | inr apart ↦ get_or-set_other marks at k true d apart ∙ had k d h ∙ sym (same k apart)
-]
-
 -- for one more of a list of things, of which each has its slot
 pub marked_more : {X : Type 0} (n i : ℕ) (of : X → ℕ → Bool) (xs : List X) (d : X) (marks other : List Bool) → i < length xs
     → AreMarked n (λ k. list_any (λ x. of x k) (take i xs)) marks
