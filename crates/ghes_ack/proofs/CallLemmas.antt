@@ -9,13 +9,12 @@ use Rattle.apei_space.specs.RamState.{RamState}
 use Rattle.apei_space.specs.Mapped.{AreMapped}
 use Rattle.apei_gas.specs.declared.registers.Place.TheVariants.{Memory}
 use Rattle.ghes_ack.specs.declared.maps.HandoverMap.{HandoverMap}
-use Rattle.ghes_ack.specs.declared.events.Side.{Side}
 use Rattle.ghes_ack.specs.declared.events.Event.{Event}
 use Rattle.ghes_ack.specs.Machine.{Machine, Situation, Filling, Published, Reading, Cleared, Acknowledged, Fits, with_status, turned, started, submitted, IsState}
-use Rattle.ghes_ack.specs.Maps.{HasWindows, ack_bytes, ack_mask, ack_read, IsSet, IsClear}
+use Rattle.ghes_ack.specs.Maps.{HasWindows, ack_bytes, ack_mask, ack_read}
 use Rattle.ghes_ack.specs.Elsewhere.{SameInMap}
 use Rattle.ghes_ack.specs.Handovers.{HandoverState, AcksAre, StandsFor, IsTurned}
-use Rattle.ghes_ack.specs.Schedules.{Step, Submit, Turn, Watched, watched, after, run, from_start, events_of, AreFitting, submissions, Call, Submits, Turns, OthersWrite, Held, Does, DoAll, steps_of, answers_of, HandsOver}
+use Rattle.ghes_ack.specs.Schedules.{Submit, Turn, Watched, after, run, from_start, events_of, AreFitting, Call, Submits, Turns, OthersWrite, Held, DoAll, steps_of, answers_of, HandsOver}
 use Rattle.ghes_ack.proofs.StepLemmas.{turn_keeps}
 use Rattle.ghes_ack.proofs.ScheduleLemmas.{watched_machine, run_taken, run_order, run_blocks}
 

@@ -1,14 +1,13 @@
 -- What the calls of the two sides leave in memory.
-use Rattle.std.proofs.Common.{◌≡◌, ◌∙◌, ℕ, ◌+◌, ◌-◌, ◌*◌, ◌<◌, ◌≤◌, ◌++◌, min, List, length, take, drop, refl, sym, ap, subst, arith, bit_and}
-use Rattle.std.proofs.lemmas.List.{take_at}
+use Rattle.std.proofs.Common.{◌≡◌, ◌∙◌, ℕ, ◌+◌, ◌-◌, ◌*◌, ◌<◌, ◌≤◌, min, List, length, take, sym, ap, subst, arith, bit_and}
 use Rattle.base_model.specs.Bytes.{part, number_at, spelled, put_at, AreBytes}
 use Rattle.base_model.proofs.BytesLemmas.{length-spelled, spelled-number_at}
 use Rattle.apei_space.specs.RamState.{RamState}
 use Rattle.ghes_ack.specs.declared.maps.HandoverMap.{HandoverMap}
-use Rattle.ghes_ack.specs.Machine.{zeros, hidden, with_piece, with_status}
+use Rattle.ghes_ack.specs.Machine.{hidden, with_piece, with_status}
 use Rattle.ghes_ack.specs.Maps.{HasWindows, IsSet, IsClear, ack_read, ack_mask, with_ack, with_window, with_address, window, with_set, with_clear, memory_started}
-use Rattle.ghes_ack.proofs.PieceLemmas.{part-front, part_min, length-hidden, hidden_front, hidden_behind, length-with_status}
-use Rattle.ghes_ack.proofs.MemoryLemmas.{length-window, window-with_window, window-with_ack, window-with_address, ack-with_window, ack-with_address, HasWindows-with_window, HasWindows-with_ack, HasWindows-with_address}
+use Rattle.ghes_ack.proofs.PieceLemmas.{part-front, part_min, length-hidden, hidden_behind, length-with_status}
+use Rattle.ghes_ack.proofs.MemoryLemmas.{length-window, window-with_ack, window-with_address, ack-with_window, ack-with_address, HasWindows-with_window, HasWindows-with_ack, HasWindows-with_address}
 
 pub windows_address : (map : HandoverMap) (ram new : RamState) → new ≡ with_address map ram → HasWindows map ram → HasWindows map new
 windows_address map ram new is w = subst (HasWindows map) (sym is) (HasWindows-with_address map ram w)

@@ -1,5 +1,5 @@
 -- Memory outside the windows of a handover.
-use Rattle.std.proofs.Common.{◌≡◌, ◌∙◌, ℕ, ◌+◌, ◌<◌, ◌≤◌, ◌⊎◌, inl, inr, List, [], length, Result, Ok, Err, refl, sym, ap, subst, arith}
+use Rattle.std.proofs.Common.{◌≡◌, ◌∙◌, ℕ, ◌<◌, ◌≤◌, ◌⊎◌, inl, inr, List, length, Result, Ok, Err, refl, sym, ap, subst, arith}
 use Rattle.std.proofs.lemmas.Bool.{cases_lt}
 use Rattle.base_model.specs.Bytes.{part, spelled, put_at}
 use Rattle.base_model.proofs.BytesLemmas.{length-spelled, length-put_at}
@@ -15,7 +15,7 @@ use Rattle.ghes_ack.specs.declared.events.Event.TheVariants.{Idle, Fill, Publish
 use Rattle.ghes_ack.specs.Machine.{with_status}
 use Rattle.ghes_ack.specs.Maps.{HasWindows, ack_bytes, bytes_in, bytes_at, window, ack_read, with_window, with_ack, with_address, with_set, with_clear, acknowledged, memory_started, memory_after}
 use Rattle.ghes_ack.specs.Elsewhere.{IsOffBlock, IsOffMap, SameWhere}
-use Rattle.ghes_ack.proofs.MemoryLemmas.{ack_some, block_some, block_placed, ack_placed, status_placed, fits_in, stored_placed, bytes-stored_apart, disjoint_sym, length-window, window-with_ack, window-with_address, HasWindows-with_ack, HasWindows-with_address}
+use Rattle.ghes_ack.proofs.MemoryLemmas.{ack_some, block_some, block_placed, ack_placed, status_placed, fits_in, stored_placed, bytes-stored_apart, disjoint_sym, length-window, HasWindows-with_ack, HasWindows-with_address}
 use Rattle.ghes_ack.proofs.EffectLemmas.{length-status}
 
 SameWhere-refl : (is_far : Place → ℕ → Type 0) (ram : RamState) → SameWhere is_far ram ram

@@ -1,5 +1,5 @@
 -- What accesses of the three windows read and leave.
-use Rattle.std.proofs.Common.{◌≡◌, ◌∙◌, ℕ, ◌+◌, ◌-◌, ◌*◌, ◌/◌, ◌%◌, ◌^◌, ◌<◌, ◌≤◌, ◌⊎◌, inl, inr, zero-add, add-zero, List, [], ◌∷◌, ◌++◌, length, take, drop, Result, Ok, Err, refl, sym, ap, subst, arith, append_assoc, bit_and, bit_or}
+use Rattle.std.proofs.Common.{◌≡◌, ◌∙◌, ℕ, ◌+◌, ◌-◌, ◌*◌, ◌/◌, ◌%◌, ◌^◌, ◌<◌, ◌≤◌, ◌⊎◌, inl, inr, add-zero, List, [], ◌∷◌, ◌++◌, length, take, drop, Result, Ok, Err, refl, sym, ap, subst, arith, append_assoc, bit_and}
 use Rattle.std.specs.Result.{result_unwrap_or}
 use Rattle.std.proofs.lemmas.List.{take-append-drop, drop-drop, drop-take, take-take, nil_from_length}
 use Rattle.std.proofs.lemmas.Bool.{cases_lt}
@@ -17,7 +17,7 @@ use Rattle.apei_space.specs.declared.faults.SpaceFault.{SpaceFault}
 use Rattle.apei_space.specs.declared.windows.Window.{Window}
 use Rattle.apei_space.specs.Windows.{EndsBelow, AreApart}
 use Rattle.apei_space.specs.RamState.{RamState, FillsWindows, located, stored, number_in, filled}
-use Rattle.apei_space.specs.Mapped.{Holds, IsMapped, AreMapped, AreDisjoint, further}
+use Rattle.apei_space.specs.Mapped.{Holds, IsMapped, AreDisjoint}
 use Rattle.apei_space.proofs.Placed.{IsPlaced, placed, located_within, placed_fits, placed_apart}
 use Rattle.ghes_ack.specs.declared.maps.HandoverMap.{HandoverMap}
 use Rattle.ghes_ack.specs.Maps.{HasAckBits, HasWindows, ack_bytes, ack_mask, kept_mask, bytes_in, bytes_at, address_in, window, status_word, ack_read, with_window, with_ack, with_address, IsSet, IsClear, with_set, with_clear, acknowledged}

@@ -1,14 +1,13 @@
 -- What whole schedules keep.
-use Rattle.std.proofs.Common.{◌≡◌, ℕ, zero, suc, ◌+◌, ◌-◌, ◌*◌, ◌/◌, ◌<◌, ◌≤◌, ◌⊎◌, inl, inr, min, nat_lt, cond, Bool, true, false, List, [], ◌∷◌, ◌++◌, length, take, drop, get_or, All, refl, sym, ap, ◌∙◌, subst, arith, append_assoc}
-use Rattle.std.proofs.lemmas.List.{take_all, take-append-le, append-nil, get_or_append_left, length-take}
+use Rattle.std.proofs.Common.{◌≡◌, ℕ, ◌+◌, ◌*◌, ◌<◌, ◌≤◌, inl, inr, nat_lt, Bool, true, false, List, [], ◌∷◌, ◌++◌, length, take, drop, get_or, refl, sym, ap, ◌∙◌, arith, append_assoc}
+use Rattle.std.proofs.lemmas.List.{take_all, take-append-le, append-nil, get_or_append_left}
 use Rattle.std.proofs.lemmas.List.{take_more}
 use Rattle.std.proofs.lemmas.Bool.Decides.{nat_tests}
-use Rattle.base_model.specs.Bytes.{part}
 use Rattle.ghes_ack.specs.declared.events.Side.{Side}
 use Rattle.ghes_ack.specs.declared.events.Side.TheVariants.{Firmware, Reader}
 use Rattle.ghes_ack.specs.declared.events.Event.{Event}
 use Rattle.ghes_ack.specs.declared.events.Event.TheVariants.{Idle, Fill, Publish, Free, Wait, Nothing, Found, Copied, Took, Clear, Ack}
-use Rattle.ghes_ack.specs.Machine.{Machine, Situation, Filling, Published, Reading, Cleared, Acknowledged, Fits, block_at, at_work, pieces, Turned, filling, offered, reading, firmware_turn, reader_turn, turned, started, submitted, IsFilling, IsWhole, IsEmptied, IsReading, InSituation, IsState}
+use Rattle.ghes_ack.specs.Machine.{Machine, Situation, Filling, Published, Reading, Cleared, Acknowledged, at_work, pieces, filling, offered, reading, firmware_turn, reader_turn, turned, submitted, IsWhole, IsReading, InSituation, IsState}
 use Rattle.ghes_ack.specs.Schedules.{Step, Submit, Turn, Watched, next_piece, watched, after, run, from_start, AreFitting, submissions, AreInOrder}
 use Rattle.ghes_ack.proofs.PieceLemmas.{next_copied}
 use Rattle.ghes_ack.proofs.StepLemmas.{turn_keeps, submit_keeps, start_is}

@@ -1,19 +1,19 @@
 -- The turns of the two sides with their blocks.
-use Rattle.std.proofs.Common.{◌≡◌, ◌∙◌, ℕ, ◌+◌, ◌-◌, ◌*◌, ◌<◌, ◌≤◌, ◌⊎◌, inl, inr, min, List, [], ◌∷◌, ◌++◌, length, take, drop, map, Vec, Option, Some, None, option_to_list, refl, sym, ap, subst, arith, append_assoc}
+use Rattle.std.proofs.Common.{◌≡◌, ◌∙◌, ℕ, ◌+◌, ◌-◌, ◌*◌, ◌<◌, ◌≤◌, min, List, ◌++◌, length, take, drop, map, Vec, Option, Some, None, refl, sym, ap, subst, arith, append_assoc}
 use Rattle.std.specs.declared.alloc.Global.{Global}
 use Rattle.std.proofs.lemmas.List.{drop-drop}
 use Rattle.base_model.specs.Bytes.{part, spelled, put_at}
 use Rattle.apei_space.specs.RamState.{RamState}
 use Rattle.ghes_ack.specs.declared.maps.HandoverMap.{HandoverMap}
 use Rattle.ghes_ack.specs.declared.events.Side.TheVariants.{Firmware, Reader}
-use Rattle.ghes_ack.specs.declared.events.Event.TheVariants.{Idle, Fill, Publish, Free, Wait, Nothing, Found, Copied, Took, Clear, Ack}
+use Rattle.ghes_ack.specs.declared.events.Event.TheVariants.{Fill, Publish, Free, Copied, Took, Clear, Ack}
 use Rattle.ghes_ack.specs.declared.ends.Ends.TheVariants.{FirmHolds, Shown, OsHolds, Emptied, Returned}
 use Rattle.ghes_ack.specs.declared.blocks.Blocks.{Blocks}
 use Rattle.ghes_ack.specs.Machine.{Machine, Situation, Filling, Published, Reading, Cleared, Acknowledged, Fits, with_piece, with_status}
 use Rattle.ghes_ack.specs.Maps.{HasWindows, window, status_word, ack_read, with_window, with_ack, with_clear, acknowledged, IsSet, IsClear}
-use Rattle.ghes_ack.specs.Handovers.{HandoverState, kept, StandsFor}
-use Rattle.ghes_ack.specs.Sides.{Turns, Stands, state_of, in_work, held_of, SameButHeld, TakesOut, IsCopiedSoFar}
-use Rattle.ghes_ack.proofs.TurnLemmas.{next_is, fills, publish_filled, publishes, frees, some_status, finds, work_fits, copies_same, copies_more, copies_last, clears, acknowledges}
+use Rattle.ghes_ack.specs.Handovers.{HandoverState, StandsFor}
+use Rattle.ghes_ack.specs.Sides.{Turns, Stands, state_of, in_work, TakesOut, IsCopiedSoFar}
+use Rattle.ghes_ack.proofs.TurnLemmas.{next_is, fills, publish_filled, publishes, frees, some_status, work_fits, copies_same, copies_more, copies_last, clears, acknowledges}
 
 -- a write in the middle of a list
 pub mid_is : (old others : List ℕ) (at n : ℕ) → length others ≡ n → take at old ++ (others ++ drop n (drop at old)) ≡ put_at old at others

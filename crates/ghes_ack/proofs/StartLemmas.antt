@@ -1,10 +1,10 @@
 -- A start and a submission.
-use Rattle.std.proofs.Common.{◌≡◌, ◌∙◌, ℕ, ◌+◌, ◌<◌, ◌≤◌, ◌⊎◌, inl, inr, nat_lt, ◌==◌, Bool, true, false, List, [], ◌∷◌, ◌++◌, length, map, Option, Some, None, option_to_list, Result, Ok, Err, Vec, refl, sym, ap, subst, arith, append_assoc, length-append, bit_and}
+use Rattle.std.proofs.Common.{◌≡◌, ◌∙◌, ℕ, ◌+◌, ◌-◌, ◌<◌, ◌≤◌, ◌⊎◌, inl, inr, nat_lt, ◌==◌, cond, Bool, true, false, List, [], ◌∷◌, ◌++◌, length, map, Option, Some, None, option_to_list, Result, Ok, Vec, refl, sym, ap, subst, arith, append_assoc, length-append}
 use Rattle.std.specs.declared.alloc.Global.{Global}
-use Rattle.std.proofs.lemmas.List.{drop-append-le, get_or_append_left}
+use Rattle.std.proofs.lemmas.List.{drop-append-le, get_or_append_left, length-map}
 use Rattle.std.proofs.lemmas.Bool.Decides.{nat_tests}
 use Rattle.std.proofs.lemmas.Bool.{cases_lt}
-use Rattle.base_model.specs.Bytes.{number_at, spelled}
+use Rattle.base_model.specs.Bytes.{spelled}
 use Rattle.base_model.proofs.BytesLemmas.{length-spelled}
 use Rattle.apei_space.specs.RamState.{RamState}
 use Rattle.ghes_block.specs.declared.error.BlockError.{BlockError}
@@ -14,9 +14,11 @@ use Rattle.ghes_ack.specs.declared.ends.Ends.{Ends}
 use Rattle.ghes_ack.specs.declared.ends.Ends.TheVariants.{FirmHolds}
 use Rattle.ghes_ack.specs.declared.blocks.Blocks.{Blocks}
 use Rattle.ghes_ack.specs.Machine.{Machine, Situation, Filling, Published, Reading, Cleared, Acknowledged, Fits, with_status, started, submitted, waiting_in, InSituation, IsState}
-use Rattle.ghes_ack.specs.Maps.{HasWindows, address_in, ack_read, ack_mask, window, with_window, with_ack, with_address, with_set, memory_started, IsSet}
-use Rattle.ghes_ack.specs.Handovers.{HandoverState, fresh, StandsFor}
-use Rattle.ghes_ack.specs.Sides.{IsEmpty, state_of, in_work}
+use Rattle.ghes_ack.specs.Maps.{HasAckBits, HasWindows, address_in, ack_read, window, with_ack, with_address, with_set, memory_started, IsSet}
+use Rattle.ghes_ack.specs.Handovers.{HandoverState, fresh, StandsFor, reason, refusal}
+use Rattle.ghes_ack.specs.declared.submission.SubmitError.TheVariants.{Long, Trailing, Full}
+use Rattle.std.specs.VecDeque.{deque_len}
+use Rattle.ghes_ack.specs.Sides.{IsEmpty, Adds, AreConsistent, situation_of, state_of, whole_of, in_work}
 use Rattle.ghes_ack.proofs.StepLemmas.{start_is, submit_keeps}
 use Rattle.ghes_ack.proofs.ScheduleLemmas.{state_in_order}
 use Rattle.ghes_ack.proofs.MemoryLemmas.{length-window, window-with_window, address-with_window, address-with_ack, address-with_address, HasWindows-with_ack, HasWindows-with_address}
@@ -121,3 +123,41 @@ submits h ram m block good st =
       copied = st.copied;
       last = st.last ∙ sym (get_or_append_left ([] ∷ m.blocks) (block ∷ []) [] m.taken (omega (arith, t, s)));
     }
+
+-- the sides, their map and their blocks
+pub whole-map : (o : Option Ends) (b : Blocks) → (whole_of o b).map ≡ b.map
+whole-map None b = refl
+whole-map (Some ends) b = refl
+
+pub bits_of : (o : Option Ends) (b : Blocks) → AreConsistent o b → HasAckBits b.map
+bits_of None b all = absurd all
+bits_of (Some ends) b all = all.bits
+
+pub waiting_of : (o : Option Ends) (b : Blocks) → AreConsistent o b → length (whole_of o b).waiting ≡ deque_len b.waiting
+waiting_of None b all = absurd all
+waiting_of (Some ends) b all = length-map b.waiting.items (λ v. v.items) ∙ all.room.counted
+
+-- a block more
+pub added : (o : Option Ends) (b after : Blocks) (block : List ℕ) → AreConsistent o b → Adds b after block → whole_of o after ≡ record (whole_of o b) { waiting = (whole_of o b).waiting ++ block ∷ [] }
+added None b after block all a = absurd all
+added (Some ends) b after block all a =
+    let waiting = a.waiting in
+    let map_is = a.same.map in
+    let filled = a.same.filled in
+    let copied = a.same.copied in
+    let last = a.same.last in
+    let items : after.last.items ≡ b.last.items = ap (λ v. v.items) a.same.last in
+    let work : in_work (situation_of ends) after.at_work after.last ≡ in_work (situation_of ends) b.at_work b.last =
+    ap (λ (x : Option (Vec ℕ Global)). in_work (situation_of ends) x after.last) a.at_work ∙ ap (λ (x : Vec ℕ Global). in_work (situation_of ends) b.at_work x) a.same.last in
+    cc
+
+-- 64 blocks wait
+pub full : (h : HandoverState) (block : List ℕ) (size : ℕ) → length block ≤ h.map.len → checked block ≡ Ok size → length block ≤ size → 64 ≤ length h.waiting → refusal h block ≡ Some Full
+full h block size fits is whole many =
+    let long : nat_lt h.map.len (length block) ≡ false = grind (arith, nat_tests) in
+    let rest : nat_lt size (length block) ≡ false = grind (arith, nat_tests) in
+    let room : nat_lt (length h.waiting) 64 ≡ false = grind (arith, nat_tests) in
+    ap (λ (b : Bool). cond b (Some (Long (length block))) (reason (checked block) (length block) (length h.waiting))) long
+    ∙ ap (λ (r : Result ℕ BlockError). reason r (length block) (length h.waiting)) is
+    ∙ ap (λ (b : Bool). cond b (Some (Trailing (length block - size))) (cond (nat_lt (length h.waiting) 64) None (Some Full))) rest
+    ∙ ap (λ (b : Bool). cond b None (Some Full)) room

@@ -1,5 +1,5 @@
 -- Each step of the machine leaves a state of it.
-use Rattle.std.proofs.Common.{◌≡◌, ℕ, zero, suc, ◌+◌, ◌-◌, ◌*◌, ◌/◌, ◌<◌, ◌≤◌, ◌⊎◌, inl, inr, nat_lt, Bool, true, false, List, [], ◌∷◌, ◌++◌, length, take, drop, get_or, All, refl, sym, ap, ◌∙◌, subst, arith, length-append, length-drop}
+use Rattle.std.proofs.Common.{◌≡◌, ℕ, suc, ◌+◌, ◌-◌, ◌*◌, ◌<◌, ◌≤◌, ◌⊎◌, inl, inr, nat_lt, Bool, true, false, List, [], ◌∷◌, length, take, drop, get_or, All, refl, sym, ap, ◌∙◌, subst, arith, length-append, length-drop}
 use Rattle.std.proofs.lemmas.List.{length-take, get_or-drop, get_or_append_left, take_all}
 use Rattle.std.proofs.lemmas.List.Elements.{All-get_or, All-append, All-nil}
 use Rattle.std.proofs.lemmas.Bool.Decides.{nat_tests}
@@ -8,7 +8,7 @@ use Rattle.base_model.specs.Bytes.{number_at, spelled}
 use Rattle.base_model.proofs.BytesLemmas.{length-spelled}
 use Rattle.ghes_ack.specs.declared.events.Side.{Side}
 use Rattle.ghes_ack.specs.declared.events.Side.TheVariants.{Firmware, Reader}
-use Rattle.ghes_ack.specs.Machine.{Machine, Situation, Filling, Published, Reading, Cleared, Acknowledged, Fits, block_at, at_work, pieces, hidden, with_piece, with_status, Turned, filling, offered, reading, firmware_turn, reader_turn, turned, started, submitted, IsFilling, IsWhole, IsEmptied, IsReading, InSituation, IsState}
+use Rattle.ghes_ack.specs.Machine.{Machine, Situation, Filling, Published, Reading, Cleared, Acknowledged, Fits, at_work, pieces, hidden, with_piece, with_status, filling, offered, reading, firmware_turn, reader_turn, turned, started, submitted, IsFilling, IsWhole, IsEmptied, IsReading, InSituation, IsState}
 use Rattle.ghes_ack.proofs.RoomLemmas.{All-one}
 use Rattle.ghes_ack.proofs.PieceLemmas.{length-hidden, next_bytes, published_whole, number_at-take, status-cleared, status-hidden, length-with_piece, length-with_status}
 

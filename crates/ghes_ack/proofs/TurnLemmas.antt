@@ -1,9 +1,8 @@
 -- Each turn of a handover is the machine's turn.
-use Rattle.std.proofs.Common.{◌≡◌, ◌∙◌, ℕ, suc, ◌+◌, ◌-◌, ◌*◌, ◌/◌, ◌^◌, ◌<◌, ◌≤◌, ◌⊎◌, inl, inr, min, zero-add, nat_lt, ◌==◌, cond, Bool, true, false, List, [], ◌∷◌, ◌++◌, length, take, drop, get_or, All, Option, Some, None, option_to_list, refl, sym, ap, subst, arith, bit_and, length-append, length-drop}
-use Rattle.std.proofs.lemmas.List.{take_all, length-take, drop-drop, get_or-drop, take-append-drop}
+use Rattle.std.proofs.Common.{◌≡◌, ◌∙◌, ℕ, suc, ◌+◌, ◌-◌, ◌*◌, ◌<◌, ◌≤◌, ◌⊎◌, inl, inr, min, zero-add, nat_lt, ◌==◌, cond, Bool, true, false, List, [], ◌∷◌, ◌++◌, length, take, drop, get_or, Option, Some, None, option_to_list, refl, sym, ap, subst, arith, bit_and, length-drop}
+use Rattle.std.proofs.lemmas.List.{take_all, length-take, drop-drop, get_or-drop}
 use Rattle.std.proofs.lemmas.Bool.Decides.{nat_tests}
-use Rattle.std.proofs.lemmas.Bool.{cases_eq}
-use Rattle.base_model.specs.Bytes.{part, number_at, spelled, put_at, SameOutside}
+use Rattle.base_model.specs.Bytes.{part, number_at, spelled, put_at}
 use Rattle.base_model.proofs.BytesLemmas.{length-spelled, part-part, length-part, SameOutside-refl, is_put_at}
 use Rattle.apei_space.specs.RamState.{RamState}
 use Rattle.ghes_ack.specs.declared.maps.HandoverMap.{HandoverMap}
@@ -11,11 +10,11 @@ use Rattle.ghes_ack.specs.declared.events.Side.{Side}
 use Rattle.ghes_ack.specs.declared.events.Side.TheVariants.{Firmware, Reader}
 use Rattle.ghes_ack.specs.declared.events.Event.{Event}
 use Rattle.ghes_ack.specs.declared.events.Event.TheVariants.{Idle, Fill, Publish, Free, Wait, Nothing, Found, Copied, Took, Clear, Ack}
-use Rattle.ghes_ack.specs.Machine.{Machine, Situation, Filling, Published, Reading, Cleared, Acknowledged, Fits, block_at, at_work, last_taken, waiting_in, pieces, hidden, with_piece, with_status, Turned, filling, offered, reading, firmware_turn, reader_turn, turned, IsFilling, IsWhole, IsEmptied, IsReading, InSituation, IsState}
+use Rattle.ghes_ack.specs.Machine.{Machine, Situation, Filling, Published, Reading, Cleared, Acknowledged, Fits, block_at, at_work, pieces, hidden, with_piece, with_status, Turned, offered, firmware_turn, reader_turn, turned, IsFilling, IsWhole, IsEmptied, IsReading, InSituation, IsState}
 use Rattle.ghes_ack.specs.Maps.{HasAckBits, HasWindows, window, status_word, address_in, ack_read, ack_mask, with_window, with_ack, with_clear, acknowledged, memory_after, IsSet, IsClear}
-use Rattle.ghes_ack.specs.Handovers.{HandoverState, kept, AcksAre, StandsFor, IsTurned}
+use Rattle.ghes_ack.specs.Handovers.{HandoverState, kept, AcksAre, StandsFor}
 use Rattle.ghes_ack.specs.Sides.{Turns, Stands}
-use Rattle.ghes_ack.proofs.PieceLemmas.{length-hidden, number_at-take, part-front, part_min, drop-hidden, length-with_piece}
+use Rattle.ghes_ack.proofs.PieceLemmas.{length-hidden, number_at-take, part-front, drop-hidden, length-with_piece}
 use Rattle.ghes_ack.proofs.StepLemmas.{turn_keeps, fits_at_work}
 use Rattle.ghes_ack.proofs.MemoryLemmas.{length-window, window-with_window, window-with_ack, address-with_window, address-with_ack, ack-with_window, HasWindows-with_ack}
 use Rattle.ghes_ack.proofs.EffectLemmas.{windows_window, windows_ack, length-status}

@@ -1,5 +1,5 @@
 -- What a handover keeps, and the states of the machine that it stands for.
-use Rattle.std.specs.Prelude.{◌≡◌, ℕ, nat_lt, if◌then◌else◌, ◌-◌, List, [], ◌∷◌, ◌++◌, length, drop, Option, Some, None, Result, Ok, Err, option_to_list}
+use Rattle.std.specs.Prelude.{◌≡◌, ℕ, nat_lt, if◌then◌else◌, ◌-◌, List, [], ◌++◌, length, drop, Option, Some, None, Result, Ok, Err, option_to_list}
 use Rattle.ghes_block.specs.declared.error.BlockError.{BlockError}
 use Rattle.ghes_block.specs.Reading.{checked}
 use Rattle.apei_space.specs.RamState.{RamState}
@@ -9,7 +9,7 @@ use Rattle.ghes_ack.specs.declared.events.Event.{Event}
 use Rattle.ghes_ack.specs.declared.submission.SubmitError.{SubmitError}
 use Rattle.ghes_ack.specs.declared.submission.SubmitError.TheVariants.{Long, Malformed, Trailing, Full}
 use Rattle.ghes_ack.specs.Machine.{Machine, Situation, Filling, Published, Reading, Cleared, Acknowledged, IsState, turned, last_taken, waiting_in}
-use Rattle.ghes_ack.specs.Maps.{HasWindows, address_in, window, IsSet, IsClear, memory_after}
+use Rattle.ghes_ack.specs.Maps.{HasWindows, address_in, window, IsSet, IsClear}
 
 -- the blocks that wait, the one that is filled or published and not yet acknowledged, and the one taken last
 pub record HandoverState : Type 0 where

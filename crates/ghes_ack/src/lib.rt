@@ -4,13 +4,22 @@
 mod blocks;
 mod ends;
 mod events;
+mod handover;
+mod laws;
 mod maps;
 mod pieces;
 mod states;
+mod station;
 mod submission;
 mod turns;
 
 pub use events::{Event, Side};
+pub use handover::Handover;
+pub use laws::{
+    each_side_keeps, every_list_of_calls, every_schedule, nothing_while_held,
+    others_may_write_elsewhere,
+};
 pub use maps::HandoverMap;
 pub use states::{AwaitAck, Cleared, FirmBlock, OsBlock, OsIdle, start, stop};
+pub use station::Station;
 pub use submission::SubmitError;

@@ -10,13 +10,25 @@ ghost use Rattle.ghes_ack.specs.Sides.{Stands, Turns, IsConsistent, state_of};
 
 use crate::blocks::Blocks;
 use crate::ends::Ends;
-use crate::events::Event;
+use crate::events::{Event, Side};
 use crate::pieces::PIECE;
 use crate::states::{AwaitAck, FirmBlock, OsBlock, OsIdle};
 use apei_space::Ram;
 
-/// A turn of the firmware.
-pub fn firmware_turn(ends: Ends, blocks: &mut Blocks, ram: &mut Ram) -> (Ends, Event)
+/// A turn of a side.
+pub fn turn_of(side: Side, ends: Ends, blocks: &mut Blocks, ram: &mut Ram) -> (Ends, Event)
+    requires consistent { IsConsistent ends blocks.old }
+    requires stands { Stands (state_of ends blocks.old) ram.old }
+    ensures consistent { IsConsistent result.0 blocks.new }
+    ensures turns { (m : Machine) → StandsFor (state_of ends blocks.old) ram.old m → Turns side result.1 (state_of ends blocks.old) ram.old (state_of result.0 blocks.new) ram.new m }
+{
+    match side {
+        Side::Firmware => firmware_turn(ends, blocks, ram),
+        Side::Reader => reader_turn(ends, blocks, ram),
+    }
+}
+
+fn firmware_turn(ends: Ends, blocks: &mut Blocks, ram: &mut Ram) -> (Ends, Event)
     requires consistent { IsConsistent ends blocks.old }
     requires stands { Stands (state_of ends blocks.old) ram.old }
     ensures consistent { IsConsistent result.0 blocks.new }
@@ -70,8 +82,7 @@ fn fill_or_publish(
     (Ends::Shown(wait, idle), Event::Publish)
 }
 
-/// A turn of the reader.
-pub fn reader_turn(ends: Ends, blocks: &mut Blocks, ram: &mut Ram) -> (Ends, Event)
+fn reader_turn(ends: Ends, blocks: &mut Blocks, ram: &mut Ram) -> (Ends, Event)
     requires consistent { IsConsistent ends blocks.old }
     requires stands { Stands (state_of ends blocks.old) ram.old }
     ensures consistent { IsConsistent result.0 blocks.new }

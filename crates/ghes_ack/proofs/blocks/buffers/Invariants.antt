@@ -1,4 +1,4 @@
-use Rattle.std.proofs.Common.{◌≡◌, ℕ, ◌≤◌, vec_len, vec_capacity, All}
+use Rattle.std.proofs.Common.{◌≡◌, ◌≤◌, vec_len, vec_capacity, All}
 use Rattle.ghes_ack.specs.Sides.{IsWide}
 use Rattle.ghes_ack.proofs.blocks.buffers.Given as goal
 

@@ -1,4 +1,4 @@
-use Rattle.std.proofs.Common.{length, ◌≡◌}
+use Rattle.std.proofs.Common.{length}
 use Rattle.ghes_ack.proofs.PieceLemmas.{hidden_copy}
 use Rattle.ghes_ack.proofs.pieces.copy_hidden.Goals as goal
 

@@ -1,4 +1,4 @@
-use Rattle.std.proofs.Common.{◌≡◌, ◌∙◌, ℕ, ◌+◌, ◌-◌, ◌*◌, ◌<◌, ◌≤◌, ◌++◌, min, List, length, take, drop, refl, sym, ap, subst, arith, rules}
+use Rattle.std.proofs.Common.{◌≡◌, ◌∙◌, ℕ, ◌+◌, ◌-◌, ◌*◌, ◌<◌, ◌++◌, min, List, length, take, drop, refl, ap, arith}
 use Rattle.std.proofs.lemmas.List.{length-take, length-drop}
 use Rattle.base_model.specs.Bytes.{part, put_at}
 use Rattle.ghes_ack.specs.Maps.{window}

@@ -1,7 +1,6 @@
-use Rattle.std.proofs.Common.{◌≡◌, ◌∙◌, ℕ, ◌+◌, ◌-◌, ◌*◌, ◌<◌, ◌≤◌, min, List, length, take, drop, vec_len, refl, sym, ap, subst, arith, rules}
+use Rattle.std.proofs.Common.{◌≡◌, ◌∙◌, ℕ, ◌<◌, ◌≤◌, List, length, vec_len, sym, ap, subst, arith}
 use Rattle.base_model.specs.Bytes.{number_at}
-use Rattle.ghes_ack.specs.Maps.{window}
-use Rattle.ghes_ack.proofs.SideLemmas.{fits_in_hand, fills_in_hand, filled_in_hand, publishes_in_hand}
+use Rattle.ghes_ack.proofs.SideLemmas.{fits_in_hand, fills_in_hand, publishes_in_hand}
 use Rattle.ghes_ack.proofs.turns.fill_or_publish.Goals as goal
 
 pub fill-requires-clause-fits : goal.fill-requires-clause-fits

@@ -1,4 +1,4 @@
-use Rattle.std.proofs.Common.{◌≡◌, ◌∙◌, ℕ, ◌+◌, ◌-◌, ◌*◌, ◌<◌, ◌≤◌, min, List, length, take, drop, refl, sym, ap, subst, arith, rules}
+use Rattle.std.proofs.Common.{sym, subst}
 use Rattle.ghes_ack.specs.declared.events.Side.TheVariants.{Reader}
 use Rattle.ghes_ack.specs.declared.events.Event.TheVariants.{Ack}
 use Rattle.ghes_ack.specs.declared.ends.Ends.{Ends}

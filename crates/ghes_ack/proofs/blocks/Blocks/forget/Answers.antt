@@ -1,4 +1,4 @@
-use Rattle.std.proofs.Common.{◌≡◌, ◌∙◌, ℕ, ◌+◌, ◌-◌, ◌<◌, ◌≤◌, length, ap, arith}
+use Rattle.std.proofs.Common.{◌≡◌, ◌∙◌, ◌-◌, length, ap, arith}
 use Rattle.std.proofs.lemmas.List.{length-drop}
 use Rattle.ghes_ack.specs.Sides.{IsWide}
 use Rattle.ghes_ack.proofs.RoomLemmas.{All-more}

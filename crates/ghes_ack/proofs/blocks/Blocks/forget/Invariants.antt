@@ -1,4 +1,4 @@
-use Rattle.std.proofs.Common.{◌≡◌, ℕ, None}
+use Rattle.std.proofs.Common.{◌≡◌, None}
 use Rattle.std.specs.VecDeque.{deque_len}
 use Rattle.ghes_ack.specs.Sides.{HasRoom}
 use Rattle.ghes_ack.proofs.blocks.Blocks.forget.Given as goal

@@ -1,11 +1,10 @@
-use Rattle.std.proofs.Common.{◌≡◌, ◌∙◌, ℕ, ◌+◌, ◌-◌, ◌*◌, ◌<◌, ◌≤◌, ◌^◌, min, ◌++◌, replicate, List, length, take, drop, refl, sym, ap, subst, arith, rules, bit_or}
-use Rattle.base_model.specs.Bytes.{part, number_at, spelled, put_at, AreBytes}
-use Rattle.base_model.proofs.BytesLemmas.{AreBytes-each}
+use Rattle.std.proofs.Common.{◌≡◌, ◌∙◌, ℕ, ◌+◌, ◌-◌, ◌*◌, ◌<◌, min, List, length, take, drop, sym, ap, subst, arith}
+use Rattle.base_model.specs.Bytes.{part, put_at}
 use Rattle.apei_space.specs.RamState.{RamState}
 use Rattle.ghes_ack.specs.declared.maps.HandoverMap.{HandoverMap}
-use Rattle.ghes_ack.specs.Machine.{hidden, with_piece, with_status}
-use Rattle.ghes_ack.specs.Maps.{HasWindows, IsSet, IsClear, ack_read, ack_mask, with_set, with_clear, with_window, window}
-use Rattle.ghes_ack.proofs.EffectLemmas.{windows_address, windows_ack, started_memory, started_set, IsPublished, published_memory, filled_first, filled_behind}
+use Rattle.ghes_ack.specs.Machine.{with_piece}
+use Rattle.ghes_ack.specs.Maps.{with_window, window}
+use Rattle.ghes_ack.proofs.EffectLemmas.{filled_behind}
 use Rattle.ghes_ack.proofs.states.FirmBlock.fill.Goals as goal
 use Rattle.ghes_ack.proofs.states.FirmBlock.fill.Goals.{then-piece-eq0, else-piece-eq0}
 

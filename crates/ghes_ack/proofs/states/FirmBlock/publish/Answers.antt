@@ -1,11 +1,10 @@
-use Rattle.std.proofs.Common.{◌≡◌, ◌∙◌, ℕ, ◌+◌, ◌-◌, ◌*◌, ◌<◌, ◌≤◌, ◌^◌, min, ◌++◌, replicate, List, length, take, drop, refl, sym, ap, subst, arith, rules, bit_or}
-use Rattle.base_model.specs.Bytes.{part, number_at, spelled, put_at, AreBytes}
+use Rattle.std.proofs.Common.{◌≡◌, ℕ, ◌≤◌, List, length, sym, subst, arith}
+use Rattle.base_model.specs.Bytes.{number_at, spelled, put_at, AreBytes}
 use Rattle.base_model.proofs.BytesLemmas.{AreBytes-each}
 use Rattle.apei_space.specs.RamState.{RamState}
 use Rattle.ghes_ack.specs.declared.maps.HandoverMap.{HandoverMap}
-use Rattle.ghes_ack.specs.Machine.{hidden, with_piece, with_status}
-use Rattle.ghes_ack.specs.Maps.{HasWindows, IsSet, IsClear, ack_read, ack_mask, with_set, with_clear, with_ack, with_window, window}
-use Rattle.ghes_ack.proofs.EffectLemmas.{windows_address, windows_ack, started_memory, started_set, IsPublished, published_memory, filled_first, filled_behind}
+use Rattle.ghes_ack.specs.Maps.{HasWindows, IsClear, ack_read, with_clear, with_ack, with_window, window}
+use Rattle.ghes_ack.proofs.EffectLemmas.{windows_ack, IsPublished, published_memory}
 use Rattle.ghes_ack.proofs.states.FirmBlock.publish.Goals as goal
 
 published : (inside map : HandoverMap) (ram a new : RamState) (block : List ℕ) (word : ℕ) → inside ≡ map → HasWindows map ram → 20 ≤ length block → AreBytes block → word ≡ number_at block 0 4 →

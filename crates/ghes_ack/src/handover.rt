@@ -1,0 +1,156 @@
+// A handover of blocks, turn by turn.
+ghost use Rattle.std.specs.Prelude.{◌≡◌, ◌∷◌, ◌++◌, [], length, IfOk, OnOk, OnErr, MatchResult, Some, None};
+ghost use Rattle.apei_space.specs.RamState.{RamState};
+ghost use Rattle.ghes_ack.specs.Machine.{Machine, started, submitted, waiting_in, is_idle};
+ghost use Rattle.ghes_ack.specs.Maps.{HasAckBits, HasWindows, window, memory_started, memory_after};
+ghost use Rattle.ghes_ack.specs.Elsewhere.{SameWhere, IsOffMap, IsOffBlock};
+ghost use Rattle.ghes_ack.specs.Handovers.{StandsFor, IsTurned, fresh, refusal};
+
+use crate::blocks::{Blocks, WAITING};
+use crate::ends::Ends;
+use crate::events::{Event, Side};
+use crate::maps::HandoverMap;
+use crate::states::start;
+use crate::submission::SubmitError;
+use crate::turns::turn_of;
+use apei_bytes::Memory;
+use apei_space::Ram;
+use ghes_block::Block;
+use std::alloc::Global;
+use std::marker::Model;
+
+/// Both sides of a handover, and the blocks that the firmware hands over. It may not be dropped: `end` spends it.
+pub struct Handover {
+    /// Always there between two calls.
+    ends: Option<Ends>,
+    blocks: Blocks,
+}
+
+impl Model for Handover {
+    ghost use Rattle.ghes_ack.specs.Handovers.{HandoverState};
+    ghost use Rattle.ghes_ack.specs.Sides.{whole_of, AreConsistent};
+
+    ghost Value = { HandoverState };
+
+    ghost view = { λ handover. whole_of handover.ends handover.blocks };
+
+    ghost invariant = { λ handover. AreConsistent handover.ends handover.blocks };
+}
+
+impl Handover {
+    /// Begins a handover, with room for 66 blocks: 64 that wait, the one at work and the one taken last. No other call
+    /// takes memory.
+    pub fn new(alloc: Global, map: HandoverMap, ram: &mut Ram) -> Result<Handover, Memory>
+        requires windows { HasWindows map ram.old }
+        requires bits { HasAckBits map }
+        ensures fresh { IfOk result (λ handover. handover ≡ fresh map) }
+        ensures stands { IfOk result (λ handover. StandsFor handover ram.new (started (window map ram.old))) }
+        ensures memory { OnOk result (ram.new ≡ memory_started map ram.old) }
+        ensures elsewhere { OnOk result (SameWhere (IsOffMap map) ram.old ram.new) }
+        ensures refused { OnErr result (ram.new ≡ ram.old) }
+    {
+        let blocks = Blocks::new(alloc, map)?;
+        let (firm, idle) = start(map, ram);
+        Ok(Handover {
+            ends: Some(Ends::FirmHolds(firm, idle)),
+            blocks,
+        })
+    }
+
+    /// Takes a block over, and answers how many wait then.
+    pub fn submit(&mut self, block: &[u8]) -> Result<u32, SubmitError>
+        ensures added { OnOk result (self.new ≡ record self.old { waiting = self.old.waiting ++ block.now ∷ [] }) }
+        ensures number { IfOk result (λ waiting. waiting ≡ length self.new.waiting) }
+        ensures stands { OnOk result ((ram : RamState) (m : Machine) → StandsFor self.old ram m → StandsFor self.new ram (submitted m block.now)) }
+        ensures exact { MatchResult result (λ _. refusal self.old block.now ≡ None) (λ error. refusal self.old block.now ≡ Some error) }
+        ensures refused { OnErr result (self.new ≡ self.old) }
+    {
+        let len = block.len() as u64;
+        if len > u64::from(self.blocks.map.len) {
+            return Err(SubmitError::Long { len });
+        }
+        match Block::decode(block) {
+            Err(error) => return Err(SubmitError::Malformed(error)),
+            Ok((_, size)) => {
+                if size < block.len() {
+                    let bytes = (block.len() - size) as u64;
+                    return Err(SubmitError::Trailing { bytes });
+                }
+            }
+        }
+        if self.blocks.waiting.len() >= WAITING {
+            return Err(SubmitError::Full);
+        }
+        self.blocks.add(block);
+        Ok(self.blocks.waiting.len() as u32)
+    }
+
+    /// One turn of a side, over the memory that it was begun with. Between two turns others may write anything but its three
+    /// windows.
+    pub fn turn(&mut self, side: Side, ram: &mut Ram) -> Event
+        requires { (m : Machine) × StandsFor self.old ram.old m }
+        ensures turned { (m : Machine) → StandsFor self.old ram.old m → IsTurned side result self.new ram.new m }
+        ensures memory { ram.new ≡ memory_after self.old.map result ram.old (window self.old.map ram.new) }
+        ensures elsewhere { SameWhere (IsOffBlock self.old.map) ram.old ram.new }
+        ensures map { self.new.map ≡ self.old.map }
+    {
+        let Some(ends) = self.ends.take() else {
+            unreachable!();
+        };
+        let (next, event) = turn_of(side, ends, &mut self.blocks, ram);
+        put_back(&mut self.ends, next);
+        event
+    }
+
+    /// The block taken last since the start, empty where none was.
+    pub fn taken(&self) -> &[u8]
+        ensures { result.now ≡ self.now.last }
+    {
+        &self.blocks.last
+    }
+
+    /// Whether the reader neither reads a block nor has still to acknowledge one.
+    pub fn reader_idle(&self) -> bool
+        ensures { result ≡ is_idle self.now.situation }
+    {
+        match &self.ends {
+            Some(Ends::OsHolds(..)) | Some(Ends::Emptied(..)) => false,
+            Some(Ends::FirmHolds(..)) | Some(Ends::Shown(..)) | Some(Ends::Returned(..)) | None => {
+                true
+            }
+        }
+    }
+
+    /// Begins anew: every block is forgotten, and the window's other bytes stay.
+    pub fn restart(&mut self, ram: &mut Ram)
+        requires { HasWindows self.old.map ram.old }
+        ensures fresh { self.new ≡ fresh self.old.map }
+        ensures stands { StandsFor self.new ram.new (started (window self.old.map ram.old)) }
+        ensures memory { ram.new ≡ memory_started self.old.map ram.old }
+        ensures elsewhere { SameWhere (IsOffMap self.old.map) ram.old ram.new }
+    {
+        if let Some(ends) = self.ends.take() {
+            ends.spend();
+        }
+        self.blocks.forget();
+        let (firm, idle) = start(self.blocks.map, ram);
+        put_back(&mut self.ends, Ends::FirmHolds(firm, idle));
+    }
+
+    /// Spends the handover with both its sides, in any situation.
+    pub fn end(self) {
+        let Handover { ends, blocks: _ } = self;
+        if let Some(ends) = ends {
+            ends.spend();
+        }
+    }
+}
+
+/// Puts the sides to their place.
+fn put_back(place: &mut Option<Ends>, ends: Ends)
+    ensures { place.new ≡ Some ends }
+{
+    if let Some(old) = place.replace(ends) {
+        old.spend();
+    }
+}
