@@ -80,7 +80,7 @@ fn first_head(geometry: &Geometry, draft: &Draft, body: &[u8]) -> Head
         kill: NOT_KILLED,
         format: FORMAT,
         generation: draft.generation,
-        id: draft.id,
+        id: draft.id.get(),
         len: draft.len,
         next: [named_at(draft, 1), named_at(draft, 2), named_at(draft, 3)],
     }
@@ -106,7 +106,7 @@ fn part_head(geometry: &Geometry, draft: &Draft, number: u32, body: &[u8]) -> Pa
 {
     PartHead {
         generation: draft.generation,
-        id: draft.id,
+        id: draft.id.get(),
         len: part_len(geometry, draft.len, number),
         part: number as u16,
         first: draft.slots[0],

@@ -1,11 +1,12 @@
 // One change of a write before its gate, and what comes next.
-ghost use Rattle.std.specs.Prelude.{◌≡◌, ◌<◌, ◌≤◌, ◌+◌, ◌*◌, ◌==◌, ◌⊎◌, false, nat_lt, if◌then◌else◌, slice_index, slice_index_or, length, OnOk, IfOk};
+ghost use Rattle.std.specs.Prelude.{ℕ, List, ◌≡◌, ◌<◌, ◌≤◌, ◌+◌, ◌*◌, ◌==◌, ◌⊎◌, false, nat_lt, if◌then◌else◌, slice_index, slice_index_or, length, OnOk, IfOk};
 ghost use Rattle.flash_words.specs.Flash.{AsksChange, Leaves};
 ghost use Rattle.record_model.specs.Filling as TheStep;
 ghost use Rattle.record_model.specs.Filling.{IsStep, place_of, len_of};
 ghost use Rattle.record_model.specs.Plan as ThePlan;
 ghost use Rattle.record_model.specs.Plan.{KnowsPlan, StandsAtStage, stage_after};
 ghost use Rattle.record_model.proofs.PlanLemmas.{StaysKnown, Opens};
+ghost use Rattle.record_model.proofs.StepLemmas.{first_stage};
 ghost use Rattle.record_model.specs.Records.{stored_in};
 ghost use Rattle.std.specs.FinMap.{insert};
 ghost use Rattle.record_slots.specs.Slots.{Fits};
@@ -113,6 +114,25 @@ fn after_piece(len: u32, number: u32, piece: u32) -> Stage
         Stage::Fill {
             number,
             step: Step::TailMark,
+        }
+    }
+}
+
+/// The first stage of a write.
+#[tactic(auto, using(std::proofs::lemmas::Bool::Decides::nat_tests))]
+pub fn first_stage(draft: &Draft) -> Stage
+    ensures is { (geometry : Geometry) (body : List ℕ) → IsDraft geometry draft.now body → stage_of result ≡ first_stage (plan_of draft.now body) }
+    ensures form { (geometry : Geometry) (body : List ℕ) → IsDraft geometry draft.now body → IsStage geometry draft.now body result }
+{
+    if draft.parts > 1 {
+        Stage::Fill {
+            number: 1,
+            step: first_step(draft.marked[1]),
+        }
+    } else {
+        Stage::Fill {
+            number: 0,
+            step: first_step(draft.marked[0]),
         }
     }
 }

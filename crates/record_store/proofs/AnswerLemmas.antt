@@ -1,5 +1,5 @@
 -- What the kept lists answer, as the map of the records answers it.
-use Rattle.std.proofs.Common.{◌≡◌, ℕ, ◌<◌, ◌≤◌, true, List, length, get_or, Option, Some, None, refl, sym, ap, subst, ◌∙◌, arith, inl, inr}
+use Rattle.std.proofs.Common.{◌≡◌, ℕ, ◌<◌, ◌≤◌, true, List, [], length, get_or, Option, Some, None, sym, ap, ◌∙◌, arith, inl, inr}
 use Rattle.std.specs.Prelude.{Contains, is_some, IsSome}
 use Rattle.std.specs.FinMap.{get, len}
 use Rattle.std.proofs.lemmas.List.{get_or_default}
@@ -7,12 +7,11 @@ use Rattle.std.proofs.lemmas.Option.{none-some}
 use Rattle.erst_ids.specs.Next.{IsNextAfter}
 use Rattle.record_model.specs.Records.{Entry, selected}
 use Rattle.record_model.specs.RecordMap.{IsNextAbove}
+use Rattle.record_model.proofs.ChosenLemmas.{chosen_or_none, get-chosen, get-no_slot}
 use Rattle.record_recovery.specs.declared.found.Found.{Found}
 use Rattle.record_recovery.specs.declared.found.SlotOf.{SlotOf}
 use Rattle.record_recovery.specs.Listed.{IsPlaceOf, AreListed, IsListed}
-use Rattle.record_recovery.proofs.ChosenLemmas.{chosen_or_none, get-chosen, get-no_slot}
 use Rattle.record_recovery.proofs.ListedLemmas.{get-listed, get-unlisted}
-use Rattle.record_recovery.proofs.FreeLemmas.{free_slots-are}
 use Rattle.record_store.specs.Index.{IsListing, IsListOf, IsPlaceFound, IsStoredAt}
 use Rattle.record_store.proofs.CountLemmas.{len_stored}
 
@@ -36,14 +35,14 @@ stored_listed entry n q ids places had some = elim (chosen_or_none entry q n) [
 
     not_listed : IsListed ids q → ((k : ℕ) (e : Entry) → k < n → entry k ≡ Some e → e.id ≡ q → ⊥) → ⊥
     not_listed listed none =
-        let d : SlotOf = record { slot = 0; generation = 0; len = 0 } in
+        let d : SlotOf = record { slot = 0; generation = 0; len = 0; next = [] } in
         let place = had.each listed.0 d listed.1 in
         none (get_or places listed.0 d).slot place.chosen (place.is).within (place.is).here (place.of_id ∙ listed.2)
 
 -- and what is listed is in the map
 listed_stored : (entry : ℕ → Option Entry) (n q : ℕ) (ids : List ℕ) (places : List SlotOf) → AreListed entry n ids places → IsListed ids q → IsSome (get (selected entry n) q)
 listed_stored entry n q ids places had listed =
-    let d : SlotOf = record { slot = 0; generation = 0; len = 0 } in
+    let d : SlotOf = record { slot = 0; generation = 0; len = 0; next = [] } in
     let place = get-listed entry n listed.0 d ids places had listed.1 in
     ap is_some (ap (get (selected entry n)) (sym listed.2) ∙ place.2)
 
@@ -66,30 +65,20 @@ next_stored entry slots cursor found (Some id) list next = record {
 }
 
 -- the place that is found is that of the stored record
-pub place_stored : (entry : ℕ → Option Entry) (slots id : ℕ) (place : SlotOf) → IsPlaceOf entry slots id place → (body : List ℕ) × IsStoredAt entry slots id place body
-place_stored entry slots id place is =
-    let whole : is.chosen ≡ record { id = id; generation = place.generation; body = (is.chosen).body } =
-    λ i. record { id = is.of_id i; generation = is.generation i; body = (is.chosen).body } in
-    let stored : get (selected entry slots) id ≡ Some ((is.chosen).body, place.generation) =
-    ap (get (selected entry slots)) (sym is.of_id) ∙ get-chosen entry slots place.slot is.chosen is.is
-    ∙ ap (λ (g : ℕ). Some ((is.chosen).body, g)) is.generation in (
-      (is.chosen).body,
-      record {
-        slot = (is.is).within;
-        here = (is.is).here ∙ ap (λ (e : Entry). Some e) whole;
-        stored = stored;
-        len = is.len;
-      },
-    )
+pub place_stored : (entry : ℕ → Option Entry) (slots id : ℕ) (place : SlotOf) → IsPlaceOf entry slots id place → (e : Entry) × IsStoredAt entry slots id place e
+place_stored entry slots id place is = (
+  is.chosen,
+  record {
+    chosen = is.is;
+    is = record { of_id = is.of_id; generation = is.generation; len = is.len; further = is.further };
+    stored = ap (get (selected entry slots)) (sym is.of_id) ∙ get-chosen entry slots place.slot is.chosen is.is
+        ∙ ap (λ (g : ℕ). Some ((is.chosen).body, g)) is.generation;
+  },
+)
 
 -- where none is found, none is stored
 pub no_place_stored : (entry : ℕ → Option Entry) (slots id : ℕ) → IsPlaceFound entry slots id None → get (selected entry slots) id ≡ None
 no_place_stored entry slots id none = get-no_slot entry slots id none
-
--- every slot that is listed as free has no record
-pub free_is_free : (entry : ℕ → Option Entry) (slots i : ℕ) (found : Found) → IsListOf entry slots found → i < length found.free.items
-    → (get_or found.free.items i 0 < slots) × (entry (get_or found.free.items i 0) ≡ None)
-free_is_free entry slots i found list within = free_slots-are entry slots (get_or found.free.items i 0) (subst (λ (xs : List ℕ). IsListed xs (get_or found.free.items i 0)) list.free (i, within, refl))
 
 -- a store whose lists have no identifier has no record
 pub none_stored : (entry : ℕ → Option Entry) (slots size : ℕ) (found : Found) → IsListing slots size found → IsListOf entry slots found

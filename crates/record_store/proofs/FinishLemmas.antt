@@ -1,19 +1,24 @@
 -- The changes of a command, one after another.
-use Rattle.std.proofs.Common.{◌≡◌, ◌⊎◌, ℕ, ◌+◌, ◌-◌, ◌<◌, ◌≤◌, Bool, true, false, cond, nat_eq, List, Option, Some, None, Result, Ok, Err, refl, sym, ap, subst, ◌∙◌, arith, inl, inr}
+use Rattle.std.proofs.Common.{◌≡◌, ◌⊎◌, ℕ, ◌+◌, ◌-◌, ◌<◌, ◌≤◌, Bool, true, false, cond, nat_eq, List, length, take, Option, Some, None, Result, Ok, Err, refl, sym, ap, subst, ◌∙◌, arith, inl, inr}
 use Rattle.std.specs.Prelude.{nat_le, is_some, OnOk}
 use Rattle.std.specs.FinMap.{get}
 use Rattle.std.proofs.lemmas.Bool.{cases_eq, cases_lt, cond-true, cond-false, eq-eqb, ne_eqb, le-leb, lt-leb}
-use Rattle.record_model.specs.Flash.{Leaves}
-use Rattle.record_model.specs.Records.{Stored, stored_in}
+use Rattle.std.proofs.lemmas.Result.{on_ok_weaker}
+use Rattle.flash_words.specs.Flash.{FlashState, Told}
+use Rattle.flash_words.specs.Layout.{Layout, room_of}
+use Rattle.flash_words.proofs.CrashLemmas.{Leaves-none, Leaves-weaker, Leaves-then, Leaves-exit}
+use Rattle.record_model.specs.Records.{Stored, entry_at, parts_of}
 use Rattle.record_model.specs.RecordMap.{Command, Write, Clear, Refusal, Failed, NoSpace as no_space, NotFound as not_found, refusal_of, after, changes_of, made_by}
 use Rattle.record_model.proofs.MapLemmas.{after-done}
 use Rattle.record_model.proofs.RefusalLemmas.{changes_of-refused, changes_of-new, changes_of-over, changes_of-clear}
-use Rattle.record_model.proofs.CrashLemmas.{Leaves-none, Leaves-weaker, Leaves-then, Leaves-exit}
-use Rattle.record_store.specs.Store.{StoreView, Pending, Idle, Writing, Clearing, stored, map_after, pending_after, changes_before_gate, changes_in_all, KeepsOrMakes, DividesAlike}
-use Rattle.record_store.specs.Answers.{FailsByFlash, AnswersWrite, AnswersClear, RefusesWrite, RefusesClear, UnlessFlash}
+use Rattle.record_recovery.specs.Listed.{free_slots}
+use Rattle.record_store.specs.Store.{StoreView, Pending, Idle, Writing, Clearing, stored, records_of, map_after, pending_after, changes_before_gate, changes_in_all, StandsIn, slots_for, PlacedAfter, KeepsOrMakes, KeepsMap, DividesAlike}
+use Rattle.record_store.specs.Answers.{FailsByFlash, AnswersWrite, AnswersClear, RefusesWrite, RefusesClear, UnlessFlash, HasFaultsOf, HasDoubtOf, StartsWrite, StartsClear, ReadsExactly, StartsByItself}
+use Rattle.record_store.specs.Calls.{OnlyStarts, Changes}
 use Rattle.record_store.specs.declared.errors.StoreError.{StoreError}
 use Rattle.record_store.specs.declared.errors.StoreError.TheVariants.{NoSpace, LastGeneration, NotFound, Empty, Flash, Small}
-use Rattle.record_store.specs.Finish.{IsUnfinished, changes_left, map_at_end, IsOnWay}
+use Rattle.record_store.specs.Finish.{IsUnfinished, changes_left, map_at_end, PlacedAtEnd, PlacesAlike, IsOnWay}
+use Rattle.record_store.proofs.StoreLemmas.{kept_map, alike_refl, alike_then}
 
 -- the tests of a write that has made so many changes, of which so many come before the gate
 record Tests (made before all : ℕ) (at_gate at_end early later : Bool) : Type 0 where
@@ -47,68 +52,68 @@ tests_late made before all high is = record {
 }
 
 -- the map once all changes are made stays the same as they are made
-module _ (per_slot id made : ℕ) (bytes : List ℕ) (replaces : Bool) (stored : Stored) where
-  end_by : (at_gate at_end early later : Bool) → Tests made (changes_before_gate per_slot bytes) (changes_in_all per_slot bytes replaces) at_gate at_end early later
-      → map_at_end per_slot (cond at_end Idle (Writing id bytes replaces (made + 1))) (cond at_gate (made_by (Write id bytes) stored) stored) ≡ cond early (made_by (Write id bytes) stored) stored
-      → map_at_end per_slot (pending_after per_slot (Writing id bytes replaces made)) (map_after per_slot (Writing id bytes replaces made) stored)
-      ≡ map_at_end per_slot (Writing id bytes replaces made) stored
+module _ (layout : Layout) (id made : ℕ) (bytes slots : List ℕ) (replaces : Bool) (stored : Stored) where
+  end_by : (at_gate at_end early later : Bool) → Tests made (changes_before_gate layout bytes) (changes_in_all layout bytes replaces) at_gate at_end early later
+      → map_at_end layout (cond at_end Idle (Writing id bytes slots replaces (made + 1))) (cond at_gate (made_by (Write id bytes) stored) stored) ≡ cond early (made_by (Write id bytes) stored) stored
+      → map_at_end layout (pending_after layout (Writing id bytes slots replaces made)) (map_after layout (Writing id bytes slots replaces made) stored)
+      ≡ map_at_end layout (Writing id bytes slots replaces made) stored
   end_by at_gate at_end early later tests same =
-      ap (λ (t : Bool). map_at_end per_slot (cond t Idle (Writing id bytes replaces (made + 1))) (map_after per_slot (Writing id bytes replaces made) stored)) tests.last
-      ∙ ap (λ (t : Bool). map_at_end per_slot (cond at_end Idle (Writing id bytes replaces (made + 1))) (cond t (made_by (Write id bytes) stored) stored)) tests.gate
+      ap (λ (t : Bool). map_at_end layout (cond t Idle (Writing id bytes slots replaces (made + 1))) (map_after layout (Writing id bytes slots replaces made) stored)) tests.last
+      ∙ ap (λ (t : Bool). map_at_end layout (cond at_end Idle (Writing id bytes slots replaces (made + 1))) (cond t (made_by (Write id bytes) stored) stored)) tests.gate
       ∙ same
       ∙ sym (ap (λ (t : Bool). cond t (made_by (Write id bytes) stored) stored) tests.now)
 
-end_writing : (per_slot id made : ℕ) (bytes : List ℕ) (replaces : Bool) (stored : Stored) → made < changes_in_all per_slot bytes replaces
-    → map_at_end per_slot (pending_after per_slot (Writing id bytes replaces made)) (map_after per_slot (Writing id bytes replaces made) stored) ≡ map_at_end per_slot (Writing id bytes replaces made) stored
-end_writing per_slot id made bytes true stored few = elim (cases_lt made (changes_before_gate per_slot bytes)) [
+end_writing : (layout : Layout) (id made : ℕ) (bytes slots : List ℕ) (replaces : Bool) (stored : Stored) → made < changes_in_all layout bytes replaces
+    → map_at_end layout (pending_after layout (Writing id bytes slots replaces made)) (map_after layout (Writing id bytes slots replaces made) stored) ≡ map_at_end layout (Writing id bytes slots replaces made) stored
+end_writing layout id made bytes slots true stored few = elim (cases_lt made (changes_before_gate layout bytes)) [
   | inl low ↦
-      let tests = tests_early made (changes_before_gate per_slot bytes) (changes_in_all per_slot bytes true) low (omega arith) in
-      end_by per_slot id made bytes true stored false false true true tests
+      let tests = tests_early made (changes_before_gate layout bytes) (changes_in_all layout bytes true) low (omega arith) in
+      end_by layout id made bytes slots true stored false false true true tests
       (ap (λ (t : Bool). cond t (made_by (Write id bytes) stored) stored) tests.next)
-  | inr high ↦ elim (cases_eq made (changes_before_gate per_slot bytes)) [
+  | inr high ↦ elim (cases_eq made (changes_before_gate layout bytes)) [
     | inl is ↦
-        let tests = tests_gate made (changes_before_gate per_slot bytes) (changes_in_all per_slot bytes true) false is (ne_eqb (made + 1) (changes_in_all per_slot bytes true) (λ e. absurd (omega arith))) in
-        end_by per_slot id made bytes true stored true false true false tests
+        let tests = tests_gate made (changes_before_gate layout bytes) (changes_in_all layout bytes true) false is (ne_eqb (made + 1) (changes_in_all layout bytes true) (λ e. absurd (omega arith))) in
+        end_by layout id made bytes slots true stored true false true false tests
         (ap (λ (t : Bool). cond t (made_by (Write id bytes) (made_by (Write id bytes) stored)) (made_by (Write id bytes) stored)) tests.next)
     | inr apart ↦
-        let tests = tests_late made (changes_before_gate per_slot bytes) (changes_in_all per_slot bytes true) (omega arith) (omega arith) in
-        end_by per_slot id made bytes true stored false true false false tests refl
+        let tests = tests_late made (changes_before_gate layout bytes) (changes_in_all layout bytes true) (omega arith) (omega arith) in
+        end_by layout id made bytes slots true stored false true false false tests refl
   ]
 ]
-end_writing per_slot id made bytes false stored few = elim (cases_lt made (changes_before_gate per_slot bytes)) [
+end_writing layout id made bytes slots false stored few = elim (cases_lt made (changes_before_gate layout bytes)) [
   | inl low ↦
-      let tests = tests_early made (changes_before_gate per_slot bytes) (changes_in_all per_slot bytes false) low (omega arith) in
-      end_by per_slot id made bytes false stored false false true true tests
+      let tests = tests_early made (changes_before_gate layout bytes) (changes_in_all layout bytes false) low (omega arith) in
+      end_by layout id made bytes slots false stored false false true true tests
       (ap (λ (t : Bool). cond t (made_by (Write id bytes) stored) stored) tests.next)
   | inr high ↦
-      let tests = tests_gate made (changes_before_gate per_slot bytes) (changes_in_all per_slot bytes false) true (omega arith) (eq-eqb (made + 1) (changes_in_all per_slot bytes false) (omega arith)) in
-      end_by per_slot id made bytes false stored true true true false tests refl
+      let tests = tests_gate made (changes_before_gate layout bytes) (changes_in_all layout bytes false) true (omega arith) (eq-eqb (made + 1) (changes_in_all layout bytes false) (omega arith)) in
+      end_by layout id made bytes slots false stored true true true false tests refl
 ]
 
-step_end : (per_slot : ℕ) (pending : Pending) (stored : Stored) → IsUnfinished per_slot pending
-    → map_at_end per_slot (pending_after per_slot pending) (map_after per_slot pending stored) ≡ map_at_end per_slot pending stored
-step_end per_slot Idle stored some = absurd some
-step_end per_slot (Writing id bytes replaces made) stored some = end_writing per_slot id made bytes replaces stored some
-step_end per_slot (Clearing id) stored some = refl
+step_end : (layout : Layout) (pending : Pending) (stored : Stored) → IsUnfinished layout pending
+    → map_at_end layout (pending_after layout pending) (map_after layout pending stored) ≡ map_at_end layout pending stored
+step_end layout Idle stored some = absurd some
+step_end layout (Writing id bytes slots replaces made) stored some = end_writing layout id made bytes slots replaces stored some
+step_end layout (Clearing id) stored some = refl
 
 -- a change makes no map, or the one at the end
-step_map : (per_slot : ℕ) (pending : Pending) (stored : Stored) → (map_after per_slot pending stored ≡ stored) ⊎ (map_after per_slot pending stored ≡ map_at_end per_slot pending stored)
-step_map per_slot Idle stored = inl refl
-step_map per_slot (Writing id bytes replaces made) stored = elim (cases_eq made (changes_before_gate per_slot bytes)) [
-  | inl is ↦ inr (cond-true {A = Stored} (nat_eq made (changes_before_gate per_slot bytes)) (made_by (Write id bytes) stored) stored (eq-eqb made (changes_before_gate per_slot bytes) is)
-      ∙ sym (cond-true {A = Stored} (nat_le made (changes_before_gate per_slot bytes)) (made_by (Write id bytes) stored) stored (le-leb made (changes_before_gate per_slot bytes) (omega arith))))
-  | inr apart ↦ inl (cond-false {A = Stored} (nat_eq made (changes_before_gate per_slot bytes)) (made_by (Write id bytes) stored) stored (ne_eqb made (changes_before_gate per_slot bytes) apart))
+step_map : (layout : Layout) (pending : Pending) (stored : Stored) → (map_after layout pending stored ≡ stored) ⊎ (map_after layout pending stored ≡ map_at_end layout pending stored)
+step_map layout Idle stored = inl refl
+step_map layout (Writing id bytes slots replaces made) stored = elim (cases_eq made (changes_before_gate layout bytes)) [
+  | inl is ↦ inr (cond-true {A = Stored} (nat_eq made (changes_before_gate layout bytes)) (made_by (Write id bytes) stored) stored (eq-eqb made (changes_before_gate layout bytes) is)
+      ∙ sym (cond-true {A = Stored} (nat_le made (changes_before_gate layout bytes)) (made_by (Write id bytes) stored) stored (le-leb made (changes_before_gate layout bytes) (omega arith))))
+  | inr apart ↦ inl (cond-false {A = Stored} (nat_eq made (changes_before_gate layout bytes)) (made_by (Write id bytes) stored) stored (ne_eqb made (changes_before_gate layout bytes) apart))
 ]
-step_map per_slot (Clearing id) stored = inr refl
+step_map layout (Clearing id) stored = inr refl
 
 -- one change less is left
-step_left : (per_slot : ℕ) (pending : Pending) → IsUnfinished per_slot pending → changes_left per_slot (pending_after per_slot pending) + 1 ≡ changes_left per_slot pending
-step_left per_slot Idle some = absurd some
-step_left per_slot (Writing id bytes replaces made) some = elim (cases_eq (made + 1) (changes_in_all per_slot bytes replaces)) [
+step_left : (layout : Layout) (pending : Pending) → IsUnfinished layout pending → changes_left layout (pending_after layout pending) + 1 ≡ changes_left layout pending
+step_left layout Idle some = absurd some
+step_left layout (Writing id bytes slots replaces made) some = elim (cases_eq (made + 1) (changes_in_all layout bytes replaces)) [
   | inl last ↦
-      ap (λ (t : Bool). changes_left per_slot (cond t Idle (Writing id bytes replaces (made + 1))) + 1) (eq-eqb (made + 1) (changes_in_all per_slot bytes replaces) last) ∙ one (changes_in_all per_slot bytes replaces) last
+      ap (λ (t : Bool). changes_left layout (cond t Idle (Writing id bytes slots replaces (made + 1))) + 1) (eq-eqb (made + 1) (changes_in_all layout bytes replaces) last) ∙ one (changes_in_all layout bytes replaces) last
   | inr apart ↦
-      ap (λ (t : Bool). changes_left per_slot (cond t Idle (Writing id bytes replaces (made + 1))) + 1) (ne_eqb (made + 1) (changes_in_all per_slot bytes replaces) apart) ∙ less (changes_in_all per_slot bytes replaces) some apart
+      ap (λ (t : Bool). changes_left layout (cond t Idle (Writing id bytes slots replaces (made + 1))) + 1) (ne_eqb (made + 1) (changes_in_all layout bytes replaces) apart) ∙ less (changes_in_all layout bytes replaces) some apart
 ]
   where
     one : (all : ℕ) → made + 1 ≡ all → 0 + 1 ≡ all - made
@@ -116,151 +121,179 @@ step_left per_slot (Writing id bytes replaces made) some = elim (cases_eq (made 
 
     less : (all : ℕ) → made < all → (made + 1 ≡ all → ⊥) → all - (made + 1) + 1 ≡ all - made
     less all h apart = omega arith
-step_left per_slot (Clearing id) some = omega arith
+step_left layout (Clearing id) some = omega arith
 
-step_unfinished : (per_slot : ℕ) (pending : Pending) → IsUnfinished per_slot pending → (pending_after per_slot pending ≡ Idle → ⊥) → IsUnfinished per_slot (pending_after per_slot pending)
-step_unfinished per_slot Idle some goes_on = absurd some
-step_unfinished per_slot (Writing id bytes replaces made) some goes_on = elim (cases_eq (made + 1) (changes_in_all per_slot bytes replaces)) [
-  | inl last ↦ absurd (goes_on (ap (λ (t : Bool). cond t Idle (Writing id bytes replaces (made + 1))) (eq-eqb (made + 1) (changes_in_all per_slot bytes replaces) last)))
+step_unfinished : (layout : Layout) (pending : Pending) → IsUnfinished layout pending → (pending_after layout pending ≡ Idle → ⊥) → IsUnfinished layout (pending_after layout pending)
+step_unfinished layout Idle some goes_on = absurd some
+step_unfinished layout (Writing id bytes slots replaces made) some goes_on = elim (cases_eq (made + 1) (changes_in_all layout bytes replaces)) [
+  | inl last ↦ absurd (goes_on (ap (λ (t : Bool). cond t Idle (Writing id bytes slots replaces (made + 1))) (eq-eqb (made + 1) (changes_in_all layout bytes replaces) last)))
   | inr apart ↦
-      subst (λ (t : Bool). IsUnfinished per_slot (cond t Idle (Writing id bytes replaces (made + 1)))) (sym (ne_eqb (made + 1) (changes_in_all per_slot bytes replaces) apart))
-      (below (changes_in_all per_slot bytes replaces) some apart)
+      subst (λ (t : Bool). IsUnfinished layout (cond t Idle (Writing id bytes slots replaces (made + 1)))) (sym (ne_eqb (made + 1) (changes_in_all layout bytes replaces) apart))
+      (below (changes_in_all layout bytes replaces) some apart)
 ]
   where
     below : (all : ℕ) → made < all → (made + 1 ≡ all → ⊥) → made + 1 < all
     below all h apart = omega arith
-step_unfinished per_slot (Clearing id) some goes_on = absurd (goes_on refl)
+step_unfinished layout (Clearing id) some goes_on = absurd (goes_on refl)
+
+-- what is placed at the end stays the same, as long as it is not the end
+step_places : (layout : Layout) (pending : Pending) → IsUnfinished layout pending → (pending_after layout pending ≡ Idle → ⊥) → PlacesAlike layout pending (pending_after layout pending)
+step_places layout Idle some goes_on image at_end = tt
+step_places layout (Writing id bytes slots replaces made) some goes_on image at_end = elim (cases_eq (made + 1) (changes_in_all layout bytes replaces)) [
+  | inl last ↦ absurd (goes_on (ap (λ (t : Bool). cond t Idle (Writing id bytes slots replaces (made + 1))) (eq-eqb (made + 1) (changes_in_all layout bytes replaces) last)))
+  | inr apart ↦
+      subst (λ (t : Bool). PlacedAtEnd layout (cond t Idle (Writing id bytes slots replaces (made + 1))) image) (ne_eqb (made + 1) (changes_in_all layout bytes replaces) apart) at_end
+]
+step_places layout (Clearing id) some goes_on image at_end = tt
+
+-- after the last change it is there
+last_placed : (layout : Layout) (pending : Pending) (image : List ℕ) → IsUnfinished layout pending → pending_after layout pending ≡ Idle → PlacedAfter layout pending image → PlacedAtEnd layout pending image
+last_placed layout Idle image some ends placed = tt
+last_placed layout (Writing id bytes slots replaces made) image some ends placed = elim (cases_eq (made + 1) (changes_in_all layout bytes replaces)) [
+  | inl last ↦ placed (behind replaces last)
+  | inr apart ↦ absurd (busy (sym (ap (λ (t : Bool). cond t Idle (Writing id bytes slots replaces (made + 1))) (ne_eqb (made + 1) (changes_in_all layout bytes replaces) apart)) ∙ ends))
+]
+  where
+    behind : (b : Bool) → made + 1 ≡ changes_before_gate layout bytes + cond b 2 1 → changes_before_gate layout bytes ≤ made
+    behind true e = omega arith
+    behind false e = omega arith
+
+    busy : Writing id bytes slots replaces (made + 1) ≡ Idle → ⊥
+    busy e = cc
+last_placed layout (Clearing id) image some ends placed = tt
 
 -- no change yet
-pub IsOnWay-none : (tells : Type 0) (v : StoreView) → IsUnfinished v.per_slot v.pending → IsOnWay tells v v
+pub IsOnWay-none : (tells : Type 0) (v : StoreView) → IsUnfinished v.layout v.pending → IsOnWay tells v v
 IsOnWay-none tells v some = record {
   unfinished = some;
   left = refl;
   faults = refl;
-  alike = record { sector = refl; per_slot = refl; slots = refl; slot_size = refl; size = refl; sector_size = refl };
+  alike = alike_refl v;
+  places = λ image at_end. at_end;
   end = λ told. refl;
-  crash = λ told. Leaves-none v.flash.told (λ image. (stored_in v.slot_size v.slots image ≡ stored v) ⊎ (stored_in v.slot_size v.slots image ≡ map_at_end v.per_slot v.pending (stored v))) (inl refl);
-}
-
-DividesAlike-then : (old mid new : StoreView) → DividesAlike old mid → DividesAlike mid new → DividesAlike old new
-DividesAlike-then old mid new first second = record {
-  sector = second.sector ∙ first.sector;
-  per_slot = second.per_slot ∙ first.per_slot;
-  slots = second.slots ∙ first.slots;
-  slot_size = second.slot_size ∙ first.slot_size;
-  size = second.size ∙ first.size;
-  sector_size = second.sector_size ∙ first.sector_size;
+  crash = λ told. Leaves-none v.flash.told (λ image. (records_of v.layout image ≡ stored v) ⊎ (records_of v.layout image ≡ map_at_end v.layout v.pending (stored v))) (inl refl);
 }
 
 -- what power lost in one more change leaves
-pub way_crash : (tells : Type 0) (old mid new : StoreView) → IsOnWay tells old mid → tells → KeepsOrMakes mid new (map_after mid.per_slot mid.pending (stored mid))
-    → KeepsOrMakes old new (map_at_end old.per_slot old.pending (stored old))
+pub way_crash : (tells : Type 0) (old mid new : StoreView) → IsOnWay tells old mid → tells → KeepsOrMakes mid new (map_after mid.layout mid.pending (stored mid))
+    → KeepsOrMakes old new (map_at_end old.layout old.pending (stored old))
 way_crash tells old mid new way told step =
-    let finish = map_at_end old.per_slot old.pending (stored old) in
-    let P : List ℕ → Type 0 = λ image. (stored_in old.slot_size old.slots image ≡ stored old) ⊎ (stored_in old.slot_size old.slots image ≡ finish) in
+    let finish = map_at_end old.layout old.pending (stored old) in
+    let P : List ℕ → Type 0 = λ image. (records_of old.layout image ≡ stored old) ⊎ (records_of old.layout image ≡ finish) in
     Leaves-then old.flash.told mid.flash.told new.flash.told P (way.crash told)
     (Leaves-weaker mid.flash.told new.flash.told
-    (λ image. (stored_in mid.slot_size mid.slots image ≡ stored mid) ⊎ (stored_in mid.slot_size mid.slots image ≡ map_after mid.per_slot mid.pending (stored mid))) P step
+    (λ image. (records_of mid.layout image ≡ stored mid) ⊎ (records_of mid.layout image ≡ map_after mid.layout mid.pending (stored mid))) P step
     (λ image either. elim either [
       | inl kept ↦ at_mid image kept
-      | inr made ↦ elim (step_map mid.per_slot mid.pending (stored mid)) [
+      | inr made ↦ elim (step_map mid.layout mid.pending (stored mid)) [
         | inl same ↦ at_mid image (made ∙ same)
         | inr ends ↦ inr (alike_stored image ∙ made ∙ ends ∙ way.end told)
       ]
     ]))
   where
-    alike_stored : (image : List ℕ) → stored_in old.slot_size old.slots image ≡ stored_in mid.slot_size mid.slots image
-    alike_stored image = ap (λ (n : ℕ). stored_in n old.slots image) (sym way.alike.slot_size) ∙ ap (λ (n : ℕ). stored_in mid.slot_size n image) (sym way.alike.slots)
+    alike_stored : (image : List ℕ) → records_of old.layout image ≡ records_of mid.layout image
+    alike_stored image = ap (λ (l : Layout). records_of l image) (sym way.alike.layout)
 
-    at_mid : (image : List ℕ) → stored_in mid.slot_size mid.slots image ≡ stored mid
-        → (stored_in old.slot_size old.slots image ≡ stored old) ⊎ (stored_in old.slot_size old.slots image ≡ map_at_end old.per_slot old.pending (stored old))
+    at_mid : (image : List ℕ) → records_of mid.layout image ≡ stored mid
+        → (records_of old.layout image ≡ stored old) ⊎ (records_of old.layout image ≡ map_at_end old.layout old.pending (stored old))
     at_mid image same = elim (Leaves-exit old.flash.told mid.flash.told
-        (λ x. (stored_in old.slot_size old.slots x ≡ stored old) ⊎ (stored_in old.slot_size old.slots x ≡ map_at_end old.per_slot old.pending (stored old))) (way.crash told)) [
+        (λ x. (records_of old.layout x ≡ stored old) ⊎ (records_of old.layout x ≡ map_at_end old.layout old.pending (stored old))) (way.crash told)) [
           | inl first ↦ inl (alike_stored image ∙ same ∙ sym (alike_stored mid.flash.told.image) ∙ first)
           | inr last ↦ inr (alike_stored image ∙ same ∙ sym (alike_stored mid.flash.told.image) ∙ last)
         ]
 
 -- one more change was made
 pub record HasGoneOn (tells : Type 0) (old new : StoreView) : Type 0 where
-  pub left : new.flash.steps + changes_left new.per_slot new.pending ≡ old.flash.steps + changes_left old.per_slot old.pending
+  pub left : new.flash.steps + changes_left new.layout new.pending ≡ old.flash.steps + changes_left old.layout old.pending
   pub faults : new.flash.faults ≡ old.flash.faults
   pub alike : DividesAlike old new
-  pub end : tells → map_at_end new.per_slot new.pending (stored new) ≡ map_at_end old.per_slot old.pending (stored old)
-  pub crash : tells → KeepsOrMakes old new (map_at_end old.per_slot old.pending (stored old))
+  pub end : tells → map_at_end new.layout new.pending (stored new) ≡ map_at_end old.layout old.pending (stored old)
+  pub crash : tells → KeepsOrMakes old new (map_at_end old.layout old.pending (stored old))
 
-pub gone_on : (tells : Type 0) (old mid new : StoreView) → IsOnWay tells old mid → new.pending ≡ pending_after mid.per_slot mid.pending
-    → (tells → stored new ≡ map_after mid.per_slot mid.pending (stored mid)) → (tells → KeepsOrMakes mid new (map_after mid.per_slot mid.pending (stored mid)))
+pub gone_on : (tells : Type 0) (old mid new : StoreView) → IsOnWay tells old mid → new.pending ≡ pending_after mid.layout mid.pending
+    → (tells → stored new ≡ map_after mid.layout mid.pending (stored mid)) → (tells → KeepsOrMakes mid new (map_after mid.layout mid.pending (stored mid)))
     → new.flash.steps ≡ mid.flash.steps + 1 → DividesAlike mid new → new.flash.faults ≡ mid.flash.faults → HasGoneOn tells old new
 gone_on tells old mid new way pending made crash step alike faults =
-    let per_slot : new.per_slot ≡ mid.per_slot = alike.per_slot in
-    let at_new : changes_left new.per_slot new.pending ≡ changes_left mid.per_slot (pending_after mid.per_slot mid.pending) =
-    ap (λ (n : ℕ). changes_left n new.pending) per_slot ∙ ap (changes_left mid.per_slot) pending in
-    let one = step_left mid.per_slot mid.pending way.unfinished in
+    let layout : new.layout ≡ mid.layout = alike.layout in
+    let at_new : changes_left new.layout new.pending ≡ changes_left mid.layout (pending_after mid.layout mid.pending) =
+    ap (λ (l : Layout). changes_left l new.pending) layout ∙ ap (changes_left mid.layout) pending in
+    let one = step_left mid.layout mid.pending way.unfinished in
     let left = way.left in
     record {
       left = omega arith;
       faults = faults ∙ way.faults;
-      alike = DividesAlike-then old mid new way.alike alike;
+      alike = alike_then old mid new way.alike alike;
       end = λ told.
-          ap (λ (n : ℕ). map_at_end n new.pending (stored new)) per_slot ∙ ap (λ (p : Pending). map_at_end mid.per_slot p (stored new)) pending
-          ∙ ap (map_at_end mid.per_slot (pending_after mid.per_slot mid.pending)) (made told)
-          ∙ step_end mid.per_slot mid.pending (stored mid) way.unfinished ∙ way.end told;
+          ap (λ (l : Layout). map_at_end l new.pending (stored new)) layout ∙ ap (λ (p : Pending). map_at_end mid.layout p (stored new)) pending
+          ∙ ap (map_at_end mid.layout (pending_after mid.layout mid.pending)) (made told)
+          ∙ step_end mid.layout mid.pending (stored mid) way.unfinished ∙ way.end told;
       crash = λ told. way_crash tells old mid new way told (crash told);
     }
 
 -- and it was not the last
-pub IsOnWay-more : (tells : Type 0) (old mid new : StoreView) → IsOnWay tells old mid → new.pending ≡ pending_after mid.per_slot mid.pending → (new.pending ≡ Idle → ⊥) → new.per_slot ≡ mid.per_slot
+pub IsOnWay-more : (tells : Type 0) (old mid new : StoreView) → IsOnWay tells old mid → new.pending ≡ pending_after mid.layout mid.pending → (new.pending ≡ Idle → ⊥) → new.layout ≡ mid.layout
     → HasGoneOn tells old new → IsOnWay tells old new
-IsOnWay-more tells old mid new way pending goes_on per_slot gone = record {
-  unfinished = subst (λ (n : ℕ). IsUnfinished n new.pending) (sym per_slot)
-      (subst (λ (p : Pending). IsUnfinished mid.per_slot p) (sym pending) (step_unfinished mid.per_slot mid.pending way.unfinished (λ idle. goes_on (pending ∙ idle))));
+IsOnWay-more tells old mid new way pending goes_on layout gone = record {
+  unfinished = subst (λ (l : Layout). IsUnfinished l new.pending) (sym layout)
+      (subst (λ (p : Pending). IsUnfinished mid.layout p) (sym pending) (step_unfinished mid.layout mid.pending way.unfinished (λ idle. goes_on (pending ∙ idle))));
   left = gone.left;
   faults = gone.faults;
   alike = gone.alike;
+  places = λ image at_end. way.places image
+      (subst (λ (l : Layout). PlacedAtEnd l mid.pending image) way.alike.layout
+      (step_places mid.layout mid.pending way.unfinished (λ idle. goes_on (pending ∙ idle)) image
+      (subst (λ (l : Layout). PlacedAtEnd l (pending_after mid.layout mid.pending) image) (sym way.alike.layout)
+      (subst (λ (p : Pending). PlacedAtEnd old.layout p image) pending at_end))));
   end = gone.end;
   crash = gone.crash;
 }
 
+-- and it was: the record that was written is in its slots
+pub way_placed : (tells : Type 0) (old mid new : StoreView) → IsOnWay tells old mid → new.pending ≡ pending_after mid.layout mid.pending → new.pending ≡ Idle
+    → PlacedAfter mid.layout mid.pending new.flash.told.image → PlacedAtEnd old.layout old.pending new.flash.told.image
+way_placed tells old mid new way pending ends placed =
+    way.places new.flash.told.image (subst (λ (l : Layout). PlacedAtEnd l mid.pending new.flash.told.image) way.alike.layout
+    (last_placed mid.layout mid.pending new.flash.told.image way.unfinished (sym pending ∙ ends) placed))
+
 -- a command that was refused, or failed before its first change
-pub kept_or_made : (old new : StoreView) (made : Stored) → Leaves old.flash.told new.flash.told (λ image. stored_in old.slot_size old.slots image ≡ stored old) → KeepsOrMakes old new made
+pub kept_or_made : (old new : StoreView) (made : Stored) → KeepsMap old new → KeepsOrMakes old new made
 kept_or_made old new made kept =
-    Leaves-weaker old.flash.told new.flash.told (λ image. stored_in old.slot_size old.slots image ≡ stored old)
-    (λ image. (stored_in old.slot_size old.slots image ≡ stored old) ⊎ (stored_in old.slot_size old.slots image ≡ made)) kept (λ image same. inl same)
+    Leaves-weaker old.flash.told new.flash.told (λ image. records_of old.layout image ≡ stored old)
+    (λ image. (records_of old.layout image ≡ stored old) ⊎ (records_of old.layout image ≡ made)) kept (λ image same. inl same)
 
 -- a command that was begun, and then made
-pub begun_then : (old mid new : StoreView) (made end : Stored) → Leaves old.flash.told mid.flash.told (λ image. stored_in old.slot_size old.slots image ≡ stored old)
-    → DividesAlike old mid → end ≡ made → KeepsOrMakes mid new end → KeepsOrMakes old new made
+begun_then : (old mid new : StoreView) (made end : Stored) → KeepsMap old mid → DividesAlike old mid → end ≡ made → KeepsOrMakes mid new end → KeepsOrMakes old new made
 begun_then old mid new made end kept alike is makes =
-    Leaves-then old.flash.told mid.flash.told new.flash.told (λ image. (stored_in old.slot_size old.slots image ≡ stored old) ⊎ (stored_in old.slot_size old.slots image ≡ made))
+    Leaves-then old.flash.told mid.flash.told new.flash.told (λ image. (records_of old.layout image ≡ stored old) ⊎ (records_of old.layout image ≡ made))
     (kept_or_made old mid made kept)
     (Leaves-weaker mid.flash.told new.flash.told
-    (λ image. (stored_in mid.slot_size mid.slots image ≡ stored mid) ⊎ (stored_in mid.slot_size mid.slots image ≡ end))
-    (λ image. (stored_in old.slot_size old.slots image ≡ stored old) ⊎ (stored_in old.slot_size old.slots image ≡ made)) makes
+    (λ image. (records_of mid.layout image ≡ stored mid) ⊎ (records_of mid.layout image ≡ end))
+    (λ image. (records_of old.layout image ≡ stored old) ⊎ (records_of old.layout image ≡ made)) makes
     (λ image either. elim either [
-      | inl same ↦ inl (alike_stored image ∙ same ∙ sym (alike_stored mid.flash.told.image) ∙ Leaves-exit old.flash.told mid.flash.told (λ x. stored_in old.slot_size old.slots x ≡ stored old) kept)
+      | inl same ↦ inl (alike_stored image ∙ same ∙ sym (alike_stored mid.flash.told.image) ∙ Leaves-exit old.flash.told mid.flash.told (λ x. records_of old.layout x ≡ stored old) kept)
       | inr ends ↦ inr (alike_stored image ∙ ends ∙ is)
     ]))
   where
-    alike_stored : (image : List ℕ) → stored_in old.slot_size old.slots image ≡ stored_in mid.slot_size mid.slots image
-    alike_stored image = ap (λ (n : ℕ). stored_in n old.slots image) (sym alike.slot_size) ∙ ap (λ (n : ℕ). stored_in mid.slot_size n image) (sym alike.slots)
+    alike_stored : (image : List ℕ) → records_of old.layout image ≡ records_of mid.layout image
+    alike_stored image = ap (λ (l : Layout). records_of l image) (sym alike.layout)
 
 -- the map at the end of a write that has begun, or of a clear, is the one after the command
-pub write_end : (old mid : StoreView) (id : ℕ) (bytes : List ℕ) (replaces : Bool) → mid.pending ≡ Writing id bytes replaces 0 → stored mid ≡ stored old
-    → refusal_of old.slots (Write id bytes) (stored old) ≡ None → map_at_end mid.per_slot mid.pending (stored mid) ≡ after old.slots (Write id bytes) (stored old)
-write_end old mid id bytes replaces pending same taken =
-    ap (λ (p : Pending). map_at_end mid.per_slot p (stored mid)) pending
-    ∙ cond-true {A = Stored} (nat_le 0 (changes_before_gate mid.per_slot bytes)) (made_by (Write id bytes) (stored mid)) (stored mid) (le-leb 0 (changes_before_gate mid.per_slot bytes) (omega arith))
-    ∙ ap (made_by (Write id bytes)) same ∙ sym (after-done old.slots (Write id bytes) (stored old) taken)
+write_end : (old mid : StoreView) (id : ℕ) (bytes slots : List ℕ) (replaces : Bool) → mid.pending ≡ Writing id bytes slots replaces 0 → stored mid ≡ stored old
+    → refusal_of old.layout (Write id bytes) (stored old) ≡ None → map_at_end mid.layout mid.pending (stored mid) ≡ after old.layout (Write id bytes) (stored old)
+write_end old mid id bytes slots replaces pending same taken =
+    ap (λ (p : Pending). map_at_end mid.layout p (stored mid)) pending
+    ∙ cond-true {A = Stored} (nat_le 0 (changes_before_gate mid.layout bytes)) (made_by (Write id bytes) (stored mid)) (stored mid) (le-leb 0 (changes_before_gate mid.layout bytes) (omega arith))
+    ∙ ap (made_by (Write id bytes)) same ∙ sym (after-done old.layout (Write id bytes) (stored old) taken)
 
-pub clear_end : (old mid : StoreView) (id : ℕ) → mid.pending ≡ Clearing id → stored mid ≡ stored old
-    → refusal_of old.slots (Clear id) (stored old) ≡ None → map_at_end mid.per_slot mid.pending (stored mid) ≡ after old.slots (Clear id) (stored old)
+clear_end : (old mid : StoreView) (id : ℕ) → mid.pending ≡ Clearing id → stored mid ≡ stored old
+    → refusal_of old.layout (Clear id) (stored old) ≡ None → map_at_end mid.layout mid.pending (stored mid) ≡ after old.layout (Clear id) (stored old)
 clear_end old mid id pending same taken =
-    ap (λ (p : Pending). map_at_end mid.per_slot p (stored mid)) pending
-    ∙ ap (made_by (Clear id)) same ∙ sym (after-done old.slots (Clear id) (stored old) taken)
+    ap (λ (p : Pending). map_at_end mid.layout p (stored mid)) pending
+    ∙ ap (made_by (Clear id)) same ∙ sym (after-done old.layout (Clear id) (stored old) taken)
 
 -- the answers of what was made
-pub write_answers : (old new : StoreView) (id : ℕ) (bytes : List ℕ) (result : Result (Unit {0}) StoreError) → FailsByFlash result → refusal_of old.slots (Write id bytes) (stored old) ≡ None
-    → OnOk result (stored new ≡ after old.slots (Write id bytes) (stored old)) → AnswersWrite old new id bytes result
+write_answers : (old new : StoreView) (id : ℕ) (bytes : List ℕ) (result : Result (Unit {0}) StoreError) → FailsByFlash result → refusal_of old.layout (Write id bytes) (stored old) ≡ None
+    → OnOk result (stored new ≡ after old.layout (Write id bytes) (stored old)) → AnswersWrite old new id bytes result
 write_answers old new id bytes (Ok done) fails taken made = (taken, made)
 write_answers old new id bytes (Err (NoSpace free)) fails taken made = absurd (cc)
 write_answers old new id bytes (Err (LastGeneration number)) fails taken made = absurd (cc)
@@ -269,8 +302,8 @@ write_answers old new id bytes (Err Empty) fails taken made = absurd (cc)
 write_answers old new id bytes (Err Flash) fails taken made = tt
 write_answers old new id bytes (Err (Small need)) fails taken made = absurd (cc)
 
-pub clear_answers : (old new : StoreView) (id : ℕ) (result : Result (Unit {0}) StoreError) → FailsByFlash result → refusal_of old.slots (Clear id) (stored old) ≡ None
-    → OnOk result (stored new ≡ after old.slots (Clear id) (stored old)) → AnswersClear old new id result
+clear_answers : (old new : StoreView) (id : ℕ) (result : Result (Unit {0}) StoreError) → FailsByFlash result → refusal_of old.layout (Clear id) (stored old) ≡ None
+    → OnOk result (stored new ≡ after old.layout (Clear id) (stored old)) → AnswersClear old new id result
 clear_answers old new id (Ok done) fails taken made = (taken, made)
 clear_answers old new id (Err (NoSpace free)) fails taken made = absurd (cc)
 clear_answers old new id (Err (LastGeneration number)) fails taken made = absurd (cc)
@@ -280,7 +313,7 @@ clear_answers old new id (Err Flash) fails taken made = tt
 clear_answers old new id (Err (Small need)) fails taken made = absurd (cc)
 
 -- the changes of what was made
-pub unless_flash : (result : Result (Unit {0}) StoreError) (P : Type 0) → FailsByFlash result → OnOk result P → UnlessFlash result P
+unless_flash : (result : Result (Unit {0}) StoreError) (P : Type 0) → FailsByFlash result → OnOk result P → UnlessFlash result P
 unless_flash (Ok done) P fails ok = ok
 unless_flash (Err (NoSpace free)) P fails ok = absurd (cc)
 unless_flash (Err (LastGeneration number)) P fails ok = absurd (cc)
@@ -289,45 +322,156 @@ unless_flash (Err Empty) P fails ok = absurd (cc)
 unless_flash (Err Flash) P fails ok = tt
 unless_flash (Err (Small need)) P fails ok = absurd (cc)
 
--- a write that is refused makes no change, nor does a clear
-pub refused_steps : (old new : StoreView) (command : Command) (refusal : Refusal) → refusal_of old.slots command (stored old) ≡ Some refusal → new.flash.steps ≡ old.flash.steps
-    → new.flash.steps ≡ old.flash.steps + changes_of old.per_slot old.slots command (stored old)
+-- a command that is refused makes no change
+refused_steps : (old new : StoreView) (command : Command) (refusal : Refusal) → refusal_of old.layout command (stored old) ≡ Some refusal → new.flash.steps ≡ old.flash.steps
+    → new.flash.steps ≡ old.flash.steps + changes_of old.layout command (stored old)
 refused_steps old new command refusal refused same =
-    let none : changes_of old.per_slot old.slots command (stored old) ≡ 0 = changes_of-refused old.per_slot old.slots command (stored old) refusal refused in
+    let none : changes_of old.layout command (stored old) ≡ 0 = changes_of-refused old.layout command (stored old) refusal refused in
     omega arith
 
-pub write_refused_steps : (old new : StoreView) (id : ℕ) (bytes : List ℕ) (error : StoreError) → RefusesWrite old new id bytes error → new.flash.steps ≡ old.flash.steps
-    → UnlessFlash {T = Unit {0}} (Err error) (new.flash.steps ≡ old.flash.steps + changes_of old.per_slot old.slots (Write id bytes) (stored old))
-write_refused_steps old new id bytes (NoSpace free) refused same = refused_steps old new (Write id bytes) no_space refused.0 same
-write_refused_steps old new id bytes (LastGeneration number) refused same = refused_steps old new (Write id bytes) Failed refused.0 same
-write_refused_steps old new id bytes NotFound refused same = absurd refused
-write_refused_steps old new id bytes Empty refused same = absurd refused
-write_refused_steps old new id bytes Flash refused same = tt
-write_refused_steps old new id bytes (Small need) refused same = absurd refused
-
-pub clear_refused_steps : (old new : StoreView) (id : ℕ) (error : StoreError) → RefusesClear old new id error → new.flash.steps ≡ old.flash.steps
-    → UnlessFlash {T = Unit {0}} (Err error) (new.flash.steps ≡ old.flash.steps + changes_of old.per_slot old.slots (Clear id) (stored old))
-clear_refused_steps old new id (NoSpace free) refused same = absurd refused
-clear_refused_steps old new id (LastGeneration number) refused same = absurd refused
-clear_refused_steps old new id NotFound refused same = refused_steps old new (Clear id) not_found refused.0 same
-clear_refused_steps old new id Empty refused same = absurd refused
-clear_refused_steps old new id Flash refused same = tt
-clear_refused_steps old new id (Small need) refused same = absurd refused
-
 -- a write that is taken makes as many changes as are left once it has begun
-pub write_steps : (old mid : StoreView) (id : ℕ) (bytes : List ℕ) (kept : Option (List ℕ × ℕ)) → mid.per_slot ≡ old.per_slot → get (stored old) id ≡ kept → mid.pending ≡ Writing id bytes (is_some kept) 0
-    → refusal_of old.slots (Write id bytes) (stored old) ≡ None → changes_left mid.per_slot mid.pending ≡ changes_of old.per_slot old.slots (Write id bytes) (stored old)
-write_steps old mid id bytes kept alike is pending taken =
-    ap (changes_left mid.per_slot) pending ∙ ap (λ (n : ℕ). changes_left n (Writing id bytes (is_some kept) 0)) alike ∙ by_kept kept is
+write_steps : (old mid : StoreView) (id : ℕ) (bytes slots : List ℕ) (kept : Option (List ℕ × ℕ)) → mid.layout ≡ old.layout → get (stored old) id ≡ kept → mid.pending ≡ Writing id bytes slots (is_some kept) 0
+    → refusal_of old.layout (Write id bytes) (stored old) ≡ None → changes_left mid.layout mid.pending ≡ changes_of old.layout (Write id bytes) (stored old)
+write_steps old mid id bytes slots kept alike is pending taken =
+    ap (changes_left mid.layout) pending ∙ ap (λ (l : Layout). changes_left l (Writing id bytes slots (is_some kept) 0)) alike ∙ by_kept kept is
   where
-    by_kept : (o : Option (List ℕ × ℕ)) → get (stored old) id ≡ o → changes_left old.per_slot (Writing id bytes (is_some o) 0) ≡ changes_of old.per_slot old.slots (Write id bytes) (stored old)
-    by_kept None none = (omega arith) ∙ sym (changes_of-new old.per_slot old.slots id bytes (stored old) taken none)
-    by_kept (Some x) some = (omega arith) ∙ sym (changes_of-over old.per_slot old.slots id bytes (stored old) x taken some)
+    by_kept : (o : Option (List ℕ × ℕ)) → get (stored old) id ≡ o → changes_left old.layout (Writing id bytes slots (is_some o) 0) ≡ changes_of old.layout (Write id bytes) (stored old)
+    by_kept None none = (omega arith) ∙ sym (changes_of-new old.layout id bytes (stored old) taken none)
+    by_kept (Some x) some = (omega arith) ∙ sym (changes_of-over old.layout id bytes (stored old) x taken some)
 
-pub clear_steps : (old mid : StoreView) (id : ℕ) → mid.pending ≡ Clearing id → refusal_of old.slots (Clear id) (stored old) ≡ None
-    → changes_left mid.per_slot mid.pending ≡ changes_of old.per_slot old.slots (Clear id) (stored old)
-clear_steps old mid id pending taken = ap (changes_left mid.per_slot) pending ∙ sym (changes_of-clear old.per_slot old.slots id (stored old) taken)
+clear_steps : (old mid : StoreView) (id : ℕ) → mid.pending ≡ Clearing id → refusal_of old.layout (Clear id) (stored old) ≡ None
+    → changes_left mid.layout mid.pending ≡ changes_of old.layout (Clear id) (stored old)
+clear_steps old mid id pending taken = ap (changes_left mid.layout) pending ∙ sym (changes_of-clear old.layout id (stored old) taken)
 
--- after at most one change at first, at most all changes of a command
-pub few_in_all : (mid new old left all : ℕ) → mid ≤ old + 1 → new ≤ mid + left → left ≡ all → new ≤ old + 1 + all
-few_in_all mid new old left all started made is = omega arith
+-- what a whole command leaves
+
+-- all that is left of a command was made
+pub record IsFinished (tells : Type 0) (old new : StoreView) (result : Result (Unit {0}) StoreError) : Type 0 where
+  pub error : FailsByFlash result
+  pub made : OnOk result (tells → stored new ≡ map_at_end old.layout old.pending (stored old))
+  pub placed : OnOk result (tells → PlacedAtEnd old.layout old.pending new.flash.told.image)
+  pub crash : tells → KeepsOrMakes old new (map_at_end old.layout old.pending (stored old))
+  pub steps : OnOk result (new.flash.steps ≡ old.flash.steps + changes_left old.layout old.pending)
+  pub at_most : new.flash.steps ≤ old.flash.steps + changes_left old.layout old.pending
+  pub doubt : HasDoubtOf new result
+  pub idle : new.pending ≡ Idle
+  pub alike : DividesAlike old new
+  pub powered : OnOk result (new.flash.powered ≡ true)
+  pub cause : HasFaultsOf old.flash.faults new.flash.faults result
+
+finish_cause : (before mid after : ℕ) (result : Result (Unit {0}) StoreError) → FailsByFlash result → mid ≡ before → HasFaultsOf mid after result → HasFaultsOf before after result
+finish_cause before mid after result fails same cause = subst (λ (n : ℕ). HasFaultsOf n after result) same cause
+
+changes_begun : (tells : Type 0) (old mid new : StoreView) (command : Command) (x : Unit {0}) (result : Result (Unit {0}) StoreError) → OnlyStarts tells old mid (Ok x) → IsFinished tells mid new result
+    → (old.in_doubt ≡ false → mid.flash.steps ≡ old.flash.steps) → (tells → map_at_end mid.layout mid.pending (stored mid) ≡ after old.layout command (stored old))
+    → (tells → changes_left mid.layout mid.pending ≡ changes_of old.layout command (stored old)) → Changes tells old new command result
+changes_begun tells old mid new command x result starts finished still end left = record {
+  crash = λ told.
+      begun_then old mid new (after old.layout command (stored old)) (map_at_end mid.layout mid.pending (stored mid)) (starts.kept told) starts.alike (end told) (finished.crash told);
+  steps = λ told sure.
+      unless_flash result (new.flash.steps ≡ old.flash.steps + changes_of old.layout command (stored old)) finished.error
+      (on_ok_weaker result (λ took. took ∙ ap (λ (n : ℕ). n + changes_left mid.layout mid.pending) (still sure) ∙ ap (λ (n : ℕ). old.flash.steps + n) (left told)) finished.steps);
+  few = λ told. few_in_all mid.flash.steps new.flash.steps old.flash.steps (changes_left mid.layout mid.pending) (changes_of old.layout command (stored old)) (starts.few told) finished.at_most (left told);
+  doubt = finished.doubt;
+  idle = finished.idle;
+  alike = alike_then old mid new starts.alike finished.alike;
+  powered = finished.powered;
+  cause = finish_cause old.flash.faults mid.flash.faults new.flash.faults result finished.error starts.cause finished.cause;
+}
+  where
+    few_in_all : (m n o l all : ℕ) → m ≤ o + 1 → n ≤ m + l → l ≡ all → n ≤ o + 1 + all
+    few_in_all m n o l all started made is = omega arith
+
+-- a start that was refused or failed
+changes_refused : (tells : Type 0) (old new : StoreView) (command : Command) (error : StoreError) → OnlyStarts tells old new (Err error)
+    → (tells → old.in_doubt ≡ false → UnlessFlash {T = Unit {0}} (Err error) (new.flash.steps ≡ old.flash.steps + changes_of old.layout command (stored old)))
+    → HasDoubtOf {T = Unit {0}} new (Err error) → new.pending ≡ Idle → Changes tells old new command (Err error)
+changes_refused tells old new command error starts steps doubt idle = record {
+  crash = λ told. kept_or_made old new (after old.layout command (stored old)) (starts.kept told);
+  steps = steps;
+  few = λ told. let few = starts.few told in omega arith;
+  doubt = doubt;
+  idle = idle;
+  alike = starts.alike;
+  powered = tt;
+  cause = starts.cause;
+}
+
+pub idle_after : (new : StoreView) (error : StoreError) → HasDoubtOf {T = Unit {0}} new (Err error) → new.pending ≡ Idle
+idle_after new (NoSpace free) doubt = doubt.idle
+idle_after new (LastGeneration id) doubt = doubt.idle
+idle_after new NotFound doubt = doubt.idle
+idle_after new Empty doubt = doubt.idle
+idle_after new Flash doubt = doubt.idle
+idle_after new (Small need) doubt = doubt.idle
+
+pub write_refused : (tells : Type 0) (old new : StoreView) (id : ℕ) (bytes : List ℕ) (count : Unit {0} → ℕ) (error : StoreError) → OnlyStarts tells old new (Err error)
+    → (tells → RefusesWrite old new id bytes error) → (old.in_doubt ≡ false → ReadsExactly {T = Unit {0}} tells count old new (Err error)) → Changes tells old new (Write id bytes) (Err error)
+write_refused tells old new id bytes count (NoSpace free) starts answer still =
+    changes_refused tells old new (Write id bytes) (NoSpace free) starts
+    (λ told sure. refused_steps old new (Write id bytes) no_space (answer told).0 (ap (λ (v : StoreView). v.flash.steps) (still sure))) starts.doubt starts.doubt.idle
+write_refused tells old new id bytes count (LastGeneration number) starts answer still =
+    changes_refused tells old new (Write id bytes) (LastGeneration number) starts
+    (λ told sure. refused_steps old new (Write id bytes) Failed (answer told).0 (ap (λ (v : StoreView). v.flash.steps) (still sure))) starts.doubt starts.doubt.idle
+write_refused tells old new id bytes count NotFound starts answer still = changes_refused tells old new (Write id bytes) NotFound starts (λ told sure. absurd (answer told)) starts.doubt starts.doubt.idle
+write_refused tells old new id bytes count Empty starts answer still = changes_refused tells old new (Write id bytes) Empty starts (λ told sure. absurd (answer told)) starts.doubt starts.doubt.idle
+write_refused tells old new id bytes count Flash starts answer still = changes_refused tells old new (Write id bytes) Flash starts (λ told sure. tt) starts.doubt starts.doubt.idle
+write_refused tells old new id bytes count (Small need) starts answer still = changes_refused tells old new (Write id bytes) (Small need) starts (λ told sure. absurd (answer told)) starts.doubt starts.doubt.idle
+
+pub clear_refused : (tells : Type 0) (old new : StoreView) (id : ℕ) (error : StoreError) → OnlyStarts tells old new (Err error)
+    → (tells → RefusesClear old new id error) → (old.in_doubt ≡ false → StartsByItself {T = Unit {0}} old new (Err error)) → Changes tells old new (Clear id) (Err error)
+clear_refused tells old new id (NoSpace free) starts answer still = changes_refused tells old new (Clear id) (NoSpace free) starts (λ told sure. absurd (answer told)) starts.doubt starts.doubt.idle
+clear_refused tells old new id (LastGeneration number) starts answer still = changes_refused tells old new (Clear id) (LastGeneration number) starts (λ told sure. absurd (answer told)) starts.doubt starts.doubt.idle
+clear_refused tells old new id NotFound starts answer still =
+    changes_refused tells old new (Clear id) NotFound starts
+    (λ told sure. refused_steps old new (Clear id) not_found (answer told).0 (ap (λ (v : StoreView). v.flash.steps) (still sure))) starts.doubt starts.doubt.idle
+clear_refused tells old new id Empty starts answer still = changes_refused tells old new (Clear id) Empty starts (λ told sure. absurd (answer told)) starts.doubt starts.doubt.idle
+clear_refused tells old new id Flash starts answer still = changes_refused tells old new (Clear id) Flash starts (λ told sure. tt) starts.doubt starts.doubt.idle
+clear_refused tells old new id (Small need) starts answer still = changes_refused tells old new (Clear id) (Small need) starts (λ told sure. absurd (answer told)) starts.doubt starts.doubt.idle
+
+-- a whole write
+pub record WriteMade (tells : Type 0) (old new : StoreView) (id : ℕ) (bytes : List ℕ) (result : Result (Unit {0}) StoreError) : Type 0 where
+  pub answer : tells → AnswersWrite old new id bytes result
+  pub placed : OnOk result (tells → old.in_doubt ≡ false → StandsIn old.layout new.flash.told.image id (slots_for old (length bytes)))
+  pub leaves : Changes tells old new (Write id bytes) result
+
+same_slots_for : (old mid : StoreView) (len : ℕ) → mid.layout ≡ old.layout → mid.flash.told ≡ old.flash.told → slots_for mid len ≡ slots_for old len
+same_slots_for old mid len layout told =
+    ap (λ (l : Layout). take (parts_of (room_of l) len) (free_slots (entry_at l.slot_size l.slots mid.flash.told.image) l.slots)) layout
+    ∙ ap (λ (t : Told). take (parts_of (room_of old.layout) len) (free_slots (entry_at old.layout.slot_size old.layout.slots t.image) old.layout.slots)) told
+
+pub write_made : (tells : Type 0) (old mid new : StoreView) (id : ℕ) (bytes : List ℕ) (count : Unit {0} → ℕ) (x : Unit {0}) (result : Result (Unit {0}) StoreError) → OnlyStarts tells old mid (Ok x)
+    → (tells → StartsWrite old mid id bytes (Ok x)) → (old.in_doubt ≡ false → ReadsExactly {T = Unit {0}} tells count old mid (Ok x)) → IsFinished tells mid new result
+    → WriteMade tells old new id bytes result
+write_made tells old mid new id bytes count x result starts begun still finished = record {
+  answer = λ told.
+      write_answers old new id bytes result finished.error (begun told).0 (on_ok_weaker result (λ made. made told ∙ end told) finished.made);
+  placed = on_ok_weaker result (λ placed told sure.
+      subst (λ (l : Layout). StandsIn l new.flash.told.image id (slots_for old (length bytes))) starts.alike.layout
+      (subst (λ (xs : List ℕ). StandsIn mid.layout new.flash.told.image id xs) (same_slots_for old mid (length bytes) starts.alike.layout ((still sure).only.told told))
+      (subst (λ (p : Pending). PlacedAtEnd mid.layout p new.flash.told.image) (begun told).1 (placed told)))) finished.placed;
+  leaves = changes_begun tells old mid new (Write id bytes) x result starts finished (λ sure. (still sure).only.steps) end
+      (λ told. write_steps old mid id bytes (slots_for mid (length bytes)) (get (stored old) id) starts.alike.layout refl (begun told).1 (begun told).0);
+}
+  where
+    end : tells → map_at_end mid.layout mid.pending (stored mid) ≡ after old.layout (Write id bytes) (stored old)
+    end told =
+        write_end old mid id bytes (slots_for mid (length bytes)) (is_some (get (stored old) id)) (begun told).1 (kept_map old mid (starts.kept told) starts.alike) (begun told).0
+
+-- a whole clear
+pub record ClearMade (tells : Type 0) (old new : StoreView) (id : ℕ) (result : Result (Unit {0}) StoreError) : Type 0 where
+  pub answer : tells → AnswersClear old new id result
+  pub leaves : Changes tells old new (Clear id) result
+
+pub clear_made : (tells : Type 0) (old mid new : StoreView) (id : ℕ) (x : Unit {0}) (result : Result (Unit {0}) StoreError) → OnlyStarts tells old mid (Ok x)
+    → (tells → StartsClear old mid id (Ok x)) → (old.in_doubt ≡ false → StartsByItself {T = Unit {0}} old mid (Ok x)) → IsFinished tells mid new result
+    → ClearMade tells old new id result
+clear_made tells old mid new id x result starts begun still finished = record {
+  answer = λ told.
+      clear_answers old new id result finished.error (begun told).0 (on_ok_weaker result (λ made. made told ∙ end told) finished.made);
+  leaves = changes_begun tells old mid new (Clear id) x result starts finished (λ sure. ap (λ (f : FlashState). f.steps) (still sure)) end
+      (λ told. clear_steps old mid id (begun told).1 (begun told).0);
+}
+  where
+    end : tells → map_at_end mid.layout mid.pending (stored mid) ≡ after old.layout (Clear id) (stored old)
+    end told = clear_end old mid id (begun told).1 (kept_map old mid (starts.kept told) starts.alike) (begun told).0

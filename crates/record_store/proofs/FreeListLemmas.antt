@@ -1,21 +1,85 @@
--- The list of free slots, as a slot joins or leaves it.
-use Rattle.std.proofs.Common.{◌≡◌, ℕ, ◌+◌, ◌<◌, ◌≤◌, Bool, true, cond, List, length, get_or, Option, Err, refl, sym, ap, subst, ◌∙◌, arith, inl, inr}
-use Rattle.std.specs.Prelude.{insert, remove}
+-- The list of free slots, as slots join it or leave it.
+use Rattle.std.proofs.Common.{◌≡◌, ◌⊎◌, ℕ, zero, suc, ◌+◌, ◌<◌, ◌≤◌, Bool, true, false, not, cond, List, [], ◌∷◌, ◌++◌, length, take, drop, get_or, Option, Err, refl, sym, ap, subst, ◌∙◌, arith, inl, inr}
+use Rattle.std.specs.Prelude.{insert, vec_capacity, ◌==◌, ◌||◌, ◌&&◌}
+use Rattle.std.specs.List.{list_any}
 use Rattle.std.specs.Ordering.{nat_cmp}
-use Rattle.std.proofs.lemmas.Bool.{cases_lt}
-use Rattle.std.proofs.lemmas.Option.{none-some}
+use Rattle.std.proofs.lemmas.Bool.{cases_Bool, eqb-true, eq-eqb, or_cases, both_ways, not-true}
 use Rattle.std.proofs.lemmas.List.Edits.{length-insert}
 use Rattle.std.proofs.lemmas.List.Sorted.{searched}
 use Rattle.std.specs.List.Sorted.{IsStrictlyIncreasing, IsBinarySearchResult}
 use Rattle.erst_ids.proofs.RisingLemmas.{rising_le}
-use Rattle.record_model.specs.Records.{Entry}
-use Rattle.record_recovery.specs.Listed.{AreSlots, free_slots}
-use Rattle.record_recovery.proofs.ListedLemmas.{rising-insert}
-use Rattle.record_recovery.proofs.OpenedLemmas.{rising-remove}
-use Rattle.record_recovery.proofs.FreeLemmas.{remove_listed, insert_listed, length-rising, free_slots-are, free_slots-all, free_slots-opened, free_slots-freed}
-use Rattle.record_store.specs.Index.{IsFreed, IsTaken, HasOpened, HasLost}
+use Rattle.record_model.specs.Records.{Entry, is_taken}
+use Rattle.record_recovery.specs.declared.found.Found.{Found}
+use Rattle.record_recovery.specs.declared.found.SlotOf.{SlotOf}
+use Rattle.record_recovery.specs.Listed.{IsListed, AreSlots, free_slots}
+use Rattle.record_recovery.proofs.ListedLemmas.{rising-insert, IsListed-insert, IsListed-inserted}
+use Rattle.record_recovery.proofs.FreeLemmas.{rising-tail, insert_listed, length-rising, list_below-are, list_below-all, are_below}
+use Rattle.record_store.specs.Index.{Gains}
 
-AreSlots-inserted : (slots at slot : ℕ) (free : List ℕ) → AreSlots slots free → slot < slots → at ≤ length free
+-- one number is among one
+one_is : (k n : ℕ) → list_any (λ m. k == m) (n ∷ []) ≡ true → k ≡ n
+one_is k n any = elim (or_cases (k == n) false any) [ inl here ↦ eqb-true k n here | inr never ↦ absurd (both_ways false refl never) ]
+
+is_one : (k n : ℕ) → k ≡ n → list_any (λ m. k == m) (n ∷ []) ≡ true
+is_one k n is = ap (λ (b : Bool). b || false) (eq-eqb k n is)
+
+any_front : (k : ℕ) (xs ys : List ℕ) → list_any (λ m. k == m) xs ≡ true → list_any (λ m. k == m) (xs ++ ys) ≡ true
+any_front k [] ys any = absurd (both_ways false refl any)
+any_front k (x ∷ xs) ys any = elim (or_cases (k == x) (list_any (λ m. k == m) xs) any) [
+  | inl here ↦ ap (λ (b : Bool). b || list_any (λ m. k == m) (xs ++ ys)) here
+  | inr later ↦ right (k == x) (any_front k xs ys later)
+]
+  where
+    right : (b : Bool) → list_any (λ m. k == m) (xs ++ ys) ≡ true → (b || list_any (λ m. k == m) (xs ++ ys)) ≡ true
+    right true is = refl
+    right false is = is
+
+any_end : (k : ℕ) (xs ys : List ℕ) → list_any (λ m. k == m) ys ≡ true → list_any (λ m. k == m) (xs ++ ys) ≡ true
+any_end k [] ys any = any
+any_end k (x ∷ xs) ys any = right (k == x) (any_end k xs ys any)
+  where
+    right : (b : Bool) → list_any (λ m. k == m) (xs ++ ys) ≡ true → (b || list_any (λ m. k == m) (xs ++ ys)) ≡ true
+    right true is = refl
+    right false is = is
+
+any_cases : (k : ℕ) (xs ys : List ℕ) → list_any (λ m. k == m) (xs ++ ys) ≡ true → (list_any (λ m. k == m) xs ≡ true) ⊎ (list_any (λ m. k == m) ys ≡ true)
+any_cases k [] ys any = inr any
+any_cases k (x ∷ xs) ys any = elim (or_cases (k == x) (list_any (λ m. k == m) (xs ++ ys)) any) [
+  | inl here ↦ inl (ap (λ (b : Bool). b || list_any (λ m. k == m) xs) here)
+  | inr later ↦ elim (any_cases k xs ys later) [ inl first ↦ inl (right (k == x) first) | inr second ↦ inr second ]
+]
+  where
+    right : (b : Bool) → list_any (λ m. k == m) xs ≡ true → (b || list_any (λ m. k == m) xs) ≡ true
+    right true is = refl
+    right false is = is
+
+-- numbers join a list
+pub gains_already : (free : List ℕ) (slot : ℕ) → IsListed free slot → Gains free free (slot ∷ [])
+gains_already free slot here = record {
+  each = λ k listed. inl listed;
+  kept = λ k listed. listed;
+  all = λ k any. subst (λ (n : ℕ). IsListed free n) (sym (one_is k slot any)) here;
+}
+
+pub gains_insert : (free : List ℕ) (at slot : ℕ) → at ≤ length free → Gains free (insert free at slot) (slot ∷ [])
+gains_insert free at slot within = record {
+  each = λ k listed. elim (insert_listed free at slot k within listed) [ inl was ↦ inl was | inr mine ↦ inr (is_one k slot mine) ];
+  kept = λ k listed. IsListed-insert free at slot k within listed;
+  all = λ k any. subst (λ (n : ℕ). IsListed (insert free at slot) n) (sym (one_is k slot any)) (IsListed-inserted free at slot within);
+}
+
+pub gains_then : (first mid last xs : List ℕ) (x : ℕ) → Gains first mid xs → Gains mid last (x ∷ []) → Gains first last (xs ++ x ∷ [])
+gains_then first mid last xs x one other = record {
+  each = λ k listed. elim (other.each k listed) [
+    | inl was ↦ elim (one.each k was) [ inl before ↦ inl before | inr more ↦ inr (any_front k xs (x ∷ []) more) ]
+    | inr mine ↦ inr (any_end k xs (x ∷ []) mine)
+  ];
+  kept = λ k listed. other.kept k (one.kept k listed);
+  all = λ k any. elim (any_cases k xs (x ∷ []) any) [ inl before ↦ other.kept k (one.all k before) | inr mine ↦ other.all k mine ];
+}
+
+-- a number put where it belongs
+pub AreSlots-inserted : (slots at slot : ℕ) (free : List ℕ) → AreSlots slots free → slot < slots → at ≤ length free
     → ((k : ℕ) → k < at → get_or free k 0 < slot) → ((k : ℕ) → at ≤ k → k < length free → slot < get_or free k 0) → AreSlots slots (insert free at slot)
 AreSlots-inserted slots at slot free had low within below above = record {
   rising = rising-insert free at slot had.rising within below above;
@@ -28,67 +92,104 @@ AreSlots-inserted slots at slot free had low within below above = record {
   ];
 }
 
--- there is room for one more slot
-room_for_one : (slots at slot : ℕ) (free : List ℕ) → AreSlots slots free → slot < slots → at ≤ length free
-    → ((k : ℕ) → k < at → get_or free k 0 < slot) → ((k : ℕ) → at ≤ k → k < length free → slot < get_or free k 0) → length free < slots
-room_for_one slots at slot free had low within below above =
-    let more = AreSlots-inserted slots at slot free had low within below above in
-    let few : length (insert free at slot) ≤ slots = length-rising (insert free at slot) slots more.rising more.within in
-    let long : length (insert free at slot) ≡ length free + 1 = length-insert free at slot within in
-    omega arith
+-- where a search ends there is room for one more slot, and it joins
+pub record IsJoined (slots slot : ℕ) (old after : List ℕ) : Type 0 where
+  pub gains : Gains old after (slot ∷ [])
+  pub free : AreSlots slots after
 
--- where a search ends there is room, and the slot joins
-pub freed_at : (room at slot : ℕ) (free after : List ℕ) (ok : Bool) → AreSlots room free → slot < room → IsBinarySearchResult (λ y. nat_cmp y slot) free (Err at)
-    → (length free < room → ok ≡ true) → after ≡ cond ok (insert free at slot) free → IsFreed free after slot
-freed_at room at slot free after ok had low position succeeds is =
-    let place = searched free slot (Err at) position (λ i j h l. rising_le free had.rising i j h l) in
-    let more : length free < room = room_for_one room at slot free had low place.0 place.1 place.2 in
-    inr (at, place.0, place.1, place.2, is ∙ ap (λ (b : Bool). cond b (insert free at slot) free) (succeeds more))
+pub joined_at : (slots room at slot : ℕ) (old after : List ℕ) (ok : Bool) → AreSlots slots old → slot < slots → slots ≤ room → IsBinarySearchResult (λ y. nat_cmp y slot) old (Err at)
+    → (length old < room → ok ≡ true) → after ≡ cond ok (insert old at slot) old → IsJoined slots slot old after
+joined_at slots room at slot old after ok had low large position succeeds is =
+    let place = searched old slot (Err at) position (λ i j h l. rising_le old had.rising i j h l) in
+    let more = AreSlots-inserted slots at slot old had low place.0 place.1 place.2 in
+    let few : length (insert old at slot) ≤ slots = length-rising (insert old at slot) slots more.rising more.within in
+    let long : length (insert old at slot) ≡ length old + 1 = length-insert old at slot place.0 in
+    let same : after ≡ insert old at slot = is ∙ ap (λ (b : Bool). cond b (insert old at slot) old) (succeeds (omega arith)) in
+    record {
+      gains = subst (λ (xs : List ℕ). Gains old xs (slot ∷ [])) (sym same) (gains_insert old at slot place.0);
+      free = subst (λ (xs : List ℕ). AreSlots slots xs) (sym same) more;
+    }
 
--- a slot that a search does not find is not listed
-pub taken_already : (at slot : ℕ) (free : List ℕ) → IsStrictlyIncreasing free → IsBinarySearchResult (λ y. nat_cmp y slot) free (Err at) → IsTaken free free slot
-taken_already at slot free up position =
-    let place = searched free slot (Err at) position (λ i j h l. rising_le free up i j h l) in
-    inl (
-      λ listed. elim (cases_lt listed.0 at) [
-        | inl before ↦ let less : get_or free listed.0 0 < slot = place.1 listed.0 before in let is : get_or free listed.0 0 ≡ slot = listed.2 in omega arith
-        | inr from ↦ let more : slot < get_or free listed.0 0 = place.2 listed.0 from listed.1 in let is : get_or free listed.0 0 ≡ slot = listed.2 in omega arith
+-- after a kill: the free slots are those from before it and those of the record
+pub free_gained : (entry other : ℕ → Option Entry) (slots : ℕ) (free after more : List ℕ) → free ≡ free_slots entry slots → AreSlots slots after → Gains free after more
+    → ((i : ℕ) → is_taken other slots i ≡ (is_taken entry slots i && not (list_any (λ n. i == n) more))) → after ≡ free_slots other slots
+unfolding free_slots
+free_gained entry other slots free after more is had gains taken =
+    are_below (λ k. not (is_taken other slots k)) slots after had.rising
+    (λ k listed. (
+      below k listed,
+      elim (gains.each k listed) [
+        | inl was ↦
+            let before = list_below-are (λ i. not (is_taken entry slots i)) slots k (subst (λ (xs : List ℕ). IsListed xs k) is was) in
+            ap not (taken k ∙ ap (λ (b : Bool). b && not (list_any (λ n. k == n) more)) (not-true (is_taken entry slots k) before.1))
+        | inr one ↦ ap not (taken k ∙ ap (λ (b : Bool). is_taken entry slots k && not b) one ∙ none (is_taken entry slots k))
       ],
-      refl,
-    )
+    ))
+    (λ k h pass. elim (cases_Bool (list_any (λ n. k == n) more)) [
+      | inl one ↦ gains.all k one
+      | inr apart ↦
+          let free_now : is_taken other slots k ≡ false = not-true (is_taken other slots k) pass in
+          let free_then : is_taken entry slots k ≡ false = same (is_taken entry slots k) ∙ sym (ap (λ (b : Bool). is_taken entry slots k && not b) apart) ∙ sym (taken k) ∙ free_now in
+          gains.kept k (subst (λ (xs : List ℕ). IsListed xs k) (sym is) (list_below-all (λ i. not (is_taken entry slots i)) slots k h (ap not free_then)))
+    ])
+  where
+    below : (k : ℕ) → IsListed after k → k < slots
+    below k listed = let low : get_or after listed.0 0 < slots = had.within listed.0 listed.1 in let here : get_or after listed.0 0 ≡ k = listed.2 in omega arith
 
--- the list stays one of slots
-pub AreSlots-freed : (slots slot : ℕ) (free after : List ℕ) → slot < slots → IsFreed free after slot → AreSlots slots free → AreSlots slots after
-AreSlots-freed slots slot free after low freed had = elim freed [
-  | inl already ↦ subst (λ (xs : List ℕ). AreSlots slots xs) (sym already.1) had
-  | inr joins ↦ subst (λ (xs : List ℕ). AreSlots slots xs) (sym joins.4) (AreSlots-inserted slots joins.0 slot free had low joins.1 joins.2 joins.3)
-]
+    none : (b : Bool) → (b && not true) ≡ false
+    none true = refl
+    none false = refl
 
-pub AreSlots-taken : (slots slot : ℕ) (free after : List ℕ) → IsTaken free after slot → AreSlots slots free → AreSlots slots after
-AreSlots-taken slots slot free after taken had = elim taken [
-  | inl already ↦ subst (λ (xs : List ℕ). AreSlots slots xs) (sym already.1) had
-  | inr leaves ↦ subst (λ (xs : List ℕ). AreSlots slots xs) (sym leaves.3) (record {
-    rising = rising-remove free leaves.0 had.rising leaves.1;
-    within = λ i h.
-        let was = (remove_listed free leaves.0 (get_or (remove free leaves.0) i 0) had.rising leaves.1 (i, h, refl)).0 in
-        let is : get_or free was.0 0 ≡ get_or (remove free leaves.0) i 0 = was.2 in
-        let less : get_or free was.0 0 < slots = had.within was.0 was.1 in
-        omega arith;
-  })
-]
+    same : (b : Bool) → b ≡ (b && not false)
+    same true = refl
+    same false = refl
 
--- a slot that lost its record joins the free ones
-pub free_slots-lost : (entry other : ℕ → Option Entry) (slots j : ℕ) (lost : Entry) (after : List ℕ) → j < slots → HasLost entry other j lost
-    → IsFreed (free_slots entry slots) after j → after ≡ free_slots other slots
-free_slots-lost entry other slots j lost after low has freed = elim freed [
-  | inl already ↦ absurd (none-some lost (sym (free_slots-are entry slots j already.0).1 ∙ has.was))
-  | inr joins ↦ joins.4 ∙ free_slots-freed entry other slots j joins.0 low has.same has.gone joins.1 joins.2 joins.3
-]
+-- the free slots behind the first ones
+rising_drop : (n : ℕ) (xs : List ℕ) → IsStrictlyIncreasing xs → IsStrictlyIncreasing (drop n xs)
+rising_drop zero xs up = up
+rising_drop (suc n) [] up = up
+rising_drop (suc n) (x ∷ xs) up = rising_drop n xs (rising-tail x xs up)
 
--- a slot that was opened leaves them
-pub free_slots-has_opened : (entry other : ℕ → Option Entry) (slots j : ℕ) (opened : Entry) (after : List ℕ) → j < slots → HasOpened entry other slots j opened
-    → IsTaken (free_slots entry slots) after j → after ≡ free_slots other slots
-free_slots-has_opened entry other slots j opened after low has taken = elim taken [
-  | inl already ↦ absurd (already.0 (free_slots-all entry slots j low has.free))
-  | inr leaves ↦ leaves.3 ∙ free_slots-opened entry other slots j leaves.0 opened has.same has.free has.here leaves.1 leaves.2
-]
+get_drop : (n i : ℕ) (xs : List ℕ) → get_or (drop n xs) i 0 ≡ get_or xs (n + i) 0
+get_drop zero i xs = ap (λ (k : ℕ). get_or xs k 0) (omega arith)
+get_drop (suc n) i [] = empty i (suc n + i)
+  where
+    empty : (a b : ℕ) → ◌≡◌ {A = ℕ} (get_or [] a 0) (get_or [] b 0)
+    empty a b = refl
+get_drop (suc n) i (x ∷ xs) = get_drop n i xs ∙ ap (λ (k : ℕ). get_or (x ∷ xs) k 0) (next n i)
+  where
+    next : (a b : ℕ) → suc (a + b) ≡ suc a + b
+    next a b = omega arith
+
+length_drop : (n : ℕ) (xs : List ℕ) → n + length (drop n xs) ≤ length xs ⊎ (length (drop n xs) ≡ 0)
+length_drop zero xs = inl (omega arith)
+length_drop (suc n) [] = inr refl
+length_drop (suc n) (x ∷ xs) = elim (length_drop n xs) [ inl fits ↦ inl (omega arith) | inr none ↦ inr none ]
+
+pub AreSlots-dropped : (slots count : ℕ) (free : List ℕ) → AreSlots slots free → AreSlots slots (drop count free)
+AreSlots-dropped slots count free had = record {
+  rising = rising_drop count free had.rising;
+  within = λ i h. elim (length_drop count free) [
+    | inl fits ↦ subst (λ (n : ℕ). n < slots) (sym (get_drop count i free)) (had.within (count + i) (omega arith))
+    | inr none ↦ absurd (omega arith)
+  ];
+}
+
+-- the first slots of a record joined the free ones
+pub record HasFreed (slots : ℕ) (place : SlotOf) (at : ℕ) (old now : Found) : Type 0 where
+  pub gains : Gains old.free.items now.free.items (place.slot ∷ take at place.next)
+  pub free : AreSlots slots now.free.items
+  pub room : vec_capacity old.free ≤ vec_capacity now.free
+  pub ids : now.ids ≡ old.ids
+  pub places : now.places ≡ old.places
+  pub looks : now.looks ≡ old.looks
+
+pub gains_next : (first mid last xs : List ℕ) (slot at : ℕ) → at < length xs → Gains first mid (slot ∷ take at xs) → Gains mid last (get_or xs at 0 ∷ []) → Gains first last (slot ∷ take (at + 1) xs)
+gains_next first mid last xs slot at h one other =
+    let next : at + 1 ≡ suc at = omega arith in
+    subst (λ (ys : List ℕ). Gains first last (slot ∷ ys)) (sym (ap (λ (m : ℕ). take m xs) next ∙ push xs at h)) (gains_then first mid last (slot ∷ take at xs) (get_or xs at 0) one other)
+  where
+    push : (ys : List ℕ) (m : ℕ) → m < length ys → take (suc m) ys ≡ take m ys ++ get_or ys m 0 ∷ []
+    push [] m l = absurd (omega arith)
+    push (y ∷ ys) zero l = refl
+    push (y ∷ ys) (suc m) l = ap (λ (zs : List ℕ). y ∷ zs) (push ys m (omega arith))

@@ -1,29 +1,30 @@
 -- What each change makes of the lists that a store keeps.
-use Rattle.std.proofs.Common.{◌≡◌, ◌≢◌, ◌⊎◌, ℕ, ◌+◌, ◌<◌, ◌≤◌, Bool, cond, List, length, get_or, Option, refl, sym, ap, subst, ◌∙◌, arith, inl, inr}
-use Rattle.std.specs.Prelude.{insert, remove, vec_len, vec_capacity}
+use Rattle.std.proofs.Common.{◌≡◌, ◌≢◌, ◌⊎◌, ℕ, ◌+◌, ◌-◌, ◌<◌, ◌≤◌, Bool, not, cond, List, ◌∷◌, length, take, drop, get_or, Option, Some, None, refl, sym, ap, subst, ◌∙◌, arith, inl, inr}
+use Rattle.std.specs.Prelude.{insert, remove, vec_len, vec_capacity, ◌||◌, ◌==◌, ◌&&◌}
+use Rattle.std.specs.List.{list_any}
 use Rattle.std.proofs.Math.ListN.{set}
-use Rattle.std.proofs.lemmas.Bool.{cases_lt, lt-ltb}
+use Rattle.std.proofs.lemmas.Bool.{cases_lt, cases_eq, lt-ltb}
 use Rattle.std.proofs.lemmas.List.Edits.{length-remove, get_or-remove_below, get_or-remove_above}
-use Rattle.std.proofs.lemmas.Option.{same_Some}
-use Rattle.record_model.specs.Records.{Entry}
+use Rattle.std.proofs.lemmas.Option.{same_Some, none-some}
+use Rattle.record_model.specs.Records.{Entry, parts_of, is_taken, holds}
+use Rattle.record_model.proofs.ChosenLemmas.{IsChosen-unique, IsChosen-without}
 use Rattle.record_recovery.specs.declared.found.Found.{Found}
 use Rattle.record_recovery.specs.declared.found.SlotOf.{SlotOf}
 use Rattle.record_recovery.specs.Listed.{AreListed, AreSlots, IsIndex, IsWithin, free_slots}
 use Rattle.record_recovery.specs.Listing.{IsNewlyListed, IsListedAgain}
-use Rattle.record_recovery.proofs.ChosenLemmas.{IsChosen-unique}
 use Rattle.record_recovery.proofs.ListedLemmas.{IsPlaceIn}
 use Rattle.record_recovery.proofs.PutLemmas.{IsIndex-put}
 use Rattle.record_recovery.proofs.OpenedLemmas.{rising-remove, AreListed-opened, AreListed-replaced, AreListed-cleared}
-use Rattle.record_recovery.proofs.SettledLemmas.{AreListed-without}
-use Rattle.record_store.specs.Index.{IsListing, IsListOf, HasOpened, HasLost, IsEntryOf, IsOlderCopy, IsOnlyCopy, IsFreed, IsTaken}
-use Rattle.record_store.proofs.FreeListLemmas.{AreSlots-taken, AreSlots-freed, free_slots-lost, free_slots-has_opened}
+use Rattle.record_recovery.proofs.TakenLemmas.{free_slots-gate, taken_gains}
+use Rattle.record_store.specs.Index.{IsListing, IsListOf, HasItsParts, HasOpened, HasLost, IsEntryOf, IsOlderCopy, IsOnlyCopy, Gains, slots_at}
+use Rattle.record_store.proofs.FreeListLemmas.{free_gained, AreSlots-dropped}
 use Rattle.record_store.proofs.CountLemmas.{fewer_ids}
 
 -- a record was listed
 pub IsListing-listed : (slots size : ℕ) (old new : Found) (id : ℕ) (place : SlotOf) → length old.ids.items < slots → IsWithin slots size place
     → vec_len new.ids ≤ vec_len old.ids + 1 → vec_capacity new.ids ≡ vec_capacity old.ids → vec_capacity new.places ≡ vec_capacity old.places
-    → new.free ≡ old.free → IsNewlyListed old new id place ⊎ IsListedAgain old new id place → IsListing slots size old → IsListing slots size new
-IsListing-listed slots size old new id place short within more ids places free put had = record {
+    → new.free ≡ old.free → new.looks ≡ old.looks → IsNewlyListed old new id place ⊎ IsListedAgain old new id place → IsListing slots size old → IsListing slots size new
+IsListing-listed slots size old new id place short within more ids places free looks put had = record {
   index = IsIndex-put slots size old new id place put within had.index;
   free = subst (λ v. AreSlots slots v.items) (sym free) had.free;
   few = let before = old.ids.ok.0 in let after = new.ids.ok.0 in omega arith;
@@ -31,24 +32,33 @@ IsListing-listed slots size old new id place short within more ids places free p
     ids = let was : slots ≤ vec_capacity old.ids = had.room.ids in omega arith;
     places = let was : slots ≤ vec_capacity old.places = had.room.places in omega arith;
     free = subst (λ v. slots ≤ vec_capacity v) (sym free) had.room.free;
+    looks = subst (λ v. slots ≤ vec_capacity v) (sym looks) had.room.looks;
   };
 }
 
--- a slot left the free ones
-pub IsListing-taken : (slots size slot : ℕ) (old new : Found) → new.ids ≡ old.ids → new.places ≡ old.places → vec_capacity new.free ≡ vec_capacity old.free
-    → IsTaken old.free.items new.free.items slot → IsListing slots size old → IsListing slots size new
-IsListing-taken slots size slot old new ids places capacity taken had = record {
+-- the free list is another one, and the rest as it was
+pub IsListing-free : (slots size : ℕ) (old new : Found) → new.ids ≡ old.ids → new.places ≡ old.places → new.looks ≡ old.looks → vec_capacity old.free ≤ vec_capacity new.free
+    → AreSlots slots new.free.items → IsListing slots size old → IsListing slots size new
+IsListing-free slots size old new ids places looks capacity free had = record {
   index =
       subst (λ v. IsIndex slots size v.items new.places.items) (sym ids)
       (subst (λ v. IsIndex slots size old.ids.items v.items) (sym places) had.index);
-  free = AreSlots-taken slots slot old.free.items new.free.items taken had.free;
+  free = free;
   few = subst (λ v. length v.items ≤ slots) (sym ids) had.few;
   room = record {
     ids = subst (λ v. slots ≤ vec_capacity v) (sym ids) had.room.ids;
     places = subst (λ v. slots ≤ vec_capacity v) (sym places) had.room.places;
     free = let was : slots ≤ vec_capacity old.free = had.room.free in omega arith;
+    looks = subst (λ v. slots ≤ vec_capacity v) (sym looks) had.room.looks;
   };
 }
+
+-- slots left the free ones
+pub IsListing-taken : (slots size count : ℕ) (old new : Found) → new.ids ≡ old.ids → new.places ≡ old.places → new.looks ≡ old.looks → vec_capacity new.free ≡ vec_capacity old.free
+    → new.free.items ≡ drop count old.free.items → IsListing slots size old → IsListing slots size new
+IsListing-taken slots size count old new ids places looks capacity is had =
+    IsListing-free slots size old new ids places looks (omega arith)
+    (subst (λ (xs : List ℕ). AreSlots slots xs) (sym is) (AreSlots-dropped slots count old.free.items had.free)) had
 
 -- without one of its identifiers
 IsIndex-removed : (slots size at : ℕ) (ids : List ℕ) (places : List SlotOf) → at < length ids → IsIndex slots size ids places → IsIndex slots size (remove ids at) (remove places at)
@@ -66,14 +76,12 @@ IsIndex-removed slots size at ids places within had =
       ];
     }
 
--- an identifier is listed no more, and the slot of its record is free
-pub IsListing-cleared : (slots size at : ℕ) (old new : Found) (place : SlotOf) → at < length old.ids.items → place ≡ get_or old.places.items at place
-    → new.ids.items ≡ remove old.ids.items at → new.places.items ≡ remove old.places.items at
+-- an identifier is listed no more, and the slots of its record are free
+pub IsListing-cleared : (slots size at : ℕ) (old new : Found) → at < length old.ids.items
+    → new.ids.items ≡ remove old.ids.items at → new.places.items ≡ remove old.places.items at → new.looks ≡ old.looks
     → vec_capacity new.ids ≡ vec_capacity old.ids → vec_capacity new.places ≡ vec_capacity old.places → vec_capacity old.free ≤ vec_capacity new.free
-    → IsFreed old.free.items new.free.items place.slot → IsListing slots size old → IsListing slots size new
-IsListing-cleared slots size at old new place within is ids places more_ids more_places more_free freed had =
-    let low : (get_or old.places.items at place).slot < slots = (had.index.within at place within).slot in
-    let slot : place.slot < slots = subst (λ (p : SlotOf). p.slot < slots) (sym is) low in
+    → AreSlots slots new.free.items → IsListing slots size old → IsListing slots size new
+IsListing-cleared slots size at old new within ids places looks more_ids more_places more_free free had =
     let long : length (remove old.ids.items at) + 1 ≡ length old.ids.items = length-remove old.ids.items at within in
     let same : length new.ids.items ≡ length (remove old.ids.items at) = ap (λ (xs : List ℕ). length xs) ids in
     record {
@@ -81,18 +89,23 @@ IsListing-cleared slots size at old new place within is ids places more_ids more
           subst (λ (xs : List ℕ). IsIndex slots size xs new.places.items) (sym ids)
           (subst (λ (ps : List SlotOf). IsIndex slots size (remove old.ids.items at) ps) (sym places)
           (IsIndex-removed slots size at old.ids.items old.places.items within had.index));
-      free = AreSlots-freed slots place.slot old.free.items new.free.items slot freed had.free;
+      free = free;
       few = let was : length old.ids.items ≤ slots = had.few in omega arith;
       room = record {
         ids = let was : slots ≤ vec_capacity old.ids = had.room.ids in omega arith;
         places = let was : slots ≤ vec_capacity old.places = had.room.places in omega arith;
         free = let was : slots ≤ vec_capacity old.free = had.room.free in omega arith;
+        looks = subst (λ v. slots ≤ vec_capacity v) (sym looks) had.room.looks;
       };
     }
 
+-- the place at an index is within the store
+pub place_within : (slots size at : ℕ) (ids : List ℕ) (places : List SlotOf) (place : SlotOf) → IsIndex slots size ids places → at < length ids → place ≡ get_or places at place → IsWithin slots size place
+place_within slots size at ids places place index within is = subst (λ (p : SlotOf). IsWithin slots size p) (sym is) (index.within at place within)
+
 -- the place of an entry
 place_in : (id : ℕ) (place : SlotOf) (e : Entry) → IsEntryOf id place e → IsPlaceIn place.slot place e
-place_in id place e of = record { at = refl; generation = of.generation; len = of.len }
+place_in id place e of = record { at = refl; generation = of.generation; len = of.len; further = of.further }
 
 -- a record was opened, and listed
 AreListed-put : (slots size : ℕ) (old new : Found) (id : ℕ) (place : SlotOf) (entry other : ℕ → Option Entry) (e : Entry) → place.slot < slots
@@ -125,59 +138,98 @@ AreListed-put slots size old new id place entry other e low has of index put had
         index.rising index.paired again.within (again.here ∙ sym of.of_id) newer' had))
 
 -- the lists after a record was opened
-pub IsListOf-opened : (slots size : ℕ) (old mid new : Found) (id : ℕ) (place : SlotOf) (entry other : ℕ → Option Entry) (e : Entry) → place.slot < slots
-    → HasOpened entry other slots place.slot e → IsEntryOf id place e → IsListing slots size old
+pub IsListOf-opened : (slots size parts : ℕ) (old mid new : Found) (id : ℕ) (place : SlotOf) (entry other : ℕ → Option Entry) (e : Entry) → place.slot < slots
+    → HasOpened entry other slots place.slot e → IsEntryOf id place e → place.slot ∷ e.further ≡ take parts old.free.items → IsListing slots size old
     → (length old.ids.items < slots → IsNewlyListed old mid id place ⊎ IsListedAgain old mid id place) → mid.free ≡ old.free
-    → new.ids ≡ mid.ids → new.places ≡ mid.places → IsTaken mid.free.items new.free.items place.slot
+    → new.ids ≡ mid.ids → new.places ≡ mid.places → new.free.items ≡ drop parts mid.free.items
     → IsListOf entry slots old → IsListOf other slots new
-IsListOf-opened slots size old mid new id place entry other e low has of listing put free ids places taken had =
+IsListOf-opened slots size parts old mid new id place entry other e low has of first listing put free ids places taken had =
     let short = fewer_ids entry slots place.slot old.ids.items old.places.items listing.index.rising had.listed low has.free in
-    let freed : mid.free.items ≡ free_slots entry slots = ap (λ v. v.items) free ∙ had.free in
+    let all : new.free.items ≡ drop parts old.free.items = taken ∙ ap (λ v. drop parts v.items) free in
     record {
       listed =
           subst (λ v. AreListed other slots v.items new.places.items) (sym ids)
           (subst (λ v. AreListed other slots mid.ids.items v.items) (sym places)
           (AreListed-put slots size old mid id place entry other e low has of listing.index (put short) had.listed));
-      free = free_slots-has_opened entry other slots place.slot e new.free.items low has
-          (subst (λ (xs : List ℕ). IsTaken xs new.free.items place.slot) freed taken);
+      free = all ∙ free_slots-gate entry other slots parts old.free.items had.free
+          (λ k h. taken_gains entry other slots place.slot e low has.same has.free has.here k
+          ∙ ap (λ (xs : List ℕ). is_taken entry slots k || list_any (λ n. k == n) xs) first);
     }
 
+-- without a record that was not that of its identifier
+AreListed-lost : (entry other : ℕ → Option Entry) (slots j : ℕ) (lost : Entry) (ids : List ℕ) (places : List SlotOf) → ((k : ℕ) → k ≢ j → other k ≡ entry k)
+    → entry j ≡ Some lost → other j ≡ None → IsOlderCopy entry slots j lost → AreListed entry slots ids places → AreListed other slots ids places
+AreListed-lost entry other slots j lost ids places same was gone older had = record {
+  each = λ i d h.
+      let place = had.each i d h in
+      record {
+        chosen = place.chosen;
+        is = IsChosen-without entry other slots j (get_or places i d).slot place.chosen same gone (elsewhere i d h) place.is;
+        of_id = place.of_id;
+        generation = place.generation;
+        len = place.len;
+        further = place.further;
+      };
+  all = λ k e h at_k. elim (cases_eq k j) [
+    | inl here ↦ absurd (none-some e (sym gone ∙ ap other (sym here) ∙ at_k))
+    | inr apart ↦ had.all k e h (sym (same k apart) ∙ at_k)
+  ];
+}
+  where
+    elsewhere : (i : ℕ) (d : SlotOf) → i < length ids → (get_or places i d).slot ≢ j
+    elsewhere i d h here =
+        let place = had.each i d h in
+        let mine : lost ≡ place.chosen = same_Some lost place.chosen (sym was ∙ ap entry (sym here) ∙ (place.is).here) in
+        older.4 (IsChosen-unique entry slots older.0 (get_or places i d).slot older.1 place.chosen older.2 place.is
+        (older.3 ∙ ap (λ (x : Entry). x.id) mine) ∙ here)
+
+-- the slots at the place of an entry are its slots
+pub slots_of_entry : (room id : ℕ) (place : SlotOf) (e : Entry) → IsEntryOf id place e → HasItsParts room e → slots_at room place ≡ place.slot ∷ e.further
+slots_of_entry room id place e of counted =
+    let parts : parts_of room place.len ≡ parts_of room (length e.body) = ap (parts_of room) (sym of.len) in
+    let count : parts_of room place.len - 1 ≡ length e.further = omega arith in
+    ap (λ (n : ℕ). place.slot ∷ take n place.next) count ∙ ap (λ (xs : List ℕ). place.slot ∷ xs) (sym of.further)
+
+-- the free slots after the slots of a record joined them
+free_after : (entry other : ℕ → Option Entry) (slots room j id : ℕ) (place : SlotOf) (lost : Entry) (free after : List ℕ) → HasLost entry other slots j lost → place.slot ≡ j → IsEntryOf id place lost
+    → HasItsParts room lost → free ≡ free_slots entry slots → AreSlots slots after → Gains free after (slots_at room place) → after ≡ free_slots other slots
+free_after entry other slots room j id place lost free after has here of counted is had gains =
+    free_gained entry other slots free after (slots_at room place) is had gains
+    (λ i. has.freed i ∙ ap (λ (k : ℕ). is_taken entry slots i && not (holds (Some lost) k i)) (sym here)
+    ∙ ap (λ (xs : List ℕ). is_taken entry slots i && not (list_any (λ n. i == n) xs)) (sym (slots_of_entry room id place lost of counted)))
+
 -- after the killing of an older copy
-pub IsListOf-killed : (slots slot : ℕ) (old new : Found) (entry other : ℕ → Option Entry) (lost : Entry) → slot < slots
-    → HasLost entry other slot lost → IsOlderCopy entry slots slot lost → new.ids ≡ old.ids → new.places ≡ old.places
-    → IsFreed old.free.items new.free.items slot → IsListOf entry slots old → IsListOf other slots new
-IsListOf-killed slots slot old new entry other lost low has older ids places freed had = record {
+pub IsListOf-killed : (slots room id : ℕ) (place : SlotOf) (old new : Found) (entry other : ℕ → Option Entry) (lost : Entry)
+    → HasLost entry other slots place.slot lost → IsEntryOf id place lost → HasItsParts room lost → IsOlderCopy entry slots place.slot lost → new.ids ≡ old.ids → new.places ≡ old.places
+    → AreSlots slots new.free.items → Gains old.free.items new.free.items (slots_at room place) → IsListOf entry slots old → IsListOf other slots new
+IsListOf-killed slots room id place old new entry other lost has of counted older ids places free gains had = record {
   listed =
       subst (λ v. AreListed other slots v.items new.places.items) (sym ids)
       (subst (λ v. AreListed other slots old.ids.items v.items) (sym places)
-      (AreListed-without entry other slots slot old.ids.items old.places.items has.same has.gone elsewhere had.listed));
-  free = free_slots-lost entry other slots slot lost new.free.items low has (subst (λ (xs : List ℕ). IsFreed xs new.free.items slot) had.free freed);
+      (AreListed-lost entry other slots place.slot lost old.ids.items old.places.items has.same has.was has.gone older had.listed));
+  free = free_after entry other slots room place.slot id place lost old.free.items new.free.items has refl of counted had.free free gains;
 }
-  where
-    elsewhere : (i : ℕ) (d : SlotOf) → i < length old.ids.items → (get_or old.places.items i d).slot ≢ slot
-    elsewhere i d h here =
-        let place = had.listed.each i d h in
-        let mine : lost ≡ place.chosen = same_Some lost place.chosen (sym has.was ∙ ap entry (sym here) ∙ (place.is).here) in
-        older.4 (IsChosen-unique entry slots older.0 (get_or old.places.items i d).slot older.1 place.chosen older.2 place.is
-        (older.3 ∙ ap (λ (x : Entry). x.id) mine) ∙ here)
 
 -- after the killing of the only slot of an identifier
-pub IsListOf-cleared : (slots size at : ℕ) (old new : Found) (id j : ℕ) (place : SlotOf) (entry other : ℕ → Option Entry) (lost : Entry) → j < slots
-    → HasLost entry other j lost → lost.id ≡ id → IsOnlyCopy entry slots j id → IsIndex slots size old.ids.items old.places.items
+pub IsListOf-cleared : (slots size room at : ℕ) (old new : Found) (id j : ℕ) (place : SlotOf) (entry other : ℕ → Option Entry) (lost : Entry) → j < slots
+    → HasLost entry other slots j lost → lost.id ≡ id → HasItsParts room lost → IsOnlyCopy entry slots j id → IsIndex slots size old.ids.items old.places.items
     → at < length old.ids.items → get_or old.ids.items at 0 ≡ id → place ≡ get_or old.places.items at place
-    → new.ids.items ≡ remove old.ids.items at → new.places.items ≡ remove old.places.items at → IsFreed old.free.items new.free.items place.slot
+    → new.ids.items ≡ remove old.ids.items at → new.places.items ≡ remove old.places.items at
+    → AreSlots slots new.free.items → Gains old.free.items new.free.items (slots_at room place)
     → IsListOf entry slots old → IsListOf other slots new
-IsListOf-cleared slots size at old new id j place entry other lost low has key only index within here is ids places freed had =
+IsListOf-cleared slots size room at old new id j place entry other lost low has key counted only index within here is ids places free gains had =
     let was = had.listed.each at place within in
     let there : (get_or old.places.items at place).slot ≡ j =
     only (get_or old.places.items at place).slot was.chosen (was.is).within (was.is).here (was.of_id ∙ here) in
     let slot : place.slot ≡ j = ap (λ (p : SlotOf). p.slot) is ∙ there in
+    let mine : was.chosen ≡ lost = same_Some was.chosen lost (sym (was.is).here ∙ ap entry there ∙ has.was) in
+    let of : IsEntryOf id place lost = subst (λ (p : SlotOf). IsEntryOf id p lost) (sym is) (subst (λ (e : Entry). IsEntryOf id (get_or old.places.items at place) e) mine
+    (record { of_id = was.of_id ∙ here; generation = was.generation; len = was.len; further = was.further })) in
     record {
       listed =
           subst (λ (xs : List ℕ). AreListed other slots xs new.places.items) (sym ids)
           (subst (λ (ps : List SlotOf). AreListed other slots (remove old.ids.items at) ps) (sym places)
           (AreListed-cleared entry other slots j old.ids.items old.places.items at lost has.same has.was has.gone
           (λ k x h at_k same. only k x h at_k (same ∙ key)) index.rising index.paired within (here ∙ sym key) had.listed));
-      free = free_slots-lost entry other slots j lost new.free.items low has
-          (subst (λ (xs : List ℕ). IsFreed xs new.free.items j) had.free (subst (λ (k : ℕ). IsFreed old.free.items new.free.items k) slot freed));
+      free = free_after entry other slots room j id place lost old.free.items new.free.items has slot of counted had.free free gains;
     }

@@ -1,337 +1,422 @@
 -- What a store knows, in terms of what is seen of it.
-use Rattle.std.proofs.Common.{◌≡◌, ◌≢◌, ◌⊎◌, ℕ, ◌+◌, ◌-◌, ◌*◌, ◌<◌, ◌≤◌, Bool, true, false, cond, List, ◌++◌, length, take, drop, Option, Some, None, Result, Ok, Err, refl, sym, ap, subst, ◌∙◌, arith, inl, inr, length-append, length-drop}
+use Rattle.std.proofs.Common.{◌≡◌, ◌⊎◌, ℕ, ◌+◌, ◌≤◌, Bool, true, false, cond, List, length, Option, Some, None, Result, Ok, Err, refl, sym, ap, subst, ◌∙◌, arith, inl, inr}
 use Rattle.std.specs.Prelude.{is_some}
-use Rattle.std.specs.FinMap.{get, len}
-use Rattle.std.proofs.lemmas.Bool.{cases_eq, cases_lt}
-use Rattle.std.proofs.lemmas.Option.{none-some, same_Some}
-use Rattle.std.proofs.lemmas.List.{length-take, take_all, take-append-le}
-use Rattle.base_model.specs.Bytes.{part}
+use Rattle.std.specs.FinMap.{get}
 use Rattle.flash_model.specs.declared.geometry.Geometry.{Geometry}
-use Rattle.record_model.specs.Flash.{Told, FlashState, Leaves, IsErased}
-use Rattle.record_model.specs.Records.{Entry, Stored, entry_at, entry_of, head_at, tail_at, selected, stored_in, is_upright, AreSingle, HasNoSecondCopy, IsNearlySingle}
-use Rattle.record_model.specs.RecordMap.{Write, Failed, NoSpace as no_space, LAST_GENERATION, refusal_of, pieces_of}
-use Rattle.record_model.proofs.CrashLemmas.{Leaves-none, Leaves-exit}
+use Rattle.flash_model.specs.Layouts.{layout_of}
+use Rattle.flash_words.specs.Flash.{Told, FlashState, Leaves, LosesOnlyByChange}
+use Rattle.flash_words.specs.Layout.{Layout, room_of}
+use Rattle.flash_words.proofs.CrashLemmas.{Leaves-none, Leaves-exit}
+use Rattle.base_model.specs.Faults.{Rose}
+use Rattle.record_model.specs.Records.{Entry, Stored, entry_at, selected, stored_in, parts_in, NearlyOnlyFirstUp, second_copies}
+use Rattle.record_model.proofs.SpareLemmas.{second_copies-few}
 use Rattle.record_recovery.specs.declared.found.Found.{Found}
 use Rattle.record_recovery.specs.declared.found.SlotOf.{SlotOf}
-use Rattle.record_recovery.specs.Recovered.{KeepsRecords}
+use Rattle.record_recovery.specs.Listed.{IsWithin}
+use Rattle.record_recovery.specs.Recovered.{IsRecovered, KeepsRecords, StaysNearly, ChangesFew}
 use Rattle.record_store.specs.Index.{IsListing, IsListOf, IsPlaceFound}
-use Rattle.record_store.specs.Store.{StoreView, Pending, Idle, Writing, stored, map_after, IsReady, KeepsMap, DividesAlike}
-use Rattle.record_store.specs.Answers.{StartsWrite, RefusesWrite}
-use Rattle.record_store.specs.Work.{IsStage, made_at, StandsAt}
-use Rattle.record_store.specs.Kept.{IsStore, Knows, KnowsSlots, KnowsDraft, MayMake, view_of, pending_of}
-use Rattle.record_store.specs.Start.{StartsWith, IsRefusedBy}
+use Rattle.record_store.specs.Store.{StoreView, Pending, Idle, Writing, stored, records_of, slots_for, map_after, IsReady, IsInDoubt, KeepsMap, DividesAlike, doubted, restarted}
+use Rattle.record_model.specs.RecordMap.{Write, Failed, NoSpace as no_space, LAST_GENERATION, refusal_of}
+use Rattle.record_store.specs.Answers.{StartsWrite, copies_in, copies_of, HasDoubtOf, HasDoubtAtStart, HasFaultsOf, EndsCopies, UnlessFlash, ReadsExactly}
+use Rattle.record_store.specs.Calls.{OnlyLooks, OnlyStarts}
+use Rattle.record_store.specs.Start.{ReadsTimes}
+use Rattle.record_store.specs.Kept.{IsStore, IsWork, IsUnderWay, Knows, KnowsSlots, MayMake, view_of, pending_of}
 use Rattle.record_store.specs.declared.errors.StoreError.{StoreError}
 use Rattle.record_store.specs.declared.errors.StoreError.TheVariants.{NoSpace, LastGeneration, NotFound, Empty, Flash, Small}
-use Rattle.record_store.specs.declared.work.Draft.{Draft}
-use Rattle.record_store.specs.declared.work.Stage.{Stage}
-use Rattle.record_store.specs.declared.work.Stage.TheVariants as stages
 use Rattle.record_store.specs.declared.work.Work.{Work}
 use Rattle.record_store.specs.declared.work.Work.TheVariants as works
-use Rattle.record_store.proofs.AnswerLemmas.{place_stored}
 
 -- power lost in nothing, or in what kept the records
 pub KeepsMap-none : (v : StoreView) → KeepsMap v v
-KeepsMap-none v = Leaves-none v.flash.told (λ image. stored_in v.slot_size v.slots image ≡ stored v) refl
+KeepsMap-none v = Leaves-none v.flash.told (λ image. records_of v.layout image ≡ stored v) refl
 
 pub kept_since : (geometry : Geometry) (flash : FlashState) (doubt : Bool) (pending : Pending) (v : StoreView) (new : Told) → view_of geometry flash doubt pending ≡ v
-    → KeepsRecords geometry.slot_size geometry.slots flash.told new → Leaves v.flash.told new (λ image. stored_in v.slot_size v.slots image ≡ stored v)
+    → KeepsRecords geometry.slot_size geometry.slots flash.told new → Leaves v.flash.told new (λ image. records_of v.layout image ≡ stored v)
 kept_since geometry flash doubt pending v new is kept =
-    subst (λ (u : StoreView). Leaves u.flash.told new (λ image. stored_in u.slot_size u.slots image ≡ stored u)) is kept
+    subst (λ (u : StoreView). Leaves u.flash.told new (λ image. records_of u.layout image ≡ stored u)) is kept
 
 pub may_since : (geometry : Geometry) (flash : FlashState) (doubt : Bool) (pending : Pending) (v : StoreView) (new : Told) → view_of geometry flash doubt pending ≡ v
     → MayMake geometry pending flash.told new
-    → Leaves v.flash.told new (λ image. (stored_in v.slot_size v.slots image ≡ stored v) ⊎ (stored_in v.slot_size v.slots image ≡ map_after v.per_slot v.pending (stored v)))
+    → Leaves v.flash.told new (λ image. (records_of v.layout image ≡ stored v) ⊎ (records_of v.layout image ≡ map_after v.layout v.pending (stored v)))
 may_since geometry flash doubt pending v new is may =
-    subst (λ (u : StoreView). Leaves u.flash.told new (λ image. (stored_in u.slot_size u.slots image ≡ stored u) ⊎ (stored_in u.slot_size u.slots image ≡ map_after u.per_slot u.pending (stored u)))) is may
+    subst (λ (u : StoreView). Leaves u.flash.told new (λ image. (records_of u.layout image ≡ stored u) ⊎ (records_of u.layout image ≡ map_after u.layout u.pending (stored u)))) is may
 
 pub may_exit : (geometry : Geometry) (flash : FlashState) (doubt : Bool) (pending : Pending) (v : StoreView) (new : Told) → view_of geometry flash doubt pending ≡ v
     → MayMake geometry pending flash.told new
-    → (stored_in geometry.slot_size geometry.slots new.image ≡ stored v) ⊎ (stored_in geometry.slot_size geometry.slots new.image ≡ map_after v.per_slot v.pending (stored v))
+    → (records_of (layout_of geometry) new.image ≡ stored v) ⊎ (records_of (layout_of geometry) new.image ≡ map_after v.layout v.pending (stored v))
 may_exit geometry flash doubt pending v new is may =
-    subst (λ (u : StoreView). (stored_in geometry.slot_size geometry.slots new.image ≡ stored u) ⊎ (stored_in geometry.slot_size geometry.slots new.image ≡ map_after u.per_slot u.pending (stored u))) is
-    (Leaves-exit flash.told new (λ image. (stored_in geometry.slot_size geometry.slots image ≡ stored_in geometry.slot_size geometry.slots flash.told.image)
-    ⊎ (stored_in geometry.slot_size geometry.slots image ≡ map_after geometry.per_slot pending (stored_in geometry.slot_size geometry.slots flash.told.image))) may)
+    subst (λ (u : StoreView). (records_of (layout_of geometry) new.image ≡ stored u) ⊎ (records_of (layout_of geometry) new.image ≡ map_after u.layout u.pending (stored u))) is
+    (Leaves-exit flash.told new (λ image. (records_of (layout_of geometry) image ≡ records_of (layout_of geometry) flash.told.image)
+    ⊎ (records_of (layout_of geometry) image ≡ map_after (layout_of geometry) pending (records_of (layout_of geometry) flash.told.image))) may)
 
 -- where nothing is seen to be pending nothing is
-pub idle_work : (per_slot : ℕ) (buffer : List ℕ) (work : Work) → pending_of per_slot buffer work ≡ Idle → work ≡ works.Nothing
-idle_work per_slot buffer works.Nothing is = refl
-idle_work per_slot buffer (works.Write draft stage) is = absurd (cc)
-idle_work per_slot buffer (works.OldCopy id size slot) is = absurd (cc)
-idle_work per_slot buffer (works.Clear id slot) is = absurd (cc)
+pub idle_work : (layout : Layout) (buffer : List ℕ) (work : Work) → pending_of layout buffer work ≡ Idle → work ≡ works.Nothing
+idle_work layout buffer works.Nothing is = refl
+idle_work layout buffer (works.Write draft stage replaced) is = absurd (cc)
+idle_work layout buffer (works.OldCopy draft place) is = absurd (cc)
+idle_work layout buffer (works.Clear id place) is = absurd (cc)
 
 -- what a store that is not in doubt knows, where nothing is pending
-pub ready_knows : (tells : Type 0) (geometry : Geometry) (flash : FlashState) (found : Found) (buffer : List ℕ) (doubt : Bool) (work : Work) (v : StoreView)
-    → IsStore tells geometry flash found buffer doubt work → view_of geometry flash doubt (pending_of geometry.per_slot buffer work) ≡ v → IsReady v → tells
-    → KnowsSlots (entry_at v.slot_size v.flash.told.image) v.slots found
-ready_knows tells geometry flash found buffer doubt work v store is ready told =
+pub ready_inside : (tells : Type 0) (geometry : Geometry) (flash : FlashState) (found : Found) (buffer : List ℕ) (doubt : Bool) (work : Work) (v : StoreView)
+    → IsStore tells geometry flash found buffer doubt work → view_of geometry flash doubt (pending_of (layout_of geometry) buffer work) ≡ v → IsReady v → tells
+    → KnowsSlots (layout_of geometry) flash.told.image found
+ready_inside tells geometry flash found buffer doubt work v store is ready told =
     let certain : doubt ≡ false = ap (λ (u : StoreView). u.in_doubt) is ∙ ready.certain in
-    let idle = idle_work geometry.per_slot buffer work (ap (λ (u : StoreView). u.pending) is ∙ ready.idle) in
-    subst (λ (u : StoreView). KnowsSlots (entry_at u.slot_size u.flash.told.image) u.slots found) is
-    (subst (λ (w : Work). Knows geometry found buffer flash.told.image w) idle (store.knows told certain))
+    let idle = idle_work (layout_of geometry) buffer work (ap (λ (u : StoreView). u.pending) is ∙ ready.idle) in
+    subst (λ (w : Work). Knows geometry found buffer flash.told.image w) idle (store.knows told certain)
 
-pub unfold_stored : (size slots : ℕ) (image : List ℕ) → stored_in size slots image ≡ selected (entry_at size image) slots
+pub ready_knows : (tells : Type 0) (geometry : Geometry) (flash : FlashState) (found : Found) (buffer : List ℕ) (doubt : Bool) (work : Work) (v : StoreView)
+    → IsStore tells geometry flash found buffer doubt work → view_of geometry flash doubt (pending_of (layout_of geometry) buffer work) ≡ v → IsReady v → tells
+    → KnowsSlots v.layout v.flash.told.image found
+ready_knows tells geometry flash found buffer doubt work v store is ready told =
+    subst (λ (u : StoreView). KnowsSlots u.layout u.flash.told.image found) is (ready_inside tells geometry flash found buffer doubt work v store is ready told)
+
+pub unfold_stored : (size slots : ℕ) (image : List ℕ) → stored_in size slots image ≡ selected (entry_at size slots image) slots
 unfolding stored_in
 unfold_stored size slots image = refl
 
-pub fold_single : (size slots : ℕ) (image : List ℕ) → AreSingle (entry_at size image) slots → HasNoSecondCopy size slots image
-unfolding HasNoSecondCopy
-fold_single size slots image single = single
-
 -- a store that has looked at its slots
-pub record HasLooked (tells : Type 0) (old now : StoreView) (found : Found) : Type 0 where
-  pub listing : IsListing now.slots now.slot_size found
-  pub knows : tells → KnowsSlots (entry_at now.slot_size now.flash.told.image) now.slots found
-  pub slots : now.slots ≡ old.slots
-  pub map : tells → selected (entry_at now.slot_size now.flash.told.image) now.slots ≡ stored old
+pub record KnowsMap (tells : Type 0) (old now : StoreView) (found : Found) : Type 0 where
+  pub listing : IsListing now.layout.slots now.layout.slot_size found
+  pub knows : tells → KnowsSlots now.layout now.flash.told.image found
+  pub layout : now.layout ≡ old.layout
+  pub map : tells → selected (entry_at now.layout.slot_size now.layout.slots now.flash.told.image) now.layout.slots ≡ stored old
 
 pub kept_map : (old now : StoreView) → KeepsMap old now → DividesAlike old now → stored now ≡ stored old
 kept_map old now kept alike =
-    ap (λ (n : ℕ). stored_in n now.slots now.flash.told.image) alike.slot_size
-    ∙ ap (λ (n : ℕ). stored_in old.slot_size n now.flash.told.image) alike.slots
-    ∙ Leaves-exit old.flash.told now.flash.told (λ image. stored_in old.slot_size old.slots image ≡ stored old) kept
+    ap (λ (layout : Layout). records_of layout now.flash.told.image) alike.layout
+    ∙ Leaves-exit old.flash.told now.flash.told (λ image. records_of old.layout image ≡ stored old) kept
 
-pub looked : (tells : Type 0) (geometry : Geometry) (flash : FlashState) (found : Found) (buffer : List ℕ) (doubt : Bool) (work : Work) (old now : StoreView)
-    → IsStore tells geometry flash found buffer doubt work → view_of geometry flash doubt (pending_of geometry.per_slot buffer work) ≡ now → IsReady now
-    → (tells → KeepsMap old now) → DividesAlike old now → HasLooked tells old now found
-looked tells geometry flash found buffer doubt work old now store is ready kept alike = record {
-  listing = subst (λ (u : StoreView). IsListing u.slots u.slot_size found) is store.listing;
-  knows = λ told. ready_knows tells geometry flash found buffer doubt work now store is ready told;
-  slots = alike.slots;
-  map = λ told. sym (unfold_stored now.slot_size now.slots now.flash.told.image) ∙ kept_map old now (kept told) alike;
+pub looked : {T : Type 0} (tells : Type 0) (geometry : Geometry) (flash : FlashState) (found : Found) (buffer : List ℕ) (doubt : Bool) (work : Work) (old now : StoreView) (x : T)
+    → IsStore tells geometry flash found buffer doubt work → view_of geometry flash doubt (pending_of (layout_of geometry) buffer work) ≡ now
+    → OnlyLooks {T = T} tells old now (Ok x) → KnowsMap tells old now found
+looked tells geometry flash found buffer doubt work old now x store is leaves = record {
+  listing = subst (λ (u : StoreView). IsListing u.layout.slots u.layout.slot_size found) is store.listing;
+  knows = λ told. ready_knows tells geometry flash found buffer doubt work now store is leaves.doubt told;
+  layout = leaves.alike.layout;
+  map = λ told. sym (unfold_stored now.layout.slot_size now.layout.slots now.flash.told.image) ∙ kept_map old now (leaves.kept told) leaves.alike;
 }
 
 -- what is said of the map of the slots is said of the map at first
-pub of_old : (tells : Type 0) (old now : StoreView) (found : Found) (P : ℕ → Stored → Type 0) → HasLooked tells old now found → tells
-    → P now.slots (selected (entry_at now.slot_size now.flash.told.image) now.slots) → P old.slots (stored old)
+pub of_old : (tells : Type 0) (old now : StoreView) (found : Found) (P : Layout → Stored → Type 0) → KnowsMap tells old now found → tells
+    → P now.layout (selected (entry_at now.layout.slot_size now.layout.slots now.flash.told.image) now.layout.slots) → P old.layout (stored old)
 of_old tells old now found P is told here =
-    subst (λ (s : Stored). P old.slots s) (is.map told) (subst (λ (n : ℕ). P n (selected (entry_at now.slot_size now.flash.told.image) now.slots)) is.slots here)
+    subst (λ (s : Stored). P old.layout s) (is.map told)
+    (subst (λ (l : Layout). P l (selected (entry_at now.layout.slot_size now.layout.slots now.flash.told.image) now.layout.slots)) is.layout here)
 
-at_old : (old mid : StoreView) → mid.slots ≡ old.slots → stored mid ≡ stored old → (P : ℕ → Stored → Type 0) → P mid.slots (stored mid) → P old.slots (stored old)
-at_old old mid slots same P h = subst (λ (s : Stored). P old.slots s) same (subst (λ (n : ℕ). P n (stored mid)) slots h)
+-- A look, and no more
 
--- what a start answered a store that knows its records is the answer to the store at first
-pub start_from : (old mid new : StoreView) (id : ℕ) (bytes : List ℕ) (result : Result (Unit {0}) StoreError) → mid.slots ≡ old.slots → stored mid ≡ stored old
-    → StartsWrite mid new id bytes result → StartsWrite old new id bytes result
-start_from old mid new id bytes (Ok done) slots same h = at_old old mid slots same (λ n s. (refusal_of n (Write id bytes) s ≡ None) × (new.pending ≡ Writing id bytes (is_some (get s id)) 0)) h
-start_from old mid new id bytes (Err (NoSpace free)) slots same h =
-    at_old old mid slots same (λ n s. (refusal_of n (Write id bytes) s ≡ Some no_space) × (free + len s ≡ n) × (stored new ≡ s)) h
-start_from old mid new id bytes (Err (LastGeneration number)) slots same h =
-    at_old old mid slots same (λ n s. (refusal_of n (Write id bytes) s ≡ Some Failed) × (number ≡ id) × ((body : List ℕ) × (get s id ≡ Some (body, LAST_GENERATION))) × (stored new ≡ s)) h
-start_from old mid new id bytes (Err NotFound) slots same h = h
-start_from old mid new id bytes (Err Empty) slots same h = h
-start_from old mid new id bytes (Err Flash) slots same h = h
-start_from old mid new id bytes (Err (Small need)) slots same h = h
+pub alike_refl : (v : StoreView) → DividesAlike v v
+alike_refl v = record { layout = refl; size = refl; sector_size = refl }
 
--- why a write does not begin
-pub refused_by : (tells : Type 0) (now : StoreView) (found : Found) (id : ℕ) (bytes : List ℕ) (slots : ℕ) (error : StoreError) → slots ≡ now.slots
-    → KnowsSlots (entry_at now.slot_size now.flash.told.image) now.slots found → IsRefusedBy slots found id error → RefusesWrite now now id bytes error
-refused_by tells now found id bytes slots (NoSpace free) is known by =
-    let refused = subst (λ (n : ℕ). IsRefusedBy n found id (NoSpace free)) is by (entry_at now.slot_size now.flash.told.image) bytes known in
-    let map = sym (unfold_stored now.slot_size now.slots now.flash.told.image) in
-    (subst (λ (s : Stored). refusal_of now.slots (Write id bytes) s ≡ Some no_space) map refused.0, subst (λ (s : Stored). free + len s ≡ now.slots) map refused.1, refl)
-refused_by tells now found id bytes slots (LastGeneration number) is known by =
-    let last = subst (λ (n : ℕ). IsRefusedBy n found id (LastGeneration number)) is by in
-    let refused = last.1 (entry_at now.slot_size now.flash.told.image) bytes known in
-    let map = sym (unfold_stored now.slot_size now.slots now.flash.told.image) in (
-      subst (λ (s : Stored). refusal_of now.slots (Write id bytes) s ≡ Some Failed) map refused.0,
-      last.0,
-      ((refused.1).0, subst (λ (s : Stored). get s id ≡ Some ((refused.1).0, LAST_GENERATION)) map (refused.1).1),
-      refl,
-    )
-refused_by tells now found id bytes slots NotFound is known by = absurd by
-refused_by tells now found id bytes slots Empty is known by = absurd by
-refused_by tells now found id bytes slots Flash is known by = absurd by
-refused_by tells now found id bytes slots (Small need) is known by = absurd by
+pub alike_then : (old mid new : StoreView) → DividesAlike old mid → DividesAlike mid new → DividesAlike old new
+alike_then old mid new first second = record {
+  layout = second.layout ∙ first.layout;
+  size = second.size ∙ first.size;
+  sector_size = second.sector_size ∙ first.sector_size;
+}
 
--- a slice that was lent is a whole vector again
-pub written_back : (n : ℕ) (new items : List ℕ) → length new ≡ length items → n ≡ length items → take n (new ++ drop (length new) items) ≡ new
-written_back n new items same is =
-    take_front n new (drop (length new) items) (omega arith)
-  where
-    take_front : (k : ℕ) (xs ys : List ℕ) → k ≡ length xs → take k (xs ++ ys) ≡ xs
-    take_front k xs ys e = take-append-le k xs ys (omega arith) ∙ take_all k xs (omega arith)
+pub power_refl : (flash : FlashState) → LosesOnlyByChange flash flash
+power_refl flash = record { never_back = λ on. on; lost = inl refl }
 
--- bytes at the start of a buffer leave its length
-pub new_length : (bytes new lent items : List ℕ) → new ≡ bytes ++ drop (length bytes) lent → lent ≡ items → length bytes ≤ length items → length new ≡ length items
-new_length bytes new lent items is same fits =
-    let first : length new ≡ length (bytes ++ drop (length bytes) lent) = ap (λ (xs : List ℕ). length xs) is in
-    let equal : length lent ≡ length items = ap (λ (xs : List ℕ). length xs) same in
-    let both = length-append bytes (drop (length bytes) lent) in
-    let rest = length-drop (length bytes) lent in
+pub power_then : (old mid new : FlashState) → old.steps ≤ mid.steps → mid.steps ≤ new.steps → LosesOnlyByChange old mid → LosesOnlyByChange mid new → LosesOnlyByChange old new
+power_then old mid new up more first second = record {
+  never_back = λ on. first.never_back (second.never_back on);
+  lost = elim second.lost [
+    | inr lost ↦ inr (omega arith)
+    | inl same ↦ elim first.lost [ inl kept ↦ inl (same ∙ kept) | inr lost ↦ inr (omega arith) ]
+  ];
+}
+
+pub NotFlash : {T : Type 0} → Result T StoreError → Type 0
+NotFlash result = UnlessFlash result ⊥ → ⊥
+
+looks_by : {T U : Type 0} (tells : Type 0) (old new : StoreView) (x : Result T StoreError) (y : Result U StoreError) → (tells → EndsCopies old new y) → HasDoubtOf new y
+    → HasFaultsOf old.flash.faults new.flash.faults y → OnlyLooks tells old new x → OnlyLooks tells old new y
+looks_by tells old new x y ended doubt cause had = record {
+  kept = had.kept;
+  few = had.few;
+  ended = ended;
+  doubt = doubt;
+  idle = had.idle;
+  alike = had.alike;
+  power = had.power;
+  cause = cause;
+}
+
+-- an answer of a store that has looked
+pub looks_ok : {T U : Type 0} (tells : Type 0) (old new : StoreView) (x : T) (y : U) → OnlyLooks {T = T} tells old new (Ok x) → OnlyLooks {T = U} tells old new (Ok y)
+looks_ok tells old new x y had = looks_by tells old new (Ok x) (Ok y) had.ended had.doubt had.cause had
+
+pub looks_not_found : {T U : Type 0} (tells : Type 0) (old new : StoreView) (x : T) → OnlyLooks {T = T} tells old new (Ok x) → OnlyLooks {T = U} tells old new (Err NotFound)
+looks_not_found tells old new x had = looks_by tells old new (Ok x) (Err NotFound) had.ended had.doubt had.cause had
+
+pub looks_empty : {T U : Type 0} (tells : Type 0) (old new : StoreView) (x : T) → OnlyLooks {T = T} tells old new (Ok x) → OnlyLooks {T = U} tells old new (Err Empty)
+looks_empty tells old new x had = looks_by tells old new (Ok x) (Err Empty) had.ended had.doubt had.cause had
+
+pub looks_small : {T U : Type 0} (tells : Type 0) (old new : StoreView) (x : T) (need : ℕ) → OnlyLooks {T = T} tells old new (Ok x) → OnlyLooks {T = U} tells old new (Err (Small need))
+looks_small tells old new x need had = looks_by tells old new (Ok x) (Err (Small need)) had.ended had.doubt had.cause had
+
+-- the fault of a look
+pub looks_err : {T U : Type 0} (tells : Type 0) (old new : StoreView) (error : StoreError) → OnlyLooks {T = T} tells old new (Err error) → OnlyLooks {T = U} tells old new (Err error)
+looks_err tells old new (NoSpace free) had = looks_by tells old new (Err (NoSpace free)) (Err (NoSpace free)) had.ended had.doubt had.cause had
+looks_err tells old new (LastGeneration id) had = looks_by tells old new (Err (LastGeneration id)) (Err (LastGeneration id)) had.ended had.doubt had.cause had
+looks_err tells old new NotFound had = looks_by tells old new (Err NotFound) (Err NotFound) had.ended had.doubt had.cause had
+looks_err tells old new Empty had = looks_by tells old new (Err Empty) (Err Empty) had.ended had.doubt had.cause had
+looks_err tells old new Flash had = looks_by tells old new (Err Flash) (Err Flash) had.ended had.doubt had.cause had
+looks_err tells old new (Small need) had = looks_by tells old new (Err (Small need)) (Err (Small need)) had.ended had.doubt had.cause had
+
+-- A look at the slots
+
+none_ended : (store : StoreView) → store.in_doubt ≡ false → store.flash.steps ≡ store.flash.steps + copies_of store
+none_ended store sure =
+    let none : copies_of store ≡ 0 = ap (λ (b : Bool). cond {A = ℕ} b (copies_in store) 0) sure in
     omega arith
 
--- the stage with which the filling of a slot begins
-pub record IsFirst (tail : ℕ) (stage : Stage) : Type 0 where
-  pub marked : tail ≡ 0xA5 → stage ≡ stages.EraseFromTail 0
-  pub unmarked : tail ≢ 0xA5 → stage ≡ stages.EraseFromHead 0
+-- by a store that knows its records
+pub looks_ready : {T : Type 0} (tells : Type 0) (v : StoreView) (x : T) → IsReady v → OnlyLooks {T = T} tells v v (Ok x)
+looks_ready tells v x ready = record {
+  kept = λ told. KeepsMap-none v;
+  few = λ told. omega arith;
+  ended = λ told. none_ended v ready.certain;
+  doubt = ready;
+  idle = ready.idle;
+  alike = alike_refl v;
+  power = power_refl v.flash;
+  cause = refl;
+}
 
-first_made : (per_slot pieces tail : ℕ) (stage : Stage) → IsFirst tail stage → made_at per_slot pieces stage ≡ 0
-first_made per_slot pieces tail stage first = elim (cases_eq tail 0xA5) [
-  | inl marked ↦ ap (made_at per_slot pieces) (first.marked marked)
-  | inr unmarked ↦ ap (made_at per_slot pieces) (first.unmarked unmarked)
-]
+-- what a store is after it has looked again, in doubt or not
+abbrev after_look : Geometry → FlashState → Bool → Pending → StoreView
+after_look geometry flash doubt pending = view_of geometry flash doubt pending
 
-nothing_erased : (image : List ℕ) (at n : ℕ) → n ≡ 0 → IsErased image at n
-unfolding part
-nothing_erased image at n is = subst (λ (k : ℕ). IsErased image at k) (sym is) refl
+rescanned_few : (geometry : Geometry) (flash new : FlashState) → ChangesFew geometry.slot_size geometry.slots flash new → NearlyOnlyFirstUp geometry.slot_size geometry.slots flash.told.image → new.steps ≤ flash.steps + 1
+rescanned_few geometry flash new few nearly = let one = second_copies-few geometry.slot_size geometry.slots flash.told.image nearly in omega arith
 
-first_form : (geometry : Geometry) (size tail : ℕ) (stage : Stage) → IsFirst tail stage → IsStage geometry size stage
-first_form geometry size tail stage first =
-    let some : 0 < geometry.per_slot = omega (arith, geometry.few_sectors) in
-    elim (cases_eq tail 0xA5) [
-      | inl marked ↦ subst (λ (s : Stage). IsStage geometry size s) (sym (first.marked marked)) some
-      | inr unmarked ↦ subst (λ (s : Stage). IsStage geometry size s) (sym (first.unmarked unmarked)) some
-    ]
+pub rescanned_spare : (size slots : ℕ) (old new : Told) → StaysNearly size slots old new → NearlyOnlyFirstUp size slots old.image → NearlyOnlyFirstUp size slots new.image
+rescanned_spare size slots old new stays nearly = Leaves-exit old new (λ image. NearlyOnlyFirstUp size slots old.image → NearlyOnlyFirstUp size slots image) stays nearly
 
-first_stands : (geometry : Geometry) (draft : Draft) (body image : List ℕ) (tail : ℕ) (stage : Stage) → IsFirst tail stage → tail ≡ tail_at image (draft.slot * geometry.slot_size) geometry.slot_size
-    → StandsAt geometry draft body image stage
-first_stands geometry draft body image tail stage first is = elim (cases_eq tail 0xA5) [
-  | inl marked ↦ subst (λ (s : Stage). StandsAt geometry draft body image s) (sym (first.marked marked))
-      (record {
-        marked = λ none. sym is ∙ marked;
-        erased = nothing_erased image (draft.slot * geometry.slot_size + (geometry.per_slot - 0) * geometry.sector) (0 * geometry.sector) (omega arith);
-      })
-  | inr unmarked ↦ subst (λ (s : Stage). StandsAt geometry draft body image s) (sym (first.unmarked unmarked))
-      (record {
-        unmarked = λ none set. unmarked (is ∙ set);
-        erased = nothing_erased image (draft.slot * geometry.slot_size) (0 * geometry.sector) (omega arith);
-      })
-]
+-- the frame of a scan
+pub record IsScanned (tells : Type 0) (geometry : Geometry) (old new : FlashState) : Type 0 where
+  pub crash : tells → KeepsRecords geometry.slot_size geometry.slots old.told new.told
+  pub changes : tells → ChangesFew geometry.slot_size geometry.slots old new
+  pub nearly : tells → NearlyOnlyFirstUp geometry.slot_size geometry.slots old.told.image
+  pub size : new.size ≡ old.size
+  pub sector_size : new.sector_size ≡ old.sector_size
+  pub power : LosesOnlyByChange old new
 
--- the bytes of a write stand at the start of the buffer
-pub front_is : (bytes rest buffer : List ℕ) (n : ℕ) → buffer ≡ bytes ++ rest → n ≡ length bytes → take n buffer ≡ bytes
-front_is bytes rest buffer n is long =
-    ap (take n) is ∙ take-append-le n bytes rest (omega arith) ∙ take_all n bytes (omega arith)
+looks_scanned : {T : Type 0} (tells : Type 0) (geometry : Geometry) (old new : FlashState) (doubt after : Bool) (pending : Pending) (y : Result T StoreError) → IsScanned tells geometry old new
+    → pending ≡ Idle → (tells → EndsCopies (view_of geometry old doubt pending) (view_of geometry new after pending) y) → HasDoubtOf (view_of geometry new after pending) y → HasFaultsOf old.faults new.faults y
+    → OnlyLooks {T = T} tells (view_of geometry old doubt pending) (view_of geometry new after pending) y
+looks_scanned tells geometry old new doubt after pending y scanned idle ended has_doubt cause = record {
+  kept = scanned.crash;
+  few = λ told. rescanned_few geometry old new (scanned.changes told) (scanned.nearly told);
+  ended = ended;
+  doubt = has_doubt;
+  idle = idle;
+  alike = record { layout = refl; size = scanned.size; sector_size = scanned.sector_size };
+  power = scanned.power;
+  cause = cause;
+}
 
--- what is pending once a write has begun
-pub begun_pending : (per_slot : ℕ) (buffer bytes : List ℕ) (id tail : ℕ) (draft : Draft) (stage : Stage) → draft.id ≡ id → take draft.len buffer ≡ bytes → IsFirst tail stage
-    → pending_of per_slot buffer (works.Write draft stage) ≡ Writing id bytes (is_some draft.replaced) 0
-begun_pending per_slot buffer bytes id tail draft stage is front first =
-    ap (λ (n : ℕ). Writing draft.id (take draft.len buffer) (is_some draft.replaced) n) (first_made per_slot (pieces_of (length (take draft.len buffer))) tail stage first)
-    ∙ ap (λ (xs : List ℕ). Writing draft.id xs (is_some draft.replaced) 0) front
-    ∙ ap (λ (n : ℕ). Writing n bytes (is_some draft.replaced) 0) is
+pub looks_again : {T : Type 0} (tells : Type 0) (geometry : Geometry) (old new : FlashState) (found : Found) (doubt : Bool) (pending : Pending) (v : StoreView) (x : T) → view_of geometry old doubt pending ≡ v
+    → doubt ≡ true → pending ≡ Idle → IsScanned tells geometry old new → (tells → IsRecovered geometry.slot_size geometry.slots old new found) → new.faults ≡ old.faults
+    → OnlyLooks {T = T} tells v (view_of geometry new false pending) (Ok x)
+looks_again {T} tells geometry old new found doubt pending v x is unsure idle scanned recovered same =
+    subst (λ (u : StoreView). OnlyLooks {T = T} tells u (view_of geometry new false pending) (Ok x)) is
+    (looks_scanned {T = T} tells geometry old new doubt false pending (Ok x) scanned idle
+    (λ told. (recovered told).steps ∙ ap (λ (n : ℕ). old.steps + n) (sym (ap (λ (b : Bool). cond {A = ℕ} b (second_copies geometry.slot_size geometry.slots old.told.image) 0) unsure)))
+    (record { certain = refl; idle = idle }) same)
 
--- a write has begun
-pub begun_store : (tells : Type 0) (geometry : Geometry) (flash new : FlashState) (found : Found) (buffer written : List ℕ) (doubt : Bool) (work : Work) (v : StoreView)
-    (id size tail : ℕ) (draft : Draft) (stage : Stage)
-    → IsStore tells geometry flash found buffer doubt work → view_of geometry flash doubt (pending_of geometry.per_slot buffer work) ≡ v → IsReady v
-    → StartsWith geometry.slots found id size draft → 128 ≤ size → size ≤ geometry.slot_size - 64 → length written ≡ length buffer → IsFirst tail stage
-    → (tells → tail ≡ tail_at flash.told.image (draft.slot * geometry.slot_size) geometry.slot_size)
-    → (tells → new.told ≡ flash.told) → new.size ≡ flash.size → new.sector_size ≡ flash.sector_size
-    → IsStore tells geometry new found written doubt (works.Write draft stage)
-begun_store tells geometry flash new found buffer written doubt work v id size tail draft stage store is ready starts least most long first is_tail same new_size new_sector =
-    let certain : doubt ≡ false = ap (λ (u : StoreView). u.in_doubt) is ∙ ready.certain in
-    let idle = idle_work geometry.per_slot buffer work (ap (λ (u : StoreView). u.pending) is ∙ ready.idle) in
-    let is_size = starts.is_len in
-    record {
-      fits = record { size = new_size ∙ store.fits.size; sector_size = new_sector ∙ store.fits.sector_size };
-      listing = store.listing;
-      room = long ∙ store.room;
-      form = (
-        record { id = starts.allowed; slot = starts.slot; least = omega arith; most = omega arith; replaced = starts.replaced },
-        first_form geometry draft.len tail stage first,
-      );
-      certain = λ busy. certain;
-      knows = λ told sure.
-          let known : KnowsSlots (entry_at geometry.slot_size flash.told.image) geometry.slots found =
-          subst (λ (w : Work). Knows geometry found buffer flash.told.image w) idle (store.knows told certain) in
-          subst (λ (t : Told). KnowsDraft geometry found t.image draft × StandsAt geometry draft (take draft.len written) t.image stage) (sym (same told)) (
-            record { slots = known; draft_for = (starts.takes (entry_at geometry.slot_size flash.told.image) known).draft_for },
-            first_stands geometry draft (take draft.len written) flash.told.image tail stage first (is_tail told),
-          );
-      spare = λ told. subst (λ (t : Told). IsNearlySingle (entry_at geometry.slot_size t.image) geometry.slots) (sym (same told)) (store.spare told);
-    }
+pub looks_failed : {T : Type 0} (tells : Type 0) (geometry : Geometry) (old new : FlashState) (doubt : Bool) (pending : Pending) (v : StoreView) → view_of geometry old doubt pending ≡ v
+    → doubt ≡ true → pending ≡ Idle → IsScanned tells geometry old new → old.faults ≤ new.faults → Rose old.faults new.faults
+    → OnlyLooks {T = T} tells v (view_of geometry new doubt pending) (Err Flash)
+looks_failed {T} tells geometry old new doubt pending v is unsure idle scanned up rose =
+    subst (λ (u : StoreView). OnlyLooks {T = T} tells u (view_of geometry new doubt pending) (Err Flash)) is
+    (looks_scanned {T = T} tells geometry old new doubt doubt pending (Err Flash) scanned idle (λ told. tt) (record { doubt = unsure; idle = idle }) (up, rose))
 
--- what a write that has begun answers
-pub begun_answer : (now : StoreView) (found : Found) (slots id size : ℕ) (bytes : List ℕ) (draft : Draft) (pending : Pending) → slots ≡ now.slots
-    → KnowsSlots (entry_at now.slot_size now.flash.told.image) now.slots found → StartsWith slots found id size draft
-    → pending ≡ Writing id bytes (is_some draft.replaced) 0
-    → (refusal_of now.slots (Write id bytes) (stored now) ≡ None) × (pending ≡ Writing id bytes (is_some (get (stored now) id)) 0)
-begun_answer now found slots id size bytes draft pending is known starts is_pending =
-    let map = sym (unfold_stored now.slot_size now.slots now.flash.told.image) in
-    let at_now = subst (λ (n : ℕ). StartsWith n found id size draft) is starts in
-    let takes = at_now.takes (entry_at now.slot_size now.flash.told.image) known in (
-      subst (λ (s : Stored). refusal_of now.slots (Write id bytes) s ≡ None) map
-          (subst (λ (n : ℕ). refusal_of now.slots (Write n bytes) (selected (entry_at now.slot_size now.flash.told.image) now.slots) ≡ None) starts.is_id (takes.accepted bytes)),
-      is_pending ∙ ap (λ (b : Bool). Writing id bytes b 0)
-          (takes.replaces ∙ ap (λ (n : ℕ). is_some (get (selected (entry_at now.slot_size now.flash.told.image) now.slots) n)) starts.is_id
-          ∙ ap (λ (s : Stored). is_some (get s id)) map),
-    )
+-- by a store that was put in doubt, and one whose flash got its power back
+pub looks_doubted : {T : Type 0} (tells : Type 0) (geometry : Geometry) (flash : FlashState) (doubt : Bool) (pending : Pending) (v new : StoreView) (y : Result T StoreError) → view_of geometry flash doubt pending ≡ v
+    → OnlyLooks {T = T} tells (view_of geometry flash true Idle) new y → OnlyLooks {T = T} tells (doubted v) new y
+looks_doubted {T} tells geometry flash doubt pending v new y is had = subst (λ (u : StoreView). OnlyLooks {T = T} tells (doubted u) new y) is had
+
+pub looks_restarted : {T : Type 0} (tells : Type 0) (geometry : Geometry) (flash on : FlashState) (doubt : Bool) (pending : Pending) (v new : StoreView) (y : Result T StoreError) → view_of geometry flash doubt pending ≡ v
+    → on ≡ record flash { powered = true } → OnlyLooks {T = T} tells (doubted (view_of geometry on doubt pending)) new y → OnlyLooks {T = T} tells (restarted v) new y
+looks_restarted {T} tells geometry flash on doubt pending v new y is again had =
+    subst (λ (u : StoreView). OnlyLooks {T = T} tells (restarted u) new y) is
+    (subst (λ (f : FlashState). OnlyLooks {T = T} tells (doubted (view_of geometry f doubt pending)) new y) again had)
+
+-- Reads after a look
+
+same_told : (P : List ℕ → Type 0) (old mid new : Told) → new ≡ mid → Leaves old mid P → Leaves old new P
+same_told P old mid new same leaves = subst (λ (t : Told). Leaves old t P) (sym same) leaves
+
+power_read : (old mid new : FlashState) → new.powered ≡ mid.powered → new.steps ≡ mid.steps → LosesOnlyByChange old mid → LosesOnlyByChange old new
+power_read old mid new power steps had = record {
+  never_back = λ on. had.never_back (sym power ∙ on);
+  lost = elim had.lost [ inl same ↦ inl (power ∙ same) | inr lost ↦ inr (omega arith) ];
+}
+
+looks_read : {T V U E : Type 0} (tells : Type 0) (old mid new : StoreView) (count : ℕ) (x : T) (z : U) (y : V) → OnlyLooks {T = T} tells old mid (Ok x) → ReadsTimes {T = U} {E = E} tells count mid.flash new.flash (Ok z)
+    → new.layout ≡ mid.layout → IsReady new → OnlyLooks {T = V} tells old new (Ok y)
+looks_read tells old mid new count x z y had reads layout ready = record {
+  kept = λ told. same_told (λ image. records_of old.layout image ≡ stored old) old.flash.told mid.flash.told new.flash.told (reads.told told) (had.kept told);
+  few = λ told. let before = had.few told in let same = reads.steps in omega arith;
+  ended = λ told. reads.steps ∙ had.ended told;
+  doubt = ready;
+  idle = ready.idle;
+  alike = record { layout = layout ∙ had.alike.layout; size = reads.size ∙ had.alike.size; sector_size = reads.sector_size ∙ had.alike.sector_size };
+  power = power_read old.flash mid.flash new.flash reads.power reads.steps had.power;
+  cause = reads.cause.ok ∙ had.cause;
+}
+
+looks_read_failed : {T V U E : Type 0} (tells : Type 0) (old mid new : StoreView) (count : ℕ) (x : T) (e : E) → OnlyLooks {T = T} tells old mid (Ok x) → ReadsTimes {T = U} {E = E} tells count mid.flash new.flash (Err e)
+    → new.layout ≡ mid.layout → IsInDoubt new → OnlyLooks {T = V} tells old new (Err Flash)
+looks_read_failed tells old mid new count x e had reads layout doubt = record {
+  kept = λ told. same_told (λ image. records_of old.layout image ≡ stored old) old.flash.told mid.flash.told new.flash.told (reads.told told) (had.kept told);
+  few = λ told. let before = had.few told in let same = reads.steps in omega arith;
+  ended = λ told. tt;
+  doubt = doubt;
+  idle = doubt.idle;
+  alike = record { layout = layout ∙ had.alike.layout; size = reads.size ∙ had.alike.size; sector_size = reads.sector_size ∙ had.alike.sector_size };
+  power = power_read old.flash mid.flash new.flash reads.power reads.steps had.power;
+  cause = (let up = reads.cause.never_falls in let same = had.cause in omega arith, subst (λ (f : ℕ). Rose f new.flash.faults) had.cause reads.cause.err);
+}
+
+-- A start
+
+-- what a store that knows its records leaves of a start, whatever it answers
+pub starts_by : (tells : Type 0) (old mid new : StoreView) (x : Unit {0}) (y : Result (Unit {0}) StoreError) → OnlyLooks tells old mid (Ok x) → (tells → new.flash.told ≡ mid.flash.told) → new.flash.steps ≡ mid.flash.steps
+    → new.flash.powered ≡ mid.flash.powered → DividesAlike mid new → HasDoubtAtStart new y → HasFaultsOf old.flash.faults new.flash.faults y → (tells → EndsCopies old new y) → OnlyStarts tells old new y
+starts_by tells old mid new x y had told steps power alike doubt cause ended = record {
+  kept = λ t. same_told (λ image. records_of old.layout image ≡ stored old) old.flash.told mid.flash.told new.flash.told (told t) (had.kept t);
+  few = λ t. let before = had.few t in omega arith;
+  ended = ended;
+  doubt = doubt;
+  alike = alike_then old mid new had.alike alike;
+  power = power_read old.flash mid.flash new.flash power steps had.power;
+  cause = cause;
+}
+
+-- a look that failed
+pub starts_err : (tells : Type 0) (old new : StoreView) (error : StoreError) → OnlyLooks {T = Unit {0}} tells old new (Err error) → OnlyStarts tells old new (Err error)
+starts_err tells old new error had = record { kept = had.kept; few = had.few; ended = had.ended; doubt = had.doubt; alike = had.alike; power = had.power; cause = had.cause }
+
+-- a start that follows a look
+pub starts_then : (count : Unit {0} → ℕ) (tells : Type 0) (old mid new : StoreView) (x : Unit {0}) (y : Result (Unit {0}) StoreError) → OnlyLooks tells old mid (Ok x) → ReadsExactly tells count mid new y
+    → OnlyStarts tells mid new y → OnlyStarts tells old new y
+starts_then count tells old mid new x (Ok done) had still starts =
+    starts_by tells old mid new x (Ok done) had still.only.told still.only.steps still.only.power starts.alike starts.doubt (starts.cause ∙ had.cause) (λ told. still.only.steps ∙ had.ended told)
+starts_then count tells old mid new x (Err (NoSpace free)) had still starts =
+    let steps : new.flash.steps ≡ mid.flash.steps = ap (λ (v : StoreView). v.flash.steps) still in
+    starts_by tells old mid new x (Err (NoSpace free)) had (λ t. ap (λ (v : StoreView). v.flash.told) still) steps (ap (λ (v : StoreView). v.flash.powered) still) starts.alike starts.doubt (starts.cause ∙ had.cause)
+    (λ told. steps ∙ had.ended told)
+starts_then count tells old mid new x (Err (LastGeneration id)) had still starts =
+    let steps : new.flash.steps ≡ mid.flash.steps = ap (λ (v : StoreView). v.flash.steps) still in
+    starts_by tells old mid new x (Err (LastGeneration id)) had (λ t. ap (λ (v : StoreView). v.flash.told) still) steps (ap (λ (v : StoreView). v.flash.powered) still) starts.alike starts.doubt (starts.cause ∙ had.cause)
+    (λ told. steps ∙ had.ended told)
+starts_then count tells old mid new x (Err NotFound) had still starts =
+    let steps : new.flash.steps ≡ mid.flash.steps = ap (λ (v : StoreView). v.flash.steps) still in
+    starts_by tells old mid new x (Err NotFound) had (λ t. ap (λ (v : StoreView). v.flash.told) still) steps (ap (λ (v : StoreView). v.flash.powered) still) starts.alike starts.doubt (starts.cause ∙ had.cause)
+    (λ told. steps ∙ had.ended told)
+starts_then count tells old mid new x (Err Empty) had still starts =
+    let steps : new.flash.steps ≡ mid.flash.steps = ap (λ (v : StoreView). v.flash.steps) still in
+    starts_by tells old mid new x (Err Empty) had (λ t. ap (λ (v : StoreView). v.flash.told) still) steps (ap (λ (v : StoreView). v.flash.powered) still) starts.alike starts.doubt (starts.cause ∙ had.cause)
+    (λ told. steps ∙ had.ended told)
+starts_then count tells old mid new x (Err Flash) had still starts =
+    let cause = starts.cause in
+    let same = had.cause in
+    starts_by tells old mid new x (Err Flash) had still.told still.steps still.power starts.alike starts.doubt
+    (let up : mid.flash.faults ≤ new.flash.faults = cause.0 in omega arith, subst (λ (f : ℕ). Rose f new.flash.faults) same cause.1) (λ told. tt)
+starts_then count tells old mid new x (Err (Small need)) had still starts =
+    let steps : new.flash.steps ≡ mid.flash.steps = ap (λ (v : StoreView). v.flash.steps) still in
+    starts_by tells old mid new x (Err (Small need)) had (λ t. ap (λ (v : StoreView). v.flash.told) still) steps (ap (λ (v : StoreView). v.flash.powered) still) starts.alike starts.doubt (starts.cause ∙ had.cause)
+    (λ told. steps ∙ had.ended told)
+
+-- a clear that starts, or is refused, after a look
+pub starts_clear : (tells : Type 0) (old mid new : StoreView) (x : Unit {0}) (y : Unit {0}) → OnlyLooks {T = Unit {0}} tells old mid (Ok x) → new.flash ≡ mid.flash → new.layout ≡ mid.layout → new.in_doubt ≡ false
+    → OnlyStarts tells old new (Ok y)
+starts_clear tells old mid new x y had flash layout certain =
+    let steps : new.flash.steps ≡ mid.flash.steps = ap (λ (f : FlashState). f.steps) flash in
+    starts_by tells old mid new x (Ok y) had (λ t. ap (λ (f : FlashState). f.told) flash) steps (ap (λ (f : FlashState). f.powered) flash)
+    (record { layout = layout; size = ap (λ (f : FlashState). f.size) flash; sector_size = ap (λ (f : FlashState). f.sector_size) flash }) certain
+    (ap (λ (f : FlashState). f.faults) flash ∙ had.cause) (λ told. steps ∙ had.ended told)
+
+pub starts_refused : (tells : Type 0) (old mid : StoreView) (x : Unit {0}) → OnlyLooks {T = Unit {0}} tells old mid (Ok x) → OnlyStarts tells old mid (Err NotFound)
+starts_refused tells old mid x had = record { kept = had.kept; few = had.few; ended = had.ended; doubt = had.doubt; alike = had.alike; power = had.power; cause = had.cause }
+
+-- what a start answered a store that knows its records is the answer to the store at first
+at_old : (old mid : StoreView) → mid.layout ≡ old.layout → stored mid ≡ stored old → (P : Layout → Stored → Type 0) → P mid.layout (stored mid) → P old.layout (stored old)
+at_old old mid layout same P h = subst (λ (s : Stored). P old.layout s) same (subst (λ (l : Layout). P l (stored mid)) layout h)
+
+pub start_from : (old mid new : StoreView) (id : ℕ) (bytes : List ℕ) (result : Result (Unit {0}) StoreError) → mid.layout ≡ old.layout → stored mid ≡ stored old
+    → StartsWrite mid new id bytes result → StartsWrite old new id bytes result
+start_from old mid new id bytes (Ok done) layout same h =
+    at_old old mid layout same (λ l s. (refusal_of l (Write id bytes) s ≡ None) × (new.pending ≡ Writing id bytes (slots_for new (length bytes)) (is_some (get s id)) 0)) h
+start_from old mid new id bytes (Err (NoSpace free)) layout same h =
+    at_old old mid layout same (λ l s. (refusal_of l (Write id bytes) s ≡ Some no_space) × (free + parts_in (room_of l) s ≡ l.slots) × (stored new ≡ s)) h
+start_from old mid new id bytes (Err (LastGeneration number)) layout same h =
+    at_old old mid layout same (λ l s. (refusal_of l (Write id bytes) s ≡ Some Failed) × (number ≡ id) × ((body : List ℕ) × (get s id ≡ Some (body, LAST_GENERATION))) × (stored new ≡ s)) h
+start_from old mid new id bytes (Err NotFound) layout same h = h
+start_from old mid new id bytes (Err Empty) layout same h = h
+start_from old mid new id bytes (Err Flash) layout same h = h
+start_from old mid new id bytes (Err (Small need)) layout same h = h
 
 -- a clearing has begun
 pub clearing_store : (tells : Type 0) (geometry : Geometry) (flash : FlashState) (found : Found) (buffer : List ℕ) (doubt : Bool) (work : Work) (v : StoreView) (id : ℕ) (place : SlotOf)
-    → IsStore tells geometry flash found buffer doubt work → view_of geometry flash doubt (pending_of geometry.per_slot buffer work) ≡ v → IsReady v
-    → place.slot < geometry.slots → ((entry : ℕ → Option Entry) → IsListOf entry geometry.slots found → IsPlaceFound entry geometry.slots id (Some place))
-    → IsStore tells geometry flash found buffer doubt (works.Clear id place.slot)
-clearing_store tells geometry flash found buffer doubt work v id place store is ready within here =
-    let certain : doubt ≡ false = ap (λ (u : StoreView). u.in_doubt) is ∙ ready.certain in
-    let idle = idle_work geometry.per_slot buffer work (ap (λ (u : StoreView). u.pending) is ∙ ready.idle) in
-    record {
-      fits = store.fits;
-      listing = store.listing;
-      room = store.room;
-      form = within;
-      certain = λ busy. certain;
-      knows = λ told sure.
-          let known : KnowsSlots (entry_at geometry.slot_size flash.told.image) geometry.slots found =
-          subst (λ (w : Work). Knows geometry found buffer flash.told.image w) idle (store.knows told certain) in
-          let had = place_stored (entry_at geometry.slot_size flash.told.image) geometry.slots id place (here (entry_at geometry.slot_size flash.told.image) known.list) in
-          record {
-            slots_known = known;
-            held = record { held = record { id = id; generation = place.generation; body = had.0 }; here = (had.1).here; of_id = refl };
-          };
-      spare = store.spare;
-    }
+    → IsStore tells geometry flash found buffer doubt work → view_of geometry flash doubt (pending_of (layout_of geometry) buffer work) ≡ v → IsReady v
+    → IsWithin geometry.slots geometry.slot_size place → ((entry : ℕ → Option Entry) → IsListOf entry geometry.slots found → IsPlaceFound entry geometry.slots id (Some place))
+    → IsStore tells geometry flash found buffer doubt (works.Clear id place)
+clearing_store tells geometry flash found buffer doubt work v id place store is ready within here = record {
+  fits = store.fits;
+  listing = store.listing;
+  room = store.room;
+  form = within;
+  certain = λ busy. ap (λ (u : StoreView). u.in_doubt) is ∙ ready.certain;
+  knows = λ told sure.
+      let known = ready_inside tells geometry flash found buffer doubt work v store is ready told in
+      record { slots = known; held = here (entry_at geometry.slot_size geometry.slots flash.told.image) known.list };
+  spare = store.spare;
+}
 
 -- a record was read by way of the buffer, and nothing is pending
-pub read_store : (tells : Type 0) (geometry : Geometry) (flash new : FlashState) (found : Found) (buffer read : List ℕ) (doubt : Bool) (work : Work) (v : StoreView)
-    → IsStore tells geometry flash found buffer doubt work → view_of geometry flash doubt (pending_of geometry.per_slot buffer work) ≡ v → IsReady v → length read ≡ length buffer
+pub read_store : (tells : Type 0) (geometry : Geometry) (flash new : FlashState) (found : Found) (buffer read : List ℕ) (doubt after : Bool) (work : Work) (v : StoreView)
+    → IsStore tells geometry flash found buffer doubt work → view_of geometry flash doubt (pending_of (layout_of geometry) buffer work) ≡ v → IsReady v → length read ≡ length buffer
     → (tells → new.told ≡ flash.told) → new.size ≡ flash.size → new.sector_size ≡ flash.sector_size
-    → IsStore tells geometry new found read doubt work
-read_store tells geometry flash new found buffer read doubt work v store is ready long same new_size new_sector =
-    let idle = idle_work geometry.per_slot buffer work (ap (λ (u : StoreView). u.pending) is ∙ ready.idle) in
+    → IsStore tells geometry new found read after work
+read_store tells geometry flash new found buffer read doubt after work v store is ready long same new_size new_sector =
+    let idle = idle_work (layout_of geometry) buffer work (ap (λ (u : StoreView). u.pending) is ∙ ready.idle) in
     record {
       fits = record { size = new_size ∙ store.fits.size; sector_size = new_sector ∙ store.fits.sector_size };
       listing = store.listing;
       room = long ∙ store.room;
-      form = store.form;
-      certain = store.certain;
+      form = subst (λ (w : Work). IsWork geometry found read w) (sym idle) tt;
+      certain = λ busy. absurd (subst (λ (w : Work). IsUnderWay w) idle busy);
       knows = λ told sure.
-          let known : KnowsSlots (entry_at geometry.slot_size flash.told.image) geometry.slots found =
-          subst (λ (w : Work). Knows geometry found buffer flash.told.image w) idle (store.knows told sure) in
           subst (λ (w : Work). Knows geometry found read new.told.image w) (sym idle)
-          (subst (λ (t : Told). KnowsSlots (entry_at geometry.slot_size t.image) geometry.slots found) (sym (same told)) known);
-      spare = λ told. subst (λ (t : Told). IsNearlySingle (entry_at geometry.slot_size t.image) geometry.slots) (sym (same told)) (store.spare told);
+          (subst (λ (t : Told). KnowsSlots (layout_of geometry) t.image found) (sym (same told)) (ready_inside tells geometry flash found buffer doubt work v store is ready told));
+      spare = λ told. subst (λ (t : Told). NearlyOnlyFirstUp geometry.slot_size geometry.slots t.image) (sym (same told)) (store.spare told);
     }
 
--- the body of a slot's record stands in the slot
-take_length : (n : ℕ) (xs : List ℕ) → take (length (take n xs)) xs ≡ take n xs
-take_length n xs = let front = length-take n xs in elim (cases_lt n (length xs)) [
-  | inl within ↦ ap (λ (k : ℕ). take k xs) (omega arith)
-  | inr past ↦ take_all (length (take n xs)) xs (omega arith) ∙ sym (take_all n xs past)
-]
+idle_still : (layout : Layout) (buffer read : List ℕ) (work : Work) → pending_of layout buffer work ≡ Idle → pending_of layout read work ≡ Idle
+idle_still layout buffer read work is = ap (pending_of layout read) (idle_work layout buffer work is)
 
-body_length : (image body : List ℕ) (at n : ℕ) → body ≡ part image at n → part image at (length body) ≡ body
-unfolding part
-body_length image body at n is =
-    ap (λ (xs : List ℕ). take (length xs) (drop at image)) is ∙ take_length n (drop at image) ∙ sym is
+-- what a read leaves of a store that has looked
+pub read_leaves : {T V U E : Type 0} (tells : Type 0) (geometry : Geometry) (flash new : FlashState) (buffer read : List ℕ) (doubt : Bool) (work : Work) (old v : StoreView) (count : ℕ) (x : T) (z : U) (y : V)
+    → view_of geometry flash doubt (pending_of (layout_of geometry) buffer work) ≡ v → OnlyLooks {T = T} tells old v (Ok x) → ReadsTimes {T = U} {E = E} tells count flash new (Ok z)
+    → OnlyLooks {T = V} tells old (view_of geometry new doubt (pending_of (layout_of geometry) read work)) (Ok y)
+read_leaves {T} {V} tells geometry flash new buffer read doubt work old v count x z y is had reads =
+    looks_read {T = T} {V = V} tells old (view_of geometry flash doubt (pending_of (layout_of geometry) buffer work)) (view_of geometry new doubt (pending_of (layout_of geometry) read work)) count x z y
+    (subst (λ (u : StoreView). OnlyLooks {T = T} tells old u (Ok x)) (sym is) had) reads refl
+    (record {
+      certain = ap (λ (u : StoreView). u.in_doubt) is ∙ had.doubt.certain;
+      idle = idle_still (layout_of geometry) buffer read work (ap (λ (u : StoreView). u.pending) is ∙ had.idle);
+    })
 
-body_of : (size k : ℕ) (image : List ℕ) (e : Entry) → entry_at size image k ≡ Some e → e.body ≡ part image (k * size + 32) (head_at image (k * size)).len
-unfolding entry_at entry_of
-body_of size k image e here = by_test (is_upright size (head_at image (k * size)) (tail_at image (k * size) size)) here
-  where
-    by_test : (up : Bool)
-        → cond {A = Option Entry} up (Some (record { id = (head_at image (k * size)).id; generation = (head_at image (k * size)).generation; body = part image (k * size + 32) (head_at image (k * size)).len })) None ≡ Some e
-        → e.body ≡ part image (k * size + 32) (head_at image (k * size)).len
-    by_test true is = ap (λ (x : Entry). x.body) (sym (same_Some _ e is))
-    by_test false is = absurd (none-some e is)
-
-pub body_stands : (size k : ℕ) (image : List ℕ) (e : Entry) → entry_at size image k ≡ Some e → part image (k * size + 32) (length e.body) ≡ e.body
-body_stands size k image e here = body_length image e.body (k * size + 32) (head_at image (k * size)).len (body_of size k image e here)
-
--- the bytes of a slot that are read are the body of its record
-pub read_body : (geometry : Geometry) (flash : FlashState) (doubt : Bool) (pending : Pending) (now : StoreView) (slot n : ℕ) (e : Entry) → view_of geometry flash doubt pending ≡ now
-    → entry_at now.slot_size now.flash.told.image slot ≡ Some e → length e.body ≡ n → part flash.told.image (slot * geometry.slot_size + 32) n ≡ e.body
-read_body geometry flash doubt pending now slot n e is here long =
-    let here_inside = subst (λ (v : StoreView). entry_at v.slot_size v.flash.told.image slot ≡ Some e) (sym is) here in
-    ap (part flash.told.image (slot * geometry.slot_size + 32)) (sym long) ∙ body_stands geometry.slot_size slot flash.told.image e here_inside
+pub read_failed_leaves : {T V U E : Type 0} (tells : Type 0) (geometry : Geometry) (flash new : FlashState) (buffer read : List ℕ) (doubt : Bool) (work : Work) (old v : StoreView) (count : ℕ) (x : T) (e : E)
+    → view_of geometry flash doubt (pending_of (layout_of geometry) buffer work) ≡ v → OnlyLooks {T = T} tells old v (Ok x) → ReadsTimes {T = U} {E = E} tells count flash new (Err e)
+    → OnlyLooks {T = V} tells old (view_of geometry new true (pending_of (layout_of geometry) read work)) (Err Flash)
+read_failed_leaves {T} {V} tells geometry flash new buffer read doubt work old v count x e is had reads =
+    looks_read_failed {T = T} {V = V} tells old (view_of geometry flash doubt (pending_of (layout_of geometry) buffer work)) (view_of geometry new true (pending_of (layout_of geometry) read work)) count x e
+    (subst (λ (u : StoreView). OnlyLooks {T = T} tells old u (Ok x)) (sym is) had) reads refl
+    (record { doubt = refl; idle = idle_still (layout_of geometry) buffer read work (ap (λ (u : StoreView). u.pending) is ∙ had.idle) })

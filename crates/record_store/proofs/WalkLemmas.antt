@@ -5,6 +5,7 @@ use Rattle.std.specs.FinMap.{get}
 use Rattle.std.specs.List.Sorted.{IsStrictlyIncreasing}
 use Rattle.std.proofs.lemmas.Bool.{cases_eq}
 use Rattle.std.proofs.lemmas.List.{get_or_default}
+use Rattle.flash_words.specs.Layout.{Layout}
 use Rattle.record_model.specs.Records.{Stored}
 use Rattle.record_model.specs.RecordMap.{Command, Write, Clear, Read, Count, Next}
 use Rattle.record_model.specs.History.{Answer, Done, Counted, Found, Refused, Hardware, Played, IsAnswered, AreAnswered, cursor_after, left_by}
@@ -64,35 +65,35 @@ walked_out cursor ids stored Stays none over =
     none_some (Some x) e is = cc
 
 -- the first command of a walk, with the walk that the others are
-first_of_walk : (slots cursor : ℕ) (command : Command) (answer : Answer) (taken : Bool) (stored : Stored) (rest : List Played) (Stays : ℕ → Type 0)
-    → IsAnswered slots cursor command answer taken stored → IsNoRead command → EndsOr answer rest (IsWalk rest)
+first_of_walk : (layout : Layout) (cursor : ℕ) (command : Command) (answer : Answer) (taken : Bool) (stored : Stored) (rest : List Played) (Stays : ℕ → Type 0)
+    → IsAnswered layout cursor command answer taken stored → IsNoRead command → EndsOr answer rest (IsWalk rest)
     → (IsWalk rest → IsWalked (cursor_after command answer cursor) (found_by rest) Stays)
     → IsWalked cursor (with_found answer (found_by rest)) (λ x. IsSome (get stored x) × Stays x)
-first_of_walk slots cursor (Read id) answer taken stored rest Stays answered other walk more = absurd other
-first_of_walk slots cursor Next (Found (Some id)) taken stored rest Stays answered other walk more =
+first_of_walk layout cursor (Read id) answer taken stored rest Stays answered other walk more = absurd other
+first_of_walk layout cursor Next (Found (Some id)) taken stored rest Stays answered other walk more =
     walked_on cursor id (found_by rest) stored Stays (answered.1).above (answered.1).least (more walk)
-first_of_walk slots cursor Next (Found None) taken stored rest Stays answered other walk more =
+first_of_walk layout cursor Next (Found None) taken stored rest Stays answered other walk more =
     walked_out cursor (found_by rest) stored Stays (ap found_by walk) answered.1
-first_of_walk slots cursor (Write id bytes) Done taken stored rest Stays answered other walk more = walked_same cursor (found_by rest) stored Stays (more walk)
-first_of_walk slots cursor (Clear id) Done taken stored rest Stays answered other walk more = walked_same cursor (found_by rest) stored Stays (more walk)
-first_of_walk slots cursor Count (Counted n) taken stored rest Stays answered other walk more = walked_same cursor (found_by rest) stored Stays (more walk)
-first_of_walk slots cursor command (Refused refusal) taken stored rest Stays answered other walk more = walked_same cursor (found_by rest) stored Stays (more walk)
-first_of_walk slots cursor command Hardware taken stored rest Stays answered other walk more = walked_same cursor (found_by rest) stored Stays (more walk)
-first_of_walk slots cursor command answer taken stored rest Stays answered other walk more = absurd answered.1
+first_of_walk layout cursor (Write id bytes) Done taken stored rest Stays answered other walk more = walked_same cursor (found_by rest) stored Stays (more walk)
+first_of_walk layout cursor (Clear id) Done taken stored rest Stays answered other walk more = walked_same cursor (found_by rest) stored Stays (more walk)
+first_of_walk layout cursor Count (Counted n) taken stored rest Stays answered other walk more = walked_same cursor (found_by rest) stored Stays (more walk)
+first_of_walk layout cursor command (Refused refusal) taken stored rest Stays answered other walk more = walked_same cursor (found_by rest) stored Stays (more walk)
+first_of_walk layout cursor command Hardware taken stored rest Stays answered other walk more = walked_same cursor (found_by rest) stored Stays (more walk)
+first_of_walk layout cursor command answer taken stored rest Stays answered other walk more = absurd answered.1
 
-walked : (slots cursor : ℕ) (commands : List Played) (stored : Stored) → AreAnswered slots cursor commands stored → IsWalk commands
-    → IsWalked cursor (found_by commands) (λ x. StaysStored slots x commands stored)
-walked slots cursor [] stored answered walk = absurd walk
-walked slots cursor (played ∷ rest) stored answered walk =
-    first_of_walk slots cursor played.command played.answer played.taken stored rest (λ x. StaysStored slots x rest (left_by slots played stored)) answered.0 walk.0 walk.1
-    (λ more. walked slots (cursor_after played.command played.answer cursor) rest (left_by slots played stored) answered.1 more)
+walked : (layout : Layout) (cursor : ℕ) (commands : List Played) (stored : Stored) → AreAnswered layout cursor commands stored → IsWalk commands
+    → IsWalked cursor (found_by commands) (λ x. StaysStored layout x commands stored)
+walked layout cursor [] stored answered walk = absurd walk
+walked layout cursor (played ∷ rest) stored answered walk =
+    first_of_walk layout cursor played.command played.answer played.taken stored rest (λ x. StaysStored layout x rest (left_by layout played stored)) answered.0 walk.0 walk.1
+    (λ more. walked layout (cursor_after played.command played.answer cursor) rest (left_by layout played stored) answered.1 more)
 
 -- the law
-pub walk-rising : (slots : ℕ) (stored : Stored) (commands : List Played) → AreAnswered slots 0 commands stored → IsWalk commands → IsStrictlyIncreasing (found_by commands)
-walk-rising slots stored commands answered walk = (walked slots 0 commands stored answered walk).rising
+pub walk-rising : (layout : Layout) (stored : Stored) (commands : List Played) → AreAnswered layout 0 commands stored → IsWalk commands → IsStrictlyIncreasing (found_by commands)
+walk-rising layout stored commands answered walk = (walked layout 0 commands stored answered walk).rising
 
-pub walk-all : (slots id : ℕ) (stored : Stored) (commands : List Played) → AreAnswered slots 0 commands stored → IsWalk commands
-    → 0 < id → StaysStored slots id commands stored → Contains (found_by commands) id
-walk-all slots id stored commands answered walk some stays =
-    let listed = (walked slots 0 commands stored answered walk).all id some stays in
+pub walk-all : (layout : Layout) (id : ℕ) (stored : Stored) (commands : List Played) → AreAnswered layout 0 commands stored → IsWalk commands
+    → 0 < id → StaysStored layout id commands stored → Contains (found_by commands) id
+walk-all layout id stored commands answered walk some stays =
+    let listed = (walked layout 0 commands stored answered walk).all id some stays in
     (listed.0, listed.1, get_or_default (found_by commands) listed.0 id 0 listed.1 ∙ listed.2)

@@ -1,14 +1,16 @@
 -- What each answer of a store says.
-use Rattle.std.specs.Prelude.{◌≡◌, ℕ, ◌+◌, ◌<◌, ◌≤◌, ◌⊎◌, Bool, true, false, is_some, List, ◌++◌, length, drop, Some, None, Result, Ok, Err}
-use Rattle.std.specs.FinMap.{get, len}
+use Rattle.std.specs.Prelude.{◌≡◌, ℕ, ◌+◌, ◌*◌, ◌<◌, ◌≤◌, ◌⊎◌, nat_lt, if◌then◌else◌, Bool, true, false, is_some, List, ◌++◌, length, drop, Some, None, Result, Ok, Err}
+use Rattle.std.specs.FinMap.{get}
 use Rattle.base_model.specs.Faults.{Rose}
 use Rattle.flash_model.specs.declared.geometry.Geometry.{Geometry}
-use Rattle.record_model.specs.Flash.{FlashState}
+use Rattle.flash_words.specs.Flash.{FlashState, raised}
+use Rattle.flash_words.specs.Layout.{Layout, room_of}
+use Rattle.record_model.specs.Records.{second_copies, parts_in}
 use Rattle.record_model.specs.RecordMap.{Command, Write, Clear, Read, Failed, NoSpace as no_space, NotFound as not_found, Empty as empty, LAST_GENERATION, refusal_of, after, changes_of}
 use Rattle.record_slots.specs.Slots.{Fits}
 use Rattle.record_recovery.specs.declared.scanning.ScanError.{ScanError}
 use Rattle.record_recovery.specs.declared.scanning.ScanError.TheVariants.{Size, Flash as flash_failed, Memory}
-use Rattle.record_store.specs.Store.{StoreView, Idle, Writing, Clearing, stored, map_after, pending_after, IsReady, IsInDoubt}
+use Rattle.record_store.specs.Store.{StoreView, Pending, Idle, Writing, Clearing, stored, slots_for, changes_before_gate, map_after, pending_after, IsReady, IsInDoubt}
 use Rattle.record_store.specs.declared.errors.StoreError.{StoreError}
 use Rattle.record_store.specs.declared.errors.StoreError.TheVariants.{NoSpace, LastGeneration, NotFound, Empty, Flash, Small}
 
@@ -35,9 +37,10 @@ HasDoubtOf store (Err (Small need)) = IsReady store
 -- an error of a write: exactly by the map, which it leaves
 abbrev pub RefusesWrite : StoreView → StoreView → ℕ → List ℕ → StoreError → Type 0
 RefusesWrite old new id bytes (NoSpace free) =
-    (refusal_of old.slots (Write id bytes) (stored old) ≡ Some no_space) × (free + len (stored old) ≡ old.slots) × (stored new ≡ stored old)
+    (refusal_of old.layout (Write id bytes) (stored old) ≡ Some no_space)
+    × (free + parts_in (room_of old.layout) (stored old) ≡ old.layout.slots) × (stored new ≡ stored old)
 RefusesWrite old new id bytes (LastGeneration found) =
-    (refusal_of old.slots (Write id bytes) (stored old) ≡ Some Failed) × (found ≡ id)
+    (refusal_of old.layout (Write id bytes) (stored old) ≡ Some Failed) × (found ≡ id)
     × ((body : List ℕ) × (get (stored old) id ≡ Some (body, LAST_GENERATION))) × (stored new ≡ stored old)
 RefusesWrite old new id bytes NotFound = ⊥
 RefusesWrite old new id bytes Empty = ⊥
@@ -48,7 +51,7 @@ RefusesWrite old new id bytes (Small need) = ⊥
 abbrev pub RefusesClear : StoreView → StoreView → ℕ → StoreError → Type 0
 RefusesClear old new id (NoSpace free) = ⊥
 RefusesClear old new id (LastGeneration found) = ⊥
-RefusesClear old new id NotFound = (refusal_of old.slots (Clear id) (stored old) ≡ Some not_found) × (stored new ≡ stored old)
+RefusesClear old new id NotFound = (refusal_of old.layout (Clear id) (stored old) ≡ Some not_found) × (stored new ≡ stored old)
 RefusesClear old new id Empty = ⊥
 RefusesClear old new id Flash = Unit {0}
 RefusesClear old new id (Small need) = ⊥
@@ -56,24 +59,24 @@ RefusesClear old new id (Small need) = ⊥
 -- the answer of a whole write or clear: Ok exactly where the map takes it
 abbrev pub AnswersWrite : StoreView → StoreView → ℕ → List ℕ → Result (Unit {0}) StoreError → Type 0
 AnswersWrite old new id bytes (Ok done) =
-    (refusal_of old.slots (Write id bytes) (stored old) ≡ None) × (stored new ≡ after old.slots (Write id bytes) (stored old))
+    (refusal_of old.layout (Write id bytes) (stored old) ≡ None) × (stored new ≡ after old.layout (Write id bytes) (stored old))
 AnswersWrite old new id bytes (Err error) = RefusesWrite old new id bytes error
 
 abbrev pub AnswersClear : StoreView → StoreView → ℕ → Result (Unit {0}) StoreError → Type 0
 AnswersClear old new id (Ok done) =
-    (refusal_of old.slots (Clear id) (stored old) ≡ None) × (stored new ≡ after old.slots (Clear id) (stored old))
+    (refusal_of old.layout (Clear id) (stored old) ≡ None) × (stored new ≡ after old.layout (Clear id) (stored old))
 AnswersClear old new id (Err error) = RefusesClear old new id error
 
 -- the answer of a start: what is pending is the whole command, and the map is as it was
 abbrev pub StartsWrite : StoreView → StoreView → ℕ → List ℕ → Result (Unit {0}) StoreError → Type 0
 StartsWrite old new id bytes (Ok done) =
-    (refusal_of old.slots (Write id bytes) (stored old) ≡ None)
-    × (new.pending ≡ Writing id bytes (is_some (get (stored old) id)) 0)
+    (refusal_of old.layout (Write id bytes) (stored old) ≡ None)
+    × (new.pending ≡ Writing id bytes (slots_for new (length bytes)) (is_some (get (stored old) id)) 0)
 StartsWrite old new id bytes (Err error) = RefusesWrite old new id bytes error
 
 abbrev pub StartsClear : StoreView → StoreView → ℕ → Result (Unit {0}) StoreError → Type 0
 StartsClear old new id (Ok done) =
-    (refusal_of old.slots (Clear id) (stored old) ≡ None) × (new.pending ≡ Clearing id)
+    (refusal_of old.layout (Clear id) (stored old) ≡ None) × (new.pending ≡ Clearing id)
 StartsClear old new id (Err error) = RefusesClear old new id error
 
 -- whether a store is in doubt after a start; where it is not, what is pending is what the start says
@@ -84,8 +87,8 @@ HasDoubtAtStart store (Err error) = HasDoubtOf {T = Unit {0}} store (Err error)
 -- one change was made: the map and what is pending are those after it, and true is answered at the last one. One that the
 -- flash failed leaves the map as before it or as after it, and nothing pending
 abbrev pub IsStep : StoreView → StoreView → Result Bool StoreError → Type 0
-IsStep old new (Ok last) = (stored new ≡ map_after old.per_slot old.pending (stored old))
-IsStep old new (Err Flash) = (stored new ≡ stored old) ⊎ (stored new ≡ map_after old.per_slot old.pending (stored old))
+IsStep old new (Ok last) = stored new ≡ map_after old.layout old.pending (stored old)
+IsStep old new (Err Flash) = (stored new ≡ stored old) ⊎ (stored new ≡ map_after old.layout old.pending (stored old))
 IsStep old new (Err (NoSpace free)) = ⊥
 IsStep old new (Err (LastGeneration id)) = ⊥
 IsStep old new (Err NotFound) = ⊥
@@ -94,7 +97,7 @@ IsStep old new (Err (Small need)) = ⊥
 
 abbrev pub HasStepped : StoreView → StoreView → Result Bool StoreError → Type 0
 HasStepped old new (Ok last) =
-    (new.in_doubt ≡ false) × (new.pending ≡ pending_after old.per_slot old.pending) × ((last ≡ true) ⊎ (last ≡ false × (new.pending ≡ Idle → ⊥)))
+    (new.in_doubt ≡ false) × (new.pending ≡ pending_after old.layout old.pending) × ((last ≡ true) ⊎ (last ≡ false × (new.pending ≡ Idle → ⊥)))
     × (last ≡ true → new.pending ≡ Idle)
 HasStepped old new (Err error) = IsInDoubt new
 
@@ -103,8 +106,8 @@ abbrev pub AnswersRead : StoreView → ℕ → List ℕ → List ℕ → Result 
 AnswersRead old id before now (Ok size) =
     (body : List ℕ) × ((generation : ℕ) × (get (stored old) id ≡ Some (body, generation)))
     × (size ≡ length body) × (now ≡ body ++ drop size before)
-AnswersRead old id before now (Err Empty) = (refusal_of old.slots (Read id) (stored old) ≡ Some empty) × (now ≡ before)
-AnswersRead old id before now (Err NotFound) = (refusal_of old.slots (Read id) (stored old) ≡ Some not_found) × (now ≡ before)
+AnswersRead old id before now (Err Empty) = (refusal_of old.layout (Read id) (stored old) ≡ Some empty) × (now ≡ before)
+AnswersRead old id before now (Err NotFound) = (refusal_of old.layout (Read id) (stored old) ≡ Some not_found) × (now ≡ before)
 AnswersRead old id before now (Err (Small need)) =
     ((body : List ℕ) × ((generation : ℕ) × (get (stored old) id ≡ Some (body, generation))) × (need ≡ length body))
     × (length before < need) × (now ≡ before)
@@ -146,12 +149,38 @@ UnlessFlash (Err (Small need)) P = P
 -- a store that knows its records answered a command, and its flash took exactly the changes that the map gives it
 abbrev pub TakesExactly : {T : Type 0} → StoreView → StoreView → Command → Result T StoreError → Type 0
 TakesExactly old new command result = old.in_doubt ≡ false
-    → UnlessFlash result (new.flash.steps ≡ old.flash.steps + changes_of old.per_slot old.slots command (stored old))
+    → UnlessFlash result (new.flash.steps ≡ old.flash.steps + changes_of old.layout command (stored old))
 
--- the flash of a store that knows its records was at most read
-pub record OnlyReadsFlash (old new : FlashState) (tells : Type 0) : Type 0 where
+-- a flash was at most read
+pub record OnlyReadsFlash (tells : Type 0) (old new : FlashState) : Type 0 where
   pub told : tells → new.told ≡ old.told
   pub steps : new.steps ≡ old.steps
+  pub power : new.powered ≡ old.powered
+
+-- a flash was read so many times
+pub record ReadsFlash (tells : Type 0) (count : ℕ) (old new : FlashState) : Type 0 where
+  pub only : OnlyReadsFlash tells old new
+  pub reads : new.reads ≡ raised count old.reads
+
+-- a store that knows its records answers by as many reads of its flash as this, and every refusal by itself
+abbrev pub ReadsExactly : {T : Type 0} → Type 0 → (T → ℕ) → StoreView → StoreView → Result T StoreError → Type 0
+ReadsExactly tells count old new (Ok done) = ReadsFlash tells (count done) old.flash new.flash
+ReadsExactly tells count old new (Err (NoSpace free)) = new ≡ old
+ReadsExactly tells count old new (Err (LastGeneration id)) = new ≡ old
+ReadsExactly tells count old new (Err NotFound) = new ≡ old
+ReadsExactly tells count old new (Err Empty) = new ≡ old
+ReadsExactly tells count old new (Err Flash) = OnlyReadsFlash tells old.flash new.flash
+ReadsExactly tells count old new (Err (Small need)) = new ≡ old
+
+-- a store that knows its records starts a clear by itself, and so refuses it
+abbrev pub StartsByItself : {T : Type 0} → StoreView → StoreView → Result T StoreError → Type 0
+StartsByItself old new (Ok done) = new.flash ≡ old.flash
+StartsByItself old new (Err NotFound) = new ≡ old
+StartsByItself old new (Err (NoSpace free)) = ⊥
+StartsByItself old new (Err (LastGeneration id)) = ⊥
+StartsByItself old new (Err Empty) = ⊥
+StartsByItself old new (Err Flash) = ⊥
+StartsByItself old new (Err (Small need)) = ⊥
 
 -- a store that knows its records answers by itself: it is left as it was, and so is its flash
 abbrev pub AnswersByItself : {T : Type 0} → StoreView → StoreView → Result T StoreError → Type 0
@@ -167,3 +196,35 @@ AnswersByItself old new (Err (Small need)) = ⊥
 abbrev pub OpensOn : {T : Type 0} → Geometry → FlashState → FlashState → Result T ScanError → Type 0
 OpensOn geometry old new (Ok opened) = new.faults ≡ old.faults
 OpensOn geometry old new (Err error) = RefusesFlash geometry old new error
+
+-- the upright slots of a store's flash that are not the first slot of their identifier's record
+abbrev pub copies_in : StoreView → ℕ
+copies_in store = second_copies store.layout.slot_size store.layout.slots store.flash.told.image
+
+-- those that a store in doubt ends before all else; one that knows its records has none to end
+abbrev pub copies_of : StoreView → ℕ
+copies_of store = if store.in_doubt then copies_in store else 0
+
+-- those were ended, by one change each, and no other change was made
+abbrev pub EndsCopies : {T : Type 0} → StoreView → StoreView → Result T StoreError → Type 0
+EndsCopies old new result = UnlessFlash result (new.flash.steps ≡ old.flash.steps + copies_of old)
+
+-- those that stand while a write is pending: one, once its gate is open and the older record is not yet killed
+abbrev pub copies_pending : Layout → Pending → ℕ
+copies_pending layout Idle = 0
+copies_pending layout (Writing id bytes slots replaces made) = if nat_lt (changes_before_gate layout bytes) made then 1 else 0
+copies_pending layout (Clearing id) = 0
+
+-- head and tail mark of each slot were read once, and the flash had power
+abbrev pub HasLooked : {T : Type 0} → StoreView → StoreView → Result T StoreError → Type 0
+HasLooked old new (Ok done) = (new.flash.reads ≡ raised (2 * old.layout.slots) old.flash.reads) × (new.flash.powered ≡ true)
+HasLooked old new (Err error) = Unit {0}
+
+-- a fault
+abbrev pub is_flash : StoreError → Bool
+is_flash (NoSpace free) = false
+is_flash (LastGeneration id) = false
+is_flash NotFound = false
+is_flash Empty = false
+is_flash Flash = true
+is_flash (Small need) = false

@@ -1,33 +1,45 @@
 -- What is left of a command that is pending.
-use Rattle.std.specs.Prelude.{◌≡◌, ℕ, ◌+◌, ◌-◌, ◌<◌, nat_le, if◌then◌else◌}
+use Rattle.std.specs.Prelude.{◌≡◌, ℕ, ◌+◌, ◌-◌, ◌<◌, nat_le, if◌then◌else◌, List}
+use Rattle.flash_words.specs.Layout.{Layout}
 use Rattle.record_model.specs.Records.{Stored}
 use Rattle.record_model.specs.RecordMap.{Write, Clear, made_by}
-use Rattle.record_store.specs.Store.{StoreView, Pending, Idle, Writing, Clearing, stored, changes_before_gate, changes_in_all, KeepsOrMakes, DividesAlike}
+use Rattle.record_store.specs.Store.{StoreView, Pending, Idle, Writing, Clearing, stored, changes_before_gate, changes_in_all, StandsIn, KeepsOrMakes, DividesAlike}
 
 -- some of its changes are left
-abbrev pub IsUnfinished : ℕ → Pending → Type 0
-IsUnfinished per_slot Idle = ⊥
-IsUnfinished per_slot (Writing id bytes replaces made) = made < changes_in_all per_slot bytes replaces
-IsUnfinished per_slot (Clearing id) = Unit {0}
+abbrev pub IsUnfinished : Layout → Pending → Type 0
+IsUnfinished layout Idle = ⊥
+IsUnfinished layout (Writing id bytes slots replaces made) = made < changes_in_all layout bytes replaces
+IsUnfinished layout (Clearing id) = Unit {0}
 
 -- how many are left
-abbrev pub changes_left : ℕ → Pending → ℕ
-changes_left per_slot Idle = 0
-changes_left per_slot (Writing id bytes replaces made) = changes_in_all per_slot bytes replaces - made
-changes_left per_slot (Clearing id) = 1
+abbrev pub changes_left : Layout → Pending → ℕ
+changes_left layout Idle = 0
+changes_left layout (Writing id bytes slots replaces made) = changes_in_all layout bytes replaces - made
+changes_left layout (Clearing id) = 1
 
 -- the map once all are made
-abbrev pub map_at_end : ℕ → Pending → Stored → Stored
-map_at_end per_slot Idle stored = stored
-map_at_end per_slot (Writing id bytes replaces made) stored =
-    if nat_le made (changes_before_gate per_slot bytes) then made_by (Write id bytes) stored else stored
-map_at_end per_slot (Clearing id) stored = made_by (Clear id) stored
+abbrev pub map_at_end : Layout → Pending → Stored → Stored
+map_at_end layout Idle stored = stored
+map_at_end layout (Writing id bytes slots replaces made) stored =
+    if nat_le made (changes_before_gate layout bytes) then made_by (Write id bytes) stored else stored
+map_at_end layout (Clearing id) stored = made_by (Clear id) stored
+
+-- where a record stands that was written, once all are made
+abbrev pub PlacedAtEnd : Layout → Pending → List ℕ → Type 0
+PlacedAtEnd layout Idle image = Unit {0}
+PlacedAtEnd layout (Writing id bytes slots replaces made) image = StandsIn layout image id slots
+PlacedAtEnd layout (Clearing id) image = Unit {0}
+
+-- what is placed at the end stays the same
+abbrev pub PlacesAlike : Layout → Pending → Pending → Type 0
+PlacesAlike layout old now = (image : List ℕ) → PlacedAtEnd layout now image → PlacedAtEnd layout old image
 
 -- a store on the way through the changes of a command
 pub record IsOnWay (tells : Type 0) (old now : StoreView) : Type 0 where
-  pub unfinished : IsUnfinished now.per_slot now.pending
-  pub left : now.flash.steps + changes_left now.per_slot now.pending ≡ old.flash.steps + changes_left old.per_slot old.pending
+  pub unfinished : IsUnfinished now.layout now.pending
+  pub left : now.flash.steps + changes_left now.layout now.pending ≡ old.flash.steps + changes_left old.layout old.pending
   pub faults : now.flash.faults ≡ old.flash.faults
   pub alike : DividesAlike old now
-  pub end : tells → map_at_end now.per_slot now.pending (stored now) ≡ map_at_end old.per_slot old.pending (stored old)
-  pub crash : tells → KeepsOrMakes old now (map_at_end old.per_slot old.pending (stored old))
+  pub places : PlacesAlike old.layout old.pending now.pending
+  pub end : tells → map_at_end now.layout now.pending (stored now) ≡ map_at_end old.layout old.pending (stored old)
+  pub crash : tells → KeepsOrMakes old now (map_at_end old.layout old.pending (stored old))

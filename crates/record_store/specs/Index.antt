@@ -1,7 +1,8 @@
 -- What a store keeps of its slots, in step with the image of its flash.
-use Rattle.std.specs.Prelude.{◌≡◌, ◌≢◌, ◌⊎◌, ℕ, ◌<◌, ◌≤◌, List, Option, Some, None, length, slice_index, slice_index_or, insert, remove}
+use Rattle.std.specs.Prelude.{◌≡◌, ◌≢◌, ◌⊎◌, ℕ, ◌+◌, ◌-◌, ◌<◌, ◌≤◌, true, ◌==◌, ◌&&◌, not, List, ◌∷◌, Option, Some, None, length, take, slice_index, slice_index_or}
+use Rattle.std.specs.List.{list_any}
 use Rattle.std.specs.FinMap.{get}
-use Rattle.record_model.specs.Records.{Entry, IsChosen, selected}
+use Rattle.record_model.specs.Records.{Entry, IsChosen, selected, parts_of, is_taken, holds}
 use Rattle.record_recovery.specs.declared.found.Found.{Found}
 use Rattle.record_recovery.specs.declared.found.SlotOf.{SlotOf}
 use Rattle.record_recovery.specs.Listed.{AreListed, IsPlaceOf, IsListed, IsIndex, AreSlots, free_slots}
@@ -19,6 +20,14 @@ pub record IsListOf (entry : ℕ → Option Entry) (slots : ℕ) (found : Found)
   pub listed : AreListed entry slots found.ids.items found.places.items
   pub free : found.free.items ≡ free_slots entry slots
 
+-- the slots of the record at a place, the first one first
+abbrev pub slots_at : ℕ → SlotOf → List ℕ
+slots_at room place = place.slot ∷ take (parts_of room place.len - 1) place.next
+
+-- a record has as many further slots as it has parts behind the first
+abbrev pub HasItsParts : ℕ → Entry → Type 0
+HasItsParts room e = 1 + length e.further ≡ parts_of room (length e.body)
+
 -- slot j was free and has a record now, which is newer than all of its identifier; every other slot is as it was
 pub record HasOpened (entry other : ℕ → Option Entry) (slots j : ℕ) (opened : Entry) : Type 0 where
   pub same : (k : ℕ) → k ≢ j → other k ≡ entry k
@@ -26,17 +35,19 @@ pub record HasOpened (entry other : ℕ → Option Entry) (slots j : ℕ) (opene
   pub here : other j ≡ Some opened
   pub newest : (k : ℕ) (e : Entry) → k < slots → entry k ≡ Some e → e.id ≡ opened.id → e.generation < opened.generation
 
--- slot j lost its record; every other slot is as it was
-pub record HasLost (entry other : ℕ → Option Entry) (j : ℕ) (lost : Entry) : Type 0 where
+-- slot j lost its record, whose slots are free; every other slot is as it was
+pub record HasLost (entry other : ℕ → Option Entry) (slots j : ℕ) (lost : Entry) : Type 0 where
   pub same : (k : ℕ) → k ≢ j → other k ≡ entry k
   pub was : entry j ≡ Some lost
   pub gone : other j ≡ None
+  pub freed : (i : ℕ) → is_taken other slots i ≡ (is_taken entry slots i && not (holds (Some lost) j i))
 
--- the entry has this identifier, and the generation and the length of this place
+-- the entry has this identifier, and the generation, the length and the further slots of this place
 pub record IsEntryOf (id : ℕ) (place : SlotOf) (e : Entry) : Type 0 where
   pub of_id : e.id ≡ id
   pub generation : e.generation ≡ place.generation
   pub len : length e.body ≡ place.len
+  pub further : e.further ≡ take (length e.further) place.next
 
 -- the record of slot j is not that of its identifier
 abbrev pub IsOlderCopy : (ℕ → Option Entry) → ℕ → ℕ → Entry → Type 0
@@ -57,22 +68,14 @@ IsPlaceAt ids places id None = IsListed ids id → ⊥
 IsPlaceAt ids places id (Some place) =
     (i : ℕ) × (i < length ids) × (slice_index ids i ≡ id) × ((d : SlotOf) → place ≡ slice_index_or places i d)
 
--- a slot joined the free ones where it belongs, or is one of them already
-abbrev pub IsFreed : List ℕ → List ℕ → ℕ → Type 0
-IsFreed old new slot =
-    (IsListed old slot × (new ≡ old))
-    ⊎ ((at : ℕ) × (at ≤ length old) × ((k : ℕ) → k < at → slice_index old k < slot)
-    × ((k : ℕ) → at ≤ k → k < length old → slot < slice_index old k) × (new ≡ insert old at slot))
-
--- a slot left the free ones, or is none of them
-abbrev pub IsTaken : List ℕ → List ℕ → ℕ → Type 0
-IsTaken old new slot =
-    ((IsListed old slot → ⊥) × (new ≡ old))
-    ⊎ ((at : ℕ) × (at < length old) × (slice_index old at ≡ slot) × (new ≡ remove old at))
+-- the new list has the numbers of the old one and these, and no others
+pub record Gains (old new more : List ℕ) : Type 0 where
+  pub each : (k : ℕ) → IsListed new k → IsListed old k ⊎ (list_any (λ n. k == n) more ≡ true)
+  pub kept : (k : ℕ) → IsListed old k → IsListed new k
+  pub all : (k : ℕ) → list_any (λ n. k == n) more ≡ true → IsListed new k
 
 -- the record of an identifier is the whole entry of the slot at its place, and what the map of the slots has
-pub record IsStoredAt (entry : ℕ → Option Entry) (slots id : ℕ) (place : SlotOf) (body : List ℕ) : Type 0 where
-  pub slot : place.slot < slots
-  pub here : entry place.slot ≡ Some (record { id = id; generation = place.generation; body = body })
-  pub stored : get (selected entry slots) id ≡ Some (body, place.generation)
-  pub len : length body ≡ place.len
+pub record IsStoredAt (entry : ℕ → Option Entry) (slots id : ℕ) (place : SlotOf) (e : Entry) : Type 0 where
+  pub chosen : IsChosen entry slots place.slot e
+  pub is : IsEntryOf id place e
+  pub stored : get (selected entry slots) id ≡ Some (e.body, place.generation)

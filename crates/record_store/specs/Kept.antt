@@ -1,135 +1,155 @@
 -- What a store keeps between two calls, and what it knows of its flash.
-use Rattle.std.specs.Prelude.{◌≡◌, ◌≢◌, ◌⊎◌, ℕ, ◌+◌, ◌-◌, ◌<◌, Bool, true, false, is_some, List, length, take, Option, Some, None}
+use Rattle.std.specs.Prelude.{◌≡◌, ◌≢◌, ◌⊎◌, ℕ, ◌+◌, ◌-◌, ◌<◌, ◌≤◌, Bool, true, false, is_some, List, [], ◌∷◌, length, take, drop, slice_index, Option, Some, None, IfSome}
 use Rattle.std.specs.FinMap.{get}
 use Rattle.flash_model.specs.declared.geometry.Geometry.{Geometry}
-use Rattle.record_model.specs.Flash.{Told, FlashState, Leaves}
-use Rattle.record_model.specs.Records.{Entry, entry_at, selected, stored_in, AreSingle, IsNearlySingle}
-use Rattle.record_model.specs.RecordMap.{next_generation, pieces_of}
+use Rattle.flash_model.specs.Layouts.{layout_of}
+use Rattle.flash_words.specs.Flash.{Told, FlashState, Leaves}
+use Rattle.flash_words.specs.Layout.{Layout, reach_of}
+use Rattle.record_model.specs.Records.{Entry, entry_at, slot_at, is_up, IsChosen, OnlyFirstUp, NearlyOnlyFirstUp}
+use Rattle.record_model.specs.RecordMap.{next_generation}
+use Rattle.record_model.specs.Plan.{KnowsPlan, StandsAtStage, made_at}
 use Rattle.record_slots.specs.Slots.{Fits}
+use Rattle.record_draft.specs.Drafts.{IsDraft, IsStage, plan_of, stage_of}
+use Rattle.record_draft.specs.declared.draft.Draft.{Draft}
+use Rattle.record_draft.specs.declared.draft.Stage.{Stage}
 use Rattle.record_recovery.specs.declared.found.Found.{Found}
-use Rattle.record_store.specs.Index.{IsListing, IsListOf, IsOlderCopy}
-use Rattle.record_store.specs.Store.{StoreView, Pending, Idle, Writing, Clearing, map_after, pending_after, changes_before_gate}
-use Rattle.record_store.specs.Work.{IsDraft, IsStage, made_at, StandsAt}
-use Rattle.record_store.specs.declared.work.Draft.{Draft}
+use Rattle.record_recovery.specs.declared.found.SlotOf.{SlotOf}
+use Rattle.record_recovery.specs.Listed.{IsPlaceOf, IsWithin}
+use Rattle.record_store.specs.Index.{IsListing, IsListOf, IsEntryOf, IsPlaceFound}
+use Rattle.record_store.specs.Store.{StoreView, Pending, Idle, Writing, Clearing, records_of, IsAt, map_after, pending_after, changes_before_gate, PlacedAfter}
 use Rattle.record_store.specs.declared.work.Work.{Work}
 use Rattle.record_store.specs.declared.work.Work.TheVariants.{Nothing, Write, OldCopy, Clear}
 
+-- the slots of a draft, the first one first
+abbrev pub further_in : Draft → List ℕ
+further_in draft = take (draft.parts - 1) (drop 1 draft.slots)
+
+abbrev pub slots_in : Draft → List ℕ
+slots_in draft = slice_index draft.slots 0 ∷ further_in draft
+
+-- the place of its record
+abbrev pub opened_place : Draft → SlotOf
+opened_place draft = record {
+  slot = slice_index draft.slots 0;
+  generation = draft.generation;
+  len = draft.len;
+  next = slice_index draft.slots 1 ∷ slice_index draft.slots 2 ∷ slice_index draft.slots 3 ∷ [];
+}
+
 -- what is seen of what is pending. The record stands at the start of a buffer
-abbrev pub pending_of : ℕ → List ℕ → Work → Pending
-pending_of per_slot buffer Nothing = Idle
-pending_of per_slot buffer (Write draft stage) =
-    Writing draft.id (take draft.len buffer) (is_some draft.replaced) (made_at per_slot (pieces_of (length (take draft.len buffer))) stage)
-pending_of per_slot buffer (OldCopy id len slot) =
-    Writing id (take len buffer) true (changes_before_gate per_slot (take len buffer) + 1)
-pending_of per_slot buffer (Clear id slot) = Clearing id
+abbrev pub pending_of : Layout → List ℕ → Work → Pending
+pending_of layout buffer Nothing = Idle
+pending_of layout buffer (Write draft stage replaced) =
+    Writing draft.id (take draft.len buffer) (slots_in draft) (is_some replaced) (made_at layout (plan_of draft (take draft.len buffer)) (stage_of stage))
+pending_of layout buffer (OldCopy draft place) =
+    Writing draft.id (take draft.len buffer) (slots_in draft) true (changes_before_gate layout (take draft.len buffer) + 1)
+pending_of layout buffer (Clear id place) = Clearing id
+
+-- a draft takes the first of the slots that are listed as free
+pub record TakesFree (found : Found) (draft : Draft) : Type 0 where
+  pub enough : draft.parts ≤ length found.free.items
+  pub taken : slots_in draft ≡ take draft.parts found.free.items
+
+-- a write that is pending: its draft has its slots in a store of this geometry
+pub record IsWrite (geometry : Geometry) (found : Found) (body : List ℕ) (draft : Draft) (stage : Stage) (replaced : Option SlotOf) : Type 0 where
+  pub planned : IsDraft geometry draft body
+  pub at : IsStage geometry draft body stage
+  pub takes : TakesFree found draft
+  pub over : IfSome replaced (IsWithin geometry.slots geometry.slot_size)
 
 -- what is pending has its places in a store of this geometry
-abbrev pub IsWork : Geometry → Work → Type 0
-IsWork geometry Nothing = Unit {0}
-IsWork geometry (Write draft stage) = IsDraft geometry draft × IsStage geometry draft.len stage
-IsWork geometry (OldCopy id len slot) = slot < geometry.slots
-IsWork geometry (Clear id slot) = slot < geometry.slots
+abbrev pub IsWork : Geometry → Found → List ℕ → Work → Type 0
+IsWork geometry found buffer Nothing = Unit {0}
+IsWork geometry found buffer (Write draft stage replaced) = IsWrite geometry found (take draft.len buffer) draft stage replaced
+IsWork geometry found buffer (OldCopy draft place) = IsWithin geometry.slots geometry.slot_size place
+IsWork geometry found buffer (Clear id place) = IsWithin geometry.slots geometry.slot_size place
 
 abbrev pub is_nothing : Work → Bool
 is_nothing Nothing = true
-is_nothing (Write draft stage) = false
-is_nothing (OldCopy id len slot) = false
-is_nothing (Clear id slot) = false
+is_nothing (Write draft stage replaced) = false
+is_nothing (OldCopy draft place) = false
+is_nothing (Clear id place) = false
 
 -- a change is to be made
 abbrev pub IsUnderWay : Work → Type 0
 IsUnderWay Nothing = ⊥
-IsUnderWay (Write draft stage) = Unit {0}
-IsUnderWay (OldCopy id len slot) = Unit {0}
-IsUnderWay (Clear id slot) = Unit {0}
+IsUnderWay (Write draft stage replaced) = Unit {0}
+IsUnderWay (OldCopy draft place) = Unit {0}
+IsUnderWay (Clear id place) = Unit {0}
 
--- the lists are those of the slots, and no identifier has two
-pub record KnowsSlots (entry : ℕ → Option Entry) (slots : ℕ) (found : Found) : Type 0 where
-  pub list : IsListOf entry slots found
-  pub single : AreSingle entry slots
+-- the lists are those of the slots, and only first slots of records are upright
+pub record KnowsSlots (layout : Layout) (image : List ℕ) (found : Found) : Type 0 where
+  pub list : IsListOf (entry_at layout.slot_size layout.slots image) layout.slots found
+  pub only : OnlyFirstUp layout.slot_size layout.slots image
 
--- a slot has a record of an identifier
-pub record HoldsId (entry : ℕ → Option Entry) (slot id : ℕ) : Type 0 where
-  pub held : Entry
-  pub here : entry slot ≡ Some held
-  pub of_id : held.id ≡ id
-
--- the slot whose record is replaced; none where the identifier has no record
-abbrev pub IsReplaced : (ℕ → Option Entry) → ℕ → ℕ → Option ℕ → Type 0
-IsReplaced entry slots id None = get (selected entry slots) id ≡ None
-IsReplaced entry slots id (Some slot) = HoldsId entry slot id
+-- what is known while the slots of a draft are filled
+pub record KnowsDraft (geometry : Geometry) (found : Found) (image body : List ℕ) (draft : Draft) (stage : Stage) (replaced : Option SlotOf) : Type 0 where
+  pub slots : KnowsSlots (layout_of geometry) image found
+  pub plan : KnowsPlan (layout_of geometry) (plan_of draft body) image
+  pub generation : draft.generation ≡ next_generation (get (records_of (layout_of geometry) image) draft.id)
+  pub over : IsPlaceFound (entry_at geometry.slot_size geometry.slots image) geometry.slots draft.id replaced
+  pub stands : StandsAtStage (layout_of geometry) (plan_of draft body) image (stage_of stage)
 
 -- what is pending after a gate was opened
-abbrev pub work_after : Draft → Option ℕ → Work
+abbrev pub work_after : Draft → Option SlotOf → Work
 work_after draft None = Nothing
-work_after draft (Some slot) = OldCopy draft.id draft.len slot
+work_after draft (Some place) = OldCopy draft place
 
--- a draft is for a free slot, with the generation that a write gives
-pub record IsDraftFor (entry : ℕ → Option Entry) (slots : ℕ) (draft : Draft) : Type 0 where
-  pub free : entry draft.slot ≡ None
-  pub generation : draft.generation ≡ next_generation (get (selected entry slots) draft.id)
-  pub replaced : IsReplaced entry slots draft.id draft.replaced
-
--- what is known while a slot is filled
-pub record KnowsDraft (geometry : Geometry) (found : Found) (image : List ℕ) (draft : Draft) : Type 0 where
-  pub slots : KnowsSlots (entry_at geometry.slot_size image) geometry.slots found
-  pub draft_for : IsDraftFor (entry_at geometry.slot_size image) geometry.slots draft
-
--- what is known after a gate was opened, while the slot of the older record is still live: but for it no identifier has
--- two slots
-pub record KnowsOldCopy (entry : ℕ → Option Entry) (slots : ℕ) (found : Found) (slot : ℕ) : Type 0 where
-  pub list : IsListOf entry slots found
+-- what is known after a gate was opened, while the older record is still live: every other upright slot is the first slot of
+-- its identifier's record, which for this identifier is the draft's
+pub record KnowsOldCopy (geometry : Geometry) (found : Found) (image : List ℕ) (draft : Draft) (place : SlotOf) : Type 0 where
+  pub list : IsListOf (entry_at geometry.slot_size geometry.slots image) geometry.slots found
   pub lost : Entry
-  pub here : entry slot ≡ Some lost
-  pub older : IsOlderCopy entry slots slot lost
-  pub single : (j k : ℕ) (one other : Entry) → j ≢ slot → k ≢ slot → j < slots → k < slots
-      → entry j ≡ Some one → entry k ≡ Some other → one.id ≡ other.id → j ≡ k
+  pub here : entry_at geometry.slot_size geometry.slots image place.slot ≡ Some lost
+  pub is : IsEntryOf draft.id place lost
+  pub newer : IsAt (layout_of geometry) image draft.id (slice_index draft.slots 0) (further_in draft)
+  pub apart : slice_index draft.slots 0 ≢ place.slot
+  pub others : (k : ℕ) → k < geometry.slots → k ≢ place.slot → is_up (geometry.slot_size - 64) geometry.slots (slot_at geometry.slot_size image k) ≡ true
+      → (e : Entry) × IsChosen (entry_at geometry.slot_size geometry.slots image) geometry.slots k e
 
 -- what is known while an identifier is to be cleared
-pub record KnowsCleared (entry : ℕ → Option Entry) (slots : ℕ) (found : Found) (id slot : ℕ) : Type 0 where
-  pub slots_known : KnowsSlots entry slots found
-  pub held : HoldsId entry slot id
+pub record KnowsCleared (geometry : Geometry) (found : Found) (image : List ℕ) (id : ℕ) (place : SlotOf) : Type 0 where
+  pub slots : KnowsSlots (layout_of geometry) image found
+  pub held : IsPlaceOf (entry_at geometry.slot_size geometry.slots image) geometry.slots id place
 
 -- what a store that is not in doubt knows
 abbrev pub Knows : Geometry → Found → List ℕ → List ℕ → Work → Type 0
-Knows geometry found buffer image Nothing = KnowsSlots (entry_at geometry.slot_size image) geometry.slots found
-Knows geometry found buffer image (Write draft stage) =
-    KnowsDraft geometry found image draft × StandsAt geometry draft (take draft.len buffer) image stage
-Knows geometry found buffer image (OldCopy id len slot) = KnowsOldCopy (entry_at geometry.slot_size image) geometry.slots found slot
-Knows geometry found buffer image (Clear id slot) = KnowsCleared (entry_at geometry.slot_size image) geometry.slots found id slot
+Knows geometry found buffer image Nothing = KnowsSlots (layout_of geometry) image found
+Knows geometry found buffer image (Write draft stage replaced) = KnowsDraft geometry found image (take draft.len buffer) draft stage replaced
+Knows geometry found buffer image (OldCopy draft place) = KnowsOldCopy geometry found image draft place
+Knows geometry found buffer image (Clear id place) = KnowsCleared geometry found image id place
 
 -- what is seen of a store
 abbrev pub view_of : Geometry → FlashState → Bool → Pending → StoreView
 view_of geometry flash in_doubt pending = record {
   flash = flash;
-  sector = geometry.sector;
-  per_slot = geometry.per_slot;
-  slots = geometry.slots;
-  slot_size = geometry.slot_size;
+  layout = layout_of geometry;
   in_doubt = in_doubt;
   pending = pending;
 }
 
--- what holds of a store between two calls, in doubt or not: at most one live slot is a second copy
+-- what holds of a store between two calls, in doubt or not: at most one upright slot is not the first slot of its
+-- identifier's record
 pub record IsStore (tells : Type 0) (geometry : Geometry) (flash : FlashState) (found : Found) (buffer : List ℕ) (in_doubt : Bool) (work : Work) : Type 0 where
   pub fits : Fits geometry flash
   pub listing : IsListing geometry.slots geometry.slot_size found
-  pub room : length buffer ≡ geometry.slot_size - 64
-  pub form : IsWork geometry work
+  pub room : length buffer ≡ reach_of (geometry.slot_size - 64)
+  pub form : IsWork geometry found buffer work
   pub certain : IsUnderWay work → in_doubt ≡ false
   pub knows : tells → in_doubt ≡ false → Knows geometry found buffer flash.told.image work
-  pub spare : tells → IsNearlySingle (entry_at geometry.slot_size flash.told.image) geometry.slots
+  pub spare : tells → NearlyOnlyFirstUp geometry.slot_size geometry.slots flash.told.image
 
 -- power lost in the next change of what is pending leaves the records from before it, or those after it
 abbrev pub MayMake : Geometry → Pending → Told → Told → Type 0
 MayMake geometry pending old new = Leaves old new (λ image.
-    (stored_in geometry.slot_size geometry.slots image ≡ stored_in geometry.slot_size geometry.slots old.image)
-    ⊎ (stored_in geometry.slot_size geometry.slots image ≡ map_after geometry.per_slot pending (stored_in geometry.slot_size geometry.slots old.image)))
+    (records_of (layout_of geometry) image ≡ records_of (layout_of geometry) old.image)
+    ⊎ (records_of (layout_of geometry) image ≡ map_after (layout_of geometry) pending (records_of (layout_of geometry) old.image)))
 
 -- the next change of what was pending was made
 pub record HasMade (tells : Type 0) (geometry : Geometry) (buffer : List ℕ) (old new : List ℕ) (found : Found) (work next : Work) : Type 0 where
-  pub form : IsWork geometry next
-  pub pending : pending_of geometry.per_slot buffer next ≡ pending_after geometry.per_slot (pending_of geometry.per_slot buffer work)
+  pub form : IsWork geometry found buffer next
+  pub pending : pending_of (layout_of geometry) buffer next ≡ pending_after (layout_of geometry) (pending_of (layout_of geometry) buffer work)
   pub knows : tells → Knows geometry found buffer new next
-  pub made : tells → stored_in geometry.slot_size geometry.slots new
-      ≡ map_after geometry.per_slot (pending_of geometry.per_slot buffer work) (stored_in geometry.slot_size geometry.slots old)
+  pub made : tells → records_of (layout_of geometry) new
+      ≡ map_after (layout_of geometry) (pending_of (layout_of geometry) buffer work) (records_of (layout_of geometry) old)
+  pub placed : tells → PlacedAfter (layout_of geometry) (pending_of (layout_of geometry) buffer work) new

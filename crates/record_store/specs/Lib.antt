@@ -1,9 +1,10 @@
 pub mod Store
 pub mod Answers
+pub mod Calls
 pub mod Index
-pub mod Slot
-pub mod Work
 pub mod Kept
 pub mod Finish
 pub mod Start
+pub mod Reading
+pub mod Stepping
 pub mod Walk

@@ -1,73 +1,101 @@
 -- What is seen of a store: its flash, how it divides the flash into slots, whether it has to look at them again, and the
 -- write or clear that it has begun.
-use Rattle.std.specs.Prelude.{◌≡◌, ℕ, ◌+◌, ◌⊎◌, Bool, true, false, ◌==◌, if◌then◌else◌, List, length}
+use Rattle.std.specs.Prelude.{◌≡◌, ℕ, ◌+◌, ◌≤◌, ◌⊎◌, Bool, true, false, ◌==◌, if◌then◌else◌, List, [], ◌∷◌, length, take}
 use Rattle.flash_model.specs.declared.geometry.Geometry.{Geometry}
-use Rattle.record_model.specs.Flash.{FlashState, Leaves}
-use Rattle.record_model.specs.Records.{Stored, stored_in, HasNoSecondCopy}
-use Rattle.record_model.specs.RecordMap.{Command, Write, Clear, pieces_of, made_by, after}
+use Rattle.flash_model.specs.Layouts.{layout_of}
+use Rattle.flash_words.specs.Flash.{FlashState, Leaves}
+use Rattle.flash_words.specs.Layout.{Layout, room_of}
+use Rattle.record_model.specs.Records.{Stored, Entry, entry_at, stored_in, parts_of, IsChosen, OnlyFirstUp}
+use Rattle.record_model.specs.RecordMap.{Command, Write, Clear, changes_of_parts, made_by, after}
+use Rattle.record_recovery.specs.Listed.{free_slots}
 
--- what a store has begun: nothing, the write of a record, of whose flash changes so many are made and which takes the
--- place of an older record or not, or the clearing of an identifier
+-- what a store has begun: nothing, the write of a record into these slots, of whose flash changes so many are made and
+-- which takes the place of an older record or not, or the clearing of an identifier
 pub data Pending : Type 0 where
   Idle : Pending
-  Writing : (id : ℕ) (bytes : List ℕ) (replaces : Bool) (made : ℕ) → Pending
+  Writing : (id : ℕ) (bytes : List ℕ) (slots : List ℕ) (replaces : Bool) (made : ℕ) → Pending
   Clearing : (id : ℕ) → Pending
 
 -- a store is in doubt from a fault, or from a command that was given up, until it has looked at its slots again
 pub record StoreView : Type 0 where
   pub flash : FlashState
-  pub sector : ℕ
-  pub per_slot : ℕ
-  pub slots : ℕ
-  pub slot_size : ℕ
+  pub layout : Layout
   pub in_doubt : Bool
   pub pending : Pending
 
+-- the records that a flash of this layout holds
+abbrev pub records_of : Layout → List ℕ → Stored
+records_of layout image = stored_in layout.slot_size layout.slots image
+
 -- the records that a store's flash holds
 abbrev pub stored : StoreView → Stored
-stored store = stored_in store.slot_size store.slots store.flash.told.image
+stored store = records_of store.layout store.flash.told.image
 
--- the changes of a write that come before the one that opens the gate of its slot
-abbrev pub changes_before_gate : ℕ → List ℕ → ℕ
-changes_before_gate per_slot bytes = per_slot + 2 + pieces_of (length bytes)
+-- only first slots of records are upright in a store's flash: it has no second copy, and no record that is not whole
+abbrev pub IsSettled : StoreView → Type 0
+IsSettled store = OnlyFirstUp store.layout.slot_size store.layout.slots store.flash.told.image
+
+-- the slots that a record of so many bytes is written into: the free ones of least number, as many as it has parts
+abbrev pub slots_for : StoreView → ℕ → List ℕ
+slots_for store len =
+    take (parts_of (room_of store.layout) len)
+    (free_slots (entry_at store.layout.slot_size store.layout.slots store.flash.told.image) store.layout.slots)
+
+-- the record of an identifier stands in these slots of an image, the first one first and the further ones in their order
+pub record IsAt (layout : Layout) (image : List ℕ) (id first : ℕ) (further : List ℕ) : Type 0 where
+  pub entry : Entry
+  pub of_id : entry.id ≡ id
+  pub in_further : entry.further ≡ further
+  pub chosen : IsChosen (entry_at layout.slot_size layout.slots image) layout.slots first entry
+
+abbrev pub StandsIn : Layout → List ℕ → ℕ → List ℕ → Type 0
+StandsIn layout image id [] = ⊥
+StandsIn layout image id (first ∷ further) = IsAt layout image id first further
+
+-- the changes of a write that come before the one that opens the gate of its first slot
+abbrev pub changes_before_gate : Layout → List ℕ → ℕ
+changes_before_gate layout bytes = changes_of_parts layout (length bytes) (parts_of (room_of layout) (length bytes))
 
 -- all changes of a write
-abbrev pub changes_in_all : ℕ → List ℕ → Bool → ℕ
-changes_in_all per_slot bytes replaces = changes_before_gate per_slot bytes + (if replaces then 2 else 1)
+abbrev pub changes_in_all : Layout → List ℕ → Bool → ℕ
+changes_in_all layout bytes replaces = changes_before_gate layout bytes + (if replaces then 2 else 1)
 
 -- the map that the next change of what is pending makes: a write is stored by the change that opens its gate
-abbrev pub map_after : ℕ → Pending → Stored → Stored
-map_after per_slot Idle stored = stored
-map_after per_slot (Writing id bytes replaces made) stored =
-    if made == changes_before_gate per_slot bytes then made_by (Write id bytes) stored else stored
-map_after per_slot (Clearing id) stored = made_by (Clear id) stored
+abbrev pub map_after : Layout → Pending → Stored → Stored
+map_after layout Idle stored = stored
+map_after layout (Writing id bytes slots replaces made) stored =
+    if made == changes_before_gate layout bytes then made_by (Write id bytes) stored else stored
+map_after layout (Clearing id) stored = made_by (Clear id) stored
 
 -- what is pending after that change
-abbrev pub pending_after : ℕ → Pending → Pending
-pending_after per_slot Idle = Idle
-pending_after per_slot (Writing id bytes replaces made) =
-    if made + 1 == changes_in_all per_slot bytes replaces then Idle else Writing id bytes replaces (made + 1)
-pending_after per_slot (Clearing id) = Idle
+abbrev pub pending_after : Layout → Pending → Pending
+pending_after layout Idle = Idle
+pending_after layout (Writing id bytes slots replaces made) =
+    if made + 1 == changes_in_all layout bytes replaces then Idle else Writing id bytes slots replaces (made + 1)
+pending_after layout (Clearing id) = Idle
+
+-- the record that was written stands in its slots after each change from the one that opens its gate on
+abbrev pub PlacedAfter : Layout → Pending → List ℕ → Type 0
+PlacedAfter layout Idle image = Unit {0}
+PlacedAfter layout (Writing id bytes slots replaces made) image = changes_before_gate layout bytes ≤ made → StandsIn layout image id slots
+PlacedAfter layout (Clearing id) image = Unit {0}
 
 -- power lost on the way leaves the records from before
 abbrev pub KeepsMap : StoreView → StoreView → Type 0
-KeepsMap old new = Leaves old.flash.told new.flash.told (λ image. stored_in old.slot_size old.slots image ≡ stored old)
+KeepsMap old new = Leaves old.flash.told new.flash.told (λ image. records_of old.layout image ≡ stored old)
 
 -- power lost on the way leaves the records from before, or these
 abbrev pub KeepsOrMakes : StoreView → StoreView → Stored → Type 0
 KeepsOrMakes old new made = Leaves old.flash.told new.flash.told
-    (λ image. (stored_in old.slot_size old.slots image ≡ stored old) ⊎ (stored_in old.slot_size old.slots image ≡ made))
+    (λ image. (records_of old.layout image ≡ stored old) ⊎ (records_of old.layout image ≡ made))
 
 -- power lost on the way leaves the records from before a command, or those that its Ok makes
 abbrev pub IsBeforeOrAfter : StoreView → StoreView → Command → Type 0
-IsBeforeOrAfter old new command = KeepsOrMakes old new (after old.slots command (stored old))
+IsBeforeOrAfter old new command = KeepsOrMakes old new (after old.layout command (stored old))
 
 -- a store divides its flash as before, and the flash has the size that it had
 pub record DividesAlike (old new : StoreView) : Type 0 where
-  pub sector : new.sector ≡ old.sector
-  pub per_slot : new.per_slot ≡ old.per_slot
-  pub slots : new.slots ≡ old.slots
-  pub slot_size : new.slot_size ≡ old.slot_size
+  pub layout : new.layout ≡ old.layout
   pub size : new.flash.size ≡ old.flash.size
   pub sector_size : new.flash.sector_size ≡ old.flash.sector_size
 
@@ -84,41 +112,31 @@ pub record IsInDoubt (store : StoreView) : Type 0 where
 -- something is pending
 abbrev pub IsBusy : Pending → Type 0
 IsBusy Idle = ⊥
-IsBusy (Writing id bytes replaces made) = Unit {0}
+IsBusy (Writing id bytes slots replaces made) = Unit {0}
 IsBusy (Clearing id) = Unit {0}
 
 -- the whole write of a record is pending
 abbrev pub IsWriteOf : ℕ → List ℕ → Pending → Type 0
-IsWriteOf id bytes pending = (replaces : Bool) × (pending ≡ Writing id bytes replaces 0)
+IsWriteOf id bytes pending = (slots : List ℕ) × ((replaces : Bool) × (pending ≡ Writing id bytes slots replaces 0))
 
 abbrev pub doubt_after : Pending → Bool → Bool
 doubt_after Idle doubt = doubt
-doubt_after (Writing id bytes replaces made) doubt = true
+doubt_after (Writing id bytes slots replaces made) doubt = true
 doubt_after (Clearing id) doubt = true
 
 -- the store with what was pending given up
 abbrev pub abandoned : StoreView → StoreView
 abandoned store = record {
   flash = store.flash;
-  sector = store.sector;
-  per_slot = store.per_slot;
-  slots = store.slots;
-  slot_size = store.slot_size;
+  layout = store.layout;
   in_doubt = doubt_after store.pending store.in_doubt;
   pending = Idle;
 }
 
 -- a store of this geometry that has just looked at its slots
 pub record IsOpened (geometry : Geometry) (store : StoreView) : Type 0 where
-  pub sector : store.sector ≡ geometry.sector
-  pub per_slot : store.per_slot ≡ geometry.per_slot
-  pub slots : store.slots ≡ geometry.slots
-  pub slot_size : store.slot_size ≡ geometry.slot_size
+  pub layout : store.layout ≡ layout_of geometry
   pub ready : IsReady store
-
--- no two live slots of its flash have one identifier
-abbrev pub IsSingle : StoreView → Type 0
-IsSingle store = HasNoSecondCopy store.slot_size store.slots store.flash.told.image
 
 -- the flash on which a store was opened: its size and its count of faults are as they were
 pub record IsFlashOf (old new : FlashState) : Type 0 where
@@ -129,4 +147,22 @@ pub record IsFlashOf (old new : FlashState) : Type 0 where
 -- power lost in the opening leaves the records of the flash
 abbrev pub KeepsRecordsOf : Geometry → FlashState → FlashState → Type 0
 KeepsRecordsOf geometry old new =
-    Leaves old.told new.told (λ image. stored_in geometry.slot_size geometry.slots image ≡ stored_in geometry.slot_size geometry.slots old.told.image)
+    Leaves old.told new.told (λ image. records_of (layout_of geometry) image ≡ records_of (layout_of geometry) old.told.image)
+
+-- the store with what was pending given up, and in doubt: it is to look at its slots
+abbrev pub doubted : StoreView → StoreView
+doubted store = record {
+  flash = store.flash;
+  layout = store.layout;
+  in_doubt = true;
+  pending = Idle;
+}
+
+-- the same with the flash's power back
+abbrev pub restarted : StoreView → StoreView
+restarted store = record {
+  flash = record (store.flash) { powered = true };
+  layout = store.layout;
+  in_doubt = true;
+  pending = Idle;
+}

@@ -1,6 +1,7 @@
 -- A walk over the stored identifiers, by one next after another, with other commands between them.
 use Rattle.std.specs.Prelude.{◌≡◌, ℕ, List, [], ◌∷◌, Some, None, IsSome}
 use Rattle.std.specs.FinMap.{get}
+use Rattle.flash_words.specs.Layout.{Layout}
 use Rattle.record_model.specs.Records.{Stored}
 use Rattle.record_model.specs.RecordMap.{Command, Read}
 use Rattle.record_model.specs.History.{Answer, Found, Played, left_by}
@@ -29,6 +30,6 @@ IsWalk [] = ⊥
 IsWalk (played ∷ rest) = IsNoRead played.command × EndsOr played.answer rest (IsWalk rest)
 
 -- an identifier is stored before the commands, and after every one of them
-abbrev pub StaysStored : ℕ → ℕ → List Played → Stored → Type 0
-StaysStored slots id [] stored = IsSome (get stored id)
-StaysStored slots id (played ∷ rest) stored = IsSome (get stored id) × StaysStored slots id rest (left_by slots played stored)
+abbrev pub StaysStored : Layout → ℕ → List Played → Stored → Type 0
+StaysStored layout id [] stored = IsSome (get stored id)
+StaysStored layout id (played ∷ rest) stored = IsSome (get stored id) × StaysStored layout id rest (left_by layout played stored)

@@ -15,8 +15,8 @@ pub struct StoreRefused<F> {
 /// Why a command is refused.
 #[derive(Clone, Copy, Debug, PartialEq, Eq)]
 pub enum StoreError {
-    /// Too few slots are free.
-    NoSpace { free: u32 },
+    /// Only so many slots are free, which are too few.
+    NoSpace { free: u64 },
     /// The stored record has the last generation. It can be cleared, and not replaced.
     LastGeneration { id: u64 },
     /// The identifier is not stored.
@@ -26,7 +26,18 @@ pub enum StoreError {
     /// The flash failed.
     Flash,
     /// The record has this many bytes, and the buffer fewer.
-    Small { need: u32 },
+    Small { need: u64 },
+}
+
+impl StoreError {
+    ghost use Rattle.record_store.specs.Answers.{is_flash};
+
+    // Whether it is a fault, after which a store is in doubt.
+    pub(crate) fn is_flash(&self) -> bool
+        ensures { result ≡ is_flash self.now }
+    {
+        matches!(self, StoreError::Flash)
+    }
 }
 
 impl From<FlashFailed> for StoreError {

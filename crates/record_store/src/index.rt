@@ -1,16 +1,17 @@
 // The lists that a store keeps of its slots: the identifiers with the places of their records, and the free slots.
-ghost use Rattle.std.specs.Prelude.{◌≡◌, ◌⊎◌, ℕ, ◌<◌, ◌≤◌, false, length, Option, IfSome, vec_capacity};
+ghost use Rattle.std.specs.Prelude.{◌≡◌, ◌⊎◌, ℕ, ◌+◌, ◌-◌, ◌<◌, ◌≤◌, List, false, [], ◌∷◌, length, take, drop, Option, IfSome, vec_capacity};
 ghost use Rattle.std.specs.List.Sorted.{IsStrictlyIncreasing};
 ghost use Rattle.erst_ids.specs.Next.{IsNextAfter};
 ghost use Rattle.record_model.specs.Records.{Entry, selected, is_reserved};
 ghost use Rattle.record_model.specs.RecordMap.{IsNextAbove};
 ghost use Rattle.record_recovery.specs.Listed.{AreSlots, IsIndex, IsWithin};
 ghost use Rattle.record_recovery.specs.Listing.{IsNewlyListed, IsListedAgain};
-ghost use Rattle.record_store.specs.Index.{IsListing, IsListOf, HasOpened, HasLost, IsEntryOf, IsOlderCopy, IsOnlyCopy, IsPlaceFound, IsPlaceAt, IsFreed, IsTaken};
+ghost use Rattle.record_store.specs.Index.{IsListing, IsListOf, HasItsParts, HasOpened, HasLost, IsEntryOf, IsOlderCopy, IsOnlyCopy, IsPlaceFound, IsPlaceAt, Gains, slots_at};
 
 use erst_ids::{RecordId, next_after, position_of};
 use flash_model::Geometry;
 use record_recovery::{Found, SlotOf, list_record};
+use record_slots::parts_of;
 
 /// Where the record of an identifier is.
 pub fn place_of(found: &Found, id: RecordId) -> Option<SlotOf>
@@ -39,43 +40,53 @@ pub fn next_id(found: &Found, cursor: u64) -> Option<RecordId>
     next_after(&found.ids, cursor)
 }
 
-/// Lists the record of a slot that was free, which is newer than all of its identifier.
-pub fn record_opened(found: &mut Found, geometry: &Geometry, id: RecordId, place: SlotOf)
+/// Lists the record of a slot that was free, which is newer than all of its identifier. It has the first of the slots that
+/// are listed as free.
+pub fn record_opened(
+    found: &mut Found,
+    geometry: &Geometry,
+    id: RecordId,
+    place: SlotOf,
+    parts: u32,
+)
     requires listing { IsListing geometry.now.slots geometry.now.slot_size found.old }
     requires within { IsWithin geometry.now.slots geometry.now.slot_size place }
+    requires enough { parts ≤ length found.old.free.items }
     ensures listing { IsListing geometry.now.slots geometry.now.slot_size found.new }
     ensures list { (entry other : ℕ → Option Entry) (e : Entry) → HasOpened entry other geometry.now.slots place.slot e → IsEntryOf id place e
+        → place.slot ∷ e.further ≡ take parts found.old.free.items
         → IsListOf entry geometry.now.slots found.old → IsListOf other geometry.now.slots found.new }
 {
     list_opened(found, geometry, id, place);
-    take_free(found, place.slot);
+    take_free(found, geometry, parts as usize);
 }
 
-/// Lists a slot as free whose record was killed, which was not that of its identifier.
-pub fn slot_killed(found: &mut Found, geometry: &Geometry, slot: u32)
+/// Lists the slots of a record as free whose first slot was killed, and which was not that of its identifier.
+pub fn copy_killed(found: &mut Found, geometry: &Geometry, place: SlotOf)
     requires listing { IsListing geometry.now.slots geometry.now.slot_size found.old }
-    requires within { slot < geometry.now.slots }
+    requires within { IsWithin geometry.now.slots geometry.now.slot_size place }
     ensures listing { IsListing geometry.now.slots geometry.now.slot_size found.new }
-    ensures list { (entry other : ℕ → Option Entry) (lost : Entry) → HasLost entry other slot lost → IsOlderCopy entry geometry.now.slots slot lost
+    ensures list { (entry other : ℕ → Option Entry) (id : ℕ) (lost : Entry) → HasLost entry other geometry.now.slots place.slot lost → IsEntryOf id place lost
+        → HasItsParts (geometry.now.slot_size - 64) lost → IsOlderCopy entry geometry.now.slots place.slot lost
         → IsListOf entry geometry.now.slots found.old → IsListOf other geometry.now.slots found.new }
 {
-    prove!(u64::from(slot) < geometry.slots);
-    list_free(found, slot);
+    free_record(found, geometry, place);
 }
 
-/// Lists an identifier no more whose only slot was killed, and lists the slot as free.
+/// Lists an identifier no more whose only slot was killed, and lists the slots of its record as free.
 pub fn record_cleared(found: &mut Found, geometry: &Geometry, id: RecordId)
     requires listing { IsListing geometry.now.slots geometry.now.slot_size found.old }
     ensures listing { IsListing geometry.now.slots geometry.now.slot_size found.new }
-    ensures list { (entry other : ℕ → Option Entry) (j : ℕ) (lost : Entry) → j < geometry.now.slots → HasLost entry other j lost → lost.id ≡ id
-        → IsOnlyCopy entry geometry.now.slots j id → IsListOf entry geometry.now.slots found.old → IsListOf other geometry.now.slots found.new }
+    ensures list { (entry other : ℕ → Option Entry) (j : ℕ) (lost : Entry) → j < geometry.now.slots → HasLost entry other geometry.now.slots j lost → lost.id ≡ id
+        → HasItsParts (geometry.now.slot_size - 64) lost → IsOnlyCopy entry geometry.now.slots j id
+        → IsListOf entry geometry.now.slots found.old → IsListOf other geometry.now.slots found.new }
 {
     let Ok(at) = position_of(&found.ids, id) else {
         return;
     };
     found.ids.remove(at);
     let place = found.places.remove(at);
-    list_free(found, place.slot);
+    free_record(found, geometry, place);
 }
 
 // Lists the record of a slot. Where each slot has an identifier already, none is free, and there is no other record.
@@ -87,32 +98,53 @@ fn list_opened(found: &mut Found, geometry: &Geometry, id: RecordId, place: Slot
     ensures listed { length found.old.ids.items < geometry.now.slots
         → IsNewlyListed found.old found.new id place ⊎ IsListedAgain found.old found.new id place }
 {
-    if (found.ids.len() as u64) < geometry.slots {
+    if (found.ids.len() as u64) < geometry.slots() {
         list_record(found, id, place);
     }
 }
 
-// Lists a slot as free no more.
-fn take_free(found: &mut Found, slot: u32)
-    requires rising { IsStrictlyIncreasing found.old.free.items }
-    ensures taken { IsTaken found.old.free.items found.new.free.items slot }
-    ensures capacity { vec_capacity found.new.free ≡ vec_capacity found.old.free }
+// Lists the first of the free slots as free no more.
+fn take_free(found: &mut Found, geometry: &Geometry, count: usize)
+    requires listing { IsListing geometry.now.slots geometry.now.slot_size found.old }
+    requires enough { count ≤ length found.old.free.items }
+    ensures listing { IsListing geometry.now.slots geometry.now.slot_size found.new }
+    ensures free { found.new.free.items ≡ drop count found.old.free.items }
     ensures ids { found.new.ids ≡ found.old.ids }
     ensures places { found.new.places ≡ found.old.places }
 {
-    if let Ok(at) = found.free.binary_search(&slot) {
-        found.free.remove(at);
+    found.free.drain(..count);
+}
+
+// Lists the slots of the record at a place as free.
+fn free_record(found: &mut Found, geometry: &Geometry, place: SlotOf)
+    requires free { AreSlots geometry.now.slots found.old.free.items }
+    requires room { geometry.now.slots ≤ vec_capacity found.old.free }
+    requires within { IsWithin geometry.now.slots geometry.now.slot_size place }
+    ensures gains { Gains found.old.free.items found.new.free.items (slots_at (geometry.now.slot_size - 64) place) }
+    ensures free { AreSlots geometry.now.slots found.new.free.items }
+    ensures room { vec_capacity found.old.free ≤ vec_capacity found.new.free }
+    ensures ids { found.new.ids ≡ found.old.ids }
+    ensures places { found.new.places ≡ found.old.places }
+    ensures looks { found.new.looks ≡ found.old.looks }
+{
+    list_free(found, geometry, place.slot);
+    let further = parts_of(geometry, place.len) - 1;
+    for at in 0..further {
+        list_free(found, geometry, u32::from(place.next[at as usize]));
     }
 }
 
 // Lists a slot as free.
-fn list_free(found: &mut Found, slot: u32)
-    requires free { AreSlots (vec_capacity found.old.free) found.old.free.items }
-    requires within { slot < vec_capacity found.old.free }
-    ensures freed { IsFreed found.old.free.items found.new.free.items slot }
-    ensures capacity { vec_capacity found.old.free ≤ vec_capacity found.new.free }
+fn list_free(found: &mut Found, geometry: &Geometry, slot: u32)
+    requires free { AreSlots geometry.now.slots found.old.free.items }
+    requires room { geometry.now.slots ≤ vec_capacity found.old.free }
+    requires within { slot < geometry.now.slots }
+    ensures gains { Gains found.old.free.items found.new.free.items (slot ∷ []) }
+    ensures free { AreSlots geometry.now.slots found.new.free.items }
+    ensures room { vec_capacity found.old.free ≤ vec_capacity found.new.free }
     ensures ids { found.new.ids ≡ found.old.ids }
     ensures places { found.new.places ≡ found.old.places }
+    ensures looks { found.new.looks ≡ found.old.looks }
 {
     if let Err(at) = found.free.binary_search(&slot) {
         let _ = found.free.insert(at, slot);

@@ -1,105 +1,148 @@
-// What a write begins with, and how bytes come to the start of a buffer.
-ghost use Rattle.std.specs.Prelude.{◌≡◌, ◌≢◌, ℕ, ◌+◌, ◌-◌, ◌*◌, ◌<◌, ◌≤◌, ◌++◌, length, drop, Option, None, Some, false, MatchResult, OnErr, OnOk};
-ghost use Rattle.base_model.specs.Bytes.{part};
-ghost use Rattle.record_model.specs.Flash.{OnlyReads};
+// What a write begins with: the slots that the record is written into, and the generation that it gets.
+ghost use Rattle.std.specs.Prelude.{◌≡◌, ◌≢◌, ℕ, ◌+◌, ◌-◌, ◌*◌, ◌<◌, ◌≤◌, ◌==◌, ◌++◌, length, drop, slice_index, slice_index_or, Option, IfSome, IfOk, IfErr, OnOk, OnErr};
+ghost use Rattle.flash_words.specs.Layout.{reach_of};
+ghost use Rattle.record_model.specs.Records.{Entry, parts_of, tail_at};
+ghost use Rattle.record_model.specs.RecordMap.{LAST_GENERATION};
+ghost use Rattle.record_recovery.specs.Listed.{AreSlots};
 ghost use Rattle.record_slots.specs.Slots.{Fits};
-ghost use Rattle.record_model.specs.Records.{Entry, is_reserved};
 ghost use Rattle.record_store.specs.Index.{IsListing, IsListOf, IsPlaceFound};
-ghost use Rattle.record_store.specs.Start.{StartsWith, IsRefusedBy};
+ghost use Rattle.record_store.specs.Start.{AreMarks, IsOver, IsPlanned, IsRefusedBy, IsLast, ReadsTimes, ReadsToPlan, generation_over, slots_needed};
 
 use crate::errors::StoreError;
 use crate::index::place_of;
-use crate::work::{Draft, Stage};
 use erst_ids::RecordId;
 use flash_model::{Flash, FlashFailed, Geometry};
+use record_draft::Draft;
 use record_recovery::{Found, SlotOf};
-use record_slots::{TAIL_MARK, read_body};
+use record_slots::{TAIL_MARK, look, parts_of};
 
 const FIRST_GENERATION: u32 = 1;
 
-/// The draft of a record of this length in the lowest free slot.
-pub fn draft_for(
-    found: &Found,
+/// The most slots that a record is written into.
+const MAX_PARTS: usize = 4;
+
+/// The draft of a record of this length in the free slots of least number, and the place of the record that it replaces.
+/// The slots are looked at, since what they are erased from first is by their tail marks.
+pub fn plan_write<F: Flash>(
+    flash: &mut F,
     geometry: &Geometry,
+    found: &Found,
     id: RecordId,
     len: u32,
-) -> Result<Draft, StoreError>
-    requires { IsListing geometry.now.slots geometry.now.slot_size found.now }
-    ensures { MatchResult result (StartsWith geometry.now.slots found.now id len) (IsRefusedBy geometry.now.slots found.now id) }
+) -> Result<(Draft, Option<SlotOf>), StoreError>
+    requires fits { Fits geometry.now (F.state flash.old) }
+    requires listing { IsListing geometry.now.slots geometry.now.slot_size found.now }
+    requires least { 128 ≤ len }
+    requires reach { len ≤ reach_of (geometry.now.slot_size - 64) }
+    ensures planned { IfOk result (λ plan. IsPlanned F.tells geometry.now found.now (F.state flash.old).told.image id len plan.0 plan.1) }
+    ensures refused { IfErr result (IsRefusedBy geometry.now found.now id len) }
+    ensures reads { ReadsToPlan F.tells (2 * parts_of (geometry.now.slot_size - 64) len) (F.state flash.old) (F.state flash.new) result }
 {
-    let number = id.get();
-    match place_of(found, id) {
+    let replaced = place_of(found, id);
+    let generation = next_generation(id, replaced)?;
+    let parts = parts_of(geometry, len);
+    check_free(found, geometry, parts, replaced)?;
+    let slots = first_free(found, geometry, parts);
+    let marked = look_at_marks(flash, geometry, &slots, parts)?;
+    let draft = Draft {
+        id,
+        generation,
+        len,
+        parts,
+        slots,
+        marked,
+    };
+    Ok((draft, replaced))
+}
+
+// The generation of a record that takes the place of the one at this place.
+fn next_generation(id: RecordId, replaced: Option<SlotOf>) -> Result<u32, StoreError>
+    ensures next { IfOk result (λ generation. generation ≡ generation_over replaced) }
+    ensures not_last { OnOk result (IfSome replaced (λ place. place.generation ≢ LAST_GENERATION)) }
+    ensures last { IfErr result (λ error. (error ≡ StoreError.LastGeneration id) × IsLast replaced) }
+{
+    match replaced {
         Some(place) if place.generation == u32::MAX => {
-            Err(StoreError::LastGeneration { id: number })
+            Err(StoreError::LastGeneration { id: id.get() })
         }
-        Some(place) => draft_over(found, geometry, id, len, place),
-        None => draft_of_new(found, geometry, id, len),
+        Some(place) => Ok(place.generation + 1),
+        None => Ok(FIRST_GENERATION),
     }
 }
 
-// The draft of a record that takes the place of another.
-fn draft_over(
+// Whether enough slots are free. A new identifier leaves one free for the replacements to come.
+fn check_free(
     found: &Found,
     geometry: &Geometry,
-    id: RecordId,
-    len: u32,
-    place: SlotOf,
-) -> Result<Draft, StoreError>
+    parts: u32,
+    replaced: Option<SlotOf>,
+) -> Result<(), StoreError>
     requires listing { IsListing geometry.now.slots geometry.now.slot_size found.now }
-    requires allowed { is_reserved id ≡ false }
-    requires within { place.slot < geometry.now.slots }
-    requires not_last { place.generation ≢ 4294967295 }
-    requires place { (entry : ℕ → Option Entry) → IsListOf entry geometry.now.slots found.now → IsPlaceFound entry geometry.now.slots id (Some place) }
-    ensures { MatchResult result (StartsWith geometry.now.slots found.now id len) (IsRefusedBy geometry.now.slots found.now id) }
+    requires few { parts ≤ 4 }
+    ensures enough { OnOk result (slots_needed parts replaced ≤ length found.now.free.items) }
+    ensures too_few { IfErr result (λ error. (error ≡ StoreError.NoSpace (length found.now.free.items)) × (length found.now.free.items < slots_needed parts replaced)) }
 {
-    let free = found.free.len() as u32;
-    if free < 1 {
+    let free = found.free.len() as u64;
+    let needed = needed_slots(parts, replaced);
+    if free < u64::from(needed) {
         return Err(StoreError::NoSpace { free });
     }
-    Ok(Draft {
-        id,
-        slot: found.free[0],
-        generation: place.generation + 1,
-        len,
-        replaced: Some(place.slot),
-    })
+    Ok(())
 }
 
-// The draft of a record of a new identifier, which leaves a slot free for the replacements to come.
-fn draft_of_new(
-    found: &Found,
+fn needed_slots(parts: u32, replaced: Option<SlotOf>) -> u32
+    requires { parts ≤ 4 }
+    ensures { result ≡ slots_needed parts replaced }
+{
+    match replaced {
+        Some(_) => parts,
+        None => parts + 1,
+    }
+}
+
+// The free slots of least number.
+fn first_free(found: &Found, geometry: &Geometry, parts: u32) -> [u16; MAX_PARTS]
+    requires listing { IsListing geometry.now.slots geometry.now.slot_size found.now }
+    requires few { parts ≤ 4 }
+    requires enough { parts ≤ length found.now.free.items }
+    ensures { (i : ℕ) → i < parts → slice_index result i ≡ slice_index found.now.free.items i }
+{
+    let mut slots = [0; MAX_PARTS];
+    for at in 0..parts as usize {
+        slots[at] = found.free[at] as u16;
+    }
+    slots
+}
+
+// Which of the first slots of these have their tail mark.
+fn look_at_marks<F: Flash>(
+    flash: &mut F,
     geometry: &Geometry,
-    id: RecordId,
-    len: u32,
-) -> Result<Draft, StoreError>
-    requires listing { IsListing geometry.now.slots geometry.now.slot_size found.now }
-    requires allowed { is_reserved id ≡ false }
-    requires new { (entry : ℕ → Option Entry) → IsListOf entry geometry.now.slots found.now → IsPlaceFound entry geometry.now.slots id None }
-    ensures { MatchResult result (StartsWith geometry.now.slots found.now id len) (IsRefusedBy geometry.now.slots found.now id) }
+    slots: &[u16; MAX_PARTS],
+    parts: u32,
+) -> Result<[bool; MAX_PARTS], FlashFailed>
+    requires fits { Fits geometry.now (F.state flash.old) }
+    requires some { 1 ≤ parts }
+    requires few { parts ≤ 4 }
+    requires below { (i : ℕ) → i < parts → slice_index slots.now i < geometry.now.slots }
+    ensures marks { IfOk result (λ marks. F.tells → AreMarks geometry.now.slot_size (F.state flash.old).told.image parts slots.now marks) }
+    ensures stays { ReadsTimes F.tells (2 * parts) (F.state flash.old) (F.state flash.new) result }
 {
-    let free = found.free.len() as u32;
-    if free < 2 {
-        return Err(StoreError::NoSpace { free });
+    let mut marked = [false; MAX_PARTS];
+    for at in 0..parts as usize {
+        marked[at] = has_mark(flash, geometry, u32::from(slots[at]))?;
     }
-    Ok(Draft {
-        id,
-        slot: found.free[0],
-        generation: FIRST_GENERATION,
-        len,
-        replaced: None,
-    })
+    Ok(marked)
 }
 
-/// The end from which a free slot is erased, by its tail mark.
-pub fn first_stage(tail: u8) -> Stage
-    ensures marked { tail ≡ 0xA5 → result ≡ Stage.EraseFromTail 0 }
-    ensures unmarked { tail ≢ 0xA5 → result ≡ Stage.EraseFromHead 0 }
+fn has_mark<F: Flash>(flash: &mut F, geometry: &Geometry, slot: u32) -> Result<bool, FlashFailed>
+    requires fits { Fits geometry.now (F.state flash.old) }
+    requires within { slot < geometry.now.slots }
+    ensures mark { IfOk result (λ mark. F.tells → mark ≡ (tail_at (F.state flash.old).told.image (slot * geometry.now.slot_size) geometry.now.slot_size == 0xA5)) }
+    ensures stays { ReadsTimes F.tells 2 (F.state flash.old) (F.state flash.new) result }
 {
-    if tail == TAIL_MARK {
-        Stage::EraseFromTail { done: 0 }
-    } else {
-        Stage::EraseFromHead { done: 0 }
-    }
+    let (_, tail) = look(flash, geometry, slot)?;
+    Ok(tail == TAIL_MARK)
 }
 
 /// Copies bytes to the start of a buffer.
@@ -109,28 +152,4 @@ pub fn put_front(buffer: &mut [u8], bytes: &[u8])
 {
     let len = bytes.len();
     buffer[..len].copy_from_slice(bytes);
-}
-
-/// Reads the record of a slot, by way of a buffer, to the start of `out`, which stays as it is where the flash fails.
-pub fn read_record<F: Flash>(
-    flash: &mut F,
-    geometry: &Geometry,
-    place: SlotOf,
-    buffer: &mut [u8],
-    out: &mut [u8],
-) -> Result<(), FlashFailed>
-    requires fits { Fits geometry.now (F.state flash.old) }
-    requires within { place.slot < geometry.now.slots }
-    requires most { place.len ≤ geometry.now.slot_size - 64 }
-    requires buffer { place.len ≤ length buffer.old }
-    requires room { place.len ≤ length out.old }
-    ensures bytes { OnOk result (F.tells → out.new
-        ≡ part (F.state flash.old).told.image (place.slot * geometry.now.slot_size + 32) place.len ++ drop place.len out.old) }
-    ensures out { OnErr result (out.new ≡ out.old) }
-    ensures stays { OnlyReads F.tells (F.state flash.old) (F.state flash.new) result }
-{
-    let len = place.len as usize;
-    read_body(flash, geometry, place.slot, &mut buffer[..len])?;
-    put_front(out, &buffer[..len]);
-    Ok(())
 }

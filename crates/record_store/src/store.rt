@@ -1,23 +1,28 @@
 // The store.
-ghost use Rattle.std.specs.Prelude.{◌≡◌, ◌↔◌, ℕ, ◌+◌, ◌-◌, ◌*◌, ◌/◌, ◌<◌, ◌≤◌, List, false, length, IsOk, OnOk, OnErr, IfOk, IfErr};
+ghost use Rattle.std.specs.Prelude.{◌≡◌, ◌↔◌, ◌⊎◌, ℕ, ◌+◌, ◌-◌, ◌*◌, ◌<◌, ◌≤◌, List, true, false, length, IsOk, OnOk, OnErr, IfOk, IfErr};
 ghost use Rattle.std.specs.FinMap.{len};
-ghost use Rattle.record_model.specs.Records.{second_copies};
-ghost use Rattle.record_model.specs.RecordMap.{Write, Clear, Read, IsNextAbove, changes_of};
+ghost use Rattle.flash_words.specs.Flash.{LosesOnlyByChange, raised};
+ghost use Rattle.flash_words.specs.Layout.{room_of, reach_of};
+ghost use Rattle.flash_model.specs.Layouts.{layout_of};
+ghost use Rattle.record_model.specs.Records.{second_copies, parts_of};
+ghost use Rattle.record_model.specs.RecordMap.{Write, Clear, Read, IsNextAbove};
 ghost use Rattle.record_slots.specs.Slots.{Fits};
-ghost use Rattle.record_store.specs.Store.{Idle, Clearing, stored, map_after, IsBusy, IsWriteOf, IsSingle, IsReady, IsOpened, IsFlashOf, IsBeforeOrAfter, DividesAlike, KeepsMap, KeepsOrMakes, KeepsRecordsOf, abandoned};
-ghost use Rattle.record_store.specs.Finish.{IsUnfinished, map_at_end, changes_left};
-ghost use Rattle.record_store.specs.Answers.{HasFaultsOf, HasDoubtOf, HasDoubtAtStart, StartsWrite, StartsClear, IsStep, HasStepped, AnswersWrite, AnswersClear, AnswersRead, AnswersLength, FailsByFlash, RefusesFlash, TakesExactly, OnlyReadsFlash, AnswersByItself};
+ghost use Rattle.record_store.specs.Store.{Idle, Clearing, stored, slots_for, map_after, IsBusy, IsWriteOf, IsSettled, IsReady, IsOpened, IsFlashOf, StandsIn, PlacedAfter, DividesAlike, KeepsMap, KeepsOrMakes, KeepsRecordsOf, abandoned, doubted, restarted};
+ghost use Rattle.record_store.specs.Finish.{IsUnfinished, map_at_end, changes_left, PlacedAtEnd};
+ghost use Rattle.record_store.specs.Answers.{HasFaultsOf, HasDoubtOf, StartsWrite, StartsClear, IsStep, HasStepped, AnswersWrite, AnswersClear, AnswersRead, AnswersLength, FailsByFlash, RefusesFlash, ReadsExactly, StartsByItself, AnswersByItself, HasLooked, copies_in, copies_pending};
+ghost use Rattle.record_store.specs.Calls.{OnlyLooks, OnlyStarts, Changes};
 
 use crate::errors::{StoreError, StoreRefused};
 use crate::index::{next_id, place_of};
 use crate::opening::open;
-use crate::starting::{draft_for, first_stage, put_front, read_record};
+use crate::reading::read_record;
+use crate::starting::{plan_write, put_front};
 use crate::stepping::make_change;
 use crate::work::Work;
 use erst_ids::RecordId;
 use flash_model::{Flash, FlashFailed, Geometry};
+use record_draft::first_stage;
 use record_recovery::{Found, ScanError, rescan};
-use record_slots::look;
 use std::alloc::Global;
 use std::marker::Model;
 
@@ -35,28 +40,31 @@ pub struct Store<F: Flash> {
 }
 
 impl<F: Flash> Model for Store<F> {
+    ghost use Rattle.flash_model.specs.Layouts.{layout_of};
     ghost use Rattle.record_store.specs.Store.{StoreView};
     ghost use Rattle.record_store.specs.Kept.{IsStore, view_of, pending_of};
 
     ghost Value = { StoreView };
 
     ghost view = { λ store. view_of store.geometry (F.state store.flash) store.in_doubt
-        (pending_of store.geometry.per_slot store.buffer.items store.work) };
+        (pending_of (layout_of store.geometry) store.buffer.items store.work) };
 
     ghost invariant = { λ store. IsStore F.tells store.geometry (F.state store.flash) store.found store.buffer.items store.in_doubt store.work };
 }
 
 impl<F: Flash> Store<F> {
-    /// Opens the store of a flash, by one look at the head and the tail mark of each slot, and ends the second copies that
-    /// power lost in a replacement left, one change each. It takes all the memory that it will have. A flash of another
-    /// size or sector size, one that failed, or one for which there was no memory is handed back.
+    /// Opens the store of a flash, by one look at the head and the tail mark of each slot, and kills every upright slot that
+    /// is not the first slot of its identifier's record, by one change each: second copies, which power lost in a
+    /// replacement left, and records that are not whole. It takes all the memory that it will have. A flash of another size
+    /// or sector size, one that failed, or one for which there was no memory is handed back.
     pub fn attach(alloc: Global, flash: F, geometry: Geometry) -> Result<Store<F>, StoreRefused<F>>
         ensures opened { IfOk result (IsOpened geometry) }
         ensures fits { IsOk result → Fits geometry (F.state flash) }
         ensures flash { IfOk result (λ store. IsFlashOf (F.state flash) store.flash) }
-        ensures single { IfOk result (λ store. F.tells → IsSingle store) }
+        ensures settled { IfOk result (λ store. F.tells → IsSettled store) }
+        ensures reads { IfOk result (λ store. store.flash.reads ≡ raised (2 * geometry.slots) (F.state flash).reads) }
 
-        // One change for each live slot that is not its identifier's record, and no more where it fails.
+        // One change for each slot that is killed, and no more where it fails.
         ensures steps { IfOk result (λ store. F.tells → store.flash.steps
             ≡ (F.state flash).steps + second_copies geometry.slot_size geometry.slots (F.state flash).told.image) }
         ensures at_most { IfErr result (λ refused. F.tells → (F.state refused.flash).steps
@@ -67,10 +75,12 @@ impl<F: Flash> Store<F> {
 
         ensures refused { IfErr result (λ refused. RefusesFlash geometry (F.state flash) (F.state refused.flash) refused.why) }
         ensures back { IfErr result (λ refused. F.tells → KeepsRecordsOf geometry (F.state flash) (F.state refused.flash)) }
+        ensures power { IfOk result (λ store. LosesOnlyByChange (F.state flash) store.flash) }
+        ensures power_back { IfErr result (λ refused. LosesOnlyByChange (F.state flash) (F.state refused.flash)) }
     {
         let size = flash.size();
-        let sector = flash.sector_size();
-        if size != geometry.size() || u64::from(sector) != geometry.sector {
+        let sector = u64::from(flash.sector_size());
+        if size != geometry.size() || sector != geometry.sector() {
             let why = ScanError::Size {
                 found: size,
                 sector,
@@ -91,20 +101,22 @@ impl<F: Flash> Store<F> {
         }
     }
 
-    /// Starts the write of a record of 128 bytes up to the room of a slot, and makes no change of the map. The bytes are
+    /// Starts the write of a record of 128 bytes up to the geometry's reach, and makes no change of the map. The bytes are
     /// copied. A store in doubt first looks at its slots again.
+    ///
+    /// `NoSpace`: fewer slots are free than the record has parts, or as many and the identifier is new. `LastGeneration`:
+    /// the record that it would take the place of has the last generation.
     pub fn start_write(&mut self, id: RecordId, bytes: &[u8]) -> Result<(), StoreError>
         requires idle { self.old.pending ≡ Idle }
         requires least { 128 ≤ length bytes.now }
-        requires room { length bytes.now ≤ self.old.slot_size - 64 }
+        requires reach { length bytes.now ≤ reach_of (room_of self.old.layout) }
         ensures answer { F.tells → StartsWrite self.old self.new id bytes.now result }
         ensures pending { OnOk result (IsWriteOf id bytes.now self.new.pending) }
-        ensures doubt { HasDoubtAtStart self.new result }
-        ensures kept { F.tells → KeepsMap self.old self.new }
-        ensures still { self.old.in_doubt ≡ false → OnlyReadsFlash self.old.flash self.new.flash F.tells }
-        ensures few { F.tells → self.new.flash.steps ≤ self.old.flash.steps + 1 }
-        ensures alike { DividesAlike self.old self.new }
-        ensures cause { HasFaultsOf self.old.flash.faults self.new.flash.faults result }
+
+        // It looks at each slot that the record will be written into.
+        ensures still { self.old.in_doubt ≡ false
+            → ReadsExactly F.tells (λ _. 2 * parts_of (room_of self.old.layout) (length bytes.now)) self.old self.new result }
+        ensures leaves { OnlyStarts F.tells self.old self.new result }
     {
         self.settle()?;
         self.begin_write(id, bytes)
@@ -116,21 +128,14 @@ impl<F: Flash> Store<F> {
         requires idle { self.old.pending ≡ Idle }
         ensures answer { F.tells → StartsClear self.old self.new id result }
         ensures pending { OnOk result (self.new.pending ≡ Clearing id) }
-        ensures doubt { HasDoubtAtStart self.new result }
-        ensures kept { F.tells → KeepsMap self.old self.new }
-        ensures still { self.old.in_doubt ≡ false → OnlyReadsFlash self.old.flash self.new.flash F.tells }
-        ensures few { F.tells → self.new.flash.steps ≤ self.old.flash.steps + 1 }
-        ensures alike { DividesAlike self.old self.new }
-        ensures cause { HasFaultsOf self.old.flash.faults self.new.flash.faults result }
+        ensures still { self.old.in_doubt ≡ false → StartsByItself self.old self.new result }
+        ensures leaves { OnlyStarts F.tells self.old self.new result }
     {
         self.settle()?;
         let Some(place) = place_of(&self.found, id) else {
             return Err(StoreError::NotFound);
         };
-        self.work = Work::Clear {
-            id,
-            slot: place.slot,
-        };
+        self.work = Work::Clear { id, place };
         Ok(())
     }
 
@@ -139,15 +144,18 @@ impl<F: Flash> Store<F> {
         requires busy { IsBusy self.old.pending }
         ensures answer { F.tells → IsStep self.old self.new result }
         ensures stepped { HasStepped self.old self.new result }
+        ensures placed { OnOk result (F.tells → PlacedAfter self.old.layout self.old.pending self.new.flash.told.image) }
 
         // Power lost in the change leaves the records from before it or those after it.
-        ensures crash { F.tells → KeepsOrMakes self.old self.new (map_after self.old.per_slot self.old.pending (stored self.old)) }
+        ensures crash { F.tells → KeepsOrMakes self.old self.new (map_after self.old.layout self.old.pending (stored self.old)) }
 
         ensures one { OnOk result (self.new.flash.steps ≡ self.old.flash.steps + 1) }
         ensures at_most { self.new.flash.steps ≤ self.old.flash.steps + 1 }
         ensures reads { self.new.flash.reads ≡ self.old.flash.reads }
         ensures error { FailsByFlash result }
         ensures alike { DividesAlike self.old self.new }
+        ensures power { LosesOnlyByChange self.old.flash self.new.flash }
+        ensures powered { OnOk result (self.new.flash.powered ≡ true) }
         ensures cause { HasFaultsOf self.old.flash.faults self.new.flash.faults result }
     {
         let made = make_change(
@@ -171,25 +179,18 @@ impl<F: Flash> Store<F> {
         }
     }
 
-    /// Stores a record of 128 bytes up to the room of a slot under an identifier, in place of an older one.
+    /// Stores a record of 128 bytes up to the geometry's reach under an identifier, in place of an older one. It is refused
+    /// as its start is.
     pub fn write(&mut self, id: RecordId, bytes: &[u8]) -> Result<(), StoreError>
         requires idle { self.old.pending ≡ Idle }
         requires least { 128 ≤ length bytes.now }
-        requires room { length bytes.now ≤ self.old.slot_size - 64 }
+        requires reach { length bytes.now ≤ reach_of (room_of self.old.layout) }
         ensures answer { F.tells → AnswersWrite self.old self.new id bytes.now result }
 
-        // Power lost at any step on the way leaves the records from before, or those that an Ok makes.
-        ensures crash { F.tells → IsBeforeOrAfter self.old self.new (Write id bytes.now) }
+        // The free slots of least number have the record.
+        ensures placed { OnOk result (F.tells → self.old.in_doubt ≡ false → StandsIn self.old.layout self.new.flash.told.image id (slots_for self.old (length bytes.now))) }
 
-        ensures steps { F.tells → TakesExactly self.old self.new (Write id bytes.now) result }
-
-        // Whatever is answered: a store in doubt may first end a second copy, by one change.
-        ensures few { F.tells → self.new.flash.steps
-            ≤ self.old.flash.steps + 1 + (changes_of self.old.per_slot self.old.slots (Write id bytes.now) (stored self.old)) }
-        ensures doubt { HasDoubtOf self.new result }
-        ensures idle { self.new.pending ≡ Idle }
-        ensures alike { DividesAlike self.old self.new }
-        ensures cause { HasFaultsOf self.old.flash.faults self.new.flash.faults result }
+        ensures leaves { Changes F.tells self.old self.new (Write id bytes.now) result }
     {
         match self.start_write(id, bytes) {
             Ok(()) => self.finish(),
@@ -201,14 +202,7 @@ impl<F: Flash> Store<F> {
     pub fn clear(&mut self, id: RecordId) -> Result<(), StoreError>
         requires idle { self.old.pending ≡ Idle }
         ensures answer { F.tells → AnswersClear self.old self.new id result }
-        ensures crash { F.tells → IsBeforeOrAfter self.old self.new (Clear id) }
-        ensures steps { F.tells → TakesExactly self.old self.new (Clear id) result }
-        ensures few { F.tells → self.new.flash.steps
-            ≤ self.old.flash.steps + 1 + (changes_of self.old.per_slot self.old.slots (Clear id) (stored self.old)) }
-        ensures doubt { HasDoubtOf self.new result }
-        ensures idle { self.new.pending ≡ Idle }
-        ensures alike { DividesAlike self.old self.new }
-        ensures cause { HasFaultsOf self.old.flash.faults self.new.flash.faults result }
+        ensures leaves { Changes F.tells self.old self.new (Clear id) result }
     {
         match self.start_clear(id) {
             Ok(()) => self.finish(),
@@ -218,7 +212,8 @@ impl<F: Flash> Store<F> {
 
     /// Gives up what is pending. Where something was, the store is then in doubt.
     pub fn abandon(&mut self)
-        ensures { self.new ≡ abandoned self.old }
+        ensures abandoned { self.new ≡ abandoned self.old }
+        ensures copies { F.tells → self.old.in_doubt ≡ false → copies_in self.old ≡ copies_pending self.old.layout self.old.pending }
     {
         if !self.work.is_nothing() {
             self.work = Work::Nothing;
@@ -228,19 +223,19 @@ impl<F: Flash> Store<F> {
 
     /// Reads a record to the start of `out`, and answers how many bytes it has. The other bytes of `out` stay, and after
     /// an error all of them do.
+    ///
+    /// `Empty`: no record is stored. `NotFound`: none of this identifier. `Small`: `out` is shorter than the record.
     pub fn read(&mut self, id: RecordId, out: &mut [u8]) -> Result<usize, StoreError>
         requires idle { self.old.pending ≡ Idle }
         ensures answer { F.tells → AnswersRead self.old id out.old out.new result }
         ensures least { IfOk result (λ size. 128 ≤ size) }
         ensures within { IfOk result (λ size. size ≤ length out.old) }
         ensures out { OnErr result (out.new ≡ out.old) }
-        ensures kept { F.tells → KeepsMap self.old self.new }
-        ensures still { self.old.in_doubt ≡ false → OnlyReadsFlash self.old.flash self.new.flash F.tells }
-        ensures doubt { HasDoubtOf self.new result }
-        ensures few { F.tells → self.new.flash.steps ≤ self.old.flash.steps + 1 }
-        ensures idle { self.new.pending ≡ Idle }
-        ensures alike { DividesAlike self.old self.new }
-        ensures cause { HasFaultsOf self.old.flash.faults self.new.flash.faults result }
+
+        // One read for each part of the record.
+        ensures still { self.old.in_doubt ≡ false
+            → ReadsExactly F.tells (λ size. parts_of (room_of self.old.layout) size) self.old self.new result }
+        ensures leaves { OnlyLooks F.tells self.old self.new result }
     {
         self.settle()?;
         if self.found.ids.is_empty() {
@@ -251,7 +246,9 @@ impl<F: Flash> Store<F> {
         };
         let size = place.len as usize;
         if out.len() < size {
-            return Err(StoreError::Small { need: place.len });
+            return Err(StoreError::Small {
+                need: u64::from(place.len),
+            });
         }
         match read_record(
             &mut self.flash,
@@ -273,13 +270,8 @@ impl<F: Flash> Store<F> {
         requires idle { self.old.pending ≡ Idle }
         ensures answer { F.tells → IfOk result (λ n. n ≡ len (stored self.old)) }
         ensures error { FailsByFlash result }
-        ensures kept { F.tells → KeepsMap self.old self.new }
         ensures still { self.old.in_doubt ≡ false → AnswersByItself self.old self.new result }
-        ensures doubt { HasDoubtOf self.new result }
-        ensures few { F.tells → self.new.flash.steps ≤ self.old.flash.steps + 1 }
-        ensures idle { self.new.pending ≡ Idle }
-        ensures alike { DividesAlike self.old self.new }
-        ensures cause { HasFaultsOf self.old.flash.faults self.new.flash.faults result }
+        ensures leaves { OnlyLooks F.tells self.old self.new result }
     {
         self.settle()?;
         Ok(self.found.ids.len() as u32)
@@ -290,13 +282,8 @@ impl<F: Flash> Store<F> {
         requires idle { self.old.pending ≡ Idle }
         ensures answer { F.tells → IfOk result (IsNextAbove 0 (stored self.old)) }
         ensures error { FailsByFlash result }
-        ensures kept { F.tells → KeepsMap self.old self.new }
         ensures still { self.old.in_doubt ≡ false → AnswersByItself self.old self.new result }
-        ensures doubt { HasDoubtOf self.new result }
-        ensures few { F.tells → self.new.flash.steps ≤ self.old.flash.steps + 1 }
-        ensures idle { self.new.pending ≡ Idle }
-        ensures alike { DividesAlike self.old self.new }
-        ensures cause { HasFaultsOf self.old.flash.faults self.new.flash.faults result }
+        ensures leaves { OnlyLooks F.tells self.old self.new result }
     {
         self.next(0)
     }
@@ -306,13 +293,8 @@ impl<F: Flash> Store<F> {
         requires idle { self.old.pending ≡ Idle }
         ensures answer { F.tells → IfOk result (IsNextAbove cursor (stored self.old)) }
         ensures error { FailsByFlash result }
-        ensures kept { F.tells → KeepsMap self.old self.new }
         ensures still { self.old.in_doubt ≡ false → AnswersByItself self.old self.new result }
-        ensures doubt { HasDoubtOf self.new result }
-        ensures few { F.tells → self.new.flash.steps ≤ self.old.flash.steps + 1 }
-        ensures idle { self.new.pending ≡ Idle }
-        ensures alike { DividesAlike self.old self.new }
-        ensures cause { HasFaultsOf self.old.flash.faults self.new.flash.faults result }
+        ensures leaves { OnlyLooks F.tells self.old self.new result }
     {
         self.settle()?;
         Ok(next_id(&self.found, cursor))
@@ -322,13 +304,8 @@ impl<F: Flash> Store<F> {
     pub fn length(&mut self, id: RecordId) -> Result<u32, StoreError>
         requires idle { self.old.pending ≡ Idle }
         ensures answer { F.tells → AnswersLength self.old id result }
-        ensures kept { F.tells → KeepsMap self.old self.new }
         ensures still { self.old.in_doubt ≡ false → AnswersByItself self.old self.new result }
-        ensures doubt { HasDoubtOf self.new result }
-        ensures few { F.tells → self.new.flash.steps ≤ self.old.flash.steps + 1 }
-        ensures idle { self.new.pending ≡ Idle }
-        ensures alike { DividesAlike self.old self.new }
-        ensures cause { HasFaultsOf self.old.flash.faults self.new.flash.faults result }
+        ensures leaves { OnlyLooks F.tells self.old self.new result }
     {
         self.settle()?;
         let Some(place) = place_of(&self.found, id) else {
@@ -340,13 +317,12 @@ impl<F: Flash> Store<F> {
     /// Gives up what is pending and looks at the slots again, as an opening does.
     pub fn remount(&mut self) -> Result<(), StoreError>
         ensures error { FailsByFlash result }
-        ensures kept { F.tells → KeepsMap self.old self.new }
-        ensures single { OnOk result (F.tells → IsSingle self.new) }
-        ensures doubt { HasDoubtOf self.new result }
-        ensures few { F.tells → self.new.flash.steps ≤ self.old.flash.steps + 1 }
-        ensures idle { self.new.pending ≡ Idle }
-        ensures alike { DividesAlike self.old self.new }
-        ensures cause { HasFaultsOf self.old.flash.faults self.new.flash.faults result }
+        ensures settled { OnOk result (F.tells → IsSettled self.new) }
+        ensures reads { OnOk result (self.new.flash.reads ≡ raised (2 * self.old.layout.slots) self.old.flash.reads) }
+        ensures powered { OnOk result (self.new.flash.powered ≡ true) }
+
+        // It leaves what a call that looks leaves of a store in doubt.
+        ensures leaves { OnlyLooks F.tells (doubted self.old) self.new result }
     {
         self.work = Work::Nothing;
         self.in_doubt = true;
@@ -357,13 +333,14 @@ impl<F: Flash> Store<F> {
     /// Ends a loss of power, and remounts.
     pub fn power(&mut self) -> Result<(), StoreError>
         ensures error { FailsByFlash result }
-        ensures kept { F.tells → KeepsMap self.old self.new }
-        ensures single { OnOk result (F.tells → IsSingle self.new) }
-        ensures doubt { HasDoubtOf self.new result }
-        ensures few { F.tells → self.new.flash.steps ≤ self.old.flash.steps + 1 }
-        ensures idle { self.new.pending ≡ Idle }
-        ensures alike { DividesAlike self.old self.new }
-        ensures cause { HasFaultsOf self.old.flash.faults self.new.flash.faults result }
+        ensures settled { OnOk result (F.tells → IsSettled self.new) }
+        ensures reads { OnOk result (self.new.flash.reads ≡ raised (2 * self.old.layout.slots) self.old.flash.reads) }
+
+        // Power is back, unless a change on the way lost it again.
+        ensures powered { OnOk result (self.new.flash.powered ≡ true) }
+        ensures back { (self.new.flash.powered ≡ true) ⊎ (self.old.flash.steps < self.new.flash.steps) }
+
+        ensures leaves { OnlyLooks F.tells (restarted self.old) self.new result }
     {
         self.flash.restart();
         self.remount()?;
@@ -375,6 +352,13 @@ impl<F: Flash> Store<F> {
         ensures { F.state result.now ≡ self.now.flash }
     {
         &self.flash
+    }
+
+    /// How the store divides its flash: the geometry that it was opened with.
+    pub fn geometry(&self) -> &Geometry
+        ensures { layout_of result.now ≡ self.now.layout }
+    {
+        &self.geometry
     }
 
     /// The flash, for good.
@@ -392,18 +376,14 @@ impl<F: Flash> Store<F> {
         flash
     }
 
-    // Looks at the slots again where the store is in doubt, and ends a second copy that stands.
+    // Looks at the slots again where the store is in doubt, and kills the upright ones that are no record's first.
     fn settle(&mut self) -> Result<(), StoreError>
         requires idle { self.old.pending ≡ Idle }
         ensures error { FailsByFlash result }
-        ensures kept { F.tells → KeepsMap self.old self.new }
         ensures still { self.old.in_doubt ≡ false → AnswersByItself self.old self.new result }
-        ensures single { OnOk result (F.tells → IsSingle self.new) }
-        ensures doubt { HasDoubtOf self.new result }
-        ensures few { F.tells → self.new.flash.steps ≤ self.old.flash.steps + 1 }
-        ensures idle { self.new.pending ≡ Idle }
-        ensures alike { DividesAlike self.old self.new }
-        ensures cause { HasFaultsOf self.old.flash.faults self.new.flash.faults result }
+        ensures settled { OnOk result (F.tells → IsSettled self.new) }
+        ensures looked { self.old.in_doubt ≡ true → HasLooked self.old self.new result }
+        ensures leaves { OnlyLooks F.tells self.old self.new result }
     {
         if !self.in_doubt {
             return Ok(());
@@ -421,45 +401,50 @@ impl<F: Flash> Store<F> {
     fn begin_write(&mut self, id: RecordId, bytes: &[u8]) -> Result<(), StoreError>
         requires ready { IsReady self.old }
         requires least { 128 ≤ length bytes.now }
-        requires room { length bytes.now ≤ self.old.slot_size - 64 }
+        requires reach { length bytes.now ≤ reach_of (room_of self.old.layout) }
         ensures answer { F.tells → StartsWrite self.old self.new id bytes.now result }
         ensures pending { OnOk result (IsWriteOf id bytes.now self.new.pending) }
-        ensures doubt { HasDoubtAtStart self.new result }
-        ensures still { OnlyReadsFlash self.old.flash self.new.flash F.tells }
-        ensures alike { DividesAlike self.old self.new }
-        ensures cause { HasFaultsOf self.old.flash.faults self.new.flash.faults result }
+        ensures still { ReadsExactly F.tells (λ _. 2 * parts_of (room_of self.old.layout) (length bytes.now)) self.old self.new result }
+        ensures leaves { OnlyStarts F.tells self.old self.new result }
     {
-        let draft = match draft_for(&self.found, &self.geometry, id, bytes.len() as u32) {
-            Ok(draft) => draft,
-            Err(error) => return Err(error),
-        };
-        match look(&mut self.flash, &self.geometry, draft.slot) {
-            Ok((_, tail)) => {
+        let planned = plan_write(
+            &mut self.flash,
+            &self.geometry,
+            &self.found,
+            id,
+            bytes.len() as u32,
+        );
+        match planned {
+            Ok((draft, replaced)) => {
                 put_front(&mut self.buffer, bytes);
+                let stage = first_stage(&draft);
                 self.work = Work::Write {
                     draft,
-                    stage: first_stage(tail),
+                    stage,
+                    replaced,
                 };
                 Ok(())
             }
-            Err(FlashFailed) => {
-                self.in_doubt = true;
-                Err(StoreError::Flash)
+            Err(error) => {
+                self.in_doubt = error.is_flash();
+                Err(error)
             }
         }
     }
 
     // Makes all changes of what is pending.
     fn finish(&mut self) -> Result<(), StoreError>
-        requires unfinished { IsUnfinished self.old.per_slot self.old.pending }
+        requires unfinished { IsUnfinished self.old.layout self.old.pending }
         ensures error { FailsByFlash result }
-        ensures made { OnOk result (F.tells → stored self.new ≡ map_at_end self.old.per_slot self.old.pending (stored self.old)) }
-        ensures crash { F.tells → KeepsOrMakes self.old self.new (map_at_end self.old.per_slot self.old.pending (stored self.old)) }
-        ensures steps { OnOk result (self.new.flash.steps ≡ self.old.flash.steps + changes_left self.old.per_slot self.old.pending) }
-        ensures at_most { self.new.flash.steps ≤ self.old.flash.steps + changes_left self.old.per_slot self.old.pending }
+        ensures made { OnOk result (F.tells → stored self.new ≡ map_at_end self.old.layout self.old.pending (stored self.old)) }
+        ensures placed { OnOk result (F.tells → PlacedAtEnd self.old.layout self.old.pending self.new.flash.told.image) }
+        ensures crash { F.tells → KeepsOrMakes self.old self.new (map_at_end self.old.layout self.old.pending (stored self.old)) }
+        ensures steps { OnOk result (self.new.flash.steps ≡ self.old.flash.steps + changes_left self.old.layout self.old.pending) }
+        ensures at_most { self.new.flash.steps ≤ self.old.flash.steps + changes_left self.old.layout self.old.pending }
         ensures doubt { HasDoubtOf self.new result }
         ensures idle { self.new.pending ≡ Idle }
         ensures alike { DividesAlike self.old self.new }
+        ensures powered { OnOk result (self.new.flash.powered ≡ true) }
         ensures cause { HasFaultsOf self.old.flash.faults self.new.flash.faults result }
     {
         while !self.step()? {}

@@ -17,7 +17,7 @@ returns c =
       kill = 0xFF;
       format = 2;
       generation = c.args.draft.now.generation;
-      id = c.args.draft.now.id;
+      id = c.get.ensures.value i;
       len = sym c.requires.len i;
       next = named_is i;
     }

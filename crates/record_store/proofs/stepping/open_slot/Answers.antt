@@ -1,24 +1,36 @@
-use Rattle.std.proofs.Common.{◌≡◌, length, take, sym, subst, refl, arith}
-use Rattle.std.proofs.lemmas.List.{length-take}
+use Rattle.std.proofs.Common.{◌*◌, ◌∙◌, ◌∷◌, take, get_or, ap, sym, subst}
 use Rattle.record_model.specs.Records.{entry_at}
-use Rattle.record_store.specs.Work.{entry_in}
-use Rattle.record_store.specs.Kept.{HasMade}
-use Rattle.record_store.specs.declared.work.Stage.TheVariants.{Gate}
+use Rattle.record_model.proofs.PlanLemmas.{record_for}
+use Rattle.record_draft.specs.Drafts.{plan_of}
+use Rattle.record_recovery.specs.declared.found.SlotOf.{SlotOf}
+use Rattle.record_recovery.specs.Listed.{IsWithin}
+use Rattle.record_store.specs.Index.{HasOpened, IsEntryOf}
+use Rattle.record_store.specs.Kept.{HasMade, further_in}
 use Rattle.record_store.specs.declared.work.Work.{Work}
 use Rattle.record_store.specs.declared.work.Work.TheVariants.{Write}
-use Rattle.record_store.proofs.WorkLemmas.{large_slot, gate_opened, published_may, published_made}
-use Rattle.record_store.proofs.FewLemmas.{published_spare}
+use Rattle.record_draft.specs.declared.draft.Stage.TheVariants.{Gate}
+use Rattle.record_store.proofs.WorkLemmas.{gate_may, gate_made, gate_nearly_only, has_opened, opened_entry_of, opened_within, MayChange-same}
 use Rattle.record_store.proofs.stepping.open_slot.Goals as goal
 
 pub returns-in_err-publish-clause-crash : goal.returns-in_err-publish-clause-crash
 returns-in_err-publish-clause-crash g c tells =
-    published_may c.args.geometry.now c.args.found.now c.args.buffer.now c.args.draft.now (g.F.Flash.state c.args.flash.now).told (g.F.Flash.state c.publish.new.flash).told
-    c.requires.draft.slot (c.requires.knows tells).0 (c.publish.ensures.crash tells)
+    gate_may c.args.geometry.now c.args.found.now c.args.buffer.now c.args.draft.now c.args.replaced (g.F.Flash.state c.args.flash.now).told (g.F.Flash.state c.publish.new.flash).told
+    c.requires.form.planned (c.requires.knows tells) (c.publish.ensures.crash tells)
 
 pub returns-clause-crash : goal.returns-clause-crash
 returns-clause-crash g c tells =
-    published_may c.args.geometry.now c.args.found.now c.args.buffer.now c.args.draft.now (g.F.Flash.state c.args.flash.now).told (g.F.Flash.state c.publish.new.flash).told
-    c.requires.draft.slot (c.requires.knows tells).0 (c.publish.ensures.crash tells)
+    gate_may c.args.geometry.now c.args.found.now c.args.buffer.now c.args.draft.now c.args.replaced (g.F.Flash.state c.args.flash.now).told (g.F.Flash.state c.publish.new.flash).told
+    c.requires.form.planned (c.requires.knows tells) (c.publish.ensures.crash tells)
+
+pub returns-in_err-publish-clause-spare : goal.returns-in_err-publish-clause-spare
+returns-in_err-publish-clause-spare g c tells =
+    gate_nearly_only c.args.geometry.now c.args.found.now c.args.draft.now (take c.args.draft.now.len c.args.buffer.now) c.args.replaced (g.F.Flash.state c.args.flash.now).told (g.F.Flash.state c.publish.new.flash).told
+    c.requires.form.planned (c.requires.knows tells) (c.publish.ensures.change.told tells)
+
+pub returns-clause-spare : goal.returns-clause-spare
+returns-clause-spare g c tells =
+    gate_nearly_only c.args.geometry.now c.args.found.now c.args.draft.now (take c.args.draft.now.len c.args.buffer.now) c.args.replaced (g.F.Flash.state c.args.flash.now).told (g.F.Flash.state c.publish.new.flash).told
+    c.requires.form.planned (c.requires.knows tells) (c.publish.ensures.change.told tells)
 
 pub returns-clause-made : goal.returns-clause-made
 returns-clause-made g c =
@@ -28,26 +40,18 @@ returns-clause-made g c =
     let body = take draft.len buffer in
     let old = (g.F.Flash.state c.args.flash.now).told in
     let new = (g.F.Flash.state c.publish.new.flash).told in
-    let most = c.requires.draft.most in
-    let room = c.requires.buffer in
-    let front = length-take draft.len buffer in
-    let long : length body ≡ draft.len = omega arith in
-    subst (λ (next : Work). HasMade g.F.Flash.tells geometry buffer old.image new.image c.record_opened.new.found (Write draft Gate) next) (sym c.after_gate.ensures)
-    (published_made g.F.Flash.tells geometry c.args.found.now c.record_opened.new.found buffer draft old new c.requires.draft
-    (λ tells. (c.requires.knows tells).0) c.in_ok-publish.ensures.opened
+    let is = c.opened_place-place.ensures.place in
+    subst (λ (next : Work). HasMade g.F.Flash.tells geometry buffer old.image new.image c.record_opened.new.found (Write draft Gate c.args.replaced) next) (sym c.after_gate.ensures)
+    (gate_made g.F.Flash.tells geometry c.args.found.now c.record_opened.new.found buffer draft c.args.replaced old new c.requires.form c.requires.knows c.in_ok-publish.ensures.opened
+    (λ tells. MayChange-same (get_or draft.slots 0 0 * geometry.slot_size) 1 old new (c.publish.ensures.change.told tells))
     (λ tells.
-    let known = (c.requires.knows tells).0 in
-    c.record_opened.ensures.list (entry_at geometry.slot_size old.image) (entry_at geometry.slot_size new.image) (entry_in draft body)
-    (gate_opened geometry.slot_size geometry.slots draft body old.image new.image (large_slot geometry) known.slots.single known.draft_for (c.in_ok-publish.ensures.opened tells))
-    (record { of_id = refl; generation = refl; len = long })
-    known.slots.list))
+    c.record_opened.ensures.list (entry_at geometry.slot_size geometry.slots old.image) (entry_at geometry.slot_size geometry.slots new.image) (record_for (plan_of draft body))
+    (subst (λ (p : SlotOf). HasOpened (entry_at geometry.slot_size geometry.slots old.image) (entry_at geometry.slot_size geometry.slots new.image) geometry.slots p.slot (record_for (plan_of draft body))) (sym is)
+    (has_opened geometry c.args.found.now draft body old.image new.image Gate c.args.replaced (c.requires.knows tells) (c.in_ok-publish.ensures.opened tells)))
+    (subst (λ (p : SlotOf). IsEntryOf draft.id p (record_for (plan_of draft body))) (sym is) (opened_entry_of geometry draft body c.requires.form.planned c.opened_place-place.ensures.four)) (ap (λ (p : SlotOf). p.slot ∷ further_in draft) is ∙ c.requires.form.takes.taken) (c.requires.knows tells).slots.list))
 
-pub returns-in_err-publish-clause-spare : goal.returns-in_err-publish-clause-spare
-returns-in_err-publish-clause-spare g c tells =
-    published_spare c.args.geometry.now c.args.draft.now.slot (entry_in c.args.draft.now (take c.args.draft.now.len c.args.buffer.now)) (g.F.Flash.state c.args.flash.now).told (g.F.Flash.state c.publish.new.flash).told
-    (c.requires.knows tells).0.slots.single (c.publish.ensures.crash tells)
-
-pub returns-clause-spare : goal.returns-clause-spare
-returns-clause-spare g c tells =
-    published_spare c.args.geometry.now c.args.draft.now.slot (entry_in c.args.draft.now (take c.args.draft.now.len c.args.buffer.now)) (g.F.Flash.state c.args.flash.now).told (g.F.Flash.state c.publish.new.flash).told
-    (c.requires.knows tells).0.slots.single (c.publish.ensures.crash tells)
+pub record_opened-requires-clause-within : goal.record_opened-requires-clause-within
+record_opened-requires-clause-within g c =
+    let geometry = c.args.geometry.now in
+    subst (λ (p : SlotOf). IsWithin geometry.slots geometry.slot_size p) (sym c.opened_place-place.ensures.place)
+    (opened_within geometry c.args.draft.now (take c.args.draft.now.len c.args.buffer.now) c.requires.form.planned)

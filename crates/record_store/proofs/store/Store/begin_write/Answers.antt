@@ -1,54 +1,121 @@
-use Rattle.std.proofs.Common.{ℕ, ◌-◌, ◌≤◌, List, length, drop, sym, ap, subst, ◌∙◌, arith}
+use Rattle.std.proofs.Common.{◌≤◌, ◌*◌, ℕ, List, Option, length, drop, sym, ap, subst, ◌∙◌, Ok, arith}
 use Rattle.std.specs.Prelude.{is_some}
+use Rattle.flash_model.specs.Layouts.{layout_of}
+use Rattle.flash_words.specs.Layout.{room_of, reach_of}
+use Rattle.record_model.specs.Records.{parts_of}
 use Rattle.record_store.specs.Store.{StoreView}
-use Rattle.record_store.specs.Kept.{IsStore, pending_of}
+use Rattle.record_store.specs.Kept.{IsStore, pending_of, view_of, slots_in}
+use Rattle.record_draft.specs.declared.draft.Draft.{Draft}
+use Rattle.record_recovery.specs.declared.found.SlotOf.{SlotOf}
 use Rattle.record_store.specs.declared.work.Work.TheVariants.{Write}
-use Rattle.record_store.proofs.StoreLemmas.{new_length, ready_knows, refused_by, written_back, front_is, begun_pending, begun_store, begun_answer}
+use Rattle.record_store.specs.Answers.{StartsWrite}
+use Rattle.record_store.proofs.BeginLemmas.{Begins, RefusedStart, written_back, new_length, front_is, begun_store, begun_pending, begun_answer, begun_starts, refused_start, refused_store}
+use Rattle.record_store.proofs.PartLemmas.{reach_small}
 use Rattle.record_store.proofs.store.Store.begin_write.Goals as goal
 
-pub returns-in-Err-clause-answer : goal.returns-in-Err-clause-answer
-returns-in-Err-clause-answer g c tells =
-    let i = c.self.inside in
-    let v = c.args.self.now in
-    let known = ready_knows g.F.Flash.tells i.geometry (g.F.Flash.state i.flash) i.found i.buffer.items i.in_doubt i.work v c.self.invariant c.self.view_is c.requires.ready tells in
-    refused_by g.F.Flash.tells v i.found c.args.id c.args.bytes.now i.geometry.slots c.in-Err.error (ap (λ (u : StoreView). u.slots) c.self.view_is) known c.in-Err.ensures
+pub overflow_cast-bytes : goal.overflow_cast-bytes
+overflow_cast-bytes g c =
+    let small = reach_small (room_of c.args.self.now.layout) in
+    omega arith
 
 pub invariant_of-self : goal.invariant_of-self
 invariant_of-self g c =
     let i = c.self.inside in
     let written = c.put_front.new.buffer in
-    let room = subst (λ (n : ℕ). length c.args.bytes.now ≤ n - 64) (sym (ap (λ (u : StoreView). u.slot_size) c.self.view_is)) c.requires.room in
-    let long = new_length c.args.bytes.now written c.deref_mut.result.now i.buffer.items c.put_front.ensures c.deref_mut.ensures.value (omega (arith, c.self.invariant.room, room)) in
-    subst (λ (xs : List ℕ). IsStore g.F.Flash.tells i.geometry (g.F.Flash.state c.look.new.flash) i.found xs i.in_doubt (Write c.in-Ok.draft c.first_stage.result))
+    let most = subst (λ (u : StoreView). length c.args.bytes.now ≤ reach_of (room_of u.layout)) (sym c.self.view_is) c.requires.reach in
+    let long = new_length c.args.bytes.now written c.deref_mut.result.now i.buffer.items c.put_front.ensures c.deref_mut.ensures.value (omega (arith, c.self.invariant.room, most)) in
+    let is = c.in-Ok.ensures.planned in
+    let begins : Begins g.F.Flash.tells i.geometry (g.F.Flash.state i.flash) i.found c.args.id c.args.bytes.now written c.in-Ok.draft c.first_stage-stage.result c.in-Ok.replaced = record {
+      is = is;
+      least = c.requires.least;
+      most = most;
+      front = front_is c.args.bytes.now (drop (length c.args.bytes.now) c.deref_mut.result.now) written c.in-Ok.draft.len c.put_front.ensures is.of_len;
+      at = c.first_stage-stage.ensures.is i.geometry;
+      form = c.first_stage-stage.ensures.form i.geometry;
+    } in
+    subst (λ (xs : List ℕ). IsStore g.F.Flash.tells i.geometry (g.F.Flash.state c.plan_write-planned.new.flash) i.found xs i.in_doubt (Write c.in-Ok.draft c.first_stage-stage.result c.in-Ok.replaced))
     (sym (written_back i.buffer.len written i.buffer.items long i.buffer.ok.0))
-    (begun_store g.F.Flash.tells i.geometry (g.F.Flash.state i.flash) (g.F.Flash.state c.look.new.flash) i.found i.buffer.items written i.in_doubt i.work c.args.self.now
-    c.args.id (length c.args.bytes.now) c.in-Ok-look.tail c.in-Ok.draft c.first_stage.result c.self.invariant c.self.view_is c.requires.ready c.in-Ok.ensures c.requires.least room long
-    (record { marked = c.first_stage.ensures.marked; unmarked = c.first_stage.ensures.unmarked }) c.in-Ok-look.ensures.tail
-    c.look.ensures.stays.told c.look.ensures.stays.size c.look.ensures.stays.sector_size)
+    (begun_store g.F.Flash.tells i.geometry (g.F.Flash.state i.flash) i.found c.args.id c.args.bytes.now written c.in-Ok.draft c.first_stage-stage.result c.in-Ok.replaced (g.F.Flash.state c.plan_write-planned.new.flash)
+    i.buffer.items i.in_doubt i.work c.args.self.now begins c.self.invariant c.self.view_is c.requires.ready long
+    c.in-Ok.ensures.reads.told c.in-Ok.ensures.reads.size c.in-Ok.ensures.reads.sector_size)
 
-pub returns-in-Ok-look-clause-answer : goal.returns-in-Ok-look-clause-answer
-returns-in-Ok-look-clause-answer g c tells =
-    let i = c.self.inside in
-    let v = c.args.self.now in
-    let written = c.put_front.new.buffer in
-    let room = subst (λ (n : ℕ). length c.args.bytes.now ≤ n - 64) (sym (ap (λ (u : StoreView). u.slot_size) c.self.view_is)) c.requires.room in
-    let long = new_length c.args.bytes.now written c.deref_mut.result.now i.buffer.items c.put_front.ensures c.deref_mut.ensures.value (omega (arith, c.self.invariant.room, room)) in
-    let known = ready_knows g.F.Flash.tells i.geometry (g.F.Flash.state i.flash) i.found i.buffer.items i.in_doubt i.work v c.self.invariant c.self.view_is c.requires.ready tells in
-    begun_answer v i.found i.geometry.slots c.args.id (length c.args.bytes.now) c.args.bytes.now c.in-Ok.draft _ (ap (λ (u : StoreView). u.slots) c.self.view_is) known c.in-Ok.ensures
-    (ap (λ (xs : List ℕ). pending_of i.geometry.per_slot xs (Write c.in-Ok.draft c.first_stage.result)) (written_back i.buffer.len written i.buffer.items long i.buffer.ok.0)
-    ∙ begun_pending i.geometry.per_slot written c.args.bytes.now c.args.id c.in-Ok-look.tail c.in-Ok.draft c.first_stage.result (c.in-Ok.ensures).is_id
-    (front_is c.args.bytes.now (drop (length c.args.bytes.now) c.deref_mut.result.now) written c.in-Ok.draft.len c.put_front.ensures (c.in-Ok.ensures).is_len)
-    (record { marked = c.first_stage.ensures.marked; unmarked = c.first_stage.ensures.unmarked }))
-
-pub returns-in-Ok-look-clause-pending : goal.returns-in-Ok-look-clause-pending
-returns-in-Ok-look-clause-pending g c =
+pub returns-in-Ok-clause-answer : goal.returns-in-Ok-clause-answer
+returns-in-Ok-clause-answer g c tells =
     let i = c.self.inside in
     let written = c.put_front.new.buffer in
-    let room = subst (λ (n : ℕ). length c.args.bytes.now ≤ n - 64) (sym (ap (λ (u : StoreView). u.slot_size) c.self.view_is)) c.requires.room in
-    let long = new_length c.args.bytes.now written c.deref_mut.result.now i.buffer.items c.put_front.ensures c.deref_mut.ensures.value (omega (arith, c.self.invariant.room, room)) in (
-      is_some c.in-Ok.draft.replaced,
-      ap (λ (xs : List ℕ). pending_of i.geometry.per_slot xs (Write c.in-Ok.draft c.first_stage.result)) (written_back i.buffer.len written i.buffer.items long i.buffer.ok.0)
-          ∙ begun_pending i.geometry.per_slot written c.args.bytes.now c.args.id c.in-Ok-look.tail c.in-Ok.draft c.first_stage.result (c.in-Ok.ensures).is_id
-          (front_is c.args.bytes.now (drop (length c.args.bytes.now) c.deref_mut.result.now) written c.in-Ok.draft.len c.put_front.ensures (c.in-Ok.ensures).is_len)
-          (record { marked = c.first_stage.ensures.marked; unmarked = c.first_stage.ensures.unmarked }),
+    let most = subst (λ (u : StoreView). length c.args.bytes.now ≤ reach_of (room_of u.layout)) (sym c.self.view_is) c.requires.reach in
+    let long = new_length c.args.bytes.now written c.deref_mut.result.now i.buffer.items c.put_front.ensures c.deref_mut.ensures.value (omega (arith, c.self.invariant.room, most)) in
+    let is = c.in-Ok.ensures.planned in
+    let begins : Begins g.F.Flash.tells i.geometry (g.F.Flash.state i.flash) i.found c.args.id c.args.bytes.now written c.in-Ok.draft c.first_stage-stage.result c.in-Ok.replaced = record {
+      is = is;
+      least = c.requires.least;
+      most = most;
+      front = front_is c.args.bytes.now (drop (length c.args.bytes.now) c.deref_mut.result.now) written c.in-Ok.draft.len c.put_front.ensures is.of_len;
+      at = c.first_stage-stage.ensures.is i.geometry;
+      form = c.first_stage-stage.ensures.form i.geometry;
+    } in
+    subst (λ (xs : List ℕ). StartsWrite c.args.self.now (view_of i.geometry (g.F.Flash.state c.plan_write-planned.new.flash) i.in_doubt
+    (pending_of (layout_of i.geometry) xs (Write c.in-Ok.draft c.first_stage-stage.result c.in-Ok.replaced))) c.args.id c.args.bytes.now (Ok tt))
+    (sym (written_back i.buffer.len written i.buffer.items long i.buffer.ok.0))
+    (begun_answer g.F.Flash.tells i.geometry (g.F.Flash.state i.flash) i.found c.args.id c.args.bytes.now written c.in-Ok.draft c.first_stage-stage.result c.in-Ok.replaced (g.F.Flash.state c.plan_write-planned.new.flash)
+    i.buffer.items i.in_doubt i.work c.args.self.now tt begins c.self.invariant c.self.view_is c.requires.ready c.in-Ok.ensures.reads.told
+    (λ t. g.met.F.Flash.sized i.flash t ∙ c.self.invariant.fits.size) tells)
+
+pub returns-in-Ok-clause-pending : goal.returns-in-Ok-clause-pending
+returns-in-Ok-clause-pending g c =
+    let i = c.self.inside in
+    let written = c.put_front.new.buffer in
+    let most = subst (λ (u : StoreView). length c.args.bytes.now ≤ reach_of (room_of u.layout)) (sym c.self.view_is) c.requires.reach in
+    let long = new_length c.args.bytes.now written c.deref_mut.result.now i.buffer.items c.put_front.ensures c.deref_mut.ensures.value (omega (arith, c.self.invariant.room, most)) in
+    let is = c.in-Ok.ensures.planned in
+    let begins : Begins g.F.Flash.tells i.geometry (g.F.Flash.state i.flash) i.found c.args.id c.args.bytes.now written c.in-Ok.draft c.first_stage-stage.result c.in-Ok.replaced = record {
+      is = is;
+      least = c.requires.least;
+      most = most;
+      front = front_is c.args.bytes.now (drop (length c.args.bytes.now) c.deref_mut.result.now) written c.in-Ok.draft.len c.put_front.ensures is.of_len;
+      at = c.first_stage-stage.ensures.is i.geometry;
+      form = c.first_stage-stage.ensures.form i.geometry;
+    } in (
+      slots_in c.in-Ok.draft,
+      (
+        is_some c.in-Ok.replaced,
+        ap (λ (xs : List ℕ). pending_of (layout_of i.geometry) xs (Write c.in-Ok.draft c.first_stage-stage.result c.in-Ok.replaced)) (written_back i.buffer.len written i.buffer.items long i.buffer.ok.0)
+            ∙ begun_pending g.F.Flash.tells i.geometry (g.F.Flash.state i.flash) i.found c.args.id c.args.bytes.now written c.in-Ok.draft c.first_stage-stage.result c.in-Ok.replaced begins c.self.invariant.listing,
+      ),
     )
+
+pub returns-in-Ok-clause-leaves : goal.returns-in-Ok-clause-leaves
+returns-in-Ok-clause-leaves g c =
+    let i = c.self.inside in
+    begun_starts g.F.Flash.tells i.geometry (g.F.Flash.state i.flash) (g.F.Flash.state c.plan_write-planned.new.flash) i.in_doubt (pending_of (layout_of i.geometry) i.buffer.items i.work) _ c.args.self.now
+    _ _ tt c.self.view_is c.requires.ready c.in-Ok.ensures.reads
+
+pub returns-in-Err-clause-answer : goal.returns-in-Err-clause-answer
+returns-in-Err-clause-answer g c tells =
+    let i = c.self.inside in
+    (subst (λ b. RefusedStart g.F.Flash.tells (λ x. 2 * parts_of (room_of c.args.self.now.layout) (length c.args.bytes.now)) c.args.self.now (view_of i.geometry (g.F.Flash.state c.plan_write-planned.new.flash) b (pending_of (layout_of i.geometry) i.buffer.items i.work)) c.args.id c.args.bytes.now c.in-Err.error)
+    (sym c.is_flash-self-inside.ensures)
+    (refused_start g.F.Flash.tells (λ x. 2 * parts_of (room_of c.args.self.now.layout) (length c.args.bytes.now)) _ i.geometry (g.F.Flash.state i.flash) (g.F.Flash.state c.plan_write-planned.new.flash) i.found i.buffer.items i.in_doubt i.work c.args.self.now c.args.id c.args.bytes.now
+    c.in-Err.error (Draft × Option SlotOf) c.self.invariant c.self.view_is c.requires.ready (λ t. g.met.F.Flash.sized i.flash t ∙ c.self.invariant.fits.size) c.in-Err.ensures.refused c.in-Err.ensures.reads)).answer tells
+
+pub returns-in-Err-clause-still : goal.returns-in-Err-clause-still
+returns-in-Err-clause-still g c =
+    let i = c.self.inside in
+    (subst (λ b. RefusedStart g.F.Flash.tells (λ x. 2 * parts_of (room_of c.args.self.now.layout) (length c.args.bytes.now)) c.args.self.now (view_of i.geometry (g.F.Flash.state c.plan_write-planned.new.flash) b (pending_of (layout_of i.geometry) i.buffer.items i.work)) c.args.id c.args.bytes.now c.in-Err.error)
+    (sym c.is_flash-self-inside.ensures)
+    (refused_start g.F.Flash.tells (λ x. 2 * parts_of (room_of c.args.self.now.layout) (length c.args.bytes.now)) _ i.geometry (g.F.Flash.state i.flash) (g.F.Flash.state c.plan_write-planned.new.flash) i.found i.buffer.items i.in_doubt i.work c.args.self.now c.args.id c.args.bytes.now
+    c.in-Err.error (Draft × Option SlotOf) c.self.invariant c.self.view_is c.requires.ready (λ t. g.met.F.Flash.sized i.flash t ∙ c.self.invariant.fits.size) c.in-Err.ensures.refused c.in-Err.ensures.reads)).still
+
+pub returns-in-Err-clause-leaves : goal.returns-in-Err-clause-leaves
+returns-in-Err-clause-leaves g c =
+    let i = c.self.inside in
+    (subst (λ b. RefusedStart g.F.Flash.tells (λ x. 2 * parts_of (room_of c.args.self.now.layout) (length c.args.bytes.now)) c.args.self.now (view_of i.geometry (g.F.Flash.state c.plan_write-planned.new.flash) b (pending_of (layout_of i.geometry) i.buffer.items i.work)) c.args.id c.args.bytes.now c.in-Err.error)
+    (sym c.is_flash-self-inside.ensures)
+    (refused_start g.F.Flash.tells (λ x. 2 * parts_of (room_of c.args.self.now.layout) (length c.args.bytes.now)) _ i.geometry (g.F.Flash.state i.flash) (g.F.Flash.state c.plan_write-planned.new.flash) i.found i.buffer.items i.in_doubt i.work c.args.self.now c.args.id c.args.bytes.now
+    c.in-Err.error (Draft × Option SlotOf) c.self.invariant c.self.view_is c.requires.ready (λ t. g.met.F.Flash.sized i.flash t ∙ c.self.invariant.fits.size) c.in-Err.ensures.refused c.in-Err.ensures.reads)).leaves
+
+pub invariant_of-self-in-Err : goal.invariant_of-self-in-Err
+invariant_of-self-in-Err g c =
+    let i = c.self.inside in
+    refused_store g.F.Flash.tells _ i.geometry (g.F.Flash.state i.flash) (g.F.Flash.state c.plan_write-planned.new.flash) i.found i.buffer.items i.in_doubt c.is_flash-self-inside.result i.work c.args.self.now
+    c.in-Err.error (Draft × Option SlotOf) c.self.invariant c.self.view_is c.requires.ready c.in-Err.ensures.reads

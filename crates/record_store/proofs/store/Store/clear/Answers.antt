@@ -1,56 +1,42 @@
-use Rattle.std.proofs.Common.{◌≡◌, ℕ, ◌+◌, ◌≤◌, ap, ◌∙◌}
-use Rattle.std.proofs.lemmas.Result.{on_ok_weaker}
-use Rattle.record_model.specs.RecordMap.{Clear, after, changes_of}
-use Rattle.record_store.specs.Store.{stored}
-use Rattle.record_store.specs.Finish.{map_at_end, changes_left}
-use Rattle.record_store.proofs.StoreLemmas.{kept_map}
-use Rattle.record_store.proofs.FinishLemmas.{begun_then, kept_or_made, clear_end, clear_answers, unless_flash, few_in_all, clear_refused_steps, clear_steps}
+use Rattle.record_store.proofs.FinishLemmas.{clear_made, clear_refused}
 use Rattle.record_store.proofs.store.Store.clear.Goals as goal
 
 pub returns-in-Ok-clause-answer : goal.returns-in-Ok-clause-answer
-returns-in-Ok-clause-answer g c tells =
-    let old = c.args.self.now in
-    let mid = c.start_clear.new.self in
-    let same = kept_map old mid (c.start_clear.ensures.kept tells) c.start_clear.ensures.alike in
-    let begun = c.in-Ok.ensures.answer tells in
-    let end = clear_end old mid c.args.id begun.1 same begun.0 in
-    clear_answers old c.finish.new.self c.args.id c.finish.result c.finish.ensures.error begun.0
-    (on_ok_weaker c.finish.result (λ made. made tells ∙ end) c.finish.ensures.made)
+returns-in-Ok-clause-answer g c =
+    (clear_made g.F.Flash.tells c.args.self.now c.start_clear.new.self c.finish.new.self c.args.id _ c.finish.result
+    c.in-Ok.ensures.leaves c.in-Ok.ensures.answer c.in-Ok.ensures.still
+    (record {
+      error = c.finish.ensures.error;
+      made = c.finish.ensures.made;
+      placed = c.finish.ensures.placed;
+      crash = c.finish.ensures.crash;
+      steps = c.finish.ensures.steps;
+      at_most = c.finish.ensures.at_most;
+      doubt = c.finish.ensures.doubt;
+      idle = c.finish.ensures.idle;
+      alike = c.finish.ensures.alike;
+      powered = c.finish.ensures.powered;
+      cause = c.finish.ensures.cause;
+    })).answer
 
-pub returns-in-Ok-clause-crash : goal.returns-in-Ok-clause-crash
-returns-in-Ok-clause-crash g c tells =
-    let old = c.args.self.now in
-    let mid = c.start_clear.new.self in
-    let same = kept_map old mid (c.start_clear.ensures.kept tells) c.start_clear.ensures.alike in
-    let begun = c.in-Ok.ensures.answer tells in
-    let end = clear_end old mid c.args.id begun.1 same begun.0 in
-    begun_then old mid c.finish.new.self (after old.slots (Clear c.args.id) (stored old)) (map_at_end mid.per_slot mid.pending (stored mid))
-    (c.start_clear.ensures.kept tells) c.start_clear.ensures.alike end (c.finish.ensures.crash tells)
+pub returns-in-Ok-clause-leaves : goal.returns-in-Ok-clause-leaves
+returns-in-Ok-clause-leaves g c =
+    (clear_made g.F.Flash.tells c.args.self.now c.start_clear.new.self c.finish.new.self c.args.id _ c.finish.result
+    c.in-Ok.ensures.leaves c.in-Ok.ensures.answer c.in-Ok.ensures.still
+    (record {
+      error = c.finish.ensures.error;
+      made = c.finish.ensures.made;
+      placed = c.finish.ensures.placed;
+      crash = c.finish.ensures.crash;
+      steps = c.finish.ensures.steps;
+      at_most = c.finish.ensures.at_most;
+      doubt = c.finish.ensures.doubt;
+      idle = c.finish.ensures.idle;
+      alike = c.finish.ensures.alike;
+      powered = c.finish.ensures.powered;
+      cause = c.finish.ensures.cause;
+    })).leaves
 
-pub returns-in-Ok-clause-steps : goal.returns-in-Ok-clause-steps
-returns-in-Ok-clause-steps g c tells sure =
-    let old = c.args.self.now in
-    let mid = c.start_clear.new.self in
-    let begun = c.in-Ok.ensures.answer tells in
-    let still = (c.start_clear.ensures.still sure).steps in
-    let left = clear_steps old mid c.args.id begun.1 begun.0 in
-    unless_flash c.finish.result (c.finish.new.self.flash.steps ≡ old.flash.steps + changes_of old.per_slot old.slots (Clear c.args.id) (stored old)) c.finish.ensures.error
-    (on_ok_weaker c.finish.result (λ took. took ∙ ap (λ (n : ℕ). n + changes_left mid.per_slot mid.pending) still ∙ ap (λ (n : ℕ). old.flash.steps + n) left) c.finish.ensures.steps)
-
-pub returns-in-Err-clause-crash : goal.returns-in-Err-clause-crash
-returns-in-Err-clause-crash g c tells =
-    let old = c.args.self.now in
-    kept_or_made old c.start_clear.new.self (after old.slots (Clear c.args.id) (stored old)) (c.start_clear.ensures.kept tells)
-
-pub returns-in-Err-clause-steps : goal.returns-in-Err-clause-steps
-returns-in-Err-clause-steps g c tells sure =
-    clear_refused_steps c.args.self.now c.start_clear.new.self c.args.id c.in-Err.error (c.in-Err.ensures.answer tells) (c.start_clear.ensures.still sure).steps
-
-pub returns-in-Ok-clause-few : goal.returns-in-Ok-clause-few
-returns-in-Ok-clause-few g c tells =
-    let old = c.args.self.now in
-    let mid = c.start_clear.new.self in
-    let begun = c.in-Ok.ensures.answer tells in
-    let started : mid.flash.steps ≤ old.flash.steps + 1 = c.start_clear.ensures.few tells in
-    let left = clear_steps old mid c.args.id begun.1 begun.0 in
-    few_in_all mid.flash.steps c.finish.new.self.flash.steps old.flash.steps (changes_left mid.per_slot mid.pending) (changes_of old.per_slot old.slots (Clear c.args.id) (stored old)) started c.finish.ensures.at_most left
+pub returns-in-Err-clause-leaves : goal.returns-in-Err-clause-leaves
+returns-in-Err-clause-leaves g c =
+    clear_refused g.F.Flash.tells c.args.self.now c.start_clear.new.self c.args.id c.in-Err.error c.in-Err.ensures.leaves c.in-Err.ensures.answer c.in-Err.ensures.still

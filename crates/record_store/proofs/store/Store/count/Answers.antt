@@ -1,5 +1,6 @@
-use Rattle.std.proofs.Common.{◌≡◌, ℕ, length, sym, ◌∙◌, arith}
+use Rattle.std.proofs.Common.{◌≡◌, length, sym, ◌∙◌, arith}
 use Rattle.std.specs.FinMap.{len}
+use Rattle.flash_words.specs.Layout.{Layout}
 use Rattle.record_model.specs.Records.{Stored, entry_at}
 use Rattle.record_store.proofs.CountLemmas.{len_stored}
 use Rattle.record_store.proofs.StoreLemmas.{looked, of_old}
@@ -9,8 +10,7 @@ pub returns-clause-answer : goal.returns-clause-answer
 returns-clause-answer g c tells =
     let i = c.self.inside in
     let now = c.settle.new.self in
-    let is = looked g.F.Flash.tells i.geometry (g.F.Flash.state i.flash) i.found i.buffer.items i.in_doubt i.work c.args.self.now now c.self.invariant c.self.view_is
-    c.in_ok-settle.ensures.doubt c.settle.ensures.kept c.settle.ensures.alike in
+    let is = looked g.F.Flash.tells i.geometry (g.F.Flash.state i.flash) i.found i.buffer.items i.in_doubt i.work c.args.self.now now _ c.self.invariant c.self.view_is c.in_ok-settle.ensures.leaves in
     let long : c.len.result ≡ length i.found.ids.items = omega (arith, c.len.ensures) in
-    of_old g.F.Flash.tells c.args.self.now now i.found (λ (n : ℕ) (s : Stored). c.len.result ≡ len s) is tells
-    (long ∙ sym (len_stored (entry_at now.slot_size now.flash.told.image) now.slots now.slot_size i.found is.listing (is.knows tells).list))
+    of_old g.F.Flash.tells c.args.self.now now i.found (λ (layout : Layout) (s : Stored). c.len.result ≡ len s) is tells
+    (long ∙ sym (len_stored (entry_at now.layout.slot_size now.layout.slots now.flash.told.image) now.layout.slots now.layout.slot_size i.found is.listing (is.knows tells).list))

@@ -5,4 +5,4 @@ abbrev pub invariant-loop : goal.invariant-loop
 invariant-loop g l = IsOnWay g.F.Flash.tells l.initial.self l.self
 
 abbrev pub decreases-loop : goal.decreases-loop
-decreases-loop g l = changes_left l.self.per_slot l.self.pending
+decreases-loop g l = changes_left l.self.layout l.self.pending
