@@ -1,22 +1,9 @@
 // Register programs over plain memory.
 use apei_gas::{Gas, Place, Width};
 use apei_space::{Ram, Space, Window};
-use erst_entries::{Entry, Program};
+use erst_entries::{Action, Entry, Instruction, Program};
 use erst_interp::{Budget, RunStop, run};
 use std::alloc::Global;
-
-// The action that the entries have: one that needs a program.
-const ACTION: u8 = 8;
-
-const LOAD_VAR2: u8 = 0x06;
-
-const GOTO: u8 = 0x0F;
-
-const SET_SRC_ADDRESS_BASE: u8 = 0x10;
-
-const SET_DST_ADDRESS_BASE: u8 = 0x11;
-
-const MOVE_DATA: u8 = 0x12;
 
 // The place of the memory, and those of what is copied from and to.
 const MEMORY: u64 = 0x1000;
@@ -27,11 +14,16 @@ const TARGET: u64 = 0x20000;
 
 const LENGTH: u64 = 65536;
 
+// The action that the entries have: one that needs a program.
+fn action() -> u8 {
+    Action::GetRecordIdentifier.code()
+}
+
 // An entry on a 64-bit register of memory.
-fn entry(code: u8, address: u64) -> Entry {
+fn entry(instruction: Instruction, address: u64) -> Entry {
     Entry {
-        action: ACTION,
-        code,
+        action: action(),
+        code: instruction.code(),
         flags: 0,
         spare: 0,
         region: Gas {
@@ -56,10 +48,10 @@ fn memory(alloc: Global) -> Option<Ram> {
 
 /// A program that goes round for so many steps. It answers the steps that are left.
 pub fn go_round(alloc: Global, steps: u64) -> Option<u64> {
-    let entries = [entry(GOTO, MEMORY)];
+    let entries = [entry(Instruction::Goto, MEMORY)];
     let mut ram = memory(alloc)?;
     let mut budget = Budget::new(steps);
-    match run(&Program::of(&entries, ACTION), 0, &mut budget, &mut ram) {
+    match run(&Program::of(&entries, action()), 0, &mut budget, &mut ram) {
         Err(RunStop::Budget) => Some(budget.left()),
         _ => None,
     }
@@ -68,10 +60,10 @@ pub fn go_round(alloc: Global, steps: u64) -> Option<u64> {
 /// A program that copies 65,536 bytes, so many times. It answers how often it was done.
 pub fn move_bytes(alloc: Global, times: u64) -> Option<u64> {
     let entries = [
-        entry(SET_SRC_ADDRESS_BASE, MEMORY),
-        entry(SET_DST_ADDRESS_BASE, MEMORY + 8),
-        entry(LOAD_VAR2, MEMORY + 16),
-        entry(MOVE_DATA, MEMORY + 24),
+        entry(Instruction::SetSourceBase, MEMORY),
+        entry(Instruction::SetTargetBase, MEMORY + 8),
+        entry(Instruction::LoadVar2, MEMORY + 16),
+        entry(Instruction::MoveData, MEMORY + 24),
     ];
     let mut ram = memory(alloc)?;
     ram.write(Place::Memory(MEMORY), Width::B64, SOURCE).ok()?;
@@ -79,7 +71,7 @@ pub fn move_bytes(alloc: Global, times: u64) -> Option<u64> {
         .ok()?;
     ram.write(Place::Memory(MEMORY + 16), Width::B64, LENGTH)
         .ok()?;
-    let program = Program::of(&entries, ACTION);
+    let program = Program::of(&entries, action());
     let mut done = 0u64;
     for _ in 0..times {
         let mut budget = Budget::new(2000);

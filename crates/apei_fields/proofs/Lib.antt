@@ -1,2 +1,4 @@
 pub mod Parts
 pub mod Puts
+pub mod Walks
+pub mod Tests

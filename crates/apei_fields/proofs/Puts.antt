@@ -1,8 +1,8 @@
 -- Puts, one after another.
-use Rattle.std.proofs.Common.{◌≡◌, ℕ, ◌+◌, ◌-◌, ◌<◌, ◌≤◌, List, [], ◌∷◌, ◌++◌, length, take, drop, refl, sym, ap, subst, ◌∙◌, arith, append_assoc, length-append}
+use Rattle.std.proofs.Common.{◌≡◌, ℕ, ◌+◌, ◌-◌, ◌<◌, ◌≤◌, List, [], ◌∷◌, ◌++◌, length, take, drop, map, refl, sym, ap, subst, ◌∙◌, arith, append_assoc, length-append, add-zero}
 use Rattle.std.proofs.lemmas.List.{append-nil, drop-drop, take_at, drop_at, length-take, take-append-drop}
-use Rattle.base_model.specs.Bytes.{part, put_at, spelled, joined, SameOutside}
-use Rattle.base_model.proofs.BytesLemmas.{length-spelled, length-put_at, part-put_at, SameOutside-put_at}
+use Rattle.base_model.specs.Bytes.{part, put_at, spelled, joined, total, SameOutside}
+use Rattle.base_model.proofs.BytesLemmas.{length-spelled, length-put_at, length-joined, part-put_at, SameOutside-put_at}
 use Rattle.apei_fields.specs.Writing.{Wrote}
 use borrow.Rule.Slice.PartMut.{put_mid}
 
@@ -14,7 +14,7 @@ put_mid-put_at at n old bytes e =
     ∙ sym (append_assoc (take at old) bytes (drop (at + length bytes) old))
 
 -- two puts that adjoin
-put_at-put_at : (old : List ℕ) (at : ℕ) (xs ys : List ℕ) → at + length xs + length ys ≤ length old → put_at (put_at old at xs) (at + length xs) ys ≡ put_at old at (xs ++ ys)
+pub put_at-put_at : (old : List ℕ) (at : ℕ) (xs ys : List ℕ) → at + length xs + length ys ≤ length old → put_at (put_at old at xs) (at + length xs) ys ≡ put_at old at (xs ++ ys)
 unfolding put_at
 put_at-put_at old at xs ys h =
     let front = take at old ++ xs in
@@ -55,13 +55,12 @@ pub wrote_more : (old mid new : List ℕ) (at m end : ℕ) (fields : List (List 
 wrote_more old mid new at m end fields field a b =
     subst (Wrote old new at end) (sym (joined-push fields field)) (wrote_then old mid new at m end (joined fields) field a b)
 
-pub wrote_none : (old : List ℕ) (at : ℕ) → at ≤ length old → Wrote old old at at (joined [])
+put_at-nil : (bytes : List ℕ) (at : ℕ) → put_at bytes at [] ≡ bytes
 unfolding put_at
-wrote_none old at h = record {
-  fits = omega arith;
-  end_is = omega arith;
-  put = sym (ap (λ (xs : List ℕ). xs ++ drop (at + 0) old) (append-nil (take at old)) ∙ ap (λ (k : ℕ). take at old ++ drop k old) (omega arith) ∙ take-append-drop at old);
-}
+put_at-nil bytes at = ap (λ (k : ℕ). take at bytes ++ [] ++ drop k bytes) (add-zero at) ∙ ap (λ (xs : List ℕ). xs ++ drop at bytes) (append-nil (take at bytes)) ∙ take-append-drop at bytes
+
+pub wrote_none : (old : List ℕ) (at : ℕ) → at ≤ length old → Wrote old old at at (joined [])
+wrote_none old at h = record { fits = omega arith; end_is = omega arith; put = sym (put_at-nil old at) }
 
 -- a number that was put
 pub wrote_number : (old new : List ℕ) (at n x : ℕ) → at + n ≤ length old → new ≡ put_at old at (spelled n x) → Wrote old new at (at + n) (spelled n x)
@@ -106,3 +105,24 @@ wrote_there old new at end bytes w = ap (λ (xs : List ℕ). part xs at (length 
 
 pub wrote_others : (old new : List ℕ) (at end : ℕ) (bytes : List ℕ) → Wrote old new at end bytes → SameOutside at (length bytes) old new
 wrote_others old new at end bytes w = subst (SameOutside at (length bytes) old) (sym w.put) (SameOutside-put_at old at bytes w.fits)
+
+-- bytes with these fields put from a place on, one after another
+abbrev pub put_fields : List ℕ → List ℕ → ℕ → List (List ℕ) → List ℕ
+put_fields [] bytes at fields = bytes
+put_fields (size ∷ sizes) bytes at [] = bytes
+put_fields (size ∷ sizes) bytes at (field ∷ fields) = put_fields sizes (put_at bytes at field) (at + size) fields
+
+-- are their joined bytes put at once
+pub put_fields-joined : (sizes : List ℕ) (bytes : List ℕ) (at : ℕ) (fields : List (List ℕ)) → map length fields ≡ sizes → at + total sizes ≤ length bytes → put_fields sizes bytes at fields ≡ put_at bytes at (joined fields)
+put_fields-joined [] bytes at [] same h = sym (put_at-nil bytes at)
+put_fields-joined [] bytes at (field ∷ fields) same h = absurd cc
+put_fields-joined (size ∷ sizes) bytes at [] same h = absurd cc
+put_fields-joined (size ∷ sizes) bytes at (field ∷ fields) same h =
+    let size_is : length field ≡ size = cc in
+    let sizes_are : map length fields ≡ sizes = cc in
+    let rest : length (joined fields) ≡ total sizes = length-joined fields ∙ ap total sizes_are in
+    let room : at + size + total sizes ≤ length bytes = omega arith in
+    let first : length (put_at bytes at field) ≡ length bytes = length-put_at bytes at field (omega arith) in
+    put_fields-joined sizes (put_at bytes at field) (at + size) fields sizes_are (omega arith)
+    ∙ ap (λ (n : ℕ). put_at (put_at bytes at field) (at + n) (joined fields)) (sym size_is)
+    ∙ put_at-put_at bytes at field (joined fields) (omega arith)

@@ -1,8 +1,10 @@
-//! Fields of a binary format, one after another: reading one at its place, and putting one behind another.
+//! Fields of a binary format: one read at its place, one written behind another, and room for them.
 #![tactic(auto)]
 
-mod put;
 mod read;
+mod room;
+mod write;
 
-pub use put::{put_1, put_2, put_4, put_8, put_array, put_bytes, put_guid};
 pub use read::{array_at, byte_at, bytes_at, guid_at};
+pub use room::{NoRoom, room_for};
+pub use write::{write_array, write_bytes, write_guid, write_u8, write_u16, write_u32, write_u64};

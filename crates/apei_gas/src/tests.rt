@@ -64,6 +64,7 @@ fn first_refusal_or_the_narrowest_access(rt: HostRuntime) -> Result<(), Fail> {
         (checked(1, 8, 8, 1), port(Width::B16, 8)),
         (checked(1, 8, 8, 3), port(Width::B32, 8)),
         (checked(1, 59, 5, 0), port(Width::B64, 5)),
+        (checked(1, 64, 0, 3), port(Width::B64, 0)),
     ];
     for (answer, wanted) in cases {
         assert_eq!(rt; answer, wanted);

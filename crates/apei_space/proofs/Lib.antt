@@ -1,3 +1,5 @@
-mod Spots
+pub mod AccessLemmas
 mod BytePlaces
-mod MappedLemmas
+pub mod Spots
+pub mod MappedLemmas
+pub mod Placed

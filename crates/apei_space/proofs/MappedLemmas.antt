@@ -1,14 +1,12 @@
 -- An access is refused at its first byte that no window holds.
-use Rattle.std.proofs.Common.{◌≡◌, ℕ, ◌+◌, ◌-◌, ◌<◌, ◌≤◌, ◌⊎◌, Bool, true, false, cond, List, [], ◌∷◌, Option, Some, None, Result, Ok, Err, refl, sym, ap, subst, ◌∙◌, arith, inl, inr}
-use Rattle.std.specs.Prelude.{nat_le, ◌==◌}
+use Rattle.std.proofs.Common.{◌≡◌, ℕ, ◌+◌, ◌-◌, ◌<◌, ◌≤◌, ◌⊎◌, Bool, cond, List, [], ◌∷◌, Option, Some, None, Result, Ok, Err, refl, sym, ap, subst, arith, inl, inr}
 use Rattle.std.proofs.lemmas.Bool.{cases_lt, cases_eq, le-leb, lt-leb, eq-eqb, ne_eqb}
-use Rattle.std.proofs.lemmas.Option.{none-some, same_Some}
 use Rattle.apei_gas.specs.declared.registers.Place.{Place}
 use Rattle.apei_gas.specs.declared.registers.Place.TheVariants.{Memory, Io}
 use Rattle.apei_space.specs.declared.windows.Window.{Window}
 use Rattle.apei_space.specs.Windows.{address_of, room_in, room_from, room, spot, IsApart, IsApartFrom, AreApart}
 use Rattle.apei_space.specs.RamState.{within, found}
-use Rattle.apei_space.specs.Mapped.{Holds, IsMapped, further, IsFirstUnmapped, FindsBytes}
+use Rattle.apei_space.specs.Mapped.{Holds, IsMapped, further, FindsBytes}
 
 -- n bytes from a base on end at a place
 abbrev EndsAt : Place → ℕ → Place → Type 0
@@ -22,12 +20,12 @@ abbrev OneEndsAt : List Window → Place → Type 0
 OneEndsAt [] at = ⊥
 OneEndsAt (window ∷ windows) at = EndsAt window.place window.len at ⊎ OneEndsAt windows at
 
-room_in-none : (base n at : ℕ) → room_in base n at ≡ 0 → base ≤ at → at < base + n → ⊥
+pub room_in-none : (base n at : ℕ) → room_in base n at ≡ 0 → base ≤ at → at < base + n → ⊥
 room_in-none base n at none low high =
     let all : room_in base n at ≡ n - (at - base) = ap (λ (b : Bool). cond b (n - (at - base)) 0) (le-leb base at low) in
     omega arith
 
-room_in-some : (base n at r : ℕ) → room_in base n at ≡ r → 0 < r → (base ≤ at) × (at + r ≡ base + n)
+pub room_in-some : (base n at r : ℕ) → room_in base n at ≡ r → 0 < r → (base ≤ at) × (at + r ≡ base + n)
 room_in-some base n at r is some = elim (cases_lt at base) [
   | inl low ↦
       let none : room_in base n at ≡ 0 = ap (λ (b : Bool). cond b (n - (at - base)) 0) (lt-leb base at low) in
@@ -38,14 +36,14 @@ room_in-some base n at r is some = elim (cases_lt at base) [
 ]
 
 -- a window with no room from a place on does not hold it
-unheld : (place : Place) (n : ℕ) (at : Place) → room_from place n at ≡ 0 → Holds place n at → ⊥
+pub unheld : (place : Place) (n : ℕ) (at : Place) → room_from place n at ≡ 0 → Holds place n at → ⊥
 unheld (Memory base) n (Memory at) none held = room_in-none base n at none held.0 held.1
 unheld (Io base) n (Io at) none held = room_in-none base n at none held.0 held.1
 unheld (Memory base) n (Io at) none held = held
 unheld (Io base) n (Memory at) none held = held
 
 -- a window with room from a place on holds so many bytes and ends there
-held : (place : Place) (n : ℕ) (at : Place) (r k : ℕ) → room_from place n at ≡ r → 0 < r → k < r → Holds place n (further at k)
+pub held : (place : Place) (n : ℕ) (at : Place) (r k : ℕ) → room_from place n at ≡ r → 0 < r → k < r → Holds place n (further at k)
 held (Memory base) n (Memory at) r k is some h = let has = room_in-some base n at r is some in let low : base ≤ at = has.0 in let all : at + r ≡ base + n = has.1 in (omega arith, omega arith)
 held (Io base) n (Io at) r k is some h = let has = room_in-some base n at r is some in let low : base ≤ at = has.0 in let all : at + r ≡ base + n = has.1 in (omega arith, omega arith)
 held (Memory base) n (Io at) r k is some h = absurd (let e : 0 ≡ r = is in omega arith)

@@ -1,4 +1,5 @@
 pub mod Calls
+pub mod Accesses
 pub mod Windows
 pub mod RamState
 pub mod Reasons

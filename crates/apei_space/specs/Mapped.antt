@@ -33,3 +33,14 @@ pub record IsFirstUnmapped (windows : List Window) (at : Place) (n k address : �
 abbrev pub FindsBytes : List Window → Place → ℕ → Result ℕ ℕ → Type 0
 FindsBytes windows at n (Ok start) = (k : ℕ) → k < n → IsMapped windows (further at k)
 FindsBytes windows at n (Err address) = (k : ℕ) × IsFirstUnmapped windows at n k address
+
+-- windows hold each of n bytes
+abbrev pub AreMapped : List Window → Place → ℕ → Type 0
+AreMapped windows at n = (k : ℕ) → k < n → IsMapped windows (further at k)
+
+-- n bytes at one place and m at another have none in common
+abbrev pub AreDisjoint : Place → ℕ → Place → ℕ → Type 0
+AreDisjoint (Memory at) n (Memory other) m = (at + n ≤ other) ⊎ (other + m ≤ at)
+AreDisjoint (Io at) n (Io other) m = (at + n ≤ other) ⊎ (other + m ≤ at)
+AreDisjoint (Memory at) n (Io other) m = Unit {0}
+AreDisjoint (Io at) n (Memory other) m = Unit {0}

@@ -8,12 +8,17 @@ use Rattle.apei_space.specs.declared.faults.SpaceFault.{SpaceFault}
 use Rattle.apei_space.specs.declared.faults.SpaceFault.TheVariants.{Unmapped}
 use Rattle.apei_space.specs.declared.windows.Window.{Window}
 use Rattle.apei_space.specs.Calls.{Call, Read, Write, Wait, Copy, ReadBytes, WriteBytes}
-use Rattle.apei_space.specs.Windows.{address_of, spot}
+use Rattle.apei_space.specs.Windows.{address_of, spot, total, AreApart}
 
 pub record RamState : Type 0 where
   pub windows : List Window
   pub bytes : List ℕ
   pub waited : ℕ
+
+-- its windows are apart, and hold all its bytes
+pub record FillsWindows (ram : RamState) : Type 0 where
+  pub apart : AreApart ram.windows
+  pub as_long : total ram.windows ≡ length ram.bytes
 
 -- where the first of n bytes from a place on stands, if one window holds them all; or the first address that none holds
 abbrev pub within : Option (ℕ × ℕ) → ℕ → ℕ → Result ℕ ℕ

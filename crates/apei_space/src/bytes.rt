@@ -1,13 +1,13 @@
 // Numbers and parts in a slice of bytes.
-ghost use Rattle.std.specs.Prelude.{◌≡◌, ◌+◌, ◌*◌, ◌/◌, ◌<◌, ◌≤◌, length};
+ghost use Rattle.std.specs.Prelude.{◌≡◌, ◌+◌, ◌/◌, ◌<◌, ◌≤◌, ◌^◌, length};
 ghost use Rattle.base_model.specs.Bytes.{part, number_at, spelled, put_at};
 ghost use Rattle.apei_gas.specs.Access.{bits};
 
-use apei_bytes::{put_u16, put_u32, put_u64};
+use apei_bytes::{get_u16, get_u32, get_u64, put_u16, put_u32, put_u64};
 use apei_gas::Width;
 
 /// The byte at `at`.
-pub fn get_u8(bytes: &[u8], at: usize) -> u8
+fn get_u8(bytes: &[u8], at: usize) -> u8
     requires { at < length bytes.now }
     ensures { result ≡ number_at bytes.now at 1 }
 {
@@ -22,7 +22,21 @@ fn put_u8(bytes: &mut [u8], at: usize, value: u8)
     bytes[at] = value;
 }
 
-/// Writes the low bits of a number, as many as the width has.
+/// The number at `at`, as wide as the width says.
+pub fn get_number(bytes: &[u8], at: usize, width: Width) -> u64
+    requires { at + bits width / 8 ≤ length bytes.now }
+    ensures value { result ≡ number_at bytes.now at (bits width / 8) }
+    ensures small { result < 2 ^ bits width }
+{
+    match width {
+        Width::B8 => u64::from(get_u8(bytes, at)),
+        Width::B16 => u64::from(get_u16(bytes, at)),
+        Width::B32 => u64::from(get_u32(bytes, at)),
+        Width::B64 => get_u64(bytes, at),
+    }
+}
+
+/// Writes the low bits of a number at `at`, as many as the width has.
 pub fn put_number(bytes: &mut [u8], at: usize, width: Width, value: u64)
     requires { at + bits width / 8 ≤ length bytes.old }
     ensures { bytes.new ≡ put_at bytes.old at (spelled (bits width / 8) value) }

@@ -4,13 +4,13 @@ ghost use Rattle.base_model.specs.Bytes.{number_at};
 ghost use Rattle.apei_gas.specs.Access.{bits};
 ghost use Rattle.apei_space.specs.Calls.{Call, Read, Write, Wait, Copy, ReadBytes, WriteBytes, HasReason};
 ghost use Rattle.apei_space.specs.Windows.{total, AreApart};
-ghost use Rattle.apei_space.specs.RamState.{RamState, Allows, located, number_in, answer_of, filled};
+ghost use Rattle.apei_space.specs.RamState.{RamState, FillsWindows, Allows, located, number_in, answer_of, filled};
 
-use crate::bytes::{copy_part, get_part, get_u8, put_number, put_part};
+use crate::bytes::{copy_part, get_number, get_part, put_number, put_part};
 use crate::faults::SpaceFault;
 use crate::spaces::Space;
 use crate::windows::{Window, address, spot};
-use apei_bytes::{Memory, get_u16, get_u32, get_u64};
+use apei_bytes::Memory;
 use apei_gas::{Place, Width};
 use std::alloc::Global;
 use std::marker::Model;
@@ -65,20 +65,17 @@ impl Ram {
     pub fn look(&self, at: Place, width: Width) -> Result<u64, SpaceFault>
         ensures value { result ≡ number_in (located self.now.windows at (bits width / 8)) self.now.bytes (bits width / 8) }
         ensures small { IfOk result (λ value. value < 2 ^ bits width) }
+        ensures windows { FillsWindows self.now }
     {
         let start = self.locate(at, width.bytes())?;
-        Ok(match width {
-            Width::B8 => u64::from(get_u8(&self.bytes, start)),
-            Width::B16 => u64::from(get_u16(&self.bytes, start)),
-            Width::B32 => u64::from(get_u32(&self.bytes, start)),
-            Width::B64 => get_u64(&self.bytes, start),
-        })
+        Ok(get_number(&self.bytes, start, width))
     }
 
     /// What `read_bytes` would answer.
     pub fn look_bytes(&self, at: u64, out: &mut [u8]) -> Result<(), SpaceFault>
         ensures answer { result ≡ answer_of (located self.now.windows (Place.Memory at) (length out.old)) }
         ensures bytes { out.new ≡ filled (located self.now.windows (Place.Memory at) (length out.old)) self.now.bytes out.old }
+        ensures windows { FillsWindows self.now }
     {
         let start = self.locate(Place::Memory(at), out.len())?;
         get_part(&self.bytes, start, out);
@@ -89,12 +86,14 @@ impl Ram {
     fn locate(&self, at: Place, n: usize) -> Result<usize, SpaceFault>
         ensures value { result ≡ located self.now.windows at n }
         ensures room { IfOk result (λ start. start + n ≤ length self.now.bytes) }
+        ensures windows { FillsWindows self.now }
     {
+        let windows = &self.windows;
         if n == 0 {
             return Ok(0);
         }
         let address = address(at);
-        match spot(&self.windows, at) {
+        match spot(windows, at) {
             None => Err(SpaceFault::Unmapped { at: address }),
             Some((start, room)) => {
                 if n <= room as usize {

@@ -43,6 +43,7 @@ pub trait Space {
     fn write_bytes(&mut self, at: u64, bytes: &[u8]) -> Result<(), SpaceFault>
         ensures { allows (state self.old) (WriteBytes at bytes.now result) (state self.new) };
 
-    /// A fault of class 1 to 3 leaves everything, and a device's comes only where the count of faults rose.
+    /// The count of faults never falls. A fault of an address, of a window's rules or of memory leaves everything as it
+    /// was, and a device's comes only where the count rose.
     ghost reasons: { (old new : State) (call : Call) → allows old call new → HasReason faults old call new };
 }

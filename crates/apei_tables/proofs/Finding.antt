@@ -1,5 +1,5 @@
 -- What is found is the one table that the bytes begin with.
-use Rattle.std.proofs.Common.{◌≡◌, ℕ, ◌+◌, ◌≤◌, ◌%◌, nat_lt, List, ◌++◌, length, take, drop, sum, nat_eq, true, false, Some, None, Result, Ok, Err, IfOk, refl, sym, ap, subst, ◌∙◌, arith, length-append, zero-add}
+use Rattle.std.proofs.Common.{◌≡◌, ℕ, ◌+◌, ◌≤◌, ◌%◌, nat_lt, List, ◌++◌, length, take, drop, sum, nat_eq, true, false, Some, None, Result, Ok, Err, IfOk, refl, sym, ap, subst, ◌∙◌, arith, length-append}
 use denote.Bor.{Bor}
 use Rattle.std.specs.List.{starts_with}
 use Rattle.std.proofs.lemmas.Slice.Eq.{starts_is}
@@ -8,15 +8,12 @@ use Rattle.std.proofs.lemmas.List.{take_at, length-take, take-append-drop}
 use Rattle.std.proofs.lemmas.Bool.{le-ltb}
 use Rattle.base_model.specs.Bytes.{part, number_at, little}
 use Rattle.base_model.proofs.BytesLemmas.{part-part, part-append_left}
+use Rattle.apei_fields.proofs.Parts.{part-take}
 use Rattle.apei_tables.specs.declared.headers.Header.{Header}
 use Rattle.apei_tables.specs.declared.headers.TableError.{TableError}
 use Rattle.apei_tables.specs.Layout.{spelling, IsHeader}
 use Rattle.apei_tables.specs.Tables.{IsSealed, IsTable, FindsTable, Finds, Refuses, refusal}
 use Rattle.apei_tables.proofs.Spelling.{same_header}
-
-pub part-take : (at m n : ℕ) (bytes : List ℕ) → at + m ≤ n → part (take n bytes) at m ≡ part bytes at m
-unfolding part
-part-take at m n bytes h = part-part bytes 0 n at m h ∙ ap (λ (k : ℕ). part bytes k m) (zero-add at)
 
 pub finds : (signature : List ℕ) (fixed : ℕ) (bytes : List ℕ) (header : Header) →
     36 ≤ fixed → 36 ≤ length bytes → part bytes 0 36 ≡ spelling header → IsHeader header → header.signature ≡ signature → header.length ≡ number_at bytes 4 4 →
@@ -28,8 +25,8 @@ finds signature fixed bytes header low have begins fits wanted field long within
     let size : length table ≡ n = rw length-take (omega arith) in
     record {
       is_table = record {
-        sealed = record { size = omega arith; length_field = ap little (part-take 4 4 n bytes (omega arith)) ∙ sym field ∙ sym size; sum = total };
-        begins = part-take 0 36 n bytes (omega arith) ∙ begins;
+        sealed = record { size = omega arith; length_field = ap little (part-take bytes n 4 4 (omega arith)) ∙ sym field ∙ sym size; sum = total };
+        begins = part-take bytes n 0 36 (omega arith) ∙ begins;
       };
       fits = fits;
       prefix = ap (λ (k : ℕ). take k bytes) (sym size);

@@ -1,3 +1,2 @@
-pub mod Parts
 pub mod Spelling
 pub mod Finding

@@ -1,11 +1,11 @@
 -- A header is its 36 bytes.
 use Rattle.std.proofs.Common.{◌≡◌, ℕ, ◌+◌, ◌++◌, ◌<◌, ◌≤◌, ◌^◌, List, [], ◌∷◌, length, map, get_or, sum, refl, sym, ap, ◌∙◌, arith, append-nil}
 use Rattle.std.proofs.lemmas.List.Sums.{sum_by-append}
-use Rattle.base_model.specs.Bytes.{part, number_at, little, spelled, put_at, joined, total, AreBytes}
+use Rattle.base_model.specs.Bytes.{part, number_at, little, spelled, joined, total, AreBytes}
 use Rattle.base_model.proofs.BytesLemmas.{spelled-number_at, little-spelled, length-spelled, length-joined}
+use Rattle.apei_fields.proofs.Parts.{parts, joined-parts, parts-joined, part-cons}
 use Rattle.apei_tables.specs.declared.headers.Header.{Header}
 use Rattle.apei_tables.specs.Layout.{fields, spelling, HasSizes, IsHeader}
-use Rattle.apei_tables.proofs.Parts.{parts, joined-parts, parts-joined, part-two, put_fields, put_fields-joined}
 
 -- where the fields stand: their sizes, in order
 abbrev pub sizes : List ℕ
@@ -32,6 +32,10 @@ found bytes = record {
   creator_id = part bytes 28 4;
   creator_revision = number_at bytes 32 4;
 }
+
+part-two : (bytes : List ℕ) (at : ℕ) → at + 2 ≤ length bytes → part bytes at 2 ≡ get_or bytes at 0 ∷ get_or bytes (at + 1) 0 ∷ []
+unfolding part
+part-two bytes at h = part-cons bytes at 1 (omega arith) ∙ ap (λ (xs : List ℕ). get_or bytes at 0 ∷ xs) (part-cons bytes (at + 1) 0 (omega arith))
 
 fields-found : (bytes : List ℕ) → AreBytes bytes → 36 ≤ length bytes → fields (found bytes) ≡ parts sizes 0 bytes
 fields-found bytes each h =
@@ -77,11 +81,6 @@ same_header a b fits_a fits_b same =
 pub length-spelling : (header : Header) → HasSizes header → length (spelling header) ≡ 36
 unfolding spelling
 length-spelling header has = length-joined (fields header) ∙ ap total (sizes-fields header has)
-
--- its fields, put one after another
-pub put-spelling : (out : List ℕ) (header : Header) → HasSizes header → 36 ≤ length out → put_fields sizes out 0 (fields header) ≡ put_at out 0 (spelling header)
-unfolding spelling
-put-spelling out header has h = put_fields-joined sizes out 0 (fields header) (sizes-fields header has) h
 
 -- the length that a header says, where it stands first
 pub number_at-length : (header : Header) (rest : List ℕ) → HasSizes header → header.length < 2 ^ 32 → number_at (spelling header ++ rest) 4 4 ≡ header.length

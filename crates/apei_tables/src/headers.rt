@@ -4,8 +4,9 @@ ghost use Rattle.base_model.specs.Bytes.{part, number_at, put_at};
 ghost use Rattle.apei_tables.specs.Layout.{spelling, HasSizes, IsHeader};
 ghost use Rattle.apei_tables.specs.Tables.{IsTable, FindsTable, Finds, Refuses};
 
-use crate::bytes::{array_at, begins_with, put_array, sum_of};
-use apei_bytes::{get_u32, put_u32};
+use crate::bytes::{begins_with, sum_of};
+use apei_bytes::get_u32;
+use apei_fields::{array_at, write_array, write_u32};
 
 /// The header of a system description table (ACPI 6.4, section 5.2.6).
 #[derive(Clone, Copy, Debug, PartialEq, Eq)]
@@ -114,13 +115,13 @@ impl Header {
         ensures written { out.new ≡ put_at out.old 0 (spelling self.now) }
         ensures sizes { HasSizes self.now }
     {
-        put_array(out, 0, &self.signature);
-        put_u32(out, 4, self.length);
-        put_array(out, 8, &[self.revision, self.checksum]);
-        put_array(out, 10, &self.oem_id);
-        put_array(out, 16, &self.oem_table_id);
-        put_u32(out, 24, self.oem_revision);
-        put_array(out, 28, &self.creator_id);
-        put_u32(out, 32, self.creator_revision);
+        let length = write_array(out, 0, &self.signature);
+        let revision = write_u32(out, length, self.length);
+        let oem_id = write_array(out, revision, &[self.revision, self.checksum]);
+        let oem_table_id = write_array(out, oem_id, &self.oem_id);
+        let oem_revision = write_array(out, oem_table_id, &self.oem_table_id);
+        let creator_id = write_u32(out, oem_revision, self.oem_revision);
+        let creator_revision = write_array(out, creator_id, &self.creator_id);
+        write_u32(out, creator_revision, self.creator_revision);
     }
 }

@@ -2,12 +2,12 @@
 ghost use Rattle.std.specs.Prelude.{◌≡◌, ◌≤◌, length, codes};
 ghost use Rattle.base_model.specs.Bytes.{put_at};
 
-use apei_fields::put_array;
+use apei_fields::write_array;
 
 /// Marks a record as one that the firmware's store holds: "ER" in its persistence information (UEFI 2.8, N.2.1).
 pub fn stamp(bytes: &mut [u8])
     requires { 110 ≤ length bytes.old }
     ensures { bytes.new ≡ put_at bytes.old 108 (codes "ER") }
 {
-    put_array(bytes, 108, b"ER");
+    write_array(bytes, 108, b"ER");
 }

@@ -9,7 +9,7 @@ ghost use Rattle.cper_frame.specs.Writer.{Given, written_record, room_of, used_b
 use crate::error::NoRoom;
 use crate::heads::{RecordHead, SectionHead};
 use crate::record::{DESCRIPTOR, HEADER, SIGNATURE_END};
-use apei_fields::{put_1, put_2, put_4, put_8, put_array, put_bytes, put_guid};
+use apei_fields::{write_u8, write_u16, write_u32, write_u64, write_array, write_bytes, write_guid};
 
 /// Puts a header's fields up to the record length, which stays 0.
 fn put_front(out: &mut [u8], head: &RecordHead, sections: u16)
@@ -17,13 +17,13 @@ fn put_front(out: &mut [u8], head: &RecordHead, sections: u16)
     ensures wrote { Wrote out.old out.new 0 24 (joined (header_front head.now sections 0)) }
     ensures fits { FrontFits head.now }
 {
-    let revision = put_array(out, 0, b"CPER");
-    let end = put_2(out, revision, head.revision);
-    let count = put_4(out, end, SIGNATURE_END);
-    let severity = put_2(out, count, sections);
-    let validation = put_4(out, severity, head.severity);
-    let length = put_4(out, validation, head.validation);
-    put_4(out, length, 0);
+    let revision = write_array(out, 0, b"CPER");
+    let end = write_u16(out, revision, head.revision);
+    let count = write_u32(out, end, SIGNATURE_END);
+    let severity = write_u16(out, count, sections);
+    let validation = write_u32(out, severity, head.severity);
+    let length = write_u32(out, validation, head.validation);
+    write_u32(out, length, 0);
 }
 
 /// Puts a header's fields behind the record length.
@@ -32,15 +32,15 @@ fn put_back(out: &mut [u8], head: &RecordHead)
     ensures wrote { Wrote out.old out.new 24 128 (joined (header_back head.now)) }
     ensures fits { BackFits head.now }
 {
-    let platform = put_8(out, 24, head.timestamp);
-    let partition = put_guid(out, platform, &head.platform);
-    let creator = put_guid(out, partition, &head.partition);
-    let notification = put_guid(out, creator, &head.creator);
-    let id = put_guid(out, notification, &head.notification);
-    let flags = put_8(out, id, head.id);
-    let persistence = put_4(out, flags, head.flags);
-    let reserved = put_array(out, persistence, &head.persistence);
-    put_array(out, reserved, &head.reserved);
+    let platform = write_u64(out, 24, head.timestamp);
+    let partition = write_guid(out, platform, &head.platform);
+    let creator = write_guid(out, partition, &head.partition);
+    let notification = write_guid(out, creator, &head.creator);
+    let id = write_guid(out, notification, &head.notification);
+    let flags = write_u64(out, id, head.id);
+    let persistence = write_u32(out, flags, head.flags);
+    let reserved = write_array(out, persistence, &head.persistence);
+    write_array(out, reserved, &head.reserved);
 }
 
 /// Puts a header whose record length is 0.
@@ -59,16 +59,16 @@ fn put_descriptor(out: &mut [u8], at: usize, head: &SectionHead, offset: u32, co
     ensures wrote { Wrote out.old out.new at (at + 72) (joined (descriptor_fields head.now offset count)) }
     ensures fits { IsSectionHead head.now }
 {
-    let length = put_4(out, at, offset);
-    let revision = put_4(out, length, count);
-    let validation = put_2(out, revision, head.revision);
-    let reserved = put_1(out, validation, head.validation);
-    let flags = put_1(out, reserved, head.reserved);
-    let kind = put_4(out, flags, head.flags);
-    let fru = put_guid(out, kind, &head.kind);
-    let severity = put_guid(out, fru, &head.fru);
-    let fru_text = put_4(out, severity, head.severity);
-    put_array(out, fru_text, &head.fru_text);
+    let length = write_u32(out, at, offset);
+    let revision = write_u32(out, length, count);
+    let validation = write_u16(out, revision, head.revision);
+    let reserved = write_u8(out, validation, head.validation);
+    let flags = write_u8(out, reserved, head.reserved);
+    let kind = write_u32(out, flags, head.flags);
+    let fru = write_guid(out, kind, &head.kind);
+    let severity = write_guid(out, fru, &head.fru);
+    let fru_text = write_u32(out, severity, head.severity);
+    write_array(out, fru_text, &head.fru_text);
 }
 
 /// Writes a record into bytes: its header, then each section with its body, behind the descriptors and one after
@@ -145,7 +145,7 @@ impl<'a> RecordWriter<'a> {
         }
         let at = HEADER + DESCRIPTOR * self.done as usize;
         put_descriptor(self.out, at, head, self.end as u32, body.len() as u32);
-        put_bytes(self.out, self.end, body);
+        write_bytes(self.out, self.end, body);
         self.end = need;
         self.done += 1;
         Ok(())
@@ -161,7 +161,7 @@ impl<'a> RecordWriter<'a> {
         ensures used { result ≡ used_by self.entry }
     {
         let RecordWriter { out, end, .. } = self;
-        put_4(out, 20, end as u32);
+        write_u32(out, 20, end as u32);
         end
     }
 }

@@ -6,7 +6,8 @@ use Rattle.base_model.proofs.BytesLemmas.{spelled-number_at, little-spelled, len
 use Rattle.apei_gas.specs.declared.structure.Gas.{Gas}
 use Rattle.apei_gas.specs.Layout.{spelling as gas_spelling}
 use Rattle.apei_gas.proofs.Spelling.{same_gas}
-use Rattle.apei_tables.proofs.Parts.{parts, joined-parts, parts-joined, part-cons, put_fields, put_fields-joined}
+use Rattle.apei_fields.proofs.Parts.{parts, joined-parts, parts-joined, part-cons}
+use Rattle.apei_fields.proofs.Puts.{put_fields, put_fields-joined}
 use Rattle.erst_entries.specs.declared.entries.Entry.{Entry}
 use Rattle.erst_entries.specs.Layout.{entry_fields, entry_spelling, IsEntry}
 

@@ -1,3 +1,5 @@
 pub mod Layout
+pub mod Actions
+pub mod Instructions
 pub mod Programs
 pub mod Tables

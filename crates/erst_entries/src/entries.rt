@@ -3,8 +3,8 @@ ghost use Rattle.std.specs.Prelude.{◌≡◌, length};
 ghost use Rattle.erst_entries.specs.Layout.{entry_spelling, IsEntry};
 
 use apei_bytes::{get_u64, put_u64};
+use apei_fields::{array_at, write_array};
 use apei_gas::Gas;
-use apei_tables::{array_at, put_array};
 
 /// The bytes of an entry.
 pub const ENTRY: usize = 32;
@@ -46,12 +46,12 @@ impl Entry {
         ensures { result ≡ entry_spelling self.now }
     {
         let mut bytes = [0; ENTRY];
-        put_array(
+        write_array(
             &mut bytes,
             0,
             &[self.action, self.code, self.flags, self.spare],
         );
-        put_array(&mut bytes, 4, &self.region.encode());
+        write_array(&mut bytes, 4, &self.region.encode());
         put_u64(&mut bytes, 16, self.value);
         put_u64(&mut bytes, 24, self.mask);
         bytes

@@ -1,6 +1,6 @@
 ghost use Rattle.std.specs.Prelude.{◌<◌, length};
 
-use crate::{Entry, ErstError, ErstTable};
+use crate::{Action, Entry, ErstError, ErstTable, Instruction};
 use apei_gas::Gas;
 use apei_tables::TableError;
 use std::alloc::Global;
@@ -171,8 +171,8 @@ fn entries_pushed_and_finished_make_a_table(rt: HostRuntime) -> Result<(), Fail>
         address: 0x200008,
     };
     let entry = Entry {
-        action: 10,
-        code: 0,
+        action: Action::GetRecordCount.code(),
+        code: Instruction::ReadRegister.code(),
         flags: 0,
         spare: 0,
         region,
@@ -188,9 +188,12 @@ fn entries_pushed_and_finished_make_a_table(rt: HostRuntime) -> Result<(), Fail>
         Err(_) => return Err(Fail::from("no memory")),
     };
     assert_eq!(rt; decoded_again(alloc, &encoded)?, (80, 1));
-    let program = table.program(10);
+    let program = table.program(Action::GetRecordCount.code());
     assert_eq!(rt; program.len(), 1);
-    assert_eq!(rt; table.program(9).is_empty(), true);
+    assert_eq!(rt;
+        table.program(Action::SetRecordIdentifier.code()).is_empty(),
+        true
+    );
     Ok(())
 }
 
@@ -204,12 +207,37 @@ fn programs_keep_table_order_where_others_stand_between(rt: HostRuntime) -> Resu
         Ok(found) => found,
         Err(_) => return Err(Fail::from("refused")),
     };
-    let program = table.program(6);
+    let program = table.program(Action::CheckBusyStatus.code());
     let mut codes = Vec::new(alloc);
     for index in 0..program.len() {
         codes.push(program.entry(index).code)?;
     }
     assert_eq!(rt; codes.as_slice(), [1, 13, 14, 15].as_slice());
     assert_eq!(rt; program.action(), 6);
+    Ok(())
+}
+
+#[test]
+fn codes_are_those_of_the_standard(rt: HostRuntime) -> Result<(), Fail> {
+    let instructions = [
+        (0x00, Some(Instruction::ReadRegister)),
+        (0x07, Some(Instruction::StoreVar1)),
+        (0x0e, Some(Instruction::SkipNextIfTrue)),
+        (0x12, Some(Instruction::MoveData)),
+        (0x13, None),
+    ];
+    for (code, instruction) in instructions {
+        assert_eq!(rt; Instruction::of(code), instruction);
+    }
+    let actions = [
+        (0x3, Some(Action::EndOperation)),
+        (0xb, Some(Action::BeginDummyWriteOperation)),
+        (0xc, None),
+        (0x10, Some(Action::GetExecuteOperationTimings)),
+        (0x11, None),
+    ];
+    for (code, action) in actions {
+        assert_eq!(rt; Action::of(code), action);
+    }
     Ok(())
 }

@@ -1,167 +1,203 @@
--- What follows from a run of any space that gives reasons for its faults: it only spends steps, and a device's fault has its
--- cause.
-use Rattle.std.proofs.Common.{◌≡◌, ℕ, ◌+◌, ◌≤◌, Option, Some, None, Result, Ok, Err, inl, inr, refl, ap, subst, arith}
+-- What follows from a run of any program, under any budget: it is accesses one after another, and spends steps.
+use Rattle.std.proofs.Common.{◌≡◌, ℕ, ◌+◌, ◌<◌, ◌≤◌, ◌⊎◌, false, Some, Result, Ok, Err, OnOk, refl, ap, inl, inr, arith}
 use Rattle.base_model.specs.Faults.{Rose}
 use Rattle.apei_gas.specs.declared.registers.Register.{Register}
+use Rattle.apei_gas.specs.Fields.{stored, merged}
 use Rattle.apei_space.specs.declared.faults.SpaceFault.{SpaceFault}
 use Rattle.apei_space.specs.declared.faults.SpaceFault.TheVariants.{Device}
-use Rattle.apei_space.specs.Calls.{Call, HasReason, Leaves, fault_of, fault_in}
+use Rattle.apei_space.specs.Calls.{Call, Write, HasReason, fault_of}
+use Rattle.apei_space.specs.Accesses.{Reaches, Stays, Goes}
+use Rattle.apei_space.proofs.AccessLemmas.{IsRefusedAt, reaches_refused, device_rose}
 use Rattle.erst_entries.specs.declared.entries.Entry.{Entry}
 use Rattle.erst_entries.specs.Programs.{Listed}
 use Rattle.erst_interp.specs.declared.configurations.Configuration.{Configuration}
 use Rattle.erst_interp.specs.declared.configurations.Task.{Task}
 use Rattle.erst_interp.specs.declared.stops.RunStop.{RunStop}
 use Rattle.erst_interp.specs.declared.stops.RunStop.TheVariants.{Space, Budget, Register as BadRegion, UnknownInstruction, Goto, MoveTooLong, NoAction}
+use Rattle.erst_interp.specs.Configurations.{begin}
 use Rattle.erst_interp.specs.Accesses.{FieldRead, Got, Refused, Store, Whole, Beside, Unread}
-use Rattle.erst_interp.specs.Steps.{Waited, AtOnce, After, Step, Computes, Goes, Stalls, Takes, Stores, Changes, Compares, Moves, Refusal, NotRead, NotCompared, NotStored, NotChanged, Halt, Unknown, Unregistered, Outside, IsRefused, TooLong, Unpaid, NotCopied}
-use Rattle.erst_interp.specs.Runs.{Walk, Begun, Then, Run, NoProgram, Finishes, Exhausted, Halts}
+use Rattle.erst_interp.specs.Steps.{Waited, AtOnce, After, Step, Computes, Goes as GoesTo, Stalls, Takes, Stores, Changes, Compares, Moves, Refusal, NotRead, NotCompared, NotStored, NotChanged, Halt, Unknown, Unregistered, Outside, IsRefused, TooLong, Unpaid, NotCopied}
+use Rattle.erst_interp.specs.Runs.{may_be_empty, HasEntry, NeedsNone, Walk, Begun, Then, Run, NoProgram, Finishes, Exhausted, Halts}
 
--- the count of faults never falls, and a device's fault comes only where it rose
-pub record Effect {W : Type 0} (faults : W → ℕ) (old new : W) (fault : Option SpaceFault) : Type 0 where
-  pub never_falls : faults old ≤ faults new
-  pub device : fault ≡ Some Device → Rose (faults old) (faults new)
+-- what comes of an access with this answer: the space is reached, and where a fault was answered, by an access that answered it
+abbrev Comes : {W T : Type 0} → (W → Call → W → Type 0) → W → Result T SpaceFault → W → Type 0
+Comes allows first (Ok value) last = Reaches allows first last
+Comes allows first (Err fault) last = IsRefusedAt allows first fault last
 
-no_device : {P : Type 0} (fault : Option SpaceFault) → fault ≡ None → fault ≡ Some Device → P
-no_device fault e f = absurd cc
+refused_by : {W : Type 0} (allows : W → Call → W → Type 0) (first mid : W) (call : Call) (fault : SpaceFault) (last : W) →
+    Reaches allows first mid → allows mid call last → fault_of call ≡ Some fault → IsRefusedAt allows first fault last
+refused_by allows first mid call fault last before allowed answers = record { mid = mid; call = call; before = before; allowed = allowed; answers = answers }
 
-nothing : {W : Type 0} (faults : W → ℕ) (old : W) → Effect faults old old None
-nothing faults old = record { never_falls = omega arith; device = λ e. no_device None refl e }
+field_reaches : {W : Type 0} (allows : W → Call → W → Type 0) (first : W) (register : Register) (mask : ℕ) (old : W) (answer : Result ℕ SpaceFault) (new : W) →
+    Reaches allows first old → FieldRead allows register mask old answer new → Comes allows first answer new
+field_reaches allows first register mask old answer new so read =
+    elim read as (λ answer new read. Comes allows first answer new) [
+      | Got number new h ↦ Goes old _ new so h
+      | Refused fault new h ↦ refused_by allows first old _ fault new so h refl
+    ]
 
-of_call : {W : Type 0} (faults : W → ℕ) (old : W) (call : Call) (new : W) → HasReason faults old call new → Effect faults old new (fault_of call)
-of_call faults old call new why = record {
-  never_falls = why.never_falls;
-  device = λ e. subst (λ (fault : Option SpaceFault). Leaves faults old new fault) e why.leaves;
-}
+answer_reaches : {W : Type 0} (allows : W → Call → W → Type 0) (first mid : W) (call : Result (Unit {0}) SpaceFault → Call) (answer : Result (Unit {0}) SpaceFault) (last : W) →
+    Reaches allows first mid → allows mid (call answer) last → ((fault : SpaceFault) → fault_of (call (Err fault)) ≡ Some fault) → Comes allows first answer last
+answer_reaches allows first mid call (Ok done) last so h answers = Goes mid (call (Ok done)) last so h
+answer_reaches allows first mid call (Err fault) last so h answers = refused_by allows first mid (call (Err fault)) fault last so h (answers fault)
 
-behind : {W : Type 0} (faults : W → ℕ) (old mid new : W) (fault : Option SpaceFault) → Effect faults old mid None → Effect faults mid new fault → Effect faults old new fault
-behind faults old mid new fault first second =
-    let low : faults old ≤ faults mid = first.never_falls in
-    let high : faults mid ≤ faults new = second.never_falls in
+store_reaches : {W : Type 0} (allows : W → Call → W → Type 0) (first : W) (register : Register) (entry : Entry) (value : ℕ) (old : W) (answer : Result (Unit {0}) SpaceFault) (new : W) →
+    Reaches allows first old → Store allows register entry value old answer new → Comes allows first answer new
+store_reaches allows first register entry value old answer new so done =
+    elim done as (λ answer new done. Comes allows first answer new) [
+      | Whole answer new plain h ↦ answer_reaches allows first old (Write register.place register.access (stored value register.offset entry.mask)) answer new so h (λ fault. refl)
+      | Beside number mid answer new keeps h k ↦
+          answer_reaches allows first mid (Write register.place register.access (merged number value register.offset entry.mask)) answer new (Goes old _ mid so h) k (λ fault. refl)
+      | Unread fault new keeps h ↦ refused_by allows first old _ fault new so h refl
+    ]
+
+waited_reaches : {W : Type 0} (allows : W → Call → W → Type 0) (first : W) (c : Configuration) (old new : W) → Reaches allows first old → Waited allows c old new → Reaches allows first new
+waited_reaches allows first c old new so waited =
+    elim waited as (λ new waited. Reaches allows first new) [
+      | AtOnce e ↦ so
+      | After new e h ↦ Goes old _ new so h
+    ]
+
+step_reaches : {W : Type 0} (allows : W → Call → W → Type 0) (first : W) (task : Task) (old : W) (d : Configuration) (more : ℕ) (new : W) →
+    Reaches allows first old → Step allows task old d more new → Reaches allows first new
+step_reaches allows first task old d more new so step =
+    elim step as (λ d more new step. Reaches allows first new) [
+      | Computes d has ↦ so
+      | GoesTo to has within ↦ so
+      | Stalls micros new has h ↦ Goes old _ new so h
+      | Takes taken register x new has is h ↦ field_reaches allows first register task.entry.mask old (Ok x) new so h
+      | Stores value register new has is h ↦ store_reaches allows first register task.entry value old (Ok tt) new so h
+      | Changes changed register x mid new has is h k ↦ store_reaches allows first register task.entry (changed x) mid (Ok tt) new (field_reaches allows first register task.entry.mask old (Ok x) mid so h) k
+      | Compares register x mid new has is h k ↦ field_reaches allows first register task.entry.mask mid (Ok x) new (waited_reaches allows first task.at old mid so h) k
+      | Moves register x mid new has is h less k ↦ Goes mid _ new (field_reaches allows first register task.entry.mask old (Ok x) mid so h) k
+    ]
+
+refusal_reaches : {W : Type 0} (allows : W → Call → W → Type 0) (first : W) (task : Task) (old : W) (fault : SpaceFault) (new : W) →
+    Reaches allows first old → Refusal allows task old fault new → IsRefusedAt allows first fault new
+refusal_reaches allows first task old fault new so refusal =
+    elim refusal as (λ fault new refusal. IsRefusedAt allows first fault new) [
+      | NotRead work register fault new has early is h ↦ field_reaches allows first register task.entry.mask old (Err fault) new so h
+      | NotCompared register fault mid new has is h k ↦ field_reaches allows first register task.entry.mask mid (Err fault) new (waited_reaches allows first task.at old mid so h) k
+      | NotStored value register fault new has is h ↦ store_reaches allows first register task.entry value old (Err fault) new so h
+      | NotChanged changed register x fault mid new has is h k ↦
+          store_reaches allows first register task.entry (changed x) mid (Err fault) new (field_reaches allows first register task.entry.mask old (Ok x) mid so h) k
+    ]
+
+-- what comes of a run that stops
+abbrev Stopped : {W : Type 0} → (W → Call → W → Type 0) → W → RunStop → W → Type 0
+Stopped allows first (Space index fault) last = IsRefusedAt allows first fault last
+Stopped allows first Budget last = Reaches allows first last
+Stopped allows first (BadRegion index why) last = Reaches allows first last
+Stopped allows first (UnknownInstruction index code) last = Reaches allows first last
+Stopped allows first (Goto index to) last = Reaches allows first last
+Stopped allows first (MoveTooLong index len) last = Reaches allows first last
+Stopped allows first (NoAction code) last = Reaches allows first last
+
+halt_reaches : {W : Type 0} (allows : W → Call → W → Type 0) (first : W) (task : Task) (paid : ℕ) (old : W) (stop : RunStop) (left : ℕ) (new : W) →
+    Reaches allows first old → Halt allows task paid old stop left new → Stopped allows first stop new
+halt_reaches allows first task paid old stop left new so halt =
+    elim halt as (λ stop left new halt. Stopped allows first stop new) [
+      | Unknown e ↦ so
+      | Unregistered work why has used is ↦ so
+      | Outside to has beyond ↦ so
+      | IsRefused fault new h ↦ refusal_reaches allows first task old fault new so h
+      | TooLong register x new has is h more ↦ field_reaches allows first register task.entry.mask old (Ok x) new so h
+      | Unpaid register x new has is h less short ↦ field_reaches allows first register task.entry.mask old (Ok x) new so h
+      | NotCopied register x fault mid new has is h less enough k ↦ refused_by allows first mid _ fault new (field_reaches allows first register task.entry.mask old (Ok x) mid so h) k refl
+    ]
+
+halt_spends : {W : Type 0} (allows : W → Call → W → Type 0) (task : Task) (paid : ℕ) (old : W) (stop : RunStop) (left : ℕ) (new : W) → Halt allows task paid old stop left new → left ≤ paid
+halt_spends allows task paid old stop left new halt =
+    elim halt as (λ stop left new halt. left ≤ paid) [
+      | Unknown e ↦ omega arith
+      | Unregistered work why has used is ↦ omega arith
+      | Outside to has beyond ↦ omega arith
+      | IsRefused fault new h ↦ omega arith
+      | TooLong register x new has is h more ↦ omega arith
+      | Unpaid register x new has is h less short ↦ omega arith
+      | NotCopied register x fault mid new has is h less enough k ↦ omega arith
+    ]
+
+-- a walk goes on by accesses, and spends at least one step once it has moved
+record Walks {W : Type 0} (allows : W → Call → W → Type 0) (budget : ℕ) (first : W) (left : ℕ) (c : Configuration) (new : W) : Type 0 where
+  reaches : Reaches allows first new
+  spends : left ≤ budget
+  moved : (c ≡ begin) ⊎ (left < budget)
+
+walks : {W : Type 0} (allows : W → Call → W → Type 0) (program : Listed) (given budget : ℕ) (first : W) (left : ℕ) (c : Configuration) (new : W) →
+    Walk allows program given budget first left c new → Walks allows budget first left c new
+walks allows program given budget first left c new Begun = record { reaches = Stays; spends = omega arith; moved = inl refl }
+walks allows program given budget first left c new (Then before b mid entry d more after last walk here step sum) =
+    let rest = walks allows program given budget first before b mid walk in
     record {
-      never_falls = omega arith;
-      device = λ e. elim (second.device e) [ inl more ↦ inl (omega arith) | inr last ↦ inr last ];
-    }
-
-field_effect : {W : Type 0} (allows : W → Call → W → Type 0) (faults : W → ℕ) (reasons : (old new : W) (call : Call) → allows old call new → HasReason faults old call new)
-    (register : Register) (mask : ℕ) (old : W) (answer : Result ℕ SpaceFault) (new : W) → FieldRead allows register mask old answer new → Effect faults old new (fault_in answer)
-field_effect allows faults reasons register mask old answer new read =
-    elim read as (λ answer new read. Effect faults old new (fault_in answer)) [
-      | Got number new h ↦ of_call faults old _ new (reasons old new _ h)
-      | Refused fault new h ↦ of_call faults old _ new (reasons old new _ h)
-    ]
-
-store_effect : {W : Type 0} (allows : W → Call → W → Type 0) (faults : W → ℕ) (reasons : (old new : W) (call : Call) → allows old call new → HasReason faults old call new)
-    (register : Register) (entry : Entry) (value : ℕ) (old : W) (answer : Result (Unit {0}) SpaceFault) (new : W) → Store allows register entry value old answer new → Effect faults old new (fault_in answer)
-store_effect allows faults reasons register entry value old answer new stored =
-    elim stored as (λ answer new stored. Effect faults old new (fault_in answer)) [
-      | Whole answer new plain h ↦ of_call faults old _ new (reasons old new _ h)
-      | Beside number mid answer new keeps h k ↦ behind faults old mid new (fault_in answer) (of_call faults old _ mid (reasons old mid _ h)) (of_call faults mid _ new (reasons mid new _ k))
-      | Unread fault new keeps h ↦ of_call faults old _ new (reasons old new _ h)
-    ]
-
-waited_effect : {W : Type 0} (allows : W → Call → W → Type 0) (faults : W → ℕ) (reasons : (old new : W) (call : Call) → allows old call new → HasReason faults old call new)
-    (c : Configuration) (old new : W) → Waited allows c old new → Effect faults old new None
-waited_effect allows faults reasons c old new waited =
-    elim waited as (λ new waited. Effect faults old new None) [
-      | AtOnce e ↦ nothing faults old
-      | After new e h ↦ of_call faults old _ new (reasons old new _ h)
-    ]
-
-step_effect : {W : Type 0} (allows : W → Call → W → Type 0) (faults : W → ℕ) (reasons : (old new : W) (call : Call) → allows old call new → HasReason faults old call new)
-    (task : Task) (old : W) (d : Configuration) (more : ℕ) (new : W) → Step allows task old d more new → Effect faults old new None
-step_effect allows faults reasons task old d more new step =
-    elim step as (λ d more new step. Effect faults old new None) [
-      | Computes i has ↦ nothing faults old
-      | Goes i has within ↦ nothing faults old
-      | Stalls i new has h ↦ of_call faults old _ new (reasons old new _ h)
-      | Takes i register x new has is h ↦ field_effect allows faults reasons register task.entry.mask old _ new h
-      | Stores i register new has is h ↦ store_effect allows faults reasons register task.entry _ old _ new h
-      | Changes i register x mid new has is h k ↦ behind faults old mid new None (field_effect allows faults reasons register task.entry.mask old _ mid h) (store_effect allows faults reasons register task.entry _ mid _ new k)
-      | Compares i register x mid new has is h k ↦ behind faults old mid new None (waited_effect allows faults reasons task.at old mid h) (field_effect allows faults reasons register task.entry.mask mid _ new k)
-      | Moves i register x mid new has is h less k ↦ behind faults old mid new None (field_effect allows faults reasons register task.entry.mask old _ mid h) (of_call faults mid _ new (reasons mid new _ k))
-    ]
-
-refusal_effect : {W : Type 0} (allows : W → Call → W → Type 0) (faults : W → ℕ) (reasons : (old new : W) (call : Call) → allows old call new → HasReason faults old call new)
-    (task : Task) (old : W) (fault : SpaceFault) (new : W) → Refusal allows task old fault new → Effect faults old new (Some fault)
-refusal_effect allows faults reasons task old fault new refusal =
-    elim refusal as (λ fault new refusal. Effect faults old new (Some fault)) [
-      | NotRead i kind register fault new has first is h ↦ field_effect allows faults reasons register task.entry.mask old _ new h
-      | NotCompared i register fault mid new has is h k ↦ behind faults old mid new (Some fault) (waited_effect allows faults reasons task.at old mid h) (field_effect allows faults reasons register task.entry.mask mid _ new k)
-      | NotStored i register fault new has is h ↦ store_effect allows faults reasons register task.entry _ old _ new h
-      | NotChanged i register x fault mid new has is h k ↦ behind faults old mid new (Some fault) (field_effect allows faults reasons register task.entry.mask old _ mid h) (store_effect allows faults reasons register task.entry _ mid _ new k)
-    ]
-
--- the fault that a stop names
-abbrev fault_at : RunStop → Option SpaceFault
-fault_at (Space index fault) = Some fault
-fault_at Budget = None
-fault_at (BadRegion index why) = None
-fault_at (UnknownInstruction index code) = None
-fault_at (Goto index to) = None
-fault_at (MoveTooLong index len) = None
-fault_at (NoAction code) = None
-
-record Leads {W : Type 0} (faults : W → ℕ) (old new : W) (fault : Option SpaceFault) (before after : ℕ) : Type 0 where
-  effect : Effect faults old new fault
-  spends : after ≤ before
-
-halt_leads : {W : Type 0} (allows : W → Call → W → Type 0) (faults : W → ℕ) (reasons : (old new : W) (call : Call) → allows old call new → HasReason faults old call new)
-    (task : Task) (paid : ℕ) (old : W) (stop : RunStop) (left : ℕ) (new : W) → Halt allows task paid old stop left new → Leads faults old new (fault_at stop) paid left
-halt_leads allows faults reasons task paid old stop left new halt =
-    elim halt as (λ stop left new halt. Leads faults old new (fault_at stop) paid left) [
-      | Unknown e ↦ record { effect = nothing faults old; spends = omega arith }
-      | Unregistered i kind why has used is ↦ record { effect = nothing faults old; spends = omega arith }
-      | Outside i has beyond ↦ record { effect = nothing faults old; spends = omega arith }
-      | IsRefused fault new h ↦ record { effect = refusal_effect allows faults reasons task old fault new h; spends = omega arith }
-      | TooLong i register x new has is h more ↦ record { effect = field_effect allows faults reasons register task.entry.mask old _ new h; spends = omega arith }
-      | Unpaid i register x new has is h less short ↦ record { effect = field_effect allows faults reasons register task.entry.mask old _ new h; spends = omega arith }
-      | NotCopied i register x fault mid new has is h less enough k ↦ record {
-        effect = behind faults old mid new (Some fault) (field_effect allows faults reasons register task.entry.mask old _ mid h) (of_call faults mid _ new (reasons mid new _ k));
-        spends = omega arith;
-      }
-    ]
-
-walk_leads : {W : Type 0} (allows : W → Call → W → Type 0) (faults : W → ℕ) (reasons : (old new : W) (call : Call) → allows old call new → HasReason faults old call new)
-    (program : Listed) (given budget : ℕ) (first : W) (left : ℕ) (c : Configuration) (new : W) → Walk allows program given budget first left c new → Leads faults first new None budget left
-walk_leads allows faults reasons program given budget first left c new Begun = record { effect = nothing faults first; spends = omega arith }
-walk_leads allows faults reasons program given budget first left c new (Then before b mid entry d more after last walk here step sum) =
-    let rest = walk_leads allows faults reasons program given budget first before b mid walk in
-    record {
-      effect = behind faults first mid last None rest.effect (step_effect allows faults reasons _ mid d more last step);
+      reaches = step_reaches allows first _ mid d more last rest.reaches step;
       spends = omega (arith, rest.spends);
+      moved = inr (omega (arith, rest.spends));
     }
 
-abbrev fault_of_answer : Result ℕ RunStop → Option SpaceFault
-fault_of_answer (Ok value) = None
-fault_of_answer (Err stop) = fault_at stop
+-- what comes of a run
+abbrev Ended : {W : Type 0} → (W → Call → W → Type 0) → W → Result ℕ RunStop → W → Type 0
+Ended allows first (Ok value) last = Reaches allows first last
+Ended allows first (Err stop) last = Stopped allows first stop last
 
-run_leads : {W : Type 0} (allows : W → Call → W → Type 0) (faults : W → ℕ) (reasons : (old new : W) (call : Call) → allows old call new → HasReason faults old call new)
-    (program : Listed) (given budget : ℕ) (first : W) (answer : Result ℕ RunStop) (left : ℕ) (new : W) → Run allows program given budget first answer left new →
-    Leads faults first new (fault_of_answer answer) budget left
-run_leads allows faults reasons program given budget first answer left new run =
-    elim run as (λ answer left new run. Leads faults first new (fault_of_answer answer) budget left) [
-      | NoProgram none empty ↦ record { effect = nothing faults first; spends = omega arith }
-      | Finishes left c last has walk end ↦ walk_leads allows faults reasons program given budget first left c last walk
-      | Exhausted c last has walk more ↦ walk_leads allows faults reasons program given budget first 0 c last walk
+ended : {W : Type 0} (allows : W → Call → W → Type 0) (program : Listed) (given budget : ℕ) (first : W) (answer : Result ℕ RunStop) (left : ℕ) (new : W) →
+    Run allows program given budget first answer left new → Ended allows first answer new
+ended allows program given budget first answer left new run =
+    elim run as (λ answer left new run. Ended allows first answer new) [
+      | NoProgram none empty ↦ Stays
+      | Finishes left c last has walk end ↦ (walks allows program given budget first left c last walk).reaches
+      | Exhausted c last has walk more ↦ (walks allows program given budget first 0 c last walk).reaches
       | Halts paid c mid entry stop left last has walk here halt ↦
-          let before = walk_leads allows faults reasons program given budget first (paid + 1) c mid walk in
-          let at = halt_leads allows faults reasons _ paid mid stop left last halt in
-          record { effect = behind faults first mid last (fault_at stop) before.effect at.effect; spends = omega (arith, before.spends, at.spends) }
+          halt_reaches allows first _ paid mid stop left last (walks allows program given budget first (paid + 1) c mid walk).reaches halt
     ]
 
--- what a run's caller learns besides
-pub record Accounts {W : Type 0} (faults : W → ℕ) (old new : W) (answer : Result ℕ RunStop) (before after : ℕ) : Type 0 where
-  pub spends : after ≤ before
-  pub never_falls : faults old ≤ faults new
-  pub device : (index : ℕ) → answer ≡ Err (Space index Device) → Rose (faults old) (faults new)
+stopped_reaches : {W : Type 0} (allows : W → Call → W → Type 0) (first : W) (stop : RunStop) (last : W) → Stopped allows first stop last → Reaches allows first last
+stopped_reaches allows first (Space index fault) last so = reaches_refused allows first fault last so
+stopped_reaches allows first Budget last so = so
+stopped_reaches allows first (BadRegion index why) last so = so
+stopped_reaches allows first (UnknownInstruction index code) last so = so
+stopped_reaches allows first (Goto index to) last so = so
+stopped_reaches allows first (MoveTooLong index len) last so = so
+stopped_reaches allows first (NoAction code) last so = so
 
-pub accounts : {W : Type 0} (allows : W → Call → W → Type 0) (faults : W → ℕ) (reasons : (old new : W) (call : Call) → allows old call new → HasReason faults old call new)
-    (program : Listed) (given budget : ℕ) (first : W) (answer : Result ℕ RunStop) (left : ℕ) (new : W) → Run allows program given budget first answer left new →
-    Accounts faults first new answer budget left
-accounts allows faults reasons program given budget first answer left new run =
-    let leads = run_leads allows faults reasons program given budget first answer left new run in
-    record {
-      spends = leads.spends;
-      never_falls = leads.effect.never_falls;
-      device = λ index e. leads.effect.device (ap fault_of_answer e);
-    }
+ended_reaches : {W : Type 0} (allows : W → Call → W → Type 0) (first : W) (answer : Result ℕ RunStop) (last : W) → Ended allows first answer last → Reaches allows first last
+ended_reaches allows first (Ok value) last so = so
+ended_reaches allows first (Err stop) last so = stopped_reaches allows first stop last so
+
+pub run_reaches : {W : Type 0} (allows : W → Call → W → Type 0) (program : Listed) (given budget : ℕ) (first : W) (answer : Result ℕ RunStop) (left : ℕ) (new : W) →
+    Run allows program given budget first answer left new → Reaches allows first new
+run_reaches allows program given budget first answer left new run = ended_reaches allows first answer new (ended allows program given budget first answer left new run)
+
+-- a device's fault has its cause
+pub run_device : {W : Type 0} (allows : W → Call → W → Type 0) (faults : W → ℕ) (reasons : (old new : W) (call : Call) → allows old call new → HasReason faults old call new)
+    (program : Listed) (given budget : ℕ) (first : W) (index left : ℕ) (new : W) → Run allows program given budget first (Err (Space index Device)) left new → Rose (faults first) (faults new)
+run_device allows faults reasons program given budget first index left new run =
+    device_rose allows faults reasons first new (ended allows program given budget first (Err (Space index Device)) left new run)
+
+pub run_spends : {W : Type 0} (allows : W → Call → W → Type 0) (program : Listed) (given budget : ℕ) (first : W) (answer : Result ℕ RunStop) (left : ℕ) (new : W) →
+    Run allows program given budget first answer left new → left ≤ budget
+run_spends allows program given budget first answer left new run =
+    elim run as (λ answer left new run. left ≤ budget) [
+      | NoProgram none empty ↦ omega arith
+      | Finishes left c last has walk end ↦ (walks allows program given budget first left c last walk).spends
+      | Exhausted c last has walk more ↦ omega arith
+      | Halts paid c mid entry stop left last has walk here halt ↦
+          omega (arith, (walks allows program given budget first (paid + 1) c mid walk).spends, halt_spends allows _ paid mid stop left last halt)
+    ]
+
+-- an answer of a program that may not be empty took at least one step
+pub run_spends_some : {W : Type 0} (allows : W → Call → W → Type 0) (program : Listed) (given budget : ℕ) (first : W) (answer : Result ℕ RunStop) (left : ℕ) (last : W) →
+    Run allows program given budget first answer left last → may_be_empty program.action ≡ false → OnOk answer (left < budget)
+run_spends_some allows program given budget first answer left last run full =
+    elim run as (λ answer left last run. OnOk answer (left < budget)) [
+      | NoProgram none empty ↦ tt
+      | Finishes left c last has walk end ↦ elim (walks allows program given budget first left c last walk).moved [
+        | inl start ↦ elim has [
+          | HasEntry some ↦ absurd (let place : c.place ≡ 0 = ap (λ (b : Configuration). b.place) start in omega arith)
+          | NeedsNone empty ↦ absurd (cc)
+        ]
+        | inr less ↦ less
+      ]
+      | Exhausted c last has walk more ↦ tt
+      | Halts paid c mid entry stop left last has walk here halt ↦ tt
+    ]

@@ -1,4 +1,4 @@
 pub mod Rules
-mod KindLemmas
+mod WorkLemmas
 mod Walking
-mod Consequences
+pub mod Consequences

@@ -1,58 +1,70 @@
--- The codes of the serialization instructions (ACPI 6.4, section 18.5.1.2).
-use Rattle.std.specs.Prelude.{ℕ, Bool, true, false, List, [], ◌∷◌, Option, slice_get}
-use Rattle.erst_interp.specs.declared.instructions.Kind.{Kind}
-use Rattle.erst_interp.specs.declared.instructions.Kind.TheVariants.{Computing, Going, Stalling, Taking, Storing, Changing, Comparing, Moving}
-use Rattle.erst_interp.specs.declared.instructions.Instruction.{Instruction}
-use Rattle.erst_interp.specs.declared.instructions.Instruction.TheVariants.{ReadRegister, ReadRegisterValue, WriteRegister, WriteRegisterValue, Noop, LoadVar1, LoadVar2, StoreVar1, Add, Subtract, AddValue, SubtractValue, Stall, StallWhileTrue, SkipNextIfTrue, Goto, SetSourceBase, SetTargetBase, MoveData}
+-- The table of serialization instructions (ACPI 6.4, section 18.5.1.2).
+use Rattle.std.specs.Prelude.{◌≡◌, ℕ, ◌+◌, ◌-◌, ◌%◌, ◌^◌, ◌==◌, if◌then◌else◌, Bool, true, false, Some}
+use Rattle.erst_entries.specs.declared.instructions.Instruction.{Instruction}
+use Rattle.erst_entries.specs.declared.instructions.Instruction.TheVariants.{ReadRegister, ReadRegisterValue, WriteRegister, WriteRegisterValue, Noop, LoadVar1, LoadVar2, StoreVar1, Add, Subtract, AddValue, SubtractValue, Stall, StallWhileTrue, SkipNextIfTrue, Goto, SetSourceBase, SetTargetBase, MoveData}
+use Rattle.erst_entries.specs.Instructions.{instruction_of}
+use Rattle.erst_interp.specs.declared.configurations.Configuration.{Configuration}
+use Rattle.erst_interp.specs.declared.configurations.Task.{Task}
+use Rattle.erst_interp.specs.Configurations.{next}
 
--- in the order of their codes, from 0 on
-abbrev pub instructions : List Instruction
-instructions =
-    ReadRegister ∷ ReadRegisterValue ∷ WriteRegister ∷ WriteRegisterValue ∷ Noop ∷ LoadVar1 ∷ LoadVar2 ∷ StoreVar1 ∷ Add ∷ Subtract
-    ∷ AddValue ∷ SubtractValue ∷ Stall ∷ StallWhileTrue ∷ SkipNextIfTrue ∷ Goto ∷ SetSourceBase ∷ SetTargetBase ∷ MoveData ∷ []
+-- what an instruction does: it goes on in a configuration, goes to a place, waits, takes its field, stores a value, stores
+-- what it makes of its field, compares its field with the entry's value, or moves bytes
+pub data Work : Type 0 where
+  GoOn : Configuration → Work
+  GoTo : ℕ → Work
+  WaitFor : ℕ → Work
+  TakeField : (ℕ → Configuration) → Work
+  StoreValue : ℕ → Work
+  ChangeField : (ℕ → ℕ) → Work
+  CompareField : Work
+  MoveBytes : Work
 
-abbrev pub instruction_of : ℕ → Option Instruction
-instruction_of code = slice_get instructions code
+-- row by row
+abbrev pub work_of : Task → Instruction → Work
+work_of task ReadRegister = TakeField (λ x. record (next task.at) { result = Some x })
+work_of task ReadRegisterValue = TakeField (λ x. record (next task.at) { result = Some (if x == task.entry.value then 1 else 0) })
+work_of task WriteRegister = StoreValue task.given
+work_of task WriteRegisterValue = StoreValue task.entry.value
+work_of task Noop = GoOn (next task.at)
+work_of task LoadVar1 = TakeField (λ x. record (next task.at) { var1 = x })
+work_of task LoadVar2 = TakeField (λ x. record (next task.at) { var2 = x })
+work_of task StoreVar1 = StoreValue task.at.var1
+work_of task Add = GoOn (record (next task.at) { var1 = (task.at.var1 + task.at.var2) % 2 ^ 64 })
+work_of task Subtract = GoOn (record (next task.at) { var1 = (task.at.var2 + (2 ^ 64 - task.at.var1)) % 2 ^ 64 })
+work_of task AddValue = ChangeField (λ x. (x + task.entry.value) % 2 ^ 64)
+work_of task SubtractValue = ChangeField (λ x. (x + (2 ^ 64 - task.entry.value)) % 2 ^ 64)
+work_of task Stall = WaitFor task.entry.value
+work_of task StallWhileTrue = CompareField
+work_of task SkipNextIfTrue = TakeField (λ x. if x == task.entry.value then next (next task.at) else next task.at)
+work_of task Goto = GoTo task.entry.value
+work_of task SetSourceBase = TakeField (λ x. record (next task.at) { source = x })
+work_of task SetTargetBase = TakeField (λ x. record (next task.at) { target = x })
+work_of task MoveData = MoveBytes
 
-abbrev pub kind_of : Instruction → Kind
-kind_of Noop = Computing
-kind_of Add = Computing
-kind_of Subtract = Computing
-kind_of Goto = Going
-kind_of Stall = Stalling
-kind_of WriteRegister = Storing
-kind_of WriteRegisterValue = Storing
-kind_of StoreVar1 = Storing
-kind_of AddValue = Changing
-kind_of SubtractValue = Changing
-kind_of StallWhileTrue = Comparing
-kind_of MoveData = Moving
-kind_of ReadRegister = Taking
-kind_of ReadRegisterValue = Taking
-kind_of LoadVar1 = Taking
-kind_of LoadVar2 = Taking
-kind_of SkipNextIfTrue = Taking
-kind_of SetSourceBase = Taking
-kind_of SetTargetBase = Taking
+-- the task's entry has an instruction that does this
+pub record HasWork (task : Task) (work : Work) : Type 0 where
+  pub instruction : Instruction
+  pub code : instruction_of task.entry.code ≡ Some instruction
+  pub work_is : work_of task instruction ≡ work
 
 -- NOOP, ADD, SUBTRACT, GOTO and STALL use no register
-abbrev pub uses_register : Kind → Bool
-uses_register Computing = false
-uses_register Going = false
-uses_register Stalling = false
-uses_register Taking = true
-uses_register Storing = true
-uses_register Changing = true
-uses_register Comparing = true
-uses_register Moving = true
+abbrev pub uses_register : Work → Bool
+uses_register (GoOn c) = false
+uses_register (GoTo to) = false
+uses_register (WaitFor micros) = false
+uses_register (TakeField taken) = true
+uses_register (StoreValue value) = true
+uses_register (ChangeField changed) = true
+uses_register CompareField = true
+uses_register MoveBytes = true
 
 -- it reads its field before all else
-abbrev pub reads_first : Kind → Bool
-reads_first Taking = true
-reads_first Changing = true
-reads_first Moving = true
-reads_first Computing = false
-reads_first Going = false
-reads_first Stalling = false
-reads_first Storing = false
-reads_first Comparing = false
+abbrev pub reads_first : Work → Bool
+reads_first (GoOn c) = false
+reads_first (GoTo to) = false
+reads_first (WaitFor micros) = false
+reads_first (TakeField taken) = true
+reads_first (StoreValue value) = false
+reads_first (ChangeField changed) = true
+reads_first CompareField = false
+reads_first MoveBytes = true

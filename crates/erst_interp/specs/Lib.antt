@@ -1,5 +1,6 @@
-pub mod Instructions
 pub mod Configurations
+pub mod Instructions
+pub mod Works
 pub mod Accesses
 pub mod Steps
 pub mod Runs

@@ -1,8 +1,7 @@
 // What a run keeps from one instruction to the next.
-ghost use Rattle.std.specs.Prelude.{◌≡◌, ◌+◌, ◌<◌, ◌≤◌, ◌^◌, Some, None};
-ghost use Rattle.erst_interp.specs.Configurations.{begin, next, with_field, computed, stored_by, changed_by, compared};
+ghost use Rattle.std.specs.Prelude.{◌≡◌, ◌<◌, ◌≤◌, ◌^◌};
+ghost use Rattle.erst_interp.specs.Configurations.{begin, next, compared};
 
-use crate::instructions::Instruction;
 use erst_entries::Entry;
 
 /// The place in the program, the last result, the two variables, the bases of MOVE_DATA, and whether
@@ -46,73 +45,6 @@ impl Configuration {
         }
     }
 
-    /// What an instruction that only takes its field makes of it.
-    pub fn with_field(self, instruction: Instruction, entry: &Entry, field: u64) -> Configuration
-        requires { self.place < 2 ^ 63 }
-        ensures { result ≡ with_field instruction entry.now self field }
-    {
-        let next = self.next();
-        let equal = field == entry.value;
-        match instruction {
-            Instruction::ReadRegister => Configuration {
-                result: Some(field),
-                ..next
-            },
-            Instruction::ReadRegisterValue => Configuration {
-                result: Some(if equal { 1 } else { 0 }),
-                ..next
-            },
-            Instruction::LoadVar1 => Configuration {
-                var1: field,
-                ..next
-            },
-            Instruction::LoadVar2 => Configuration {
-                var2: field,
-                ..next
-            },
-            Instruction::SkipNextIfTrue => { if equal { next.next() } else { next } }
-            Instruction::SetSourceBase => Configuration {
-                source: field,
-                ..next
-            },
-            Instruction::SetTargetBase => Configuration {
-                target: field,
-                ..next
-            },
-            _ => next,
-        }
-    }
-
-    /// What an instruction that works on the variables alone makes of it.
-    pub fn computed(self, instruction: Instruction) -> Configuration
-        requires { self.place < 2 ^ 63 }
-        ensures { result ≡ computed instruction self }
-    {
-        let next = self.next();
-        match instruction {
-            Instruction::Add => Configuration {
-                var1: self.var1.wrapping_add(self.var2),
-                ..next
-            },
-            Instruction::Subtract => Configuration {
-                var1: self.var2.wrapping_sub(self.var1),
-                ..next
-            },
-            _ => next,
-        }
-    }
-
-    /// What an instruction that only stores stores.
-    pub fn stored_by(self, instruction: Instruction, given: u64, entry: &Entry) -> u64
-        ensures { result ≡ stored_by instruction given entry.now self }
-    {
-        match instruction {
-            Instruction::WriteRegister => given,
-            Instruction::WriteRegisterValue => entry.value,
-            _ => self.var1,
-        }
-    }
-
     /// Where STALL_WHILE_TRUE goes on after a comparison.
     pub fn compared(self, equal: bool) -> Configuration
         requires { self.place < 2 ^ 63 }
@@ -126,16 +58,6 @@ impl Configuration {
         } else {
             self.next()
         }
-    }
-}
-
-/// What an instruction that changes its field makes of it.
-pub fn changed_by(instruction: Instruction, entry: &Entry, field: u64) -> u64
-    ensures { result ≡ changed_by instruction entry.now field }
-{
-    match instruction {
-        Instruction::AddValue => field.wrapping_add(entry.value),
-        _ => field.wrapping_sub(entry.value),
     }
 }
 

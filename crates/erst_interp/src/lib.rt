@@ -4,10 +4,10 @@
 mod accesses;
 mod budgets;
 mod configurations;
-mod instructions;
 mod runs;
 mod steps;
 mod stops;
+mod works;
 
 pub use budgets::Budget;
 pub use runs::run;

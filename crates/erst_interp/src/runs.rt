@@ -1,6 +1,7 @@
 // A run of a program.
-ghost use Rattle.std.specs.Prelude.{◌≡◌, ◌≤◌, ℕ, Err};
+ghost use Rattle.std.specs.Prelude.{◌≡◌, ◌<◌, ◌≤◌, ℕ, false, Err, OnOk};
 ghost use Rattle.base_model.specs.Faults.{Rose};
+ghost use Rattle.apei_space.specs.Accesses.{Reaches};
 ghost use Rattle.erst_interp.specs.Runs.{Run, may_be_empty};
 
 use crate::budgets::Budget;
@@ -21,8 +22,11 @@ pub fn run<S: Space>(
 ) -> Result<u64, RunStop>
     ensures run { Run S.allows program.now given budget.old (S.state space.old) result budget.new (S.state space.new) }
 
-    // So it only spends steps, and a device's fault is answered only where the space's count of faults rose.
+    // So it is accesses one after another, only spends steps, and answers a device's fault only where the space's count
+    // of faults rose.
+    ensures reaches { Reaches S.allows (S.state space.old) (S.state space.new) }
     ensures spends { budget.new ≤ budget.old }
+    ensures spends_some { may_be_empty program.now.action ≡ false → OnOk result (budget.new < budget.old) }
     ensures never_falls { S.faults (S.state space.old) ≤ S.faults (S.state space.new) }
     ensures device { (index : ℕ) → result ≡ Err (RunStop.Space index SpaceFault.Device) → Rose (S.faults (S.state space.old)) (S.faults (S.state space.new)) }
 {

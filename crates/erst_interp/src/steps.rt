@@ -1,16 +1,18 @@
-// One instruction: a small function for each kind.
-ghost use Rattle.std.specs.Prelude.{◌≡◌, ◌<◌, ◌^◌, true, Some, Ok};
+// One instruction: a small function for each kind of work.
+ghost use Rattle.std.specs.Prelude.{◌≡◌, ◌<◌, ◌^◌, Ok};
 ghost use Rattle.apei_gas.specs.Check.{checked};
-ghost use Rattle.erst_interp.specs.Instructions.{instruction_of, uses_register};
-ghost use Rattle.erst_interp.specs.Steps.{Executes, Attempts, GoesTo, HasKind, Waited};
+ghost use Rattle.erst_interp.specs.Instructions.{StoreValue, CompareField, MoveBytes, HasWork};
+ghost use Rattle.erst_interp.specs.Works.{use_meaning, access_meaning};
+ghost use Rattle.erst_interp.specs.Steps.{Executes, Attempts, GoesTo, Waited};
 
 use crate::accesses::{read_field, store};
 use crate::budgets::Budget;
-use crate::configurations::{Configuration, Task, changed_by};
-use crate::instructions::{Instruction, Kind};
+use crate::configurations::{Configuration, Task};
 use crate::stops::RunStop;
+use crate::works::{Access, FieldUse, Work};
 use apei_gas::Register;
 use apei_space::{Space, SpaceFault};
+use erst_entries::Instruction;
 
 /// The longest MOVE_DATA, in bytes.
 const MOVE_LIMIT: u64 = 65_536;
@@ -30,15 +32,15 @@ pub fn execute<S: Space>(
         let code = u64::from(task.entry.code);
         return Err(RunStop::UnknownInstruction { index, code });
     };
-    match instruction.kind() {
-        Kind::Computing => Ok(task.at.computed(instruction)),
-        Kind::Going => go_to(task),
-        Kind::Stalling => {
-            space.wait(task.entry.value);
+    match Work::of(instruction, task) {
+        Work::GoOn(next) => Ok(next),
+        Work::GoTo(to) => go_to(to, task),
+        Work::WaitFor(micros) => {
+            space.wait(micros);
             Ok(task.at.next())
         }
-        kind => match task.entry.region.check() {
-            Ok(register) => with_register(instruction, kind, &register, task, budget, space),
+        Work::OnRegister(access) => match task.entry.region.check() {
+            Ok(register) => with_register(access, &register, task, budget, space),
             Err(why) => Err(RunStop::Register { index, why }),
         },
     }
@@ -46,11 +48,10 @@ pub fn execute<S: Space>(
 
 /// GOTO.
 #[tactic(auto, using(crate::proofs::Rules::steps))]
-fn go_to(task: &Task) -> Result<Configuration, RunStop>
+fn go_to(to: u64, task: &Task) -> Result<Configuration, RunStop>
     requires { task.now.at.place < 2 ^ 63 }
-    ensures { GoesTo task.now result }
+    ensures { GoesTo task.now to result }
 {
-    let to = task.entry.value;
     if to < task.len as u64 {
         Ok(Configuration {
             place: to as usize,
@@ -65,28 +66,23 @@ fn go_to(task: &Task) -> Result<Configuration, RunStop>
 /// The instructions that work on the entry's register.
 #[tactic(auto, using(crate::proofs::Rules::steps))]
 fn with_register<S: Space>(
-    instruction: Instruction,
-    kind: Kind,
+    access: Access,
     register: &Register,
     task: &Task,
     budget: &mut Budget,
     space: &mut S,
 ) -> Result<Configuration, RunStop>
     requires place { task.now.at.place < 2 ^ 63 }
-    requires kind { HasKind task.now instruction kind }
-    requires uses { uses_register kind ≡ true }
+    requires work { HasWork task.now (access_meaning access task.now) }
     requires register { checked task.now.entry.region ≡ Ok register.now }
     requires offset { register.now.offset < 64 }
     ensures { Executes S.allows task.now budget.old (S.state space.old) result budget.new (S.state space.new) }
 {
-    if let Kind::Moving = kind {
-        return move_data(instruction, register, task, budget, space);
-    }
-    let done = match kind {
-        Kind::Storing => put(instruction, register, task, space),
-        Kind::Changing => change(instruction, register, task, space),
-        Kind::Comparing => compare(instruction, register, task, space),
-        _ => take(instruction, register, task, space),
+    let done = match access {
+        Access::Field(how) => by_field(how, register, task, space),
+        Access::Store(value) => put(value, register, task, space),
+        Access::Compare => compare(register, task, space),
+        Access::Copy => return move_data(register, task, budget, space),
     };
     match done {
         Ok(next) => Ok(next),
@@ -97,84 +93,64 @@ fn with_register<S: Space>(
     }
 }
 
-/// READ_REGISTER, READ_REGISTER_VALUE, LOAD_VAR1, LOAD_VAR2, SKIP_NEXT_INSTRUCTION_IF_TRUE, SET_SRC_ADDRESS_BASE and
-/// SET_DST_ADDRESS_BASE.
+/// The instructions that read their field first, but for MOVE_DATA.
 #[tactic(auto, using(crate::proofs::Rules::steps))]
-fn take<S: Space>(
-    instruction: Instruction,
+fn by_field<S: Space>(
+    how: FieldUse,
     register: &Register,
     task: &Task,
     space: &mut S,
 ) -> Result<Configuration, SpaceFault>
     requires place { task.now.at.place < 2 ^ 63 }
-    requires kind { HasKind task.now instruction Kind.Taking }
+    requires work { HasWork task.now (use_meaning how task.now) }
     requires register { checked task.now.entry.region ≡ Ok register.now }
     requires offset { register.now.offset < 64 }
     ensures { Attempts S.allows task.now (S.state space.old) result (S.state space.new) }
 {
-    match read_field(register, &task.entry, space) {
-        Ok(field) => Ok(task.at.with_field(instruction, &task.entry, field)),
-        Err(fault) => Err(fault),
+    let field = match read_field(register, &task.entry, space) {
+        Ok(field) => field,
+        Err(fault) => return Err(fault),
+    };
+    match how {
+        FieldUse::Take(how) => Ok(how.taken(task, field)),
+        FieldUse::Change(how) => {
+            let value = how.changed(task, field);
+            match store(register, &task.entry, value, space) {
+                Ok(()) => Ok(task.at.next()),
+                Err(fault) => Err(fault),
+            }
+        }
     }
 }
 
-/// WRITE_REGISTER, WRITE_REGISTER_VALUE and STORE_VAR1.
 #[tactic(auto, using(crate::proofs::Rules::steps))]
 fn put<S: Space>(
-    instruction: Instruction,
+    value: u64,
     register: &Register,
     task: &Task,
     space: &mut S,
 ) -> Result<Configuration, SpaceFault>
     requires place { task.now.at.place < 2 ^ 63 }
-    requires kind { HasKind task.now instruction Kind.Storing }
+    requires work { HasWork task.now (StoreValue value) }
     requires register { checked task.now.entry.region ≡ Ok register.now }
     requires offset { register.now.offset < 64 }
     ensures { Attempts S.allows task.now (S.state space.old) result (S.state space.new) }
 {
-    let value = task.at.stored_by(instruction, task.given, &task.entry);
     match store(register, &task.entry, value, space) {
         Ok(()) => Ok(task.at.next()),
         Err(fault) => Err(fault),
     }
 }
 
-/// ADD_VALUE and SUBTRACT_VALUE.
-#[tactic(auto, using(crate::proofs::Rules::steps))]
-fn change<S: Space>(
-    instruction: Instruction,
-    register: &Register,
-    task: &Task,
-    space: &mut S,
-) -> Result<Configuration, SpaceFault>
-    requires place { task.now.at.place < 2 ^ 63 }
-    requires kind { HasKind task.now instruction Kind.Changing }
-    requires register { checked task.now.entry.region ≡ Ok register.now }
-    requires offset { register.now.offset < 64 }
-    ensures { Attempts S.allows task.now (S.state space.old) result (S.state space.new) }
-{
-    match read_field(register, &task.entry, space) {
-        Ok(field) => {
-            let value = changed_by(instruction, &task.entry, field);
-            match store(register, &task.entry, value, space) {
-                Ok(()) => Ok(task.at.next()),
-                Err(fault) => Err(fault),
-            }
-        }
-        Err(fault) => Err(fault),
-    }
-}
-
-/// STALL_WHILE_TRUE: one comparison, and the wait that comes before it if it is made again.
+/// One comparison, and the wait that comes before it if it is made again.
 #[tactic(auto, using(crate::proofs::Rules::steps))]
 fn compare<S: Space>(
-    instruction: Instruction,
     register: &Register,
     task: &Task,
     space: &mut S,
 ) -> Result<Configuration, SpaceFault>
     requires place { task.now.at.place < 2 ^ 63 }
-    requires kind { HasKind task.now instruction Kind.Comparing }
+    requires work { HasWork task.now CompareField }
     requires register { checked task.now.entry.region ≡ Ok register.now }
     requires offset { register.now.offset < 64 }
     ensures { Attempts S.allows task.now (S.state space.old) result (S.state space.new) }
@@ -198,14 +174,13 @@ fn wait_if_stalling<S: Space>(at: &Configuration, space: &mut S)
 /// MOVE_DATA: its length is checked and paid before a byte moves.
 #[tactic(auto, using(crate::proofs::Rules::steps))]
 fn move_data<S: Space>(
-    instruction: Instruction,
     register: &Register,
     task: &Task,
     budget: &mut Budget,
     space: &mut S,
 ) -> Result<Configuration, RunStop>
     requires place { task.now.at.place < 2 ^ 63 }
-    requires kind { HasKind task.now instruction Kind.Moving }
+    requires work { HasWork task.now MoveBytes }
     requires register { checked task.now.entry.region ≡ Ok register.now }
     requires offset { register.now.offset < 64 }
     ensures { Executes S.allows task.now budget.old (S.state space.old) result budget.new (S.state space.new) }

@@ -1,7 +1,7 @@
 use crate::{Budget, RunStop, run};
 use apei_gas::{BadRegister, Gas, Place, Width};
 use apei_space::{Ram, Space, SpaceFault, Window};
-use erst_entries::{Entry, Program};
+use erst_entries::{Action, Entry, Instruction, Program};
 use std::alloc::Global;
 use std::test::Fail;
 
@@ -9,7 +9,7 @@ use std::test::Fail;
 const WORD: u64 = 0x1000;
 
 /// An entry on a 64-bit register of memory.
-fn entry(code: u8, address: u64, value: u64) -> Entry {
+fn entry(instruction: Instruction, address: u64, value: u64) -> Entry {
     let region = Gas {
         space: 0,
         width: 64,
@@ -18,8 +18,8 @@ fn entry(code: u8, address: u64, value: u64) -> Entry {
         address,
     };
     Entry {
-        action: 8,
-        code,
+        action: Action::GetRecordIdentifier.code(),
+        code: instruction.code(),
         flags: 0,
         spare: 0,
         region,
@@ -62,7 +62,7 @@ fn played<const N: usize>(
 ) -> Result<Outcome, Fail> {
     let mut ram = memory(alloc)?;
     let mut budget = Budget::new(steps);
-    let program = Program::of(entries, 8);
+    let program = Program::of(entries, Action::GetRecordIdentifier.code());
     let answer = run(&program, 9, &mut budget, &mut ram);
     let word = match ram.look(Place::Memory(WORD), Width::B64) {
         Ok(word) => word,
@@ -76,43 +76,43 @@ fn played<const N: usize>(
     })
 }
 
-const READ: u8 = 0x00;
+const READ: Instruction = Instruction::ReadRegister;
 
-const READ_VALUE: u8 = 0x01;
+const READ_VALUE: Instruction = Instruction::ReadRegisterValue;
 
-const WRITE: u8 = 0x02;
+const WRITE: Instruction = Instruction::WriteRegister;
 
-const WRITE_VALUE: u8 = 0x03;
+const WRITE_VALUE: Instruction = Instruction::WriteRegisterValue;
 
-const NOOP: u8 = 0x04;
+const NOOP: Instruction = Instruction::Noop;
 
-const LOAD_1: u8 = 0x05;
+const LOAD_1: Instruction = Instruction::LoadVar1;
 
-const LOAD_2: u8 = 0x06;
+const LOAD_2: Instruction = Instruction::LoadVar2;
 
-const STORE_1: u8 = 0x07;
+const STORE_1: Instruction = Instruction::StoreVar1;
 
-const ADD: u8 = 0x08;
+const ADD: Instruction = Instruction::Add;
 
-const SUBTRACT: u8 = 0x09;
+const SUBTRACT: Instruction = Instruction::Subtract;
 
-const ADD_VALUE: u8 = 0x0a;
+const ADD_VALUE: Instruction = Instruction::AddValue;
 
-const SUBTRACT_VALUE: u8 = 0x0b;
+const SUBTRACT_VALUE: Instruction = Instruction::SubtractValue;
 
-const STALL: u8 = 0x0c;
+const STALL: Instruction = Instruction::Stall;
 
-const STALL_WHILE: u8 = 0x0d;
+const STALL_WHILE: Instruction = Instruction::StallWhileTrue;
 
-const SKIP: u8 = 0x0e;
+const SKIP: Instruction = Instruction::SkipNextIfTrue;
 
-const GOTO: u8 = 0x0f;
+const GOTO: Instruction = Instruction::Goto;
 
-const SOURCE: u8 = 0x10;
+const SOURCE: Instruction = Instruction::SetSourceBase;
 
-const TARGET: u8 = 0x11;
+const TARGET: Instruction = Instruction::SetTargetBase;
 
-const MOVE: u8 = 0x12;
+const MOVE: Instruction = Instruction::MoveData;
 
 #[test]
 fn each_instruction(rt: HostRuntime) -> Result<(), Fail> {
@@ -198,6 +198,7 @@ fn each_stop(rt: HostRuntime) -> Result<(), Fail> {
     let load = entry(LOAD_1, WORD + 24, 0);
     let mut nowhere = entry(READ, WORD, 0);
     nowhere.region.space = 2;
+    let unknown = Entry { code: 0x13, ..noop };
     let fault = SpaceFault::Unmapped { at: 0 };
     // Two entries and the steps; the stop, what is left of the steps, and the wait.
     let cases = [
@@ -220,7 +221,7 @@ fn each_stop(rt: HostRuntime) -> Result<(), Fail> {
             0,
         ),
         (
-            [noop, entry(0x13, 0, 0)],
+            [noop, unknown],
             10,
             RunStop::UnknownInstruction {
                 index: 1,
@@ -282,7 +283,7 @@ fn moves_are_bounded_and_paid_first(rt: HostRuntime) -> Result<(), Fail> {
         entry(LOAD_2, WORD + 24, 0),
         entry(MOVE, WORD + 32, 0),
     ];
-    let program = Program::of(&entries, 8);
+    let program = Program::of(&entries, Action::GetRecordIdentifier.code());
     // Seventy bytes take six steps in all, and move together or not at all.
     for (steps, answer, moved) in [(6, Ok(9), 7), (5, Err(RunStop::Budget), 0)] {
         let mut ram = memory(rt.alloc())?;
@@ -314,8 +315,8 @@ fn fields_and_preserved_bits(rt: HostRuntime) -> Result<(), Fail> {
         address: WORD,
     };
     let read = Entry {
-        action: 8,
-        code: READ,
+        action: Action::GetRecordIdentifier.code(),
+        code: READ.code(),
         flags: 0,
         spare: 0,
         region,
@@ -323,7 +324,7 @@ fn fields_and_preserved_bits(rt: HostRuntime) -> Result<(), Fail> {
         mask: 0xff,
     };
     let write = Entry {
-        code: WRITE,
+        code: WRITE.code(),
         ..read
     };
     let preserve = Entry { flags: 1, ..write };
@@ -336,7 +337,7 @@ fn fields_and_preserved_bits(rt: HostRuntime) -> Result<(), Fail> {
         let _ = ram.write(Place::Memory(WORD), Width::B16, 0x1234);
         let mut budget = Budget::new(1);
         let entries = [entry];
-        let program = Program::of(&entries, 8);
+        let program = Program::of(&entries, Action::GetRecordIdentifier.code());
         assert_eq!(rt; run(&program, given, &mut budget, &mut ram), Ok(answer));
         assert_eq!(rt; ram.look(Place::Memory(WORD), Width::B16), Ok(word));
     }
@@ -360,8 +361,14 @@ fn programs_of_one_entry_and_of_none(rt: HostRuntime) -> Result<(), Fail> {
         Err(RunStop::NoAction { code: 8 })
     );
     let mut ram = memory(alloc)?;
-    for action in [0x0, 0x1, 0x2, 0x3, 0xb] {
-        let program = Program::of(&[], action);
+    for action in [
+        Action::BeginWriteOperation,
+        Action::BeginReadOperation,
+        Action::BeginClearOperation,
+        Action::EndOperation,
+        Action::BeginDummyWriteOperation,
+    ] {
+        let program = Program::of(&[], action.code());
         assert_eq!(rt; run(&program, 4, &mut Budget::new(0), &mut ram), Ok(4));
     }
     Ok(())

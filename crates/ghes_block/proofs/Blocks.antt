@@ -2,15 +2,16 @@
 use Rattle.std.proofs.Common.{◌≡◌, ℕ, ◌+◌, ◌-◌, ◌<◌, ◌≤◌, ◌^◌, inl, inr, true, false, cond, List, [], ◌∷◌, ◌++◌, length, drop, map, get_or, Result, Ok, Err, refl, sym, ap, subst, ◌∙◌, arith, length-append, append_assoc}
 use Rattle.std.specs.Prelude.{◌==◌, nat_lt}
 use Rattle.std.proofs.lemmas.Bool.{cases_Bool, eqb-true, eqb-false, ltb-false, eq-eqb, ne_eqb, le-ltb, cond-true, cond-false}
-use Rattle.std.proofs.lemmas.List.{nil_from_length, take-append-drop}
-use Rattle.base_model.specs.Bytes.{part, number_at, little, spelled, joined, total, AreBytes}
+use Rattle.std.proofs.lemmas.List.{nil_from_length}
+use Rattle.base_model.specs.Bytes.{part, number_at, spelled, joined, total, AreBytes}
 use Rattle.base_model.proofs.BytesLemmas.{spelled-number_at, number_at-lt, length-part, length-part-le, part-append, part-append_left, AreBytes-part, length-joined}
-use Rattle.apei_fields.proofs.Parts.{parts, joined-parts, parts_of, number_of, part-second}
+use Rattle.apei_fields.proofs.Parts.{parts, joined-parts, parts_of, number_of, part-second, number_at-front, part-append-drop}
+use Rattle.apei_fields.proofs.Tests.{ok_unless}
 use Rattle.ghes_block.specs.declared.error.BlockError.{BlockError}
 use Rattle.ghes_block.specs.declared.error.BlockError.TheVariants.{Need, NotPublished, RawOffset}
 use Rattle.ghes_block.specs.Grammar.{BlockValue, entries_bytes, block_head, RawIs, IsBlock}
-use Rattle.ghes_block.specs.Reading.{entries_in, counted, status_at, raw_offset, raw_length, data_length, data_of, entry_count, block_of, finished, sized, judged, checked}
-use Rattle.ghes_block.proofs.Walks.{ok_unless, counts, counts_again}
+use Rattle.ghes_block.specs.Reading.{entries_in, count_in, status_at, raw_offset, raw_length, data_length, data_of, entry_count, block_of, length_if_counted, length_if_there, head_verdict, checked}
+use Rattle.ghes_block.proofs.Walks.{counts, counts_again}
 
 -- how long the block is, by its head
 abbrev pub length_by : ℕ → ℕ → ℕ → ℕ
@@ -34,28 +35,28 @@ record Judged (have status offset raw data_len : ℕ) (count : Result ℕ BlockE
   pub counted_is : (n : ℕ) × (count ≡ Ok n)
   pub len_is : length_by offset raw data_len ≡ len
 
-is_finished : (n len : ℕ) (count : Result ℕ BlockError) → finished n count ≡ Ok len → ((m : ℕ) × (count ≡ Ok m)) × (n ≡ len)
-is_finished n len (Ok m) h = ((m, refl), cc)
-is_finished n len (Err e) h = absurd (cc)
+is_counted : (n len : ℕ) (count : Result ℕ BlockError) → length_if_counted n count ≡ Ok len → ((m : ℕ) × (count ≡ Ok m)) × (n ≡ len)
+is_counted n len (Ok m) h = ((m, refl), cc)
+is_counted n len (Err e) h = absurd (cc)
 
-is_judged : (have status offset raw data_len : ℕ) (count : Result ℕ BlockError) (len : ℕ) → judged have status offset raw data_len count ≡ Ok len → Judged have status offset raw data_len count len
-unfolding judged
+is_judged : (have status offset raw data_len : ℕ) (count : Result ℕ BlockError) (len : ℕ) → head_verdict have status offset raw data_len count ≡ Ok len → Judged have status offset raw data_len count len
+unfolding head_verdict
 is_judged have status offset raw data_len count len h =
     let a = ok_unless _ _ _ _ h in
     let nonzero = eqb-false status 0 a.0 in
     elim (cases_Bool (raw == 0)) [
       | inl no_raw ↦
-          let b : sized have (20 + data_len) count ≡ Ok len = sym (cond-true (raw == 0) _ _ no_raw) ∙ a.1 in
+          let b : length_if_there have (20 + data_len) count ≡ Ok len = sym (cond-true (raw == 0) _ _ no_raw) ∙ a.1 in
           let d = ok_unless _ _ _ _ b in
-          let f = is_finished (20 + data_len) len count d.1 in
+          let f = is_counted (20 + data_len) len count d.1 in
           let size : length_by offset raw data_len ≡ 20 + data_len = cond-true (raw == 0) (20 + data_len) (offset + raw) no_raw in
           let there = ltb-false have (20 + data_len) d.0 in
           record { published = omega arith; behind = λ e. absurd (cc); there = omega arith; counted_is = f.0; len_is = size ∙ f.1 }
       | inr some ↦
-          let b : cond (nat_lt offset (20 + data_len)) (Err (RawOffset offset)) (sized have (offset + raw) count) ≡ Ok len = sym (cond-false (raw == 0) _ _ some) ∙ a.1 in
+          let b : cond (nat_lt offset (20 + data_len)) (Err (RawOffset offset)) (length_if_there have (offset + raw) count) ≡ Ok len = sym (cond-false (raw == 0) _ _ some) ∙ a.1 in
           let g = ok_unless _ _ _ _ b in
           let d = ok_unless _ _ _ _ g.1 in
-          let f = is_finished (offset + raw) len count d.1 in
+          let f = is_counted (offset + raw) len count d.1 in
           let size : length_by offset raw data_len ≡ offset + raw = cond-false (raw == 0) (20 + data_len) (offset + raw) some in
           let there = ltb-false have (offset + raw) d.0 in
           let low = ltb-false offset (20 + data_len) g.0 in
@@ -70,8 +71,8 @@ passed bytes len h =
     (record { header = ltb-false (length bytes) 20 a.0; published = j.published; behind = j.behind; there = j.there; count = j.counted_is }, j.len_is)
 
 judges : (have status offset raw data_len : ℕ) (count : Result ℕ BlockError) → Judged have status offset raw data_len count (length_by offset raw data_len)
-    → judged have status offset raw data_len count ≡ Ok (length_by offset raw data_len)
-unfolding judged
+    → head_verdict have status offset raw data_len count ≡ Ok (length_by offset raw data_len)
+unfolding head_verdict
 judges have status offset raw data_len count j =
     let published = j.published in
     let there = j.there in
@@ -79,16 +80,16 @@ judges have status offset raw data_len count j =
     ∙ elim (cases_Bool (raw == 0)) [
       | inl no_raw ↦
           let size : length_by offset raw data_len ≡ 20 + data_len = cond-true (raw == 0) (20 + data_len) (offset + raw) no_raw in
-          cond-true (raw == 0) (sized have (20 + data_len) count) _ no_raw
+          cond-true (raw == 0) (length_if_there have (20 + data_len) count) _ no_raw
           ∙ cond-false (nat_lt have (20 + data_len)) (Err (Need (20 + data_len - have))) _ (le-ltb have (20 + data_len) (omega arith))
-          ∙ ap (finished (20 + data_len)) j.counted_is.1
+          ∙ ap (length_if_counted (20 + data_len)) j.counted_is.1
           ∙ ap (λ (n : ℕ). Ok n) (sym size)
       | inr some ↦
           let size : length_by offset raw data_len ≡ offset + raw = cond-false (raw == 0) (20 + data_len) (offset + raw) some in
-          cond-false (raw == 0) (sized have (20 + data_len) count) _ some
+          cond-false (raw == 0) (length_if_there have (20 + data_len) count) _ some
           ∙ cond-false (nat_lt offset (20 + data_len)) (Err (RawOffset offset)) _ (le-ltb offset (20 + data_len) (j.behind some))
           ∙ cond-false (nat_lt have (offset + raw)) (Err (Need (offset + raw - have))) _ (le-ltb have (offset + raw) (omega arith))
-          ∙ ap (finished (offset + raw)) j.counted_is.1
+          ∙ ap (length_if_counted (offset + raw)) j.counted_is.1
           ∙ ap (λ (n : ℕ). Ok n) (sym size)
     ]
 
@@ -107,10 +108,6 @@ entries_within offset raw data_len h = elim (cases_Bool (raw == 0)) [
 ]
 
 -- bytes that follow change nothing
-number_at-front : (bytes more : List ℕ) (at n : ℕ) → at + n ≤ length bytes → number_at (bytes ++ more) at n ≡ number_at bytes at n
-unfolding number_at
-number_at-front bytes more at n h = ap little (part-append_left bytes more at n h)
-
 record SameHead (front more : List ℕ) : Type 0 where
   pub status_is : status_at (front ++ more) ≡ status_at front
   pub offset_is : raw_offset (front ++ more) ≡ raw_offset front
@@ -138,7 +135,7 @@ unfolding entry_count
 same_count front more h k =
     let same = same_head front more h in
     let content : data_of (front ++ more) ≡ data_of front = ap (part (front ++ more) 20) same.data_is ∙ part-append_left front more 20 (data_length front) k in
-    ap (λ (xs : List ℕ). counted (length xs) 0 20 xs) content
+    ap count_in content
 
 -- a block that passes among more bytes passes alone
 pub passed_front : (front more : List ℕ) → Passed (front ++ more) → block_length (front ++ more) ≡ length front → Passed front × (block_length front ≡ length front)
@@ -214,10 +211,6 @@ raw_size bytes offset n data_len len = elim (cases_Bool (n == 0)) [
   | inr some ↦ length-part bytes offset n (let e = cond-false (n == 0) (20 + data_len) (offset + n) some in omega arith)
 ]
 
-whole : (bytes : List ℕ) (n : ℕ) → part bytes 0 n ++ drop n bytes ≡ bytes
-unfolding part
-whole bytes n = take-append-drop n bytes
-
 -- a whole block is in the grammar
 pub is_block : (bytes : List ℕ) → AreBytes bytes → Passed bytes → block_length bytes ≡ length bytes → IsBlock (block_of bytes) bytes
 unfolding block_of entry_count
@@ -225,9 +218,9 @@ is_block bytes h p e =
     let n = data_length bytes in
     let low = entries_within (raw_offset bytes) (raw_length bytes) n p.behind in
     let size : length (data_of bytes) ≡ n = length-part bytes 20 n (omega arith) in
-    let c = counts (length (data_of bytes)) 0 20 p.count.0 (data_of bytes) (AreBytes-part bytes 20 n h) (omega arith) p.count.1 in
+    let c = counts (data_of bytes) p.count.0 (AreBytes-part bytes 20 n h) p.count.1 in
     let spelled_is = c.spelled_is in
-    let data_is : length (entries_bytes (entries_in (length (data_of bytes)) (data_of bytes))) ≡ n = ap length spelled_is ∙ size in
+    let data_is : length (entries_bytes (entries_in (data_of bytes))) ≡ n = ap length spelled_is ∙ size in
     let raw = raw_size bytes (raw_offset bytes) (raw_length bytes) n e in
     let long = p.header in
     let small : n < 2 ^ 32 = number_at-lt bytes 12 4 h (omega arith) in
@@ -245,12 +238,12 @@ is_block bytes h p e =
         drop (20 + n) bytes,
         number_at-lt bytes 4 4 h (omega arith),
         sym (
-            ap (λ (m : ℕ). joined (block_head (status_at bytes) (raw_offset bytes) m (length (entries_bytes (entries_in (length (data_of bytes)) (data_of bytes)))) (number_at bytes 16 4)) ++ entries_bytes (entries_in (length (data_of bytes)) (data_of bytes)) ++ drop (20 + n) bytes) raw
-            ∙ ap (λ (m : ℕ). joined (block_head (status_at bytes) (raw_offset bytes) (raw_length bytes) m (number_at bytes 16 4)) ++ entries_bytes (entries_in (length (data_of bytes)) (data_of bytes)) ++ drop (20 + n) bytes) data_is
-            ∙ ap (λ (xs : List ℕ). xs ++ entries_bytes (entries_in (length (data_of bytes)) (data_of bytes)) ++ drop (20 + n) bytes) (head_part bytes h long)
+            ap (λ (m : ℕ). joined (block_head (status_at bytes) (raw_offset bytes) m (length (entries_bytes (entries_in (data_of bytes)))) (number_at bytes 16 4)) ++ entries_bytes (entries_in (data_of bytes)) ++ drop (20 + n) bytes) raw
+            ∙ ap (λ (m : ℕ). joined (block_head (status_at bytes) (raw_offset bytes) (raw_length bytes) m (number_at bytes 16 4)) ++ entries_bytes (entries_in (data_of bytes)) ++ drop (20 + n) bytes) data_is
+            ∙ ap (λ (xs : List ℕ). xs ++ entries_bytes (entries_in (data_of bytes)) ++ drop (20 + n) bytes) (head_part bytes h long)
             ∙ ap (λ (xs : List ℕ). part bytes 0 20 ++ xs ++ drop (20 + n) bytes) spelled_is
             ∙ ap (λ (xs : List ℕ). xs ++ drop (20 + n) bytes) (part-append bytes 0 20 n)
-            ∙ whole bytes (20 + n)),
+            ∙ part-append-drop bytes (20 + n)),
         subst (λ (m : ℕ). RawIs bytes (part bytes (raw_offset bytes) (raw_length bytes)) (raw_offset bytes) m) (sym data_is) (raw_is bytes (part bytes (raw_offset bytes) (raw_length bytes)) (raw_offset bytes) (raw_length bytes) n refl raw p.behind e),
       );
     }
@@ -298,7 +291,7 @@ reads_again value bytes is =
     let all : length bytes ≡ 20 + (n + length rest) = ap length regrouped ∙ length-append (joined head) (content ++ rest) ∙ ap (λ (k : ℕ). length (joined head) + k) (length-append content rest) ∙ omega arith in
     let content_is : data_of bytes ≡ content =
     ap (part bytes 20) data_is ∙ ap (λ (xs : List ℕ). part xs 20 n) split ∙ part-append_left (joined head ++ content) rest 20 n (omega (arith, length-append (joined head) content)) ∙ part-second (joined head) content 20 n long refl in
-    let c = counts_again value.entries (length content) 0 20 content is.entries refl (omega arith) in
+    let c = counts_again value.entries content is.entries refl in
     let raw = raw_reads bytes value.raw offset n is.spelling.4 in
     let raw_part = raw.part_is in
     let size : block_length bytes ≡ length bytes =
@@ -307,7 +300,7 @@ reads_again value bytes is =
     ∙ ap (λ (k : ℕ). length_by offset (length value.raw) k) data_is
     ∙ raw.len_is in
     let published = is.published in
-    let entries : entries_in (length (data_of bytes)) (data_of bytes) ≡ value.entries = ap (λ (xs : List ℕ). entries_in (length xs) xs) content_is ∙ c.read in
+    let entries : entries_in (data_of bytes) ≡ value.entries = ap entries_in content_is ∙ c.read in
     let whole_size = sym is.size in
     record {
       passes = record {
@@ -315,7 +308,7 @@ reads_again value bytes is =
         published = subst (λ (k : ℕ). 0 < k) (sym status) published;
         behind = λ some. let b = raw.behind (ap (λ (k : ℕ). k == 0) (sym raw_is) ∙ some) in omega arith;
         there = omega arith;
-        count = (length value.entries, ap (λ (xs : List ℕ). counted (length xs) 0 20 xs) content_is ∙ c.count ∙ ap (λ (k : ℕ). Ok k) (omega arith));
+        count = (length value.entries, ap count_in content_is ∙ c.count);
       };
       length_is = size;
       value_is = rw (status, severity, entries, offset_is, raw_is, raw_part, whole_size) refl;

@@ -13,7 +13,7 @@ front_sizes = 16 ∷ 4 ∷ 2 ∷ 1 ∷ 1 ∷ 4 ∷ 16 ∷ 20 ∷ []
 
 pub front_sized : (head : EntryHead) (len : ℕ) → IsEntryHead head → map length (entry_front head len) ≡ front_sizes
 unfolding spelled
-front_sized head len is = rw (is.kind, is.fru, is.fru_text) refl
+front_sized head len is = rw (is.front.kind, is.front.fru, is.front.fru_text) refl
 
 pub length-front : (head : EntryHead) (len : ℕ) → IsEntryHead head → length (joined (entry_front head len)) ≡ 64
 length-front head len is = length-joined (entry_front head len) ∙ ap total (front_sized head len is)
@@ -82,10 +82,10 @@ reads_again entry content more is e =
     let fields : parts front_sizes 0 content ≡ entry_front head (length body) =
     parts_of (entry_front head (length body)) front_sizes (stamp ++ (body ++ more)) content (front_sized head (length body) is.head) split in
     let field = λ (k : ℕ). ap (λ (xss : List (List ℕ)). get_or xss k []) fields in
-    let severity = number_of content 16 4 head.severity (field 1) is.head.severity in
-    let revision = number_of content 20 2 head.revision (field 2) is.head.revision in
-    let validation = number_of content 22 1 head.validation (field 3) is.head.validation in
-    let flags = number_of content 23 1 head.flags (field 4) is.head.flags in
+    let severity = number_of content 16 4 head.severity (field 1) is.head.front.severity in
+    let revision = number_of content 20 2 head.revision (field 2) is.head.front.revision in
+    let validation = number_of content 22 1 head.validation (field 3) is.head.front.validation in
+    let flags = number_of content 23 1 head.flags (field 4) is.head.front.flags in
     let len = number_of content 24 4 (length body) (field 5) is.short in
     let rest = behind (is_stamped head.revision) front head.stamp body more content size is.head.stamp is.head.no_stamp e in
     let stamp_is = rest.stamp_is in
@@ -146,13 +146,15 @@ reads content h long fits =
     record {
       is_entry = record {
         head = record {
-          kind = length-part content 0 16 (omega arith);
-          severity = number_at-lt content 16 4 h (omega arith);
-          revision = number_at-lt content 20 2 h (omega arith);
-          validation = number_at-lt content 22 1 h (omega arith);
-          flags = number_at-lt content 23 1 h (omega arith);
-          fru = length-part content 28 16 (omega arith);
-          fru_text = length-part content 44 20 (omega arith);
+          front = record {
+            kind = length-part content 0 16 (omega arith);
+            severity = number_at-lt content 16 4 h (omega arith);
+            revision = number_at-lt content 20 2 h (omega arith);
+            validation = number_at-lt content 22 1 h (omega arith);
+            flags = number_at-lt content 23 1 h (omega arith);
+            fru = length-part content 28 16 (omega arith);
+            fru_text = length-part content 44 20 (omega arith);
+          };
           stamp = stamp_small b content h head_fits;
           no_stamp = no_stamp_at b content;
         };

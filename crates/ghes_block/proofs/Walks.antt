@@ -1,71 +1,64 @@
 -- The walk over a block's entries.
-use Rattle.std.proofs.Common.{◌≡◌, ℕ, zero, suc, ◌+◌, ◌<◌, ◌≤◌, inl, inr, Bool, true, false, cond, List, [], ◌∷◌, ◌++◌, length, take, drop, Result, Ok, Err, refl, sym, ap, subst, ◌∙◌, arith, length-append, length-drop}
-use Rattle.std.specs.Prelude.{All, ◌==◌, nat_lt}
-use Rattle.std.proofs.lemmas.Bool.{cases_Bool, eqb-true, eqb-false, ltb-false, lt-ltb, eq-eqb, ne_eqb, le-ltb, cond-true, cond-false}
-use Rattle.std.proofs.lemmas.List.{nil_from_length, take-append-drop, drop_at}
+use Rattle.std.proofs.Common.{◌≡◌, ℕ, ◌+◌, ◌<◌, ◌≤◌, List, [], ◌∷◌, ◌++◌, length, take, drop, Ok, Err, refl, sym, ap, ◌∙◌, arith, length-append}
+use Rattle.std.specs.Prelude.{All, nat_lt}
+use Rattle.std.proofs.lemmas.Bool.{eqb-true, eq-eqb, ne_eqb, ltb-false, lt-ltb, le-ltb, cond-true, cond-false}
+use Rattle.std.proofs.lemmas.List.{nil_from_length, drop_at}
 use Rattle.std.proofs.lemmas.List.Elements.{All-nil, All-cons, All-head, All-tail}
 use Rattle.base_model.specs.Bytes.{part, AreBytes}
-use Rattle.base_model.proofs.BytesLemmas.{AreBytes-drop}
-use Rattle.ghes_block.specs.declared.error.BlockError.{BlockError}
+use Rattle.apei_fields.specs.Walk.{AreItems}
+use Rattle.apei_fields.proofs.Tests.{ok_unless}
+use Rattle.apei_fields.proofs.Walks.{GetsOn, IsFaithful, counts as items_counted, counts_again as items_again}
 use Rattle.ghes_block.specs.declared.error.BlockError.TheVariants.{Entry, Rest}
 use Rattle.ghes_block.specs.Grammar.{EntryValue, entry_bytes, entries_bytes, IsEntry}
-use Rattle.ghes_block.specs.Reading.{entry_size, first_entry, entries_in, counted}
-use Rattle.ghes_block.proofs.EntryLaws.{reads_again, Reads, reads, entry_size-le}
+use Rattle.ghes_block.specs.Reading.{entry_size, first_entry, whole_entry_size, entry_walk, entries_in, count_in}
+use Rattle.ghes_block.proofs.EntryLaws.{reads_again, reads, entry_size-le}
 
-pub ok_unless : {A E : Type 0} (b : Bool) (x : Result A E) (e : E) (v : A) → cond b (Err e) x ≡ Ok v → (b ≡ false) × (x ≡ Ok v)
-ok_unless true x e v h = absurd (cc)
-ok_unless false x e v h = (refl, h)
+-- an entry that is whole, and the two that aren't
+pub size_whole : (index at : ℕ) (rest : List ℕ) → 64 ≤ length rest → entry_size rest ≤ length rest → whole_entry_size index at rest ≡ Ok (entry_size rest)
+unfolding whole_entry_size
+size_whole index at rest long fits =
+    cond-false (nat_lt (length rest) 64) (Err (Rest (length rest))) _ (le-ltb (length rest) 64 long)
+    ∙ cond-false (nat_lt (length rest) (entry_size rest)) (Err (Entry index at)) _ (le-ltb (length rest) (entry_size rest) fits)
 
--- what was counted is spelled so
-pub record Counts (index n : ℕ) (content : List ℕ) (entries : List EntryValue) : Type 0 where
-  pub count : n ≡ index + length entries
-  pub all : All IsEntry entries
-  pub spelled_is : entries_bytes entries ≡ content
+pub size_rest : (index at : ℕ) (rest : List ℕ) → length rest < 64 → whole_entry_size index at rest ≡ Err (Rest (length rest))
+unfolding whole_entry_size
+size_rest index at rest h = cond-true (nat_lt (length rest) 64) _ _ (lt-ltb (length rest) 64 h)
 
-none : (index n : ℕ) (content : List ℕ) → length content ≡ 0 → n ≡ index → Counts index n content []
-unfolding entries_bytes
-none index n content h e = record { count = omega arith; all = All-nil IsEntry; spelled_is = sym (nil_from_length content h) }
+pub size_entry : (index at : ℕ) (rest : List ℕ) → 64 ≤ length rest → length rest < entry_size rest → whole_entry_size index at rest ≡ Err (Entry index at)
+unfolding whole_entry_size
+size_entry index at rest long h =
+    cond-false (nat_lt (length rest) 64) (Err (Rest (length rest))) _ (le-ltb (length rest) 64 long)
+    ∙ cond-true (nat_lt (length rest) (entry_size rest)) _ _ (lt-ltb (length rest) (entry_size rest) h)
 
-one_more : (index n : ℕ) (content : List ℕ) (entries : List EntryValue) → Reads content → Counts (index + 1) n (drop (entry_size content) content) entries → Counts index n content (first_entry content ∷ entries)
-unfolding entries_bytes part
-one_more index n content entries r rest = record {
-  count = let c = rest.count in omega arith;
-  all = All-cons IsEntry (first_entry content) entries r.is_entry rest.all;
-  spelled_is =
-      ap (λ (xs : List ℕ). xs ++ entries_bytes entries) r.bytes_are
-      ∙ ap (λ (xs : List ℕ). take (entry_size content) content ++ xs) rest.spelled_is
-      ∙ take-append-drop (entry_size content) content;
+record IsWholeEntry (n : ℕ) (rest : List ℕ) : Type 0 where
+  pub long : 64 ≤ length rest
+  pub fits : entry_size rest ≤ length rest
+  pub size : entry_size rest ≡ n
+
+is_whole_entry : (index at n : ℕ) (rest : List ℕ) → whole_entry_size index at rest ≡ Ok n → IsWholeEntry n rest
+unfolding whole_entry_size
+is_whole_entry index at n rest h =
+    let a = ok_unless _ _ _ _ h in
+    let b = ok_unless _ _ _ _ a.1 in
+    record { long = ltb-false (length rest) 64 a.0; fits = ltb-false (length rest) (entry_size rest) b.0; size = cc }
+
+pub gets_on : GetsOn entry_walk
+gets_on = record {
+  empty = refl;
+  within = λ index at n rest h.
+      let w = is_whole_entry index at n rest h in
+      let low = entry_size-le rest in
+      let size = w.size in
+      let fits = w.fits in
+      (omega arith, omega arith);
 }
 
-pub counts : (most index at n : ℕ) (content : List ℕ) → AreBytes content → length content ≤ most → counted most index at content ≡ Ok n → Counts index n content (entries_in most content)
-counts zero index at n content h k e = none index n content (omega arith) (cc)
-counts (suc most) index at n content h k e = elim (cases_Bool (length content == 0)) [
-  | inl empty ↦
-      let len = eqb-true (length content) 0 empty in
-      let same : ◌≡◌ {A = Result ℕ BlockError} (Ok index) (Ok n) = sym (cond-true (length content == 0) _ _ empty) ∙ e in
-      subst (Counts index n content) (sym (cond-true (length content == 0) [] _ empty)) (none index n content len (cc))
-  | inr some ↦
-      let a : cond (nat_lt (length content) 64) (Err (Rest (length content))) (cond (nat_lt (length content) (entry_size content)) (Err (Entry index at)) (counted most (index + 1) (at + entry_size content) (drop (entry_size content) content))) ≡ Ok n =
-      sym (cond-false (length content == 0) (Ok index) _ some) ∙ e in
-      let b = ok_unless _ _ _ _ a in
-      let d = ok_unless _ _ _ _ b.1 in
-      let long = ltb-false (length content) 64 b.0 in
-      let fits = ltb-false (length content) (entry_size content) d.0 in
-      let size = entry_size-le content in
-      let less = length-drop (entry_size content) content in
-      let rest = counts most (index + 1) (at + entry_size content) n (drop (entry_size content) content) (AreBytes-drop (entry_size content) content h) (omega arith) d.1 in
-      subst (Counts index n content) (sym (cond-false (length content == 0) [] _ some))
-      (one_more index n content (entries_in most (drop (entry_size content) content)) (reads content h long fits) rest)
-]
+-- the bytes of an entry, and nothing
+IsEntryAt : ℕ → EntryValue → List ℕ → Type 0
+IsEntryAt at entry front = IsEntry entry × (front ≡ entry_bytes entry)
 
--- what is spelled so is counted
-pub record CountsAgain (most index at : ℕ) (content : List ℕ) (entries : List EntryValue) : Type 0 where
-  pub count : counted most index at content ≡ Ok (index + length entries)
-  pub read : entries_in most content ≡ entries
-
-nothing_again : (most index at : ℕ) → CountsAgain most index at [] []
-nothing_again zero index at = record { count = ap (λ (n : ℕ). Ok n) (omega arith); read = refl }
-nothing_again (suc most) index at = record { count = ap (λ (n : ℕ). Ok n) (omega arith); read = refl }
+IsNothing : List ℕ → Type 0
+IsNothing rest = rest ≡ []
 
 -- an entry and others behind it
 pub record FirstOf (entry : EntryValue) (content rest : List ℕ) : Type 0 where
@@ -89,72 +82,57 @@ first_of entry content rest is e =
       size_is = size;
     }
 
-pub counts_again : (entries : List EntryValue) (most index at : ℕ) (content : List ℕ) → All IsEntry entries → content ≡ entries_bytes entries → length content ≤ most → CountsAgain most index at content entries
-unfolding entries_bytes
-counts_again [] most index at content all e k = subst (λ (xs : List ℕ). CountsAgain most index at xs []) (sym e) (nothing_again most index at)
-counts_again (entry ∷ entries) zero index at content all e k =
-    let f = first_of entry content (entries_bytes entries) (All-head IsEntry entry entries all) e in
-    let long = f.long in absurd (omega arith)
-counts_again (entry ∷ entries) (suc most) index at content all e k =
-    let f = first_of entry content (entries_bytes entries) (All-head IsEntry entry entries all) e in
-    let long = f.long in
-    let low = entry_size-le content in
-    let less = length-drop (entry_size content) content in
-    let some : (length content == 0) ≡ false = ne_eqb (length content) 0 (λ (z : length content ≡ 0). omega arith) in
-    let rest = counts_again entries most (index + 1) (at + entry_size content) (drop (entry_size content) content) (All-tail IsEntry entry entries all) f.behind (omega arith) in
-    record {
-      count =
-          cond-false (length content == 0) (Ok index) _ some
-          ∙ cond-false (nat_lt (length content) 64) (Err (Rest (length content))) _ (le-ltb (length content) 64 long)
-          ∙ cond-false (nat_lt (length content) (entry_size content)) (Err (Entry index at)) _ (le-ltb (length content) (entry_size content) f.fits)
-          ∙ rest.count
-          ∙ ap (λ (n : ℕ). Ok n) (omega arith);
-      read =
-          cond-false (length content == 0) [] _ some
-          ∙ ap (λ (x : EntryValue). x ∷ entries_in most (drop (entry_size content) content)) f.entry_is
-          ∙ ap (λ (xs : List EntryValue). entry ∷ xs) rest.read;
-    }
+faithful : IsFaithful entry_walk IsEntryAt IsNothing
+unfolding IsEntryAt IsNothing part
+faithful = record {
+  reads = λ index at n rest each h.
+      let w = is_whole_entry index at n rest h in
+      let r = reads rest each w.long w.fits in
+      (r.is_entry, ap (λ (k : ℕ). take k rest) (sym w.size) ∙ sym r.bytes_are);
+  ends = λ rest h. nil_from_length rest (eqb-true (length rest) 0 h);
+  size_again = λ index at entry front rest is.
+      let f = first_of entry (front ++ rest) rest is.0 (ap (λ (xs : List ℕ). xs ++ rest) is.1) in
+      size_whole index at (front ++ rest) f.long f.fits ∙ ap (λ (n : ℕ). Ok n) (f.size_is ∙ ap length (sym is.1));
+  item_again = λ at entry front rest is. (first_of entry (front ++ rest) rest is.0 (ap (λ (xs : List ℕ). xs ++ rest) is.1)).entry_is;
+  goes_on = λ at entry front rest is.
+      let long = (first_of entry (front ++ rest) rest is.0 (ap (λ (xs : List ℕ). xs ++ rest) is.1)).long in
+      ne_eqb (length (front ++ rest)) 0 (λ z. omega arith);
+  ends_again = λ rest is. eq-eqb (length rest) 0 (ap length is);
+}
 
--- more steps than there are bytes change nothing
-pub enough : (most more index at : ℕ) (content : List ℕ) → length content ≤ most → length content ≤ more → counted most index at content ≡ counted more index at content
-enough zero zero index at content h k = refl
-enough zero (suc more) index at content h k = sym (cond-true (length content == 0) (Ok index) _ (eq-eqb (length content) 0 (omega arith)))
-enough (suc most) zero index at content h k = cond-true (length content == 0) (Ok index) _ (eq-eqb (length content) 0 (omega arith))
-enough (suc most) (suc more) index at content h k = elim (cases_Bool (length content == 0)) [
-  | inl empty ↦ cond-true (length content == 0) (Ok index) _ empty ∙ sym (cond-true (length content == 0) (Ok index) _ empty)
-  | inr some ↦
-      let low = entry_size-le content in
-      let less = length-drop (entry_size content) content in
-      let nonzero = eqb-false (length content) 0 some in
-      let next = enough most more (index + 1) (at + entry_size content) (drop (entry_size content) content) (omega arith) (omega arith) in
-      ap (λ (r : Result ℕ BlockError). cond (length content == 0) (Ok index) (cond (nat_lt (length content) 64) (Err (Rest (length content))) (cond (nat_lt (length content) (entry_size content)) (Err (Entry index at)) r))) next
-]
+-- entries one after another are their bytes, joined
+from_items : (at : ℕ) (entries : List EntryValue) (content : List ℕ) → AreItems IsEntryAt IsNothing at entries content → All IsEntry entries × (content ≡ entries_bytes entries)
+unfolding IsEntryAt IsNothing entries_bytes
+from_items at [] content are = (All-nil IsEntry, are)
+from_items at (entry ∷ entries) content are =
+    let rest = from_items (at + length are.0) entries are.1 are.4 in
+    (All-cons IsEntry entry entries are.3.0 rest.0, are.2 ∙ ap (λ (xs : List ℕ). xs ++ are.1) are.3.1 ∙ ap (λ (xs : List ℕ). entry_bytes entry ++ xs) rest.1)
 
--- the four ways on, from a place where entries may stand
-pub walk_done : (most index at : ℕ) (content : List ℕ) → length content ≡ 0 → counted most index at content ≡ Ok index
-walk_done zero index at content h = refl
-walk_done (suc most) index at content h = cond-true (length content == 0) (Ok index) _ (eq-eqb (length content) 0 h)
+to_items : (at : ℕ) (entries : List EntryValue) (content : List ℕ) → All IsEntry entries → content ≡ entries_bytes entries → AreItems IsEntryAt IsNothing at entries content
+unfolding IsEntryAt IsNothing entries_bytes
+to_items at [] content all e = e
+to_items at (entry ∷ entries) content all e =
+    (entry_bytes entry, entries_bytes entries, e, (All-head IsEntry entry entries all, refl), to_items (at + length (entry_bytes entry)) entries (entries_bytes entries) (All-tail IsEntry entry entries all) refl)
 
-pub walk_rest : (most index at : ℕ) (content : List ℕ) → 0 < length content → length content ≤ most → length content < 64 → counted most index at content ≡ Err (Rest (length content))
-walk_rest zero index at content some h k = absurd (omega arith)
-walk_rest (suc most) index at content some h k =
-    cond-false (length content == 0) (Ok index) _ (ne_eqb (length content) 0 (λ (z : length content ≡ 0). omega arith))
-    ∙ cond-true (nat_lt (length content) 64) _ _ (lt-ltb (length content) 64 k)
+-- what was counted is spelled so
+pub record Counts (n : ℕ) (content : List ℕ) (entries : List EntryValue) : Type 0 where
+  pub count : n ≡ length entries
+  pub all : All IsEntry entries
+  pub spelled_is : entries_bytes entries ≡ content
 
-pub walk_entry : (most index at : ℕ) (content : List ℕ) → 64 ≤ length content → length content ≤ most → length content < entry_size content → counted most index at content ≡ Err (Entry index at)
-walk_entry zero index at content some h k = absurd (omega arith)
-walk_entry (suc most) index at content some h k =
-    cond-false (length content == 0) (Ok index) _ (ne_eqb (length content) 0 (λ (z : length content ≡ 0). omega arith))
-    ∙ cond-false (nat_lt (length content) 64) (Err (Rest (length content))) _ (le-ltb (length content) 64 some)
-    ∙ cond-true (nat_lt (length content) (entry_size content)) _ _ (lt-ltb (length content) (entry_size content) k)
+pub counts : (content : List ℕ) (n : ℕ) → AreBytes content → count_in content ≡ Ok n → Counts n content (entries_in content)
+counts content n each h =
+    let c = items_counted entry_walk IsEntryAt IsNothing (length content) 0 20 n content gets_on faithful each (omega arith) h in
+    let count = c.count in
+    let are = from_items 20 (entries_in content) content c.are_items in
+    record { count = omega arith; all = are.0; spelled_is = sym are.1 }
 
-pub walk_on : (most index at : ℕ) (content : List ℕ) → 64 ≤ length content → length content ≤ most → entry_size content ≤ length content
-    → counted most index at content ≡ counted most (index + 1) (at + entry_size content) (drop (entry_size content) content)
-walk_on zero index at content some h k = absurd (omega arith)
-walk_on (suc most) index at content some h k =
-    let low = entry_size-le content in
-    let less = length-drop (entry_size content) content in
-    cond-false (length content == 0) (Ok index) _ (ne_eqb (length content) 0 (λ (z : length content ≡ 0). omega arith))
-    ∙ cond-false (nat_lt (length content) 64) (Err (Rest (length content))) _ (le-ltb (length content) 64 some)
-    ∙ cond-false (nat_lt (length content) (entry_size content)) (Err (Entry index at)) _ (le-ltb (length content) (entry_size content) k)
-    ∙ enough most (suc most) (index + 1) (at + entry_size content) (drop (entry_size content) content) (omega arith) (omega arith)
+-- what is spelled so is counted
+pub record CountsAgain (content : List ℕ) (entries : List EntryValue) : Type 0 where
+  pub count : count_in content ≡ Ok (length entries)
+  pub read : entries_in content ≡ entries
+
+pub counts_again : (entries : List EntryValue) (content : List ℕ) → All IsEntry entries → content ≡ entries_bytes entries → CountsAgain content entries
+counts_again entries content all e =
+    let c = items_again entry_walk IsEntryAt IsNothing entries (length content) 0 20 content gets_on faithful (to_items 20 entries content all e) (omega arith) in
+    record { count = c.count ∙ ap (λ (n : ℕ). Ok n) (omega arith); read = c.read }

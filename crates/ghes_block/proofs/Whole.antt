@@ -1,5 +1,5 @@
 -- The checks of a head one by one, and what a whole block's bytes hold.
-use Rattle.std.proofs.Common.{◌≡◌, ℕ, zero, suc, ◌+◌, ◌-◌, ◌<◌, ◌≤◌, ◌^◌, inl, inr, false, List, [], ◌∷◌, ◌++◌, length, take, drop, Some, Result, Ok, Err, refl, sym, ap, subst, ◌∙◌, arith, length-append, append_assoc}
+use Rattle.std.proofs.Common.{◌≡◌, ℕ, zero, suc, ◌+◌, ◌-◌, ◌<◌, ◌≤◌, ◌^◌, inl, inr, false, List, [], ◌∷◌, ◌++◌, length, take, drop, Some, Result, Ok, Err, refl, sym, ap, subst, ◌∙◌, arith, length-append, append-nil, append_assoc}
 use Rattle.std.specs.Prelude.{All, ◌==◌, nat_lt, slice_get, MatchResult}
 use Rattle.std.proofs.lemmas.Bool.{lt-ltb, eq-eqb, ne_eqb, le-ltb, cond-true, cond-false, cases_lt}
 use Rattle.std.proofs.lemmas.Result.{MatchResult-weaker}
@@ -7,13 +7,13 @@ use Rattle.std.proofs.lemmas.List.{take-append-drop, length-take, take_all}
 use Rattle.std.proofs.lemmas.List.Elements.{All-drop, All-head}
 use Rattle.base_model.specs.Bytes.{part, number_at, AreBytes}
 use Rattle.base_model.proofs.BytesLemmas.{length-part, part-part, AreBytes-part, AreBytes-take}
-use Rattle.apei_fields.proofs.Parts.{part-second}
+use Rattle.apei_fields.proofs.Parts.{part-second, number_at-front}
 use Rattle.ghes_block.specs.declared.entry.EntryHead.{EntryHead}
 use Rattle.ghes_block.specs.declared.error.BlockError.{BlockError}
 use Rattle.ghes_block.specs.declared.error.BlockError.TheVariants.{Need, NotPublished, RawOffset}
 use Rattle.ghes_block.specs.Grammar.{EntryValue, BlockValue, entry_bytes, entries_bytes, IsEntry, IsBlock}
-use Rattle.ghes_block.specs.Reading.{head_size, entry_size, entry_head_at, first_entry, counted, status_at, raw_offset, raw_length, data_length, data_of, entry_count, block_of, sized, judged, checked, IsWhole, IsReadBlock}
-use Rattle.ghes_block.specs.Entries.{place_of, IsPlace, EntryAt, RestAt}
+use Rattle.ghes_block.specs.Reading.{head_size, entry_size, entry_head_at, first_entry, count_in, status_at, raw_offset, raw_length, data_length, data_of, entry_count, block_of, length_if_there, head_verdict, checked, IsWhole, IsReadBlock}
+use Rattle.ghes_block.specs.Entries.{place_of, HasHead, IsPlace, EntryAt, RestAt}
 use Rattle.ghes_block.proofs.Walks.{counts, first_of}
 use Rattle.ghes_block.proofs.Blocks.{Passed, passed, passes, block_length, passed_front, same_count, entries_within, is_block, found_again, reads_again}
 
@@ -21,52 +21,52 @@ pub at_short : (bytes : List ℕ) → length bytes < 20 → checked bytes ≡ Er
 unfolding checked
 at_short bytes h = cond-true (nat_lt (length bytes) 20) _ _ (lt-ltb (length bytes) 20 h)
 
-long : (bytes : List ℕ) → 20 ≤ length bytes → checked bytes ≡ judged (length bytes) (status_at bytes) (raw_offset bytes) (raw_length bytes) (data_length bytes) (entry_count bytes)
+long : (bytes : List ℕ) → 20 ≤ length bytes → checked bytes ≡ head_verdict (length bytes) (status_at bytes) (raw_offset bytes) (raw_length bytes) (data_length bytes) (entry_count bytes)
 unfolding checked
 long bytes h = cond-false (nat_lt (length bytes) 20) (Err (Need (20 - length bytes))) _ (le-ltb (length bytes) 20 h)
 
 pub at_zero : (bytes : List ℕ) → 20 ≤ length bytes → status_at bytes ≡ 0 → checked bytes ≡ Err NotPublished
-unfolding judged
+unfolding head_verdict
 at_zero bytes h k = long bytes h ∙ cond-true (status_at bytes == 0) _ _ (eq-eqb (status_at bytes) 0 k)
 
 published : (bytes : List ℕ) → (status_at bytes ≡ 0 → ⊥) → (status_at bytes == 0) ≡ false
 published bytes h = ne_eqb (status_at bytes) 0 h
 
-pub at_no_raw : (bytes : List ℕ) → 20 ≤ length bytes → (status_at bytes ≡ 0 → ⊥) → raw_length bytes ≡ 0 → checked bytes ≡ sized (length bytes) (20 + data_length bytes) (entry_count bytes)
-unfolding judged
+pub at_no_raw : (bytes : List ℕ) → 20 ≤ length bytes → (status_at bytes ≡ 0 → ⊥) → raw_length bytes ≡ 0 → checked bytes ≡ length_if_there (length bytes) (20 + data_length bytes) (entry_count bytes)
+unfolding head_verdict
 at_no_raw bytes h k none =
     long bytes h
     ∙ cond-false (status_at bytes == 0) (Err NotPublished) _ (published bytes k)
     ∙ cond-true (raw_length bytes == 0) _ _ (eq-eqb (raw_length bytes) 0 none)
 
 pub at_raw_offset : (bytes : List ℕ) → 20 ≤ length bytes → (status_at bytes ≡ 0 → ⊥) → (raw_length bytes ≡ 0 → ⊥) → raw_offset bytes < 20 + data_length bytes → checked bytes ≡ Err (RawOffset (raw_offset bytes))
-unfolding judged
+unfolding head_verdict
 at_raw_offset bytes h k some low =
     long bytes h
     ∙ cond-false (status_at bytes == 0) (Err NotPublished) _ (published bytes k)
-    ∙ cond-false (raw_length bytes == 0) (sized (length bytes) (20 + data_length bytes) (entry_count bytes)) _ (ne_eqb (raw_length bytes) 0 some)
+    ∙ cond-false (raw_length bytes == 0) (length_if_there (length bytes) (20 + data_length bytes) (entry_count bytes)) _ (ne_eqb (raw_length bytes) 0 some)
     ∙ cond-true (nat_lt (raw_offset bytes) (20 + data_length bytes)) _ _ (lt-ltb (raw_offset bytes) (20 + data_length bytes) low)
 
-pub at_raw : (bytes : List ℕ) → 20 ≤ length bytes → (status_at bytes ≡ 0 → ⊥) → (raw_length bytes ≡ 0 → ⊥) → 20 + data_length bytes ≤ raw_offset bytes → checked bytes ≡ sized (length bytes) (raw_offset bytes + raw_length bytes) (entry_count bytes)
-unfolding judged
+pub at_raw : (bytes : List ℕ) → 20 ≤ length bytes → (status_at bytes ≡ 0 → ⊥) → (raw_length bytes ≡ 0 → ⊥) → 20 + data_length bytes ≤ raw_offset bytes → checked bytes ≡ length_if_there (length bytes) (raw_offset bytes + raw_length bytes) (entry_count bytes)
+unfolding head_verdict
 at_raw bytes h k some high =
     long bytes h
     ∙ cond-false (status_at bytes == 0) (Err NotPublished) _ (published bytes k)
-    ∙ cond-false (raw_length bytes == 0) (sized (length bytes) (20 + data_length bytes) (entry_count bytes)) _ (ne_eqb (raw_length bytes) 0 some)
+    ∙ cond-false (raw_length bytes == 0) (length_if_there (length bytes) (20 + data_length bytes) (entry_count bytes)) _ (ne_eqb (raw_length bytes) 0 some)
     ∙ cond-false (nat_lt (raw_offset bytes) (20 + data_length bytes)) (Err (RawOffset (raw_offset bytes))) _ (le-ltb (raw_offset bytes) (20 + data_length bytes) high)
 
 -- what a call for a length and a data length answered
-pub answered : (bytes : List ℕ) (size data_len : ℕ) (r : Result (ℕ × ℕ) BlockError) → data_len ≡ data_length bytes → checked bytes ≡ sized (length bytes) size (entry_count bytes)
-    → MatchResult r (λ x. (sized (length bytes) size (counted (length (part bytes 20 data_len)) 0 20 (part bytes 20 data_len)) ≡ Ok x.0) × (counted (length (part bytes 20 data_len)) 0 20 (part bytes 20 data_len) ≡ Ok x.1))
-    (λ e. sized (length bytes) size (counted (length (part bytes 20 data_len)) 0 20 (part bytes 20 data_len)) ≡ Err e)
+pub answered : (bytes : List ℕ) (size data_len : ℕ) (r : Result (ℕ × ℕ) BlockError) → data_len ≡ data_length bytes → checked bytes ≡ length_if_there (length bytes) size (entry_count bytes)
+    → MatchResult r (λ x. (length_if_there (length bytes) size (count_in (part bytes 20 data_len)) ≡ Ok x.0) × (count_in (part bytes 20 data_len) ≡ Ok x.1))
+    (λ e. length_if_there (length bytes) size (count_in (part bytes 20 data_len)) ≡ Err e)
     → MatchResult r (λ x. (checked bytes ≡ Ok x.0) × (entry_count bytes ≡ Ok x.1)) (λ e. checked bytes ≡ Err e)
 unfolding entry_count
 answered bytes size data_len r e is h =
-    let count : counted (length (part bytes 20 data_len)) 0 20 (part bytes 20 data_len) ≡ counted (length (data_of bytes)) 0 20 (data_of bytes) =
-    ap (λ (n : ℕ). counted (length (part bytes 20 n)) 0 20 (part bytes 20 n)) e in
+    let count : count_in (part bytes 20 data_len) ≡ count_in (data_of bytes) =
+    ap (λ (n : ℕ). count_in (part bytes 20 n)) e in
     MatchResult-weaker r h
-    (λ x p. (is ∙ ap (sized (length bytes) size) (sym count) ∙ p.0, sym count ∙ p.1))
-    (λ y p. is ∙ ap (sized (length bytes) size) (sym count) ∙ p)
+    (λ x p. (is ∙ ap (length_if_there (length bytes) size) (sym count) ∙ p.0, sym count ∙ p.1))
+    (λ y p. is ∙ ap (length_if_there (length bytes) size) (sym count) ∙ p)
 
 -- the front that passed is a whole block
 pub record Front (bytes : List ℕ) (len count : ℕ) : Type 0 where
@@ -93,6 +93,28 @@ front bytes len count each h k =
         are_bytes = AreBytes-take len bytes each;
       };
     }
+
+-- its head is there
+pub head_there : (bytes : List ℕ) (len : ℕ) → checked bytes ≡ Ok len → HasHead bytes (block_of (take len bytes)) len
+unfolding block_of
+head_there bytes len h =
+    let p = passed bytes len h in
+    let low = entries_within (raw_offset bytes) (raw_length bytes) (data_length bytes) p.0.behind in
+    let len_is = p.1 in
+    let there = p.0.there in
+    let size : length (take len bytes) ≡ len = length-take len bytes ∙ omega arith in
+    let same : status_at (take len bytes) ≡ status_at bytes =
+    sym (number_at-front (take len bytes) (drop len bytes) 0 4 (omega arith)) ∙ ap (λ (xs : List ℕ). number_at xs 0 4) (take-append-drop len bytes) in
+    record { long = omega arith; size_is = size; status_is = same; published = subst (λ (n : ℕ). 0 < n) (sym same) p.0.published }
+
+-- so has every block
+pub block_has_head : (value : BlockValue) (bytes : List ℕ) → IsBlock value bytes → HasHead bytes value (length bytes)
+block_has_head value bytes is =
+    let again = found_again value bytes [] is in
+    let all : bytes ++ [] ≡ bytes = append-nil bytes in
+    let found : checked bytes ≡ Ok (length bytes) = ap checked (sym all) ∙ again in
+    let same : block_of (take (length bytes) bytes) ≡ value = ap block_of (take_all (length bytes) bytes (omega arith)) ∙ (reads_again value bytes is).value_is in
+    subst (λ (v : BlockValue). HasHead bytes v (length bytes)) same (head_there bytes (length bytes) found)
 
 pub whole_block : (bytes : List ℕ) → AreBytes bytes → IsWhole bytes → IsBlock (block_of bytes) bytes
 whole_block bytes h w = let p = passed bytes (length bytes) w in is_block bytes h p.0 p.1
@@ -134,8 +156,7 @@ whole bytes count w =
     let len_is = p.1 in
     let low = entries_within (raw_offset bytes) (raw_length bytes) (data_length bytes) p.0.behind in
     let size : length (data_of bytes) ≡ data_length bytes = length-part bytes 20 (data_length bytes) (omega arith) in
-    let c = counts (length (data_of bytes)) 0 20 count (data_of bytes) (AreBytes-part bytes 20 (data_length bytes) h) (omega arith) w.counted_is in
-    let n_is = c.count in
+    let c = counts (data_of bytes) count (AreBytes-part bytes 20 (data_length bytes) h) w.counted_is in
     record {
       header = p.0.header;
       content_fits = omega arith;
@@ -144,7 +165,7 @@ whole bytes count w =
       severity_is = refl;
       size_is = refl;
       raw_is = refl;
-      count_is = omega arith;
+      count_is = c.count;
       all = c.all;
       spelled_is = c.spelled_is;
     }

@@ -1,17 +1,18 @@
 -- A block while it is written: its beginning, one entry more, its end.
-use Rattle.std.proofs.Common.{◌≡◌, ℕ, ◌+◌, ◌-◌, ◌<◌, ◌≤◌, ◌^◌, Bool, true, false, cond, List, [], ◌∷◌, ◌++◌, length, take, drop, refl, sym, ap, subst, ◌∙◌, arith, length-append, append_assoc}
+use Rattle.std.proofs.Common.{◌≡◌, ℕ, ◌+◌, ◌-◌, ◌<◌, ◌≤◌, ◌^◌, Bool, true, false, cond, List, [], ◌∷◌, ◌++◌, length, take, drop, get_or, refl, sym, ap, subst, ◌∙◌, arith, length-append, append_assoc}
 use Rattle.std.specs.Prelude.{◌==◌}
 use Rattle.std.proofs.lemmas.Bool.{ne_eqb, cond-false}
 use Rattle.std.proofs.lemmas.List.{length-take, drop-drop, append-nil}
 use Rattle.std.proofs.lemmas.List.Elements.{All-nil, All-push}
-use Rattle.base_model.specs.Bytes.{part, joined, SameOutside}
+use Rattle.base_model.specs.Bytes.{part, spelled, joined, SameOutside}
 use Rattle.base_model.proofs.BytesLemmas.{part-append, part-part, part-before, part-after}
 use Rattle.apei_fields.specs.Writing.{Wrote}
+use Rattle.apei_fields.proofs.Parts.{parts, parts-joined, number_of, part-take}
 use Rattle.apei_fields.proofs.Puts.{wrote_there, wrote_others, wrote_then}
 use Rattle.ghes_block.specs.declared.entry.EntryHead.{EntryHead}
-use Rattle.ghes_block.specs.Grammar.{EntryValue, BlockValue, is_stamped, entry_front, stamp_bytes, entry_bytes, entries_bytes, block_head, RawIs, IsEntryHead, IsEntry, IsBlock}
-use Rattle.ghes_block.specs.Writer.{entry_length, offset_for, FrontFits, Writing}
-use Rattle.ghes_block.proofs.Blocks.{length-head}
+use Rattle.ghes_block.specs.Grammar.{EntryValue, is_stamped, entry_front, stamp_bytes, entry_bytes, entries_bytes, block_head, RawIs, IsEntry}
+use Rattle.ghes_block.specs.Writer.{entry_length, offset_for, Writing, IsWritten}
+use Rattle.ghes_block.proofs.Blocks.{length-head, head_sizes, head_sized}
 
 -- the head, the timestamp and the data of an entry
 pub wrote_entry : (a b c d : List ℕ) (at m n end : ℕ) (head : EntryHead) (body : List ℕ) → Wrote a b at m (joined (entry_front head (length body))) → Wrote b c m n (stamp_bytes (is_stamped head.revision) head.stamp) → Wrote c d n end body
@@ -20,19 +21,6 @@ unfolding entry_bytes
 wrote_entry a b c d at m n end head body x y z =
     wrote_then a c d at n end (joined (entry_front head (length body)) ++ stamp_bytes (is_stamped head.revision) head.stamp) body
     (wrote_then a b c at m n (joined (entry_front head (length body))) (stamp_bytes (is_stamped head.revision) head.stamp) x y) z
-
-pub head_fits : (head : EntryHead) → FrontFits head → head.stamp < 2 ^ 64 → (is_stamped head.revision ≡ false → head.stamp ≡ 0) → IsEntryHead head
-head_fits head f small none = record {
-  kind = f.kind;
-  severity = f.severity;
-  revision = f.revision;
-  validation = f.validation;
-  flags = f.flags;
-  fru = f.fru;
-  fru_text = f.fru_text;
-  stamp = small;
-  no_stamp = none;
-}
 
 entries_bytes-push : (given : List EntryValue) (entry : EntryValue) → entries_bytes (given ++ entry ∷ []) ≡ entries_bytes given ++ entry_bytes entry
 unfolding entries_bytes
@@ -99,9 +87,6 @@ front_is : (bytes : List ℕ) (n : ℕ) → take n bytes ≡ part bytes 0 n
 unfolding part
 front_is bytes n = refl
 
-within : (bytes : List ℕ) (size at n : ℕ) → at + n ≤ size → part (take size bytes) at n ≡ part bytes at n
-within bytes size at n h = ap (λ (xs : List ℕ). part xs at n) (front_is bytes size) ∙ part-part bytes 0 size at n h ∙ ap (λ (k : ℕ). part bytes k n) (omega arith)
-
 later : (xs ys : List ℕ) (n : ℕ) → drop (0 + 20) xs ≡ drop (0 + 20) ys → 20 ≤ n → drop n xs ≡ drop n ys
 later xs ys n e h =
     let split : 0 + 20 + (n - 20) ≡ n = omega arith in
@@ -112,13 +97,9 @@ later xs ys n e h =
     ∙ ap (λ (k : ℕ). drop k ys) split
 
 -- the block is whole
-pub record Finished (before now : List ℕ) (value : BlockValue) (size : ℕ) : Type 0 where
-  pub is_block : IsBlock value (take size now)
-  pub after : drop size now ≡ drop size before
-
 pub ends : (before a b c : List ℕ) (given : List EntryValue) (end size status severity : ℕ) (raw : List ℕ) → Writing before a given end → 0 < status → status < 2 ^ 32 → severity < 2 ^ 32 → end + length raw < 2 ^ 32 → size ≡ end + length raw
     → Wrote a b 0 20 (joined (block_head status (offset_for (length raw) end) (length raw) (end - 20) severity)) → Wrote b c end (end + length raw) raw
-    → Finished before c (record { status = status; severity = severity; entries = given; raw = raw; size = size }) size
+    → IsWritten (record { status = status; severity = severity; entries = given; raw = raw; size = size }) end before c
 ends before a b c given end size status severity raw w published small_status small_severity short size_is head put =
     let n = length (entries_bytes given) in
     let r = length raw in
@@ -158,9 +139,14 @@ ends before a b c given end size status severity raw w published small_status sm
           raw,
           offset_small r end (omega arith),
           whole ∙ ap (λ (k : ℕ). joined (block_head status (offset_for r end) r k severity) ++ entries_bytes given ++ raw) data_is,
-          raw_put (take size c) raw end n (omega arith) (taken ∙ size_is) (within c size end r (omega arith) ∙ raw_is),
+          raw_put (take size c) raw end n (omega arith) (taken ∙ size_is) (part-take c size end r (omega arith) ∙ raw_is),
         );
       };
+      raw_offset =
+          let offset : parts head_sizes 0 (joined fields ++ []) ≡ fields = parts-joined head_sizes fields [] (head_sized status (offset_for r end) r (end - 20) severity) in
+          let there : part c 4 4 ≡ spelled 4 (offset_for r end) =
+          sym (part-part c 0 20 4 4 (omega arith)) ∙ ap (λ (xs : List ℕ). part xs 4 4) (head_is ∙ sym (append-nil (joined fields))) ∙ ap (λ (xss : List (List ℕ)). get_or xss 1 []) offset in
+          number_of c 4 4 (offset_for r end) there (offset_small r end (omega arith));
       after =
           ap (λ (k : ℕ). drop k c) size_is
           ∙ bc.after

@@ -1,11 +1,19 @@
 -- The entries of a block and their places.
 use Rattle.std.specs.Prelude.{◌≡◌, ℕ, ◌+◌, ◌≤◌, ◌<◌, ◌^◌, List, length, take, slice_get, Some}
 use Rattle.ghes_block.specs.declared.entry.DataEntry.{DataEntry}
-use Rattle.ghes_block.specs.Grammar.{EntryValue, entries_bytes}
+use Rattle.base_model.specs.Bytes.{number_at}
+use Rattle.ghes_block.specs.Grammar.{EntryValue, BlockValue, entries_bytes}
 use Rattle.ghes_block.specs.Reading.{entry_size, first_entry}
 
 abbrev pub value_of : DataEntry → EntryValue
 value_of entry = record { head = entry.head; body = entry.body.now }
+
+-- the bytes begin with this block, all of whose head is there: the first number is its status, which isn't 0
+pub record HasHead (bytes : List ℕ) (block : BlockValue) (size : ℕ) : Type 0 where
+  pub long : 20 ≤ size
+  pub size_is : block.size ≡ size
+  pub status_is : block.status ≡ number_at bytes 0 4
+  pub published : 0 < block.status
 
 -- where the entry of an index begins, and where the last one ends
 abbrev pub place_of : List EntryValue → ℕ → ℕ

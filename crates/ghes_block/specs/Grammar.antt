@@ -44,8 +44,8 @@ entry_bytes entry = joined (entry_front entry.head (length entry.body)) ++ stamp
 unfoldable pub entries_bytes : List EntryValue → List ℕ
 entries_bytes entries = flat_map entry_bytes entries
 
--- each number of an entry fits its field, and each array has its length
-pub record IsEntryHead (head : EntryHead) : Type 0 where
+-- each number of an entry's head fits its field, and each array has its length, but for the timestamp
+pub record FrontFits (head : EntryHead) : Type 0 where
   pub kind : length head.kind ≡ 16
   pub severity : head.severity < 2 ^ 32
   pub revision : head.revision < 2 ^ 16
@@ -53,6 +53,10 @@ pub record IsEntryHead (head : EntryHead) : Type 0 where
   pub flags : head.flags < 2 ^ 8
   pub fru : length head.fru ≡ 16
   pub fru_text : length head.fru_text ≡ 20
+
+-- so does the timestamp, which is 0 where the entry has none
+pub record IsEntryHead (head : EntryHead) : Type 0 where
+  pub front : FrontFits head
   pub stamp : head.stamp < 2 ^ 64
   pub no_stamp : is_stamped head.revision ≡ false → head.stamp ≡ 0
 

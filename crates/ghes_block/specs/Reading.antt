@@ -1,6 +1,7 @@
 -- What is read at the front of bytes, and why nothing is.
-use Rattle.std.specs.Prelude.{◌≡◌, ℕ, zero, suc, ◌+◌, ◌-◌, List, [], ◌∷◌, length, drop, Bool, ◌==◌, nat_lt, if◌then◌else◌, Result, Ok, Err}
+use Rattle.std.specs.Prelude.{◌≡◌, ℕ, ◌+◌, ◌-◌, List, length, Bool, ◌==◌, nat_lt, if◌then◌else◌, Result, Ok, Err}
 use Rattle.base_model.specs.Bytes.{part, number_at, AreBytes}
+use Rattle.apei_fields.specs.Walk.{Walk, items_in, item_count}
 use Rattle.ghes_block.specs.declared.entry.EntryHead.{EntryHead}
 use Rattle.ghes_block.specs.declared.error.BlockError.{BlockError}
 use Rattle.ghes_block.specs.declared.error.BlockError.TheVariants.{Need, NotPublished, RawOffset, Entry, Rest}
@@ -32,19 +33,23 @@ entry_head_at bytes = record {
 unfoldable pub first_entry : List ℕ → EntryValue
 first_entry bytes = record { head = entry_head_at bytes; body = part bytes (head_size bytes) (number_at bytes 24 4) }
 
--- the entries of a block's data, as many as there are at most
-abbrev pub entries_in : ℕ → List ℕ → List EntryValue
-entries_in zero content = []
-entries_in (suc most) content = if length content == 0 then [] else first_entry content ∷ entries_in most (drop (entry_size content) content)
+-- how long the whole entry is that stands first, by its index and place in the block, or why there is none
+unfoldable pub whole_entry_size : ℕ → ℕ → List ℕ → Result ℕ BlockError
+whole_entry_size index at rest =
+    if nat_lt (length rest) 64 then Err (Rest (length rest))
+    else if nat_lt (length rest) (entry_size rest) then Err (Entry index at)
+    else Ok (entry_size rest)
 
--- how many entries there are, of which the next has this index and place, or the first fault
-abbrev pub counted : ℕ → ℕ → ℕ → List ℕ → Result ℕ BlockError
-counted zero index at content = Ok index
-counted (suc most) index at content =
-    if length content == 0 then Ok index
-    else if nat_lt (length content) 64 then Err (Rest (length content))
-    else if nat_lt (length content) (entry_size content) then Err (Entry index at)
-    else counted most (index + 1) (at + entry_size content) (drop (entry_size content) content)
+-- how entries are read one after another
+abbrev pub entry_walk : Walk EntryValue BlockError
+entry_walk = record { ends = λ rest. length rest == 0; size = whole_entry_size; item = λ at rest len. first_entry rest }
+
+-- the entries of a block's data, which begins at 20, and how many there are, or the first fault
+abbrev pub entries_in : List ℕ → List EntryValue
+entries_in content = items_in entry_walk (length content) 0 20 content
+
+abbrev pub count_in : List ℕ → Result ℕ BlockError
+count_in content = item_count entry_walk (length content) 0 20 content
 
 -- the numbers of a block's head
 abbrev pub status_at : List ℕ → ℕ
@@ -63,39 +68,39 @@ abbrev pub data_of : List ℕ → List ℕ
 data_of bytes = part bytes 20 (data_length bytes)
 
 unfoldable pub entry_count : List ℕ → Result ℕ BlockError
-entry_count bytes = counted (length (data_of bytes)) 0 20 (data_of bytes)
+entry_count bytes = count_in (data_of bytes)
 
 -- the block that the bytes are
 unfoldable pub block_of : List ℕ → BlockValue
 block_of bytes = record {
   status = status_at bytes;
   severity = number_at bytes 16 4;
-  entries = entries_in (length (data_of bytes)) (data_of bytes);
+  entries = entries_in (data_of bytes);
   raw = part bytes (raw_offset bytes) (raw_length bytes);
   size = length bytes;
 }
 
 -- the length where the entries have no fault
-abbrev pub finished : ℕ → Result ℕ BlockError → Result ℕ BlockError
-finished len (Ok count) = Ok len
-finished len (Err error) = Err error
+abbrev pub length_if_counted : ℕ → Result ℕ BlockError → Result ℕ BlockError
+length_if_counted len (Ok count) = Ok len
+length_if_counted len (Err error) = Err error
 
-abbrev pub sized : ℕ → ℕ → Result ℕ BlockError → Result ℕ BlockError
-sized have len count = if nat_lt have len then Err (Need (len - have)) else finished len count
+abbrev pub length_if_there : ℕ → ℕ → Result ℕ BlockError → Result ℕ BlockError
+length_if_there have len count = if nat_lt have len then Err (Need (len - have)) else length_if_counted len count
 
 -- the checks of a head, in their order
-unfoldable pub judged : ℕ → ℕ → ℕ → ℕ → ℕ → Result ℕ BlockError → Result ℕ BlockError
-judged have status offset raw data_len count =
+unfoldable pub head_verdict : ℕ → ℕ → ℕ → ℕ → ℕ → Result ℕ BlockError → Result ℕ BlockError
+head_verdict have status offset raw data_len count =
     if status == 0 then Err NotPublished
-    else if raw == 0 then sized have (20 + data_len) count
+    else if raw == 0 then length_if_there have (20 + data_len) count
     else if nat_lt offset (20 + data_len) then Err (RawOffset offset)
-    else sized have (offset + raw) count
+    else length_if_there have (offset + raw) count
 
 -- the length of the block that the bytes begin with, or the first check that fails
 unfoldable pub checked : List ℕ → Result ℕ BlockError
 checked bytes =
     if nat_lt (length bytes) 20 then Err (Need (20 - length bytes))
-    else judged (length bytes) (status_at bytes) (raw_offset bytes) (raw_length bytes) (data_length bytes) (entry_count bytes)
+    else head_verdict (length bytes) (status_at bytes) (raw_offset bytes) (raw_length bytes) (data_length bytes) (entry_count bytes)
 
 -- the bytes are one block, all of them
 abbrev pub IsWhole : List ℕ → Type 0

@@ -1,10 +1,10 @@
 -- A block while it is written.
-use Rattle.std.specs.Prelude.{◌≡◌, ℕ, ◌+◌, ◌^◌, ◌<◌, ◌≤◌, ◌==◌, if◌then◌else◌, List, length, drop, All}
+use Rattle.std.specs.Prelude.{◌≡◌, ℕ, ◌+◌, ◌^◌, ◌<◌, ◌≤◌, ◌==◌, if◌then◌else◌, List, length, take, drop, All}
 use Rattle.std.specs.Borrow.{GName}
-use Rattle.base_model.specs.Bytes.{part}
+use Rattle.base_model.specs.Bytes.{part, number_at}
 use Rattle.ghes_block.specs.declared.entry.EntryHead.{EntryHead}
 use Rattle.ghes_block.specs.declared.writer.BlockWriter.{BlockWriter}
-use Rattle.ghes_block.specs.Grammar.{EntryValue, BlockValue, is_stamped, entries_bytes, IsEntry}
+use Rattle.ghes_block.specs.Grammar.{EntryValue, BlockValue, is_stamped, entries_bytes, IsEntry, IsBlock}
 
 -- how many bytes a writer has for the block, and how many of them are in use
 abbrev pub room_of : BlockWriter → ℕ
@@ -30,8 +30,8 @@ stamp_size revision = if is_stamped revision then 8 else 0
 abbrev pub entry_length : EntryHead → ℕ → ℕ
 entry_length head len = (if is_stamped head.revision then 72 else 64) + len
 
--- it stands behind the head, within its room, with a status
-pub record IsReady (writer : BlockWriter) : Type 0 where
+-- a writer that stands behind the head, within its room, with a status
+pub record IsBlockWriter (writer : BlockWriter) : Type 0 where
   pub behind : 20 ≤ writer.end
   pub room : writer.end ≤ length writer.out.now
   pub short : writer.end < 2 ^ 32
@@ -56,7 +56,7 @@ pub record Writing (before now : List ℕ) (given : List EntryValue) (end : ℕ)
 abbrev pub IsWriting : List ℕ → List EntryValue → BlockWriter → Type 0
 IsWriting before given writer = Writing before writer.out.now given writer.end
 
--- the block of these entries and this raw data
+-- the block of these entries and this raw data, which the writer leaves
 abbrev pub written_block : BlockWriter → List EntryValue → List ℕ → ℕ → BlockValue
 written_block writer given raw size = record { status = writer.status; severity = writer.severity; entries = given; raw = raw; size = size }
 
@@ -64,12 +64,9 @@ written_block writer given raw size = record { status = writer.status; severity 
 abbrev pub offset_for : ℕ → ℕ → ℕ
 offset_for raw_length end = if raw_length == 0 then 0 else end
 
--- the fields of an entry's head fit, but for the timestamp
-pub record FrontFits (head : EntryHead) : Type 0 where
-  pub kind : length head.kind ≡ 16
-  pub severity : head.severity < 2 ^ 32
-  pub revision : head.revision < 2 ^ 16
-  pub validation : head.validation < 2 ^ 8
-  pub flags : head.flags < 2 ^ 8
-  pub fru : length head.fru ≡ 16
-  pub fru_text : length head.fru_text ≡ 20
+-- the first bytes are this block, whose raw data stands at the entries' end, with the offset 0 where there is none; the others are
+-- as before
+pub record IsWritten (block : BlockValue) (end : ℕ) (before now : List ℕ) : Type 0 where
+  pub is_block : IsBlock block (take block.size now)
+  pub raw_offset : number_at now 4 4 ≡ offset_for (length block.raw) end
+  pub after : drop block.size now ≡ drop block.size before

@@ -2,8 +2,8 @@
 ghost use Rattle.std.specs.Prelude.{◌≡◌, ℕ, ◌+◌, ◌-◌, ◌*◌, ◌^◌, ◌<◌, ◌≤◌, ◌++◌, List, [], length, take, Ok, Err, IfOk, IfSome, IsOkAnd, MatchResult, MatchOption};
 ghost use Rattle.base_model.specs.Bytes.{part};
 ghost use Rattle.ghes_block.specs.Grammar.{BlockValue, IsBlock};
-ghost use Rattle.ghes_block.specs.Reading.{checked, counted, sized, entry_count};
-ghost use Rattle.ghes_block.specs.Entries.{value_of, place_of, IsPlace, EntryAt, RestAt};
+ghost use Rattle.ghes_block.specs.Reading.{checked, whole_entry_size, count_in, length_if_there, entry_count};
+ghost use Rattle.ghes_block.specs.Entries.{value_of, place_of, HasHead, IsPlace, EntryAt, RestAt};
 
 use crate::entry::{DataEntry, HEAD, size_of_entry};
 use crate::error::BlockError;
@@ -33,28 +33,36 @@ impl<'a> Model for Block<'a> {
     ghost invariant = { λ b. IsReadBlock b.bytes.now b.entries };
 }
 
+/// The length of the entry that stands first, which has this index and place in its block.
+#[tactic(auto, using(std::proofs::lemmas::Bool::Decides::nat_tests), unfolding(crate::specs::Reading::whole_entry_size))]
+fn whole_entry_size(rest: &[u8], index: u32, at: usize) -> Result<usize, BlockError>
+    ensures exact { result ≡ whole_entry_size index at rest.now }
+    ensures within { IfOk result (λ size. (64 ≤ size) × (size ≤ length rest.now)) }
+{
+    if rest.len() < HEAD {
+        return Err(BlockError::Rest {
+            bytes: rest.len() as u64,
+        });
+    }
+    let size = size_of_entry(rest);
+    if rest.len() < size {
+        return Err(BlockError::Entry {
+            index: u64::from(index),
+            at: at as u64,
+        });
+    }
+    Ok(size)
+}
+
 /// How many entries there are in a block's data.
 fn count_entries(content: &[u8]) -> Result<u32, BlockError>
     requires { length content.now < 2 ^ 32 }
-    ensures { result ≡ counted (length content.now) 0 20 content.now }
+    ensures { result ≡ count_in content.now }
 {
     let mut at = 0;
     let mut index: u32 = 0;
     while at < content.len() {
-        let rest = &content[at..];
-        if rest.len() < HEAD {
-            return Err(BlockError::Rest {
-                bytes: rest.len() as u64,
-            });
-        }
-        let size = size_of_entry(rest);
-        if rest.len() < size {
-            return Err(BlockError::Entry {
-                index: u64::from(index),
-                at: (HEADER + at) as u64,
-            });
-        }
-        at += size;
+        at += whole_entry_size(&content[at..], index, HEADER + at)?;
         index += 1;
     }
     Ok(index)
@@ -63,17 +71,15 @@ fn count_entries(content: &[u8]) -> Result<u32, BlockError>
 /// The length, where so many bytes are there, and the number of entries.
 fn sized_block(bytes: &[u8], size: u64, data_length: u32) -> Result<(usize, u32), BlockError>
     requires { 20 + data_length ≤ size }
-    ensures { let count = counted (length (part bytes.now 20 data_length)) 0 20 (part bytes.now 20 data_length) in
-        MatchResult result (λ x. (sized (length bytes.now) size count ≡ Ok x.0) × (count ≡ Ok x.1)) (λ e. sized (length bytes.now) size count ≡ Err e) }
+    ensures { let count = count_in (part bytes.now 20 data_length) in
+        MatchResult result (λ x. (length_if_there (length bytes.now) size count ≡ Ok x.0) × (count ≡ Ok x.1)) (λ e. length_if_there (length bytes.now) size count ≡ Err e) }
 {
     let have = bytes.len() as u64;
     if have < size {
         return Err(BlockError::Need { more: size - have });
     }
-    match count_entries(bytes_at(bytes, HEADER, data_length as usize)) {
-        Ok(count) => Ok((size as usize, count)),
-        Err(error) => Err(error),
-    }
+    let count = count_entries(bytes_at(bytes, HEADER, data_length as usize))?;
+    Ok((size as usize, count))
 }
 
 /// The length of the block that the bytes begin with, and the number of its entries.
@@ -117,19 +123,17 @@ impl<'a> Block<'a> {
         ensures only { (value : BlockValue) (n : ℕ) → n ≤ length bytes.now → IsBlock value (take n bytes.now) → IsOkAnd result (λ x. (x.0 ≡ value) × (x.1 ≡ n)) }
         // The error is the first check that fails.
         ensures exact { MatchResult result (λ x. checked bytes.now ≡ Ok x.1) (λ e. checked bytes.now ≡ Err e) }
+        // It has a head of 20 bytes, with a status other than 0.
+        ensures head { IfOk result (λ x. HasHead bytes.now x.0 x.1) }
         // The first entry, or the end, is at 20.
         ensures first { IfOk result (λ x. IsPlace x.0.entries 20) }
     {
-        match checked_block(bytes) {
-            Ok((length, entries)) => Ok((
-                Block {
-                    bytes: &bytes[..length],
-                    entries,
-                },
-                length,
-            )),
-            Err(error) => Err(error),
-        }
+        let (length, entries) = checked_block(bytes)?;
+        let block = Block {
+            bytes: &bytes[..length],
+            entries,
+        };
+        Ok((block, length))
     }
 
     /// The whole block status. Bits 4 to 13 claim a number of entries, which may differ from `entries`.
@@ -179,7 +183,8 @@ impl<'a> Block<'a> {
     /// What stands between a place and the entries' end.
     fn rest_at(&self, at: u64) -> &'a [u8]
         requires { IsPlace self.now.entries at }
-        ensures { RestAt self.now.entries at result.now }
+        ensures rest { RestAt self.now.entries at result.now }
+        ensures within { at + length result.now ≤ self.now.size }
     {
         let end = 20 + u64::from(get_u32(self.bytes, 12));
         bytes_at(self.bytes, at as usize, (end - at) as usize)
@@ -191,6 +196,8 @@ impl<'a> Block<'a> {
         requires { IsPlace self.now.entries at }
         ensures found { MatchOption result (at ≡ place_of self.now.entries (length self.now.entries)) (λ x. EntryAt self.now.entries at x.1 (value_of x.0)) }
         ensures next { IfSome result (λ x. IsPlace self.now.entries x.1) }
+        // The next place is further on, within the block.
+        ensures on { IfSome result (λ x. (at + 64 ≤ x.1) × (x.1 ≤ self.now.size)) }
     {
         let rest = self.rest_at(at);
         if rest.is_empty() {

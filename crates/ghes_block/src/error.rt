@@ -1,4 +1,4 @@
-// Why a block can't be read or written.
+// Why bytes are no block.
 
 /// Why bytes are no block, the first reason that applies. Entries count from 0, places from the block's start.
 #[derive(Clone, Copy, Debug, PartialEq, Eq)]
@@ -13,10 +13,4 @@ pub enum BlockError {
     Entry { index: u64, at: u64 },
     /// So many bytes, too few for an entry, are left after the last one.
     Rest { bytes: u64 },
-}
-
-/// The bytes given are fewer than those needed.
-#[derive(Clone, Copy, Debug, PartialEq, Eq)]
-pub struct NoRoom {
-    pub need: u64,
 }

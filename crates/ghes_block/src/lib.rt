@@ -8,7 +8,8 @@ mod error;
 mod tests;
 mod writer;
 
+pub use apei_fields::NoRoom;
 pub use block::{Block, one_end};
 pub use entry::{DataEntry, EntryHead};
-pub use error::{BlockError, NoRoom};
+pub use error::BlockError;
 pub use writer::BlockWriter;

@@ -1,9 +1,11 @@
-ghost use Rattle.std.specs.Prelude.{◌≡◌, ◌+◌, ◌≤◌, length};
+ghost use Rattle.std.specs.Prelude.{◌≡◌, ◌+◌, ◌<◌, ◌≤◌, length};
+ghost use Rattle.ghes_block.specs.Entries.{IsPlace};
+ghost use Rattle.ghes_block.specs.Writer.{used_by, IsBlockWriter};
 
 use crate::{Block, BlockError, BlockWriter, EntryHead, one_end};
 use apei_bytes::{Guid, put_u16, put_u32, put_u64};
 
-/// A processor error section, as firmware stores its type.
+/// A platform memory error section, as firmware stores its type.
 const KIND: [u8; 16] = [
     0x14, 0x11, 0xbc, 0xa5, 0x64, 0x6f, 0xde, 0x4e, 0xb8, 0x63, 0x3e, 0x83, 0xed, 0x7c, 0x83, 0xb1,
 ];
@@ -37,6 +39,15 @@ fn two_entries() -> [u8; 164] {
     put_head(&mut bytes, 160, 140);
     put_entries(&mut bytes);
     put_u32(&mut bytes, 160, 0x0403_0201);
+    bytes
+}
+
+/// The same entries without raw data, whose offset and length are 0.
+fn without_raw_data() -> [u8; 160] {
+    let mut bytes = [0; 160];
+    put_u32(&mut bytes, 0, 0x21);
+    put_u32(&mut bytes, 12, 140);
+    put_entries(&mut bytes);
     bytes
 }
 
@@ -87,6 +98,7 @@ fn a_block_and_its_prefixes(rt: HostRuntime) -> Result<(), std::test::Fail> {
             assert!(rt; second.head == head(0x0201, 0));
             assert!(rt; next == 96 && end == 160);
             assert!(rt; block.entry_at(end).is_none());
+            assert!(rt; count_of(&block) == 2);
         }
         Err(_) => return Err("refused".into()),
     }
@@ -143,11 +155,12 @@ fn the_first_refusal(rt: HostRuntime) {
     }
 }
 
-/// Writes the block of two entries.
-fn write(out: &mut [u8]) -> Option<usize>
-    requires { 20 ≤ length out.old }
+/// Writes two entries and raw data behind what a writer has begun.
+fn write_behind(mut writer: BlockWriter<'_>, raw: &[u8]) -> Option<usize>
+    requires ready { IsBlockWriter writer }
+    requires used { used_by writer ≡ 20 }
+    requires short { length raw.now < 1000 }
 {
-    let mut writer = BlockWriter::start(out, 0x21, 0);
     if writer
         .entry(&head(0x0300, 5), &[0xaa, 0xbb, 0xcc, 0xdd])
         .is_err()
@@ -157,16 +170,43 @@ fn write(out: &mut [u8]) -> Option<usize>
     if writer.entry(&head(0x0201, 0), &[]).is_err() {
         return None;
     }
-    writer.finish(&[1, 2, 3, 4]).ok()
+    writer.finish(raw).ok()
+}
+
+/// The same from the beginning.
+fn write(out: &mut [u8], raw: &[u8]) -> Option<usize>
+    requires { length raw.now < 1000 }
+{
+    match BlockWriter::begin(out, 0x21, 0) {
+        Ok(writer) => write_behind(writer, raw),
+        Err(_) => None,
+    }
 }
 
 #[test]
 fn what_is_written(rt: HostRuntime) {
     let mut out = [0xee; 170];
-    assert!(rt; BlockWriter::begin(&mut [0; 19], 1, 0).is_err());
-    assert!(rt; write(&mut out) == Some(164));
+    assert!(rt; write(&mut out, &[1, 2, 3, 4]) == Some(164));
     assert!(rt; out.starts_with(&two_entries()));
     assert!(rt; out.ends_with(&[0xee; 6]));
-    let mut short = [0; 163];
-    assert!(rt; write(&mut short) == None);
+    assert!(rt; write(&mut out, &[]) == Some(160));
+    assert!(rt; out.starts_with(&without_raw_data()));
+    let again = BlockWriter::start(&mut out, 0x21, 0);
+    assert!(rt; write_behind(again, &[1, 2, 3, 4]) == Some(164));
+    assert!(rt; out.starts_with(&two_entries()));
+    assert!(rt; write(&mut [0; 19], &[]) == None);
+    assert!(rt; write(&mut [0; 163], &[1, 2, 3, 4]) == None);
+}
+
+/// How many entries there are from the first one to the end.
+fn count_of(block: &Block<'_>) -> u32
+    requires { IsPlace block.now.entries 20 }
+{
+    let mut count: u32 = 0;
+    let mut at = 20;
+    while let Some((_, next)) = block.entry_at(at) {
+        count = count.wrapping_add(1);
+        at = next;
+    }
+    count
 }

@@ -1,19 +1,19 @@
 -- What is found is the table that stands first, and what is one is found.
-use Rattle.std.proofs.Common.{◌≡◌, ℕ, ◌<◌, ◌≤◌, ◌^◌, ◌⊎◌, inl, inr, List, ◌++◌, length, take, drop, Option, Some, None, Result, Ok, Err, sym, ap, subst, ◌∙◌, arith, length-append, length-drop}
+use Rattle.std.proofs.Common.{◌≡◌, ℕ, ◌<◌, ◌≤◌, ◌^◌, List, ◌++◌, length, take, drop, Option, Some, None, Result, Ok, Err, refl, sym, ap, subst, ◌∙◌, arith, length-append}
 use Rattle.std.specs.Prelude.{◌==◌, MatchResult, IfOk}
 use Rattle.std.proofs.lemmas.Bool.{eq-eqb, ne_eqb, cond-true, cond-false}
 use Rattle.std.proofs.lemmas.List.{take-append-drop, length-take}
 use Rattle.base_model.specs.Bytes.{number_at, AreBytes}
-use Rattle.base_model.proofs.BytesLemmas.{number_at-lt, AreBytes-take, AreBytes-drop}
+use Rattle.base_model.proofs.BytesLemmas.{number_at-lt, AreBytes-take}
 use Rattle.apei_tables.specs.declared.headers.Header.{Header}
 use Rattle.apei_tables.specs.Tables.{FindsTable, refusal as table_refusal}
 use Rattle.apei_tables.proofs.Finding.{size-front, none_refused}
 use Rattle.hest_sources.specs.declared.sources.HestSource.{HestSource}
 use Rattle.hest_sources.specs.declared.tables.HestError.{HestError}
-use Rattle.hest_sources.specs.declared.tables.HestError.TheVariants.{Count, Memory}
+use Rattle.hest_sources.specs.declared.tables.HestError.TheVariants.{Table, UnknownType, Cut, Count, Memory}
 use Rattle.hest_sources.specs.Layout.{AreSources}
-use Rattle.hest_sources.specs.Walk.{sources_in}
-use Rattle.hest_sources.specs.Tables.{signature, IsHest, walked, counted_wrong, behind_header, refusal}
+use Rattle.hest_sources.specs.Walk.{sources_in, source_count}
+use Rattle.hest_sources.specs.Tables.{signature, IsHest, CountsTable, IsRefusal, counted_wrong, behind_header, refusal}
 use Rattle.hest_sources.proofs.Walks.{counts, counts_again}
 
 split : (bytes : List ℕ) (header : Header) (table : List ℕ) → FindsTable signature 40 bytes header table → bytes ≡ table ++ drop (length table) bytes
@@ -30,23 +30,21 @@ small_table bytes header table each found =
     (subst (λ (n : ℕ). n < 2 ^ 32) found.is_table.sealed.length_field small, omega arith)
 
 -- what is found
-pub found_is : (bytes : List ℕ) (header : Header) (table : List ℕ) (sources : List HestSource) → AreBytes bytes → FindsTable signature 40 bytes header table
-    → walked table ≡ Ok (length sources) → sources ≡ sources_in (length table) 40 (drop 40 table) → number_at table 36 4 ≡ length sources
+pub found_is : (bytes table : List ℕ) (count : ℕ) (sources : List HestSource) → AreBytes bytes → CountsTable bytes table count → sources ≡ sources_in table
     → (length table ≤ length bytes) × IsHest sources (take (length table) bytes)
-found_is bytes header table sources each found count list declared =
-    let each_table : AreBytes table = subst AreBytes (sym found.prefix) (AreBytes-take (length table) bytes each) in
-    let less = length-drop 40 table in
-    let c = counts (length table) 0 40 (length sources) (drop 40 table) (AreBytes-drop 40 table each_table) (omega arith) count in
+found_is bytes table count sources each t list =
+    let each_table : AreBytes table = subst AreBytes (sym t.finds.prefix) (AreBytes-take (length table) bytes each) in
+    let c = counts table count each_table t.found in
     let is : IsHest sources table = record {
-      is_table = (header, found.fits, found.is_table, found.wanted);
-      fixed = found.long;
-      count = declared;
+      is_table = (t.header, t.finds.fits, t.finds.is_table, t.finds.wanted);
+      fixed = t.finds.long;
+      count = t.declared ∙ c.count ∙ ap length (sym list);
       sources_are = subst (λ (xs : List HestSource). AreSources 40 xs (drop 40 table)) (sym list) c.all;
     } in
-    ((small_table bytes header table each found).1, subst (IsHest sources) found.prefix is)
+    ((small_table bytes t.header table each t.finds).1, subst (IsHest sources) t.finds.prefix is)
 
 -- what is refused behind a header that is right
-pub refusal_is : (bytes : List ℕ) (header : Header) (table : List ℕ) → FindsTable signature 40 bytes header table → table_refusal signature 40 bytes ≡ None → refusal bytes ≡ counted_wrong (number_at table 36 4) (walked table)
+pub refusal_is : (bytes : List ℕ) (header : Header) (table : List ℕ) → FindsTable signature 40 bytes header table → table_refusal signature 40 bytes ≡ None → refusal bytes ≡ counted_wrong (number_at table 36 4) (source_count table)
 refusal_is bytes header table found none =
     let size : number_at bytes 4 4 ≡ length table = size-front bytes table (drop (length table) bytes) (split bytes header table found) found.is_table.sealed in
     let same : take (number_at bytes 4 4) bytes ≡ table = ap (λ (n : ℕ). take n bytes) size ∙ sym found.prefix in
@@ -68,11 +66,10 @@ not_refused bytes sources n h is =
     let size : number_at bytes 4 4 ≡ length table = size-front bytes table (drop n bytes) same is.is_table.2.sealed in
     let long : length table ≡ n = length-take n bytes ∙ omega arith in
     let front : take (number_at bytes 4 4) bytes ≡ table = ap (λ (m : ℕ). take m bytes) (size ∙ long) in
-    let less = length-drop 40 table in
-    let c = counts_again sources (length table) 0 40 (drop 40 table) is.sources_are (omega arith) in
+    let c = counts_again table sources is.sources_are in
     ap (λ (xs : List ℕ). behind_header xs (table_refusal signature 40 bytes)) front
     ∙ ap (behind_header table) none
-    ∙ right_count (number_at table 36 4) (length sources) (walked table) (c.count ∙ ap (λ (m : ℕ). Ok m) (omega arith)) is.count
+    ∙ right_count (number_at table 36 4) (length sources) (source_count table) c.count is.count
 
 -- two such tables that stand first are one
 pub same_table : (bytes : List ℕ) (sources others : List HestSource) (n m : ℕ) → n ≤ length bytes → m ≤ length bytes → IsHest sources (take n bytes) → IsHest others (take m bytes) → (sources ≡ others) × (n ≡ m)
@@ -83,17 +80,21 @@ same_table bytes sources others n m h k is also =
     let b = size-front bytes (take m bytes) (drop m bytes) (sym (take-append-drop m bytes)) also.is_table.2.sealed in
     let size : n ≡ m = omega arith in
     let moved : IsHest others (take n bytes) = subst (λ (x : ℕ). IsHest others (take x bytes)) (sym size) also in
-    let less = length-drop 40 (take n bytes) in
-    let c = counts_again sources (length (take n bytes)) 0 40 (drop 40 (take n bytes)) is.sources_are (omega arith) in
-    let d = counts_again others (length (take n bytes)) 0 40 (drop 40 (take n bytes)) moved.sources_are (omega arith) in
+    let c = counts_again (take n bytes) sources is.sources_are in
+    let d = counts_again (take n bytes) others moved.sources_are in
     (sym c.read ∙ d.read, size)
+
+-- an error of what is such a table is want of memory
+only_error : (bytes : List ℕ) (error : HestError) → refusal bytes ≡ None → IsRefusal bytes error → error ≡ Memory
+only_error bytes (Table error) none e = let clash : ◌≡◌ {A = Option HestError} None (Some (Table error)) = sym none ∙ e in absurd (cc)
+only_error bytes (UnknownType at code) none e = let clash : ◌≡◌ {A = Option HestError} None (Some (UnknownType at code)) = sym none ∙ e in absurd (cc)
+only_error bytes (Cut at) none e = let clash : ◌≡◌ {A = Option HestError} None (Some (Cut at)) = sym none ∙ e in absurd (cc)
+only_error bytes (Count declared found) none e = let clash : ◌≡◌ {A = Option HestError} None (Some (Count declared found)) = sym none ∙ e in absurd (cc)
+only_error bytes Memory none e = refl
 
 -- so what was answered for such a table is that table, but for want of memory
 pub only_from : (bytes : List ℕ) (r : Result (List HestSource × ℕ) HestError) (sources : List HestSource) (n : ℕ) → n ≤ length bytes → IsHest sources (take n bytes)
-    → IfOk r (λ x. (x.1 ≤ length bytes) × IsHest x.0 (take x.1 bytes)) → MatchResult r (λ _. refusal bytes ≡ None) (λ e. (e ≡ Memory) ⊎ (refusal bytes ≡ Some e))
+    → IfOk r (λ x. (x.1 ≤ length bytes) × IsHest x.0 (take x.1 bytes)) → MatchResult r (λ _. refusal bytes ≡ None) (IsRefusal bytes)
     → MatchResult r (λ x. (x.0 ≡ sources) × (x.1 ≡ n)) (λ e. e ≡ Memory)
 only_from bytes (Ok x) sources n h is found refused = same_table bytes x.0 sources x.1 n found.0 h found.1 is
-only_from bytes (Err e) sources n h is found refused = elim refused [
-  | inl memory ↦ memory
-  | inr some ↦ let none = not_refused bytes sources n h is in let clash : ◌≡◌ {A = Option HestError} None (Some e) = sym none ∙ some in absurd (cc)
-]
+only_from bytes (Err e) sources n h is found refused = only_error bytes e (not_refused bytes sources n h is) refused

@@ -3,20 +3,17 @@ use Rattle.std.proofs.Common.{◌≡◌, ℕ, ◌+◌, ◌*◌, ◌<◌, ◌≤�
 use Rattle.std.specs.Prelude.{◌==◌, ◌||◌, nat_le, nat_lt}
 use Rattle.std.proofs.lemmas.Bool.{cases_Bool, eqb-true, leb-false, ltb-false, ne_eqb, le-ltb, lt-leb, cond-true, cond-false, or_cases}
 use Rattle.std.proofs.lemmas.List.{length-take, take-append-drop}
-use Rattle.base_model.specs.Bytes.{part, number_at, little, AreBytes}
-use Rattle.base_model.proofs.BytesLemmas.{part-append_left}
+use Rattle.base_model.specs.Bytes.{part, number_at, AreBytes}
+use Rattle.apei_fields.proofs.Parts.{number_at-front}
+use Rattle.apei_fields.proofs.Tests.{ok_unless}
 use Rattle.hest_sources.specs.declared.sources.Ghes.{Ghes}
 use Rattle.hest_sources.specs.declared.sources.Ack.{Ack}
 use Rattle.hest_sources.specs.declared.sources.HestSource.{HestSource}
 use Rattle.hest_sources.specs.declared.sources.HestSource.TheVariants.{Ghes as Generic, Other}
 use Rattle.hest_sources.specs.declared.tables.HestError.{HestError}
 use Rattle.hest_sources.specs.declared.tables.HestError.TheVariants.{UnknownType, Cut}
-use Rattle.hest_sources.specs.Layout.{type_of, size_of, banked, length_by_type, IsSource, ack_by_type, ack_at, front_at, source_at, within, structure_length}
+use Rattle.hest_sources.specs.Layout.{type_of, size_of, length_with_banks, length_by_type, IsSource, ack_by_type, ack_at, front_at, source_at, length_if_there, structure_length}
 use Rattle.hest_sources.proofs.Structures.{length-ghes, ghes_reads, ghes_nine, ghes_ten}
-
-pub ok_unless : {A E : Type 0} (b : Bool) (x : Result A E) (e : E) (v : A) → cond b (Err e) x ≡ Ok v → (b ≡ false) × (x ≡ Ok v)
-ok_unless true x e v h = absurd (cc)
-ok_unless false x e v h = (refl, h)
 
 -- a length is 20 at least
 abbrev Low : Result ℕ HestError → Type 0
@@ -27,13 +24,13 @@ low_cond : (b : Bool) (x y : Result ℕ HestError) → Low x → Low y → Low (
 low_cond true x y h k = h
 low_cond false x y h k = k
 
-low_banked : (at : ℕ) (bytes : List ℕ) (fixed place : ℕ) → 20 ≤ fixed → Low (banked at bytes fixed place)
-low_banked at bytes fixed place h = low_cond (nat_le (length bytes) place) (Err (Cut at)) (Ok (fixed + 28 * number_at bytes place 1)) tt (omega arith)
+low_with_banks : (at : ℕ) (bytes : List ℕ) (fixed place : ℕ) → 20 ≤ fixed → Low (length_with_banks at bytes fixed place)
+low_with_banks at bytes fixed place h = low_cond (nat_le (length bytes) place) (Err (Cut at)) (Ok (fixed + 28 * number_at bytes place 1)) tt (omega arith)
 
 low_by_type : (kind at : ℕ) (bytes : List ℕ) → Low (length_by_type kind at bytes)
 low_by_type kind at bytes =
-    low_cond (kind == 0) _ _ (low_banked at bytes 40 32 (omega arith))
-    (low_cond ((kind == 1) || (kind == 11)) _ _ (low_banked at bytes 48 44 (omega arith))
+    low_cond (kind == 0) _ _ (low_with_banks at bytes 40 32 (omega arith))
+    (low_cond ((kind == 1) || (kind == 11)) _ _ (low_with_banks at bytes 48 44 (omega arith))
     (low_cond (kind == 2) (Ok 20) _ (omega arith)
     (low_cond (kind == 6) (Ok 48) _ (omega arith)
     (low_cond (kind == 7) (Ok 44) _ (omega arith)
@@ -49,16 +46,12 @@ either : (b : Bool) (x y x' y' : Result ℕ HestError) (n : ℕ) → (x ≡ Ok n
 either true x y x' y' n h k e = h e
 either false x y x' y' n h k e = k e
 
-by_type : (kind at n : ℕ) (bytes bytes' : List ℕ) → (banked at bytes 40 32 ≡ Ok n → banked at bytes' 40 32 ≡ Ok n) → (banked at bytes 48 44 ≡ Ok n → banked at bytes' 48 44 ≡ Ok n)
+by_type : (kind at n : ℕ) (bytes bytes' : List ℕ) → (length_with_banks at bytes 40 32 ≡ Ok n → length_with_banks at bytes' 40 32 ≡ Ok n) → (length_with_banks at bytes 48 44 ≡ Ok n → length_with_banks at bytes' 48 44 ≡ Ok n)
     → length_by_type kind at bytes ≡ Ok n → length_by_type kind at bytes' ≡ Ok n
 by_type kind at n bytes bytes' h k =
     either (kind == 0) _ _ _ _ n h
     (either ((kind == 1) || (kind == 11)) _ _ _ _ n k
     (λ e. e))
-
-number_at-front : (bytes more : List ℕ) (at n : ℕ) → at + n ≤ length bytes → number_at (bytes ++ more) at n ≡ number_at bytes at n
-unfolding number_at
-number_at-front bytes more at n h = ap little (part-append_left bytes more at n h)
 
 same_ok : (m n : ℕ) → ◌≡◌ {A = Result ℕ HestError} (Ok m) (Ok n) → m ≡ n
 same_ok m n e = cc
@@ -67,18 +60,18 @@ record Banked (bytes : List ℕ) (fixed place n : ℕ) : Type 0 where
   pub there : place < length bytes
   pub size : fixed + 28 * number_at bytes place 1 ≡ n
 
-is_banked : (at : ℕ) (bytes : List ℕ) (fixed place n : ℕ) → banked at bytes fixed place ≡ Ok n → Banked bytes fixed place n
-is_banked at bytes fixed place n e =
+is_with_banks : (at : ℕ) (bytes : List ℕ) (fixed place n : ℕ) → length_with_banks at bytes fixed place ≡ Ok n → Banked bytes fixed place n
+is_with_banks at bytes fixed place n e =
     let a = ok_unless _ _ _ _ e in
     record { there = leb-false (length bytes) place a.0; size = same_ok (fixed + 28 * number_at bytes place 1) n a.1 }
 
-banks : (at : ℕ) (bytes : List ℕ) (fixed place n : ℕ) → Banked bytes fixed place n → banked at bytes fixed place ≡ Ok n
+banks : (at : ℕ) (bytes : List ℕ) (fixed place n : ℕ) → Banked bytes fixed place n → length_with_banks at bytes fixed place ≡ Ok n
 banks at bytes fixed place n b =
     cond-false (nat_le (length bytes) place) (Err (Cut at)) _ (lt-leb (length bytes) place b.there) ∙ ap (λ (m : ℕ). Ok m) b.size
 
-banked_front : (at : ℕ) (front more : List ℕ) (fixed place : ℕ) → place < fixed → banked at (front ++ more) fixed place ≡ Ok (length front) → banked at front fixed place ≡ Ok (length front)
+banked_front : (at : ℕ) (front more : List ℕ) (fixed place : ℕ) → place < fixed → length_with_banks at (front ++ more) fixed place ≡ Ok (length front) → length_with_banks at front fixed place ≡ Ok (length front)
 banked_front at front more fixed place h e =
-    let b = is_banked at (front ++ more) fixed place (length front) e in
+    let b = is_with_banks at (front ++ more) fixed place (length front) e in
     let size = b.size in
     let there : place < length front = omega arith in
     banks at front fixed place (length front) (record {
@@ -86,9 +79,9 @@ banked_front at front more fixed place h e =
       size = ap (λ (m : ℕ). fixed + 28 * m) (sym (number_at-front front more place 1 (omega arith))) ∙ size;
     })
 
-banked_more : (at : ℕ) (front more : List ℕ) (fixed place n : ℕ) → banked at front fixed place ≡ Ok n → banked at (front ++ more) fixed place ≡ Ok n
+banked_more : (at : ℕ) (front more : List ℕ) (fixed place n : ℕ) → length_with_banks at front fixed place ≡ Ok n → length_with_banks at (front ++ more) fixed place ≡ Ok n
 banked_more at front more fixed place n e =
-    let b = is_banked at front fixed place n e in
+    let b = is_with_banks at front fixed place n e in
     let there = b.there in
     let size = length-append front more in
     banks at (front ++ more) fixed place n (record {
@@ -108,26 +101,26 @@ pub record Measured (at n : ℕ) (rest : List ℕ) : Type 0 where
   pub by_kind : length_by_type (number_at rest 0 2) at rest ≡ Ok n
   pub fits : n ≤ length rest
 
-is_within : (at : ℕ) (rest : List ℕ) (r : Result ℕ HestError) (n : ℕ) → within at rest r ≡ Ok n → (r ≡ Ok n) × (n ≤ length rest)
-is_within at rest (Ok m) n e =
+is_there : (at : ℕ) (rest : List ℕ) (r : Result ℕ HestError) (n : ℕ) → length_if_there at rest r ≡ Ok n → (r ≡ Ok n) × (n ≤ length rest)
+is_there at rest (Ok m) n e =
     let a = ok_unless _ _ _ _ e in
     let same = same_ok m n a.1 in
     let fits = ltb-false (length rest) m a.0 in
     (ap (λ (k : ℕ). Ok k) same, omega arith)
-is_within at rest (Err f) n e = absurd (cc)
+is_there at rest (Err f) n e = absurd (cc)
 
 pub measured : (at n : ℕ) (rest : List ℕ) → structure_length at rest ≡ Ok n → Measured at n rest
 unfolding structure_length
 measured at n rest e =
     let a = ok_unless _ _ _ _ e in
-    let b = is_within at rest (length_by_type (number_at rest 0 2) at rest) n a.1 in
+    let b = is_there at rest (length_by_type (number_at rest 0 2) at rest) n a.1 in
     record { head = ltb-false (length rest) 2 a.0; by_kind = b.0; fits = b.1 }
 
 pub measures : (at n : ℕ) (rest : List ℕ) → Measured at n rest → structure_length at rest ≡ Ok n
 unfolding structure_length
 measures at n rest m =
     cond-false (nat_lt (length rest) 2) (Err (Cut at)) _ (le-ltb (length rest) 2 m.head)
-    ∙ ap (within at rest) m.by_kind
+    ∙ ap (length_if_there at rest) m.by_kind
     ∙ cond-false (nat_lt (length rest) n) (Err (Cut at)) (Ok n) (le-ltb (length rest) n m.fits)
 
 -- what is read of a structure is a source

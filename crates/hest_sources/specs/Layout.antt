@@ -1,6 +1,7 @@
 -- The bytes of error source structures (ACPI 6.4, 18.3.2).
 use Rattle.std.specs.Prelude.{◌≡◌, ℕ, ◌+◌, ◌*◌, ◌^◌, ◌<◌, ◌≤◌, List, [], ◌∷◌, ◌++◌, length, Option, Some, None, false, ◌==◌, ◌||◌, nat_le, nat_lt, if◌then◌else◌, Result, Ok, Err}
 use Rattle.base_model.specs.Bytes.{part, number_at, spelled, joined}
+use Rattle.apei_fields.specs.Walk.{AreItems}
 use Rattle.apei_gas.specs.declared.structure.Gas.{Gas}
 use Rattle.apei_gas.specs.Layout.{spelling, IsGas}
 use Rattle.hest_sources.specs.declared.sources.Ghes.{Ghes}
@@ -71,15 +72,15 @@ pub record IsGhes (source : Ghes) : Type 0 where
   pub ack : AckFits source.ack
 
 -- the length of a structure with machine check banks, whose number stands at a place
-abbrev pub banked : ℕ → List ℕ → ℕ → ℕ → Result ℕ HestError
-banked at bytes fixed place = if nat_le (length bytes) place then Err (Cut at) else Ok (fixed + 28 * number_at bytes place 1)
+abbrev pub length_with_banks : ℕ → List ℕ → ℕ → ℕ → Result ℕ HestError
+length_with_banks at bytes fixed place = if nat_le (length bytes) place then Err (Cut at) else Ok (fixed + 28 * number_at bytes place 1)
 
 -- the length of a structure by its type: 0 machine check, 1 corrected machine check, 2 non-maskable interrupt, 6 to 8 PCI
 -- Express, 9 and 10 generic, 11 deferred machine check
 abbrev pub length_by_type : ℕ → ℕ → List ℕ → Result ℕ HestError
 length_by_type kind at bytes =
-    if kind == 0 then banked at bytes 40 32
-    else if (kind == 1) || (kind == 11) then banked at bytes 48 44
+    if kind == 0 then length_with_banks at bytes 40 32
+    else if (kind == 1) || (kind == 11) then length_with_banks at bytes 48 44
     else if kind == 2 then Ok 20
     else if kind == 6 then Ok 48
     else if kind == 7 then Ok 44
@@ -104,9 +105,7 @@ IsSource at (Other kind place len) bytes = IsOther at kind place len bytes
 
 -- these sources stand one after another, from a place on, and nothing behind them
 abbrev pub AreSources : ℕ → List HestSource → List ℕ → Type 0
-AreSources at [] bytes = bytes ≡ []
-AreSources at (source ∷ sources) bytes =
-    (front : List ℕ) × (rest : List ℕ) × (bytes ≡ front ++ rest) × IsSource at source front × AreSources (at + length front) sources rest
+AreSources at sources bytes = AreItems IsSource (λ rest. rest ≡ []) at sources bytes
 
 -- the fields at their places
 abbrev pub gas_at : List ℕ → Gas
@@ -139,9 +138,9 @@ source_at at bytes len =
     if (kind == 9) || (kind == 10) then Generic (front_at bytes (ack_by_type kind bytes)) else Other kind at len
 
 -- the length of the structure at a place, or why there is none
-abbrev pub within : ℕ → List ℕ → Result ℕ HestError → Result ℕ HestError
-within at bytes (Ok len) = if nat_lt (length bytes) len then Err (Cut at) else Ok len
-within at bytes (Err error) = Err error
+abbrev pub length_if_there : ℕ → List ℕ → Result ℕ HestError → Result ℕ HestError
+length_if_there at bytes (Ok len) = if nat_lt (length bytes) len then Err (Cut at) else Ok len
+length_if_there at bytes (Err error) = Err error
 
 unfoldable pub structure_length : ℕ → List ℕ → Result ℕ HestError
-structure_length at bytes = if nat_lt (length bytes) 2 then Err (Cut at) else within at bytes (length_by_type (number_at bytes 0 2) at bytes)
+structure_length at bytes = if nat_lt (length bytes) 2 then Err (Cut at) else length_if_there at bytes (length_by_type (number_at bytes 0 2) at bytes)

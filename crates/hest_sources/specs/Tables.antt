@@ -4,12 +4,12 @@ use Rattle.base_model.specs.Bytes.{number_at}
 use Rattle.apei_tables.specs.declared.headers.Header.{Header}
 use Rattle.apei_tables.specs.declared.headers.TableError.{TableError}
 use Rattle.apei_tables.specs.Layout.{IsHeader}
-use Rattle.apei_tables.specs.Tables.{IsTable, refusal as table_refusal}
+use Rattle.apei_tables.specs.Tables.{IsTable, FindsTable, refusal as table_refusal}
 use Rattle.hest_sources.specs.declared.sources.HestSource.{HestSource}
 use Rattle.hest_sources.specs.declared.tables.HestError.{HestError}
-use Rattle.hest_sources.specs.declared.tables.HestError.TheVariants.{Table, Count}
+use Rattle.hest_sources.specs.declared.tables.HestError.TheVariants.{Table, UnknownType, Cut, Count, Memory}
 use Rattle.hest_sources.specs.Layout.{AreSources}
-use Rattle.hest_sources.specs.Walk.{counted}
+use Rattle.hest_sources.specs.Walk.{source_count}
 
 abbrev pub signature : List ℕ
 signature = codes "HEST"
@@ -21,19 +21,38 @@ pub record IsHest (sources : List HestSource) (table : List ℕ) : Type 0 where
   pub count : number_at table 36 4 ≡ length sources
   pub sources_are : AreSources 40 sources (drop 40 table)
 
--- the walk over the structures of a table
-abbrev pub walked : List ℕ → Result ℕ HestError
-walked table = counted (length table) 0 40 (drop 40 table)
-
 -- the count against the number that the walk found
 abbrev pub counted_wrong : ℕ → Result ℕ HestError → Option HestError
 counted_wrong declared (Ok found) = if declared == found then None else Some (Count declared found)
 counted_wrong declared (Err error) = Some error
 
 abbrev pub behind_header : List ℕ → Option TableError → Option HestError
-behind_header table None = counted_wrong (number_at table 36 4) (walked table)
+behind_header table None = counted_wrong (number_at table 36 4) (source_count table)
 behind_header table (Some error) = Some (Table error)
 
 -- the first reason why bytes don't begin with such a table
 abbrev pub refusal : List ℕ → Option HestError
 refusal bytes = behind_header (take (number_at bytes 4 4) bytes) (table_refusal signature 40 bytes)
+
+-- an error is that reason, and want of memory comes only where there is none
+abbrev pub IsRefusal : List ℕ → HestError → Type 0
+IsRefusal bytes (Table error) = refusal bytes ≡ Some (Table error)
+IsRefusal bytes (UnknownType at code) = refusal bytes ≡ Some (UnknownType at code)
+IsRefusal bytes (Cut at) = refusal bytes ≡ Some (Cut at)
+IsRefusal bytes (Count declared found) = refusal bytes ≡ Some (Count declared found)
+IsRefusal bytes Memory = refusal bytes ≡ None
+
+-- an error other than want of memory
+abbrev pub IsMalformed : HestError → Type 0
+IsMalformed (Table error) = Unit {0}
+IsMalformed (UnknownType at code) = Unit {0}
+IsMalformed (Cut at) = Unit {0}
+IsMalformed (Count declared found) = Unit {0}
+IsMalformed Memory = ⊥
+
+-- the bytes begin with this table, which has as many sources as it says
+pub record CountsTable (bytes table : List ℕ) (count : ℕ) : Type 0 where
+  pub header : Header
+  pub finds : FindsTable signature 40 bytes header table
+  pub found : source_count table ≡ Ok count
+  pub declared : number_at table 36 4 ≡ count

@@ -1,13 +1,14 @@
 // One error source structure.
-ghost use Rattle.std.specs.Prelude.{◌≡◌, ◌+◌, ◌≤◌, ◌<◌, length, Ok, IfOk};
+ghost use Rattle.std.specs.Prelude.{◌≡◌, ◌+◌, ◌≤◌, ◌<◌, length, Ok, IfOk, IfErr};
 ghost use Rattle.base_model.specs.Bytes.{part, joined};
 ghost use Rattle.apei_fields.specs.Writing.{Wrote};
 ghost use Rattle.apei_gas.specs.Layout.{spelling};
-ghost use Rattle.hest_sources.specs.Layout.{type_of, size_of, ghes_fields, ack_fields, ghes_bytes, banked, length_by_type, gas_at, ack_at, front_at, source_at, structure_length};
+ghost use Rattle.hest_sources.specs.Tables.{IsMalformed};
+ghost use Rattle.hest_sources.specs.Layout.{type_of, size_of, ghes_fields, ack_fields, ghes_bytes, length_with_banks, length_by_type, gas_at, ack_at, front_at, source_at, structure_length};
 
 use crate::tables::HestError;
 use apei_bytes::{get_u16, get_u32, get_u64};
-use apei_fields::{array_at, byte_at, put_1, put_2, put_4, put_8, put_array};
+use apei_fields::{array_at, byte_at, write_array, write_u8, write_u16, write_u32, write_u64};
 use apei_gas::Gas;
 
 /// A generic hardware error source (ACPI 6.4, 18.3.2.7), and where it has a read acknowledgement, of version 2
@@ -119,17 +120,17 @@ impl Ghes {
         requires { 64 ≤ length out.old }
         ensures { Wrote out.old out.new 0 64 (joined (ghes_fields self.now)) }
     {
-        let id = put_2(out, 0, self.kind());
-        let related = put_2(out, id, self.id);
-        let flags = put_2(out, related, self.related);
-        let enabled = put_1(out, flags, self.flags);
-        let records = put_1(out, enabled, self.enabled);
-        let sections = put_4(out, records, self.records);
-        let raw = put_4(out, sections, self.sections);
-        let status = put_4(out, raw, self.raw);
+        let id = write_u16(out, 0, self.kind());
+        let related = write_u16(out, id, self.id);
+        let flags = write_u16(out, related, self.related);
+        let enabled = write_u8(out, flags, self.flags);
+        let records = write_u8(out, enabled, self.enabled);
+        let sections = write_u32(out, records, self.records);
+        let raw = write_u32(out, sections, self.sections);
+        let status = write_u32(out, raw, self.raw);
         let notify = put_gas(out, status, &self.status);
-        let block_len = put_array(out, notify, &self.notify);
-        put_4(out, block_len, self.block_len);
+        let block_len = write_array(out, notify, &self.notify);
+        write_u32(out, block_len, self.block_len);
     }
 }
 
@@ -140,8 +141,8 @@ impl Ack {
         ensures end { result ≡ 92 }
     {
         let preserve = put_gas(out, 64, &self.register);
-        let write = put_8(out, preserve, self.preserve);
-        put_8(out, write, self.write)
+        let write = write_u64(out, preserve, self.preserve);
+        write_u64(out, write, self.write)
     }
 }
 
@@ -150,13 +151,14 @@ fn put_gas(out: &mut [u8], at: usize, gas: &Gas) -> usize
     ensures wrote { Wrote out.old out.new at result (spelling gas.now) }
     ensures end { result ≡ at + 12 }
 {
-    put_array(out, at, &gas.encode())
+    write_array(out, at, &gas.encode())
 }
 
 /// The length of a structure with machine check banks, whose number stands at a place.
-fn banked(bytes: &[u8], at: u64, fixed: usize, place: usize) -> Result<usize, HestError>
+fn length_with_banks(bytes: &[u8], at: u64, fixed: usize, place: usize) -> Result<usize, HestError>
     requires { fixed < 100 }
-    ensures { result ≡ banked at bytes.now fixed place }
+    ensures value { result ≡ length_with_banks at bytes.now fixed place }
+    ensures malformed { IfErr result IsMalformed }
 {
     if bytes.len() <= place {
         return Err(HestError::Cut { at });
@@ -166,11 +168,12 @@ fn banked(bytes: &[u8], at: u64, fixed: usize, place: usize) -> Result<usize, He
 
 /// The length of a structure by its type, of those that ACPI 6.4 lists in 18.3.2.
 fn length_by_kind(kind: u16, bytes: &[u8], at: u64) -> Result<usize, HestError>
-    ensures { result ≡ length_by_type kind at bytes.now }
+    ensures value { result ≡ length_by_type kind at bytes.now }
+    ensures malformed { IfErr result IsMalformed }
 {
     match kind {
-        0 => banked(bytes, at, 40, 32),
-        1 | 11 => banked(bytes, at, 48, 44),
+        0 => length_with_banks(bytes, at, 40, 32),
+        1 | 11 => length_with_banks(bytes, at, 48, 44),
         2 => Ok(20),
         6 => Ok(48),
         7 => Ok(44),
@@ -189,19 +192,16 @@ fn length_by_kind(kind: u16, bytes: &[u8], at: u64) -> Result<usize, HestError>
 pub(crate) fn length_of(bytes: &[u8], at: u64) -> Result<usize, HestError>
     ensures value { result ≡ structure_length at bytes.now }
     ensures within { IfOk result (λ n. (20 ≤ n) × (n ≤ length bytes.now)) }
+    ensures malformed { IfErr result IsMalformed }
 {
     if bytes.len() < 2 {
         return Err(HestError::Cut { at });
     }
-    match length_by_kind(get_u16(bytes, 0), bytes, at) {
-        Ok(len) => {
-            if bytes.len() < len {
-                return Err(HestError::Cut { at });
-            }
-            Ok(len)
-        }
-        Err(error) => Err(error),
+    let length = length_by_kind(get_u16(bytes, 0), bytes, at)?;
+    if bytes.len() < length {
+        return Err(HestError::Cut { at });
     }
+    Ok(length)
 }
 
 impl HestSource {

@@ -1,14 +1,14 @@
 // The table.
-ghost use Rattle.std.specs.Prelude.{◌≡◌, ◌⊎◌, ℕ, ◌^◌, ◌<◌, ◌≤◌, List, length, take, drop, Ok, Err, Some, None, IfOk, MatchResult};
+ghost use Rattle.std.specs.Prelude.{◌≡◌, ℕ, ◌^◌, ◌<◌, ◌≤◌, List, length, take, Ok, Some, None, IfOk, IfErr, MatchResult};
 ghost use Rattle.hest_sources.specs.declared.sources.HestSource.{HestSource as Source};
 ghost use Rattle.hest_sources.specs.declared.tables.HestError.TheVariants.{Memory as OutOfMemory};
-ghost use Rattle.hest_sources.specs.Walk.{sources_in};
-ghost use Rattle.hest_sources.specs.Tables.{IsHest, walked, refusal};
+ghost use Rattle.hest_sources.specs.Walk.{sources_in, source_count};
+ghost use Rattle.hest_sources.specs.Tables.{IsHest, CountsTable, IsMalformed, IsRefusal, refusal};
 
 use crate::sources::{HestSource, length_of};
 use apei_bytes::get_u32;
 use apei_tables::{Header, TableError};
-use std::alloc::Global;
+use std::alloc::{AllocError, Global};
 use std::marker::Model;
 
 /// Why bytes don't begin with a Hardware Error Source Table. Places count from the table's start.
@@ -44,45 +44,71 @@ impl Model for Hest {
 /// The bytes before the structures.
 const FIXED: usize = 40;
 
-/// The sources of a table, up to its end.
-fn walk(alloc: Global, table: &[u8]) -> Result<Vec<HestSource>, HestError>
+/// How many structures a table has, up to its end.
+fn count_structures(table: &[u8]) -> Result<usize, HestError>
+    requires { 40 ≤ length table.now }
+    ensures count { result ≡ source_count table.now }
+    ensures malformed { IfErr result IsMalformed }
+{
+    let mut at = FIXED;
+    let mut count = 0;
+    while at < table.len() {
+        at += length_of(&table[at..], at as u64)?;
+        count += 1;
+    }
+    Ok(count)
+}
+
+/// The table that stands first, and how many sources it has, all of it checked but for memory.
+fn check(bytes: &[u8]) -> Result<(&[u8], usize), HestError>
+    ensures found { IfOk result (λ x. CountsTable bytes.now x.0.now x.1) }
+    ensures refused { MatchResult result (λ _. refusal bytes.now ≡ None) (λ e. refusal bytes.now ≡ Some e) }
+    ensures malformed { IfErr result IsMalformed }
+{
+    let (_, table) = match Header::decode(bytes, *b"HEST", FIXED as u32) {
+        Ok(found) => found,
+        Err(error) => return Err(HestError::Table(error)),
+    };
+    let count = count_structures(table)?;
+    let declared = u64::from(get_u32(table, 36));
+    let found = count as u64;
+    if declared != found {
+        return Err(HestError::Count { declared, found });
+    }
+    Ok((table, count))
+}
+
+/// The sources of a table that has so many.
+fn read_sources(alloc: Global, table: &[u8], count: usize) -> Result<Vec<HestSource>, AllocError>
     requires low { 40 ≤ length table.now }
     requires high { length table.now < 2 ^ 32 }
-    ensures { MatchResult result
-        (λ v. (walked table.now ≡ Ok (length v.items)) × (v.items ≡ sources_in (length table.now) 40 (drop 40 table.now)))
-        (λ e. (e ≡ OutOfMemory) ⊎ (walked table.now ≡ Err e)) }
+    requires count { source_count table.now ≡ Ok count }
+    ensures { IfOk result (λ sources. sources.items ≡ sources_in table.now) }
 {
-    let mut sources = Vec::new(alloc);
+    let mut sources = Vec::with_capacity(alloc, count)?;
     let mut at = FIXED;
     while at < table.len() {
         let rest = &table[at..];
-        match length_of(rest, at as u64) {
-            Ok(len) => {
-                if sources
-                    .push(HestSource::read(rest, at as u32, len as u32))
-                    .is_err()
-                {
-                    return Err(HestError::Memory);
-                }
-                at += len;
-            }
-            Err(error) => return Err(error),
-        }
+        let Ok(length) = length_of(rest, at as u64) else {
+            unreachable!()
+        };
+        sources.push_reserved(HestSource::read(rest, at as u32, length as u32));
+        at += length;
     }
     Ok(sources)
 }
 
 impl Hest {
     /// The table that stands first in `bytes`, and how many bytes it has. Bytes behind it are left alone. The
-    /// structures are walked to the table's end.
+    /// structures are walked to the table's end. The refusals are tried in the order of `HestError`.
     pub fn decode(alloc: Global, bytes: &[u8]) -> Result<(Hest, usize), HestError>
         // What is found is a table of these sources.
         ensures found { IfOk result (λ x. (x.1 ≤ length bytes.now) × IsHest x.0 (take x.1 bytes.now)) }
         // What is such a table is found.
         ensures only { (sources : List Source) (n : ℕ) → n ≤ length bytes.now → IsHest sources (take n bytes.now)
             → MatchResult result (λ x. (x.0 ≡ sources) × (x.1 ≡ n)) (λ e. e ≡ OutOfMemory) }
-        // The error is the first reason that applies, or want of memory.
-        ensures refused { MatchResult result (λ _. refusal bytes.now ≡ None) (λ e. (e ≡ OutOfMemory) ⊎ (refusal bytes.now ≡ Some e)) }
+        // The error is the first reason that applies, and want of memory where there is none.
+        ensures refused { MatchResult result (λ _. refusal bytes.now ≡ None) (IsRefusal bytes.now) }
     {
         Hest::find(alloc, bytes)
     }
@@ -90,22 +116,16 @@ impl Hest {
     /// The same, by the tests alone.
     fn find(alloc: Global, bytes: &[u8]) -> Result<(Hest, usize), HestError>
         ensures found { IfOk result (λ x. (x.1 ≤ length bytes.now) × IsHest x.0 (take x.1 bytes.now)) }
-        ensures refused { MatchResult result (λ _. refusal bytes.now ≡ None) (λ e. (e ≡ OutOfMemory) ⊎ (refusal bytes.now ≡ Some e)) }
+        ensures refused { MatchResult result (λ _. refusal bytes.now ≡ None) (IsRefusal bytes.now) }
     {
-        match Header::decode(bytes, *b"HEST", 40) {
-            Ok((_, table)) => match walk(alloc, table) {
-                Ok(sources) => {
-                    let declared = u64::from(get_u32(table, 36));
-                    let found = sources.len() as u64;
-                    if declared != found {
-                        return Err(HestError::Count { declared, found });
-                    }
-                    Ok((Hest { sources }, table.len()))
-                }
-                Err(error) => Err(error),
-            },
-            Err(error) => Err(HestError::Table(error)),
-        }
+        let (table, count) = match check(bytes) {
+            Ok(found) => found,
+            Err(error) => return Err(error),
+        };
+        let Ok(sources) = read_sources(alloc, table, count) else {
+            return Err(HestError::Memory);
+        };
+        Ok((Hest { sources }, table.len()))
     }
 
     /// Its sources.

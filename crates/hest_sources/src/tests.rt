@@ -2,6 +2,7 @@ ghost use Rattle.std.specs.Prelude.{◌≡◌};
 ghost use Rattle.hest_sources.specs.Layout.{size_of};
 
 use crate::{Ack, Ghes, Hest, HestError, HestSource};
+use apei_bytes::{put_u16, put_u32};
 use apei_gas::Gas;
 use apei_tables::{TableError, seal};
 use std::test::Fail;
@@ -74,6 +75,77 @@ fn a_table_its_source_and_its_prefixes(rt: HostRuntime) -> Result<(), Fail> {
             TableError::Length { found: 132 }
         };
         assert!(rt; Hest::decode(rt.alloc(), &TABLE[..n]).err() == Some(HestError::Table(error)));
+    }
+    Ok(())
+}
+
+/// A table with a structure of each type, those of types 0, 1 and 11 with 1, 2 and no banks.
+fn each_type() -> [u8; 584] {
+    let mut bytes = [0; 584];
+    bytes[..40].copy_from_slice(&TABLE[..40]);
+    put_u32(&mut bytes, 4, 584);
+    put_u32(&mut bytes, 36, 9);
+    put_u16(&mut bytes, 40, 0);
+    bytes[72] = 1;
+    put_u16(&mut bytes, 108, 1);
+    bytes[152] = 2;
+    put_u16(&mut bytes, 212, 2);
+    put_u16(&mut bytes, 232, 6);
+    put_u16(&mut bytes, 280, 7);
+    put_u16(&mut bytes, 324, 8);
+    put_u16(&mut bytes, 380, 9);
+    put_u16(&mut bytes, 444, 10);
+    put_u16(&mut bytes, 536, 11);
+    seal(&mut bytes);
+    bytes
+}
+
+/// A generic source whose bytes are all 0 but for its type.
+fn blank(ack: Option<Ack>) -> HestSource {
+    let none = Gas::decode(&[0; 12]);
+    HestSource::Ghes(Ghes {
+        id: 0,
+        related: 0,
+        flags: 0,
+        enabled: 0,
+        records: 0,
+        sections: 0,
+        raw: 0,
+        status: none,
+        notify: [0; 28],
+        block_len: 0,
+        ack,
+    })
+}
+
+fn other(kind: u16, at: u32, len: u32) -> HestSource {
+    HestSource::Other { kind, at, len }
+}
+
+#[test]
+fn each_type_has_its_length(rt: HostRuntime) -> Result<(), Fail> {
+    let ack = Ack {
+        register: Gas::decode(&[0; 12]),
+        preserve: 0,
+        write: 0,
+    };
+    let wanted = [
+        other(0, 40, 68),
+        other(1, 108, 104),
+        other(2, 212, 20),
+        other(6, 232, 48),
+        other(7, 280, 44),
+        other(8, 324, 56),
+        blank(None),
+        blank(Some(ack)),
+        other(11, 536, 48),
+    ];
+    match Hest::decode(rt.alloc(), &each_type()) {
+        Ok((hest, length)) => {
+            assert!(rt; length == 584);
+            assert!(rt; hest.sources() == wanted.as_slice());
+        }
+        Err(_) => return Err("refused".into()),
     }
     Ok(())
 }

@@ -1,6 +1,6 @@
 use Rattle.std.proofs.Common.{ℕ, ◌+◌, length, Err, sym, ap, ◌∙◌, arith}
 use Rattle.ghes_block.specs.declared.error.BlockError.TheVariants.{RawOffset}
-use Rattle.ghes_block.specs.Reading.{sized, entry_count}
+use Rattle.ghes_block.specs.Reading.{length_if_there, entry_count}
 use Rattle.ghes_block.proofs.Whole.{at_short, at_zero, at_no_raw, at_raw_offset, at_raw, answered}
 use Rattle.ghes_block.proofs.block.checked_block.Goals as goal
 
@@ -16,7 +16,7 @@ returns-then-raw_length-eq0 c =
     let end = c.from-data_end.ensures in
     answered c.args.bytes.now (20 + c.from-data_end.result) c.get_u32-data_length.result c.sized_block.result data_len
     (at_no_raw c.args.bytes.now c.if-bytes-lt-HEADER.false (λ z. c.if-get_u32-eq0.false (c.get_u32.ensures ∙ z)) (sym c.get_u32-raw_length.ensures ∙ c.if-raw_length-eq0.true)
-    ∙ ap (λ (n : ℕ). sized (length c.args.bytes.now) n (entry_count c.args.bytes.now)) (omega arith))
+    ∙ ap (λ (n : ℕ). length_if_there (length c.args.bytes.now) n (entry_count c.args.bytes.now)) (omega arith))
     c.sized_block.ensures
 
 pub returns-then-from-data_end : goal.returns-then-from-data_end
@@ -42,5 +42,5 @@ returns c =
     let high = c.if-from-data_end.false in
     answered c.args.bytes.now (c.from-2.result + c.from-3.result) c.get_u32-data_length.result c.sized_block-2.result data_len
     (at_raw c.args.bytes.now c.if-bytes-lt-HEADER.false (λ z. c.if-get_u32-eq0.false (c.get_u32.ensures ∙ z)) (λ z. c.if-raw_length-eq0.false (c.get_u32-raw_length.ensures ∙ z)) (omega arith)
-    ∙ ap (λ (n : ℕ). sized (length c.args.bytes.now) n (entry_count c.args.bytes.now)) (omega arith))
+    ∙ ap (λ (n : ℕ). length_if_there (length c.args.bytes.now) n (entry_count c.args.bytes.now)) (omega arith))
     c.sized_block-2.ensures

@@ -1,57 +1,58 @@
-use Rattle.std.proofs.Common.{◌≡◌, ℕ, ◌+◌, List, length, drop, Err, sym, ap, ◌∙◌, arith, length-drop}
+use Rattle.std.proofs.Common.{◌≡◌, ℕ, ◌+◌, false, length, drop, Ok, Err, sym, ap, ◌∙◌, arith, length-drop}
+use Rattle.std.specs.Prelude.{◌==◌}
+use Rattle.std.proofs.lemmas.Bool.{ne_eqb, eq-eqb}
 use Rattle.std.proofs.lemmas.List.{take_rest, drop-drop}
-use Rattle.ghes_block.specs.declared.error.BlockError.TheVariants.{Rest, Entry}
-use Rattle.ghes_block.specs.Reading.{counted, entry_size}
-use Rattle.ghes_block.proofs.EntryLaws.{entry_size-le}
-use Rattle.ghes_block.proofs.Walks.{walk_rest, walk_entry, walk_on}
+use Rattle.std.proofs.lemmas.Result.{err_from_is_err_and}
+use Rattle.apei_fields.specs.Walk.{item_count}
+use Rattle.apei_fields.proofs.Walks.{count_done, count_fault, count_on}
+use Rattle.ghes_block.specs.declared.error.BlockError.{BlockError}
+use Rattle.ghes_block.specs.Reading.{whole_entry_size, entry_walk}
+use Rattle.ghes_block.proofs.Walks.{gets_on}
 use Rattle.ghes_block.proofs.block.count_entries.Goals as goal
 
-pub returns-then-rest-lt-HEAD : goal.returns-then-rest-lt-HEAD
-returns-then-rest-lt-HEAD c =
+pub returns-in_err-at : goal.returns-in_err-at
+returns-in_err-at c =
     let content = c.args.content.now in
     let at = c.loop-at.at in
     let rest = take_rest content at in
     let size = length-drop at content in
-    let same = ap length rest in
-    let less = c.if-rest-lt-HEAD.true in
     let some = c.loop-at-test.true in
-    sym (sym c.loop-at.invariant.same
-    ∙ walk_rest (length content) c.loop-at.index (20 + at) (drop at content) (omega arith) (omega arith) (omega arith)
-    ∙ ap (λ (xs : List ℕ). Err (Rest (length xs))) (sym rest))
-
-pub returns-then-rest-size : goal.returns-then-rest-size
-returns-then-rest-size c =
-    let content = c.args.content.now in
-    let at = c.loop-at.at in
-    let rest = take_rest content at in
-    let size = length-drop at content in
-    let same = ap length rest in
-    let long = c.if-rest-lt-HEAD.false in
-    let less = c.if-rest-size.true in
-    let entry : c.size_of_entry-size.result ≡ entry_size (drop at content) = c.size_of_entry-size.ensures ∙ ap entry_size rest in
-    sym (sym c.loop-at.invariant.same
-    ∙ walk_entry (length content) c.loop-at.index (20 + at) (drop at content) (omega arith) (omega arith) (omega arith)
-    ∙ ap (λ (n : ℕ). Err (Entry n (20 + at))) (sym c.from.ensures))
+    let p = err_from_is_err_and c.from_residual.result c.from_residual.ensures.1 in
+    let error = c.in_err-at.field-0.0 in
+    let here : whole_entry_size c.loop-at.index (20 + at) (drop at content) ≡ Err error = ap (whole_entry_size c.loop-at.index (20 + at)) (sym rest) ∙ sym c.whole_entry_size.ensures.exact ∙ c.in_err-at.was in
+    let left : (length (drop at content) == 0) ≡ false = ne_eqb (length (drop at content)) 0 (λ z. omega arith) in
+    p.1
+    ∙ ap (λ (e : BlockError). Err e) p.2
+    ∙ sym (count_fault entry_walk (length content) c.loop-at.index (20 + at) (drop at content) error gets_on left (omega arith) here)
+    ∙ c.loop-at.invariant.same
 
 pub loop-at-preserved : goal.loop-at-preserved
 loop-at-preserved c =
     let content = c.args.content.now in
     let at = c.loop-at.at in
+    let len = c.in_ok-at.field-0 in
     let rest = take_rest content at in
     let size = length-drop at content in
-    let same = ap length rest in
-    let long = c.if-rest-lt-HEAD.false in
-    let fits = c.if-rest-size.false in
-    let few = c.loop-at.invariant.few in
-    let entry : c.size_of_entry-size.result ≡ entry_size (drop at content) = c.size_of_entry-size.ensures ∙ ap entry_size rest in
-    let low = entry_size-le (drop at content) in
+    let sizes = ap length rest in
+    let here : whole_entry_size c.loop-at.index (20 + at) (drop at content) ≡ Ok len = ap (whole_entry_size c.loop-at.index (20 + at)) (sym rest) ∙ sym c.whole_entry_size.ensures.exact ∙ c.in_ok-at.was in
+    let within = c.in_ok-at.ensures.within in
+    let low = within.0 in
+    let fits = within.1 in
+    let some = c.loop-at-test.true in
+    let left : (length (drop at content) == 0) ≡ false = ne_eqb (length (drop at content)) 0 (λ z. omega arith) in
     record {
       within = omega arith;
-      few = omega arith;
+      few = let before = c.loop-at.invariant.few in omega arith;
       same =
-          ap (λ (n : ℕ). counted (length content) (c.loop-at.index + 1) (20 + (at + n)) (drop (at + n) content)) entry
-          ∙ ap (λ (n : ℕ). counted (length content) (c.loop-at.index + 1) n (drop (at + entry_size (drop at content)) content)) (omega arith)
-          ∙ ap (counted (length content) (c.loop-at.index + 1) (20 + at + entry_size (drop at content))) (sym (drop-drop (entry_size (drop at content)) at content))
-          ∙ sym (walk_on (length content) c.loop-at.index (20 + at) (drop at content) (omega arith) (omega arith) (omega arith))
+          ap (item_count entry_walk (length content) (c.loop-at.index + 1) (20 + (at + len))) (sym (drop-drop len at content))
+          ∙ ap (λ (n : ℕ). item_count entry_walk (length content) (c.loop-at.index + 1) n (drop len (drop at content))) (omega arith)
+          ∙ sym (count_on entry_walk (length content) c.loop-at.index (20 + at) len (drop at content) gets_on left (omega arith) here)
           ∙ c.loop-at.invariant.same;
     }
+
+pub returns : goal.returns
+returns c =
+    let content = c.args.content.now in
+    let at = c.loop-at.at in
+    let size = length-drop at content in
+    sym (sym c.loop-at.invariant.same ∙ count_done entry_walk (length content) c.loop-at.index (20 + at) (drop at content) (eq-eqb (length (drop at content)) 0 (omega arith)))

@@ -1,12 +1,13 @@
 use Rattle.std.proofs.Common.{◌≡◌, ◌+◌, ◌-◌, ◌*◌, ◌≤◌, length, drop}
-use Rattle.ghes_block.specs.Reading.{counted}
+use Rattle.apei_fields.specs.Walk.{item_count}
+use Rattle.ghes_block.specs.Reading.{entry_walk, count_in}
 use Rattle.ghes_block.proofs.block.count_entries.Given as goal
 
 abbrev pub invariant-loop-at : goal.invariant-loop-at
 invariant-loop-at l = record {
   within : l.at ≤ length l.content;
   few : 64 * l.index ≤ l.at;
-  same : counted (length l.content) l.index (20 + l.at) (drop l.at l.content) ≡ counted (length l.content) 0 20 l.content;
+  same : item_count entry_walk (length l.content) l.index (20 + l.at) (drop l.at l.content) ≡ count_in l.content;
 }
 
 abbrev pub decreases-loop-at : goal.decreases-loop-at

@@ -4,5 +4,5 @@ use Rattle.ghes_block.proofs.writer.put_entry.Goals as goal
 
 pub returns-clause-wrote : goal.returns-clause-wrote
 returns-clause-wrote c =
-    wrote_entry c.args.out.now c.put_front.new.out c.put_stamp-data.new.out c.put_bytes.new.out c.args.at (c.args.at + 64) c.put_stamp-data.result c.put_bytes.result c.args.head.now c.args.body.now
-    c.put_front.ensures.wrote c.put_stamp-data.ensures.wrote c.put_bytes.ensures.wrote
+    wrote_entry c.args.out.now c.put_front.new.out c.put_stamp-data.new.out c.write_bytes.new.out c.args.at (c.args.at + 64) c.put_stamp-data.result c.write_bytes.result c.args.head.now c.args.body.now
+    c.put_front.ensures.wrote c.put_stamp-data.ensures.wrote c.write_bytes.ensures.wrote

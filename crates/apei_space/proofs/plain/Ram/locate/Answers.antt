@@ -1,7 +1,7 @@
-use Rattle.std.proofs.Common.{◌≡◌, ◌∙◌, List, length, Some, ap, sym, arith}
+use Rattle.std.proofs.Common.{◌≡◌, ◌∙◌, List, length, Some, ap, sym, subst, arith}
 use Rattle.apei_space.specs.declared.windows.Window.{Window}
 use Rattle.apei_space.specs.Windows.{spot}
-use Rattle.apei_space.specs.RamState.{RamState}
+use Rattle.apei_space.specs.RamState.{RamState, FillsWindows}
 use Rattle.apei_space.proofs.Spots.{spot_fits}
 use Rattle.apei_space.proofs.plain.Ram.locate.Goals as goal
 
@@ -21,3 +21,6 @@ returns-then-n-room-clause-room c =
     let fits = spot_fits c.self.inside.windows.items 0 c.args.at (c.in-Some.start, c.in-Some.room) inv.2 there in
     let bytes : length c.self.inside.bytes.items ≡ length c.args.self.now.bytes = ap (λ (r : RamState). length r.bytes) c.self.view_is in
     omega (arith, fits.within, inv.0, bytes, c.if-n-room.true)
+
+pub returns-then-n-eq0-clause-windows : goal.returns-then-n-eq0-clause-windows
+returns-then-n-eq0-clause-windows c = subst FillsWindows c.self.view_is (record { apart = c.self.invariant.2; as_long = c.self.invariant.0 })

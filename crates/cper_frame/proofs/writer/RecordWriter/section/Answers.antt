@@ -11,13 +11,13 @@ returns-clause-written c = λ before head_of given is.
     let done = is.done in
     let section : Given = record { head = c.args.head.now; body = c.args.body.now } in
     let left = c.requires.left in
-    let end_is : c.put_bytes.result ≡ c.args.self.now.end + length c.args.body.now = c.put_bytes.ensures.end in
-    let put : PutSection c.args.self.now.out.now c.put_descriptor.new.out c.put_bytes.new.out (length given) c.args.self.now.end c.args.head.now c.args.body.now = record {
+    let end_is : c.write_bytes.result ≡ c.args.self.now.end + length c.args.body.now = c.write_bytes.ensures.end in
+    let put : PutSection c.args.self.now.out.now c.put_descriptor.new.out c.write_bytes.new.out (length given) c.args.self.now.end c.args.head.now c.args.body.now = record {
       head_fits = c.put_descriptor.ensures.fits;
       descriptor_put = subst (λ (k : ℕ). Wrote c.args.self.now.out.now c.put_descriptor.new.out (128 + 72 * k) (128 + 72 * k + 72) (joined (descriptor_fields c.args.head.now c.args.self.now.end (length c.args.body.now)))) done c.put_descriptor.ensures.wrote;
-      body_put = subst (λ (k : ℕ). Wrote c.put_descriptor.new.out c.put_bytes.new.out c.args.self.now.end k c.args.body.now) end_is c.put_bytes.ensures.wrote;
+      body_put = subst (λ (k : ℕ). Wrote c.put_descriptor.new.out c.write_bytes.new.out c.args.self.now.end k c.args.body.now) end_is c.write_bytes.ensures.wrote;
     } in
     record {
       done = omega (arith, length-append given (section ∷ []));
-      bytes = goes_on before c.args.self.now.out.now c.put_descriptor.new.out c.put_bytes.new.out head_of c.args.self.now.sections given c.args.self.now.end section is.bytes (omega arith) put;
+      bytes = goes_on before c.args.self.now.out.now c.put_descriptor.new.out c.write_bytes.new.out head_of c.args.self.now.sections given c.args.self.now.end section is.bytes (omega arith) put;
     }

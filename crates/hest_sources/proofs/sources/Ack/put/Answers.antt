@@ -9,6 +9,6 @@ pub returns-clause-wrote : goal.returns-clause-wrote
 returns-clause-wrote c =
     let w0 = no_field c.args.out.now 64 (omega arith) in
     let w1 = next_field w0 c.put_gas-preserve.ensures.wrote in
-    let w2 = next_field w1 c.put_8-write.ensures.wrote in
-    let w3 = next_field w2 c.put_8.ensures.wrote in
-    subst (λ (end : ℕ). Wrote c.args.out.now c.put_8.new.out 64 end (joined (ack_fields c.args.self.now))) (omega arith) w3.wrote
+    let w2 = next_field w1 c.write_u64-write.ensures.wrote in
+    let w3 = next_field w2 c.write_u64.ensures.wrote in
+    subst (λ (end : ℕ). Wrote c.args.out.now c.write_u64.new.out 64 end (joined (ack_fields c.args.self.now))) (omega arith) w3.wrote

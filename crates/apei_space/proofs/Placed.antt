@@ -1,0 +1,319 @@
+-- Where accesses of mapped bytes stand among all bytes.
+use Rattle.std.proofs.Common.{◌≡◌, ◌∙◌, ℕ, ◌+◌, ◌-◌, ◌<◌, ◌≤◌, ◌⊎◌, ◌==◌, inl, inr, nat_le, cond, Bool, true, false, List, [], ◌∷◌, Option, Some, None, Result, Ok, Err, refl, sym, ap, subst, arith, le-leb}
+use Rattle.std.proofs.lemmas.Bool.{cases_eq, ne_eqb}
+use Rattle.std.proofs.lemmas.Bool.Decides.{nat_tests}
+use Rattle.apei_gas.specs.declared.registers.Place.{Place}
+use Rattle.apei_gas.specs.declared.registers.Place.TheVariants.{Memory, Io}
+use Rattle.apei_space.specs.declared.windows.Window.{Window}
+use Rattle.apei_space.specs.Windows.{address_of, room_in, room_from, room, spot, total, IsApart, IsApartFrom, AreApart}
+use Rattle.apei_space.specs.RamState.{within, found, refused, located}
+use Rattle.apei_space.specs.Mapped.{Holds, IsMapped, AreMapped, AreDisjoint, further, FindsBytes}
+use Rattle.apei_space.proofs.MappedLemmas.{finds_bytes, room_in-some, held, unheld}
+use Rattle.apei_space.proofs.Spots.{spot_fits}
+
+-- a window holds the first of some bytes: where it stands
+abbrev InHead : Window → Place → Type 0
+InHead window at = 0 < room window at
+
+-- two windows that are apart hold no byte together
+not_both : (p : Place) (n : ℕ) (q : Place) (m : ℕ) (at : Place) → IsApart p n q m → Holds p n at → Holds q m at → ⊥
+not_both (Memory p) n (Memory q) m (Memory at) (inl b) h k = let a = h.1 in let c = k.0 in omega (arith, a, b, c)
+not_both (Memory p) n (Memory q) m (Memory at) (inr b) h k = let a = h.0 in let c = k.1 in omega (arith, a, b, c)
+not_both (Io p) n (Io q) m (Io at) (inl b) h k = let a = h.1 in let c = k.0 in omega (arith, a, b, c)
+not_both (Io p) n (Io q) m (Io at) (inr b) h k = let a = h.0 in let c = k.1 in omega (arith, a, b, c)
+not_both (Memory p) n (Memory q) m (Io at) a h k = h
+not_both (Io p) n (Io q) m (Memory at) a h k = h
+not_both (Memory p) n (Io q) m (Memory at) a h k = k
+not_both (Memory p) n (Io q) m (Io at) a h k = h
+not_both (Io p) n (Memory q) m (Memory at) a h k = h
+not_both (Io p) n (Memory q) m (Io at) a h k = k
+
+unheld_by : (window : Window) (windows : List Window) (at : Place) → IsApartFrom window windows → Holds window.place window.len at → IsMapped windows at → ⊥
+unheld_by window [] at apart h mapped = mapped
+unheld_by window (other ∷ others) at apart h (inl here) = not_both window.place window.len other.place other.len at apart.0 h here
+unheld_by window (other ∷ others) at apart h (inr later) = unheld_by window others at apart.1 h later
+
+-- a window with no room does not hold, one that holds has room
+has_room : (place : Place) (n : ℕ) (at : Place) → Holds place n at → 0 < room_from place n at
+has_room place n at h = go (cases_eq (room_from place n at) 0) where
+  go : (room_from place n at ≡ 0) ⊎ (room_from place n at ≡ 0 → ⊥) → 0 < room_from place n at
+  go (inl none) = absurd (unheld place n at none h)
+  go (inr some) = grind arith
+
+holds : (place : Place) (n : ℕ) (at : Place) → 0 < room_from place n at → Holds place n at
+holds (Memory base) n (Memory at) h = let a = room_in-some base n at (room_in base n at) refl h in let low = a.0 in let ends = a.1 in (low, omega (arith, ends, h))
+holds (Io base) n (Io at) h = let a = room_in-some base n at (room_in base n at) refl h in let low = a.0 in let ends = a.1 in (low, omega (arith, ends, h))
+holds (Memory base) n (Io at) h = absurd (omega (arith, h))
+holds (Io base) n (Memory at) h = absurd (omega (arith, h))
+
+-- the same spot, so many bytes further
+room_further : (place : Place) (n : ℕ) (at : Place) (k : ℕ) → k < room_from place n at → room_from place n (further at k) + k ≡ room_from place n at
+room_further (Memory base) n (Memory at) k h =
+    let a = room_in-some base n at (room_in base n at) refl (omega (arith, h)) in
+    let low = a.0 in
+    let ends = a.1 in
+    let more : base ≤ at + k = omega (arith, low) in
+    let all : room_in base n (at + k) ≡ n - (at + k - base) = ap (λ (b : Bool). cond b (n - (at + k - base)) 0) (le-leb base (at + k) more) in
+    omega (arith, low, ends, h, all)
+room_further (Io base) n (Io at) k h =
+    let a = room_in-some base n at (room_in base n at) refl (omega (arith, h)) in
+    let low = a.0 in
+    let ends = a.1 in
+    let more : base ≤ at + k = omega (arith, low) in
+    let all : room_in base n (at + k) ≡ n - (at + k - base) = ap (λ (b : Bool). cond b (n - (at + k - base)) 0) (le-leb base (at + k) more) in
+    omega (arith, low, ends, h, all)
+room_further (Memory base) n (Io at) k h = absurd (omega (arith, h))
+room_further (Io base) n (Memory at) k h = absurd (omega (arith, h))
+
+room_le : (place : Place) (n : ℕ) (at : Place) → room_from place n at ≤ n
+room_le (Memory base) n (Memory at) = go (nat_le base at) refl where
+  go : (b : Bool) → nat_le base at ≡ b → room_in base n at ≤ n
+  go true e = rw e (omega arith)
+  go false e = rw e (omega arith)
+room_le (Io base) n (Io at) = go (nat_le base at) refl where
+  go : (b : Bool) → nat_le base at ≡ b → room_in base n at ≤ n
+  go true e = rw e (omega arith)
+  go false e = rw e (omega arith)
+room_le (Memory base) n (Io at) = omega arith
+room_le (Io base) n (Memory at) = omega arith
+
+spot_head : (window : Window) (windows : List Window) (start : ℕ) (at : Place) → 0 < room window at → spot (window ∷ windows) start at ≡ Some (start + (window.len - room window at), room window at)
+spot_head window windows start at h = let e : (room window at == 0) ≡ false = grind (arith, nat_tests) in rw e refl
+
+spot_tail : (window : Window) (windows : List Window) (start : ℕ) (at : Place) → room window at ≡ 0 → spot (window ∷ windows) start at ≡ spot windows (start + window.len) at
+spot_tail window windows start at h = let e : (room window at == 0) ≡ true = grind (arith, nat_tests) in rw e refl
+
+pair_is : (a b s r : ℕ) → ◌≡◌ {A = Option (ℕ × ℕ)} (Some (a, b)) (Some (s, r)) → (a ≡ s) × (b ≡ r)
+pair_is a b s r e =
+    let same : ◌≡◌ {A = ℕ × ℕ} (a, b) (s, r) = cc in
+    (ap (λ (x : ℕ × ℕ). x.0) same, ap (λ (x : ℕ × ℕ). x.1) same)
+
+head_is : (window : Window) (windows : List Window) (start : ℕ) (at : Place) (s r : ℕ) → 0 < room window at → spot (window ∷ windows) start at ≡ Some (s, r) → (start + (window.len - room window at) ≡ s) × (room window at ≡ r)
+head_is window windows start at s r more is = pair_is (start + (window.len - room window at)) (room window at) s r (sym (spot_head window windows start at more) ∙ is)
+
+-- what a spot holds is mapped
+spot_mapped : (windows : List Window) (start : ℕ) (at : Place) (s r k : ℕ) → spot windows start at ≡ Some (s, r) → k < r → IsMapped windows (further at k)
+spot_mapped [] start at s r k is h = absurd cc
+spot_mapped (window ∷ windows) start at s r k is h = go (cases_eq (room window at) 0) (λ later. spot_mapped windows (start + window.len) at s r k later h) where
+  go : (room window at ≡ 0) ⊎ (room window at ≡ 0 → ⊥) → (spot windows (start + window.len) at ≡ Some (s, r) → IsMapped windows (further at k)) → IsMapped (window ∷ windows) (further at k)
+  go (inl none) rest = inr (rest (sym (spot_tail window windows start at none) ∙ is))
+  go (inr some) rest =
+      let more : 0 < room window at = grind arith in
+      let e = head_is window windows start at s r more is in
+      let same = e.1 in
+      inl (held window.place window.len at r k same (omega (arith, h)) h)
+
+pub spot_further : (windows : List Window) (start : ℕ) (at : Place) (s r k : ℕ) → AreApart windows → spot windows start at ≡ Some (s, r) → k < r → spot windows start (further at k) ≡ Some (s + k, r - k)
+spot_further [] start at s r k apart is h = absurd cc
+spot_further (window ∷ windows) start at s r k apart is h = go (cases_eq (room window at) 0) (λ later. spot_further windows (start + window.len) at s r k apart.2 later h) where
+  go : (room window at ≡ 0) ⊎ (room window at ≡ 0 → ⊥) → (spot windows (start + window.len) at ≡ Some (s, r) → spot windows (start + window.len) (further at k) ≡ Some (s + k, r - k)) → spot (window ∷ windows) start (further at k) ≡ Some (s + k, r - k)
+  go (inl none) rest =
+      let later : spot windows (start + window.len) at ≡ Some (s, r) = sym (spot_tail window windows start at none) ∙ is in
+      let no_room : room window (further at k) ≡ 0 = elsewhere (cases_eq (room window (further at k)) 0) later in
+      spot_tail window windows start (further at k) no_room ∙ rest later where
+        elsewhere : (room window (further at k) ≡ 0) ⊎ (room window (further at k) ≡ 0 → ⊥) → spot windows (start + window.len) at ≡ Some (s, r) → room window (further at k) ≡ 0
+        elsewhere (inl z) later = z
+        elsewhere (inr some) later = absurd (unheld_by window windows (further at k) apart.1 (holds window.place window.len (further at k) (grind arith)) (spot_mapped windows (start + window.len) at s r k later h))
+  go (inr some) rest =
+      let more : 0 < room window at = grind arith in
+      let e = head_is window windows start at s r more is in
+      let same = e.1 in
+      let at_s = e.0 in
+      let f = room_further window.place window.len at k (omega (arith, same, h)) in
+      let le = room_le window.place window.len at in
+      let sum : start + (window.len - room window (further at k)) ≡ s + k = omega (arith, f, same, at_s, le, h) in
+      let left : room window (further at k) ≡ r - k = omega (arith, f, same) in
+      spot_head window windows start (further at k) (omega (arith, f, same, h)) ∙ ap (λ (x : ℕ). Some (x, room window (further at k))) sum ∙ ap (λ (x : ℕ). Some (s + k, x)) left
+
+-- both in one window
+same_window : (place : Place) (len : ℕ) (p : Place) (n : ℕ) (q : Place) (m : ℕ) (start : ℕ) → 0 < n → 0 < m → n ≤ room_from place len p → m ≤ room_from place len q → AreDisjoint p n q m →
+    (start + (len - room_from place len p) + n ≤ start + (len - room_from place len q)) ⊎ (start + (len - room_from place len q) + m ≤ start + (len - room_from place len p))
+same_window (Memory base) len (Memory p) n (Memory q) m start a b np mq d =
+    let x = room_in-some base len p (room_in base len p) refl (omega (arith, a, np)) in
+    let y = room_in-some base len q (room_in base len q) refl (omega (arith, b, mq)) in
+    let x0 = x.0 in let x1 = x.1 in let y0 = y.0 in let y1 = y.1 in
+    elim d [ inl h ↦ inl (omega (arith, x0, x1, y0, y1, h, np, mq)) | inr h ↦ inr (omega (arith, x0, x1, y0, y1, h, np, mq)) ]
+same_window (Io base) len (Io p) n (Io q) m start a b np mq d =
+    let x = room_in-some base len p (room_in base len p) refl (omega (arith, a, np)) in
+    let y = room_in-some base len q (room_in base len q) refl (omega (arith, b, mq)) in
+    let x0 = x.0 in let x1 = x.1 in let y0 = y.0 in let y1 = y.1 in
+    elim d [ inl h ↦ inl (omega (arith, x0, x1, y0, y1, h, np, mq)) | inr h ↦ inr (omega (arith, x0, x1, y0, y1, h, np, mq)) ]
+same_window (Memory base) len (Io p) n q m start a b np mq d = absurd (omega (arith, a, np))
+same_window (Io base) len (Memory p) n q m start a b np mq d = absurd (omega (arith, a, np))
+same_window (Memory base) len (Memory p) n (Io q) m start a b np mq d = absurd (omega (arith, b, mq))
+same_window (Io base) len (Io p) n (Memory q) m start a b np mq d = absurd (omega (arith, b, mq))
+
+spot_from : (windows : List Window) (start : ℕ) (at : Place) (s r : ℕ) → spot windows start at ≡ Some (s, r) → start ≤ s
+spot_from [] start at s r is = absurd cc
+spot_from (window ∷ windows) start at s r is = go (cases_eq (room window at) 0) (λ later. spot_from windows (start + window.len) at s r later) where
+  go : (room window at ≡ 0) ⊎ (room window at ≡ 0 → ⊥) → (spot windows (start + window.len) at ≡ Some (s, r) → start + window.len ≤ s) → start ≤ s
+  go (inl none) rest = let h = rest (sym (spot_tail window windows start at none) ∙ is) in omega (arith, h)
+  go (inr some) rest =
+      let more : 0 < room window at = grind arith in
+      let e = head_is window windows start at s r more is in
+      let same = e.0 in
+      omega (arith, same)
+
+pub spots_apart : (windows : List Window) (start : ℕ) (p : Place) (n : ℕ) (q : Place) (m : ℕ) (s r t u : ℕ) → 0 < n → 0 < m → AreDisjoint p n q m →
+    spot windows start p ≡ Some (s, r) → n ≤ r → spot windows start q ≡ Some (t, u) → m ≤ u → (s + n ≤ t) ⊎ (t + m ≤ s)
+spots_apart [] start p n q m s r t u a b d is nr it mu = absurd cc
+spots_apart (window ∷ windows) start p n q m s r t u a b d is nr it mu =
+    go (cases_eq (room window p) 0) (cases_eq (room window q) 0) (λ x y. spots_apart windows (start + window.len) p n q m s r t u a b d x nr y mu) where
+      go : (room window p ≡ 0) ⊎ (room window p ≡ 0 → ⊥) → (room window q ≡ 0) ⊎ (room window q ≡ 0 → ⊥) →
+          (spot windows (start + window.len) p ≡ Some (s, r) → spot windows (start + window.len) q ≡ Some (t, u) → (s + n ≤ t) ⊎ (t + m ≤ s)) → (s + n ≤ t) ⊎ (t + m ≤ s)
+      go (inl no_p) (inl no_q) rest = rest (sym (spot_tail window windows start p no_p) ∙ is) (sym (spot_tail window windows start q no_q) ∙ it)
+      go (inr in_p) (inl no_q) rest =
+          let later = spot_from windows (start + window.len) q t u (sym (spot_tail window windows start q no_q) ∙ it) in
+          let more : 0 < room window p = grind arith in
+          let e = head_is window windows start p s r more is in
+          let same_s = e.0 in
+          let same_r = e.1 in
+          let le = room_le window.place window.len p in
+          inl (omega (arith, later, same_s, same_r, le, nr))
+      go (inl no_p) (inr in_q) rest =
+          let later = spot_from windows (start + window.len) p s r (sym (spot_tail window windows start p no_p) ∙ is) in
+          let more : 0 < room window q = grind arith in
+          let f = head_is window windows start q t u more it in
+          let same_t = f.0 in
+          let same_u = f.1 in
+          let le = room_le window.place window.len q in
+          inr (omega (arith, later, same_t, same_u, le, mu))
+      go (inr in_p) (inr in_q) rest =
+          let more_p : 0 < room window p = grind arith in
+          let more_q : 0 < room window q = grind arith in
+          let e = head_is window windows start p s r more_p is in
+          let f = head_is window windows start q t u more_q it in
+          let same_s = e.0 in
+          let same_r = e.1 in
+          let same_t = f.0 in
+          let same_u = f.1 in
+          let both = same_window window.place window.len p n q m start a b (omega (arith, same_r, nr)) (omega (arith, same_u, mu)) d in
+          elim both [ inl h ↦ inl (omega (arith, same_s, same_t, h)) | inr h ↦ inr (omega (arith, same_s, same_t, h)) ]
+
+-- an access all of whose bytes are mapped is found: where, and how many bytes its window still has there
+pub record IsPlaced (windows : List Window) (at : Place) (n s : ℕ) : Type 0 where
+  pub found_at : located windows at n ≡ Ok s
+  pub room : ℕ
+  pub spot_is : spot windows 0 at ≡ Some (s, room)
+  pub fits : n ≤ room
+
+pub placed : (windows : List Window) (at : Place) (n : ℕ) → AreApart windows → 0 < n → AreMapped windows at n → (s : ℕ) × IsPlaced windows at n s
+placed windows at n apart some mapped = go (spot windows 0 at) refl (finds_bytes windows at n apart) where
+  plain : found windows at n ≡ within (spot windows 0 at) (address_of at) n
+  plain = ap (λ (b : Bool). cond {A = Result ℕ ℕ} b (Ok 0) (within (spot windows 0 at) (address_of at) n)) (ne_eqb n 0 (λ z. omega (arith, z, some)))
+
+  bad : (a : ℕ) → found windows at n ≡ Err a → FindsBytes windows at n (found windows at n) → ⊥
+  bad a e finds = let f : FindsBytes windows at n (Err a) = subst (FindsBytes windows at n) e finds in f.1.unmapped (mapped f.0 f.1.within)
+
+  go : (o : Option (ℕ × ℕ)) → spot windows 0 at ≡ o → FindsBytes windows at n (found windows at n) → (s : ℕ) × IsPlaced windows at n s
+  go None e finds = absurd (bad (address_of at) (plain ∙ ap (λ (o : Option (ℕ × ℕ)). within o (address_of at) n) e) finds)
+  go (Some x) e finds = test (nat_le n x.1) refl where
+    test : (b : Bool) → nat_le n x.1 ≡ b → (s : ℕ) × IsPlaced windows at n s
+    test true h =
+        let all : found windows at n ≡ Ok x.0 = plain ∙ ap (λ (o : Option (ℕ × ℕ)). within o (address_of at) n) e ∙ ap (λ (b : Bool). cond {A = Result ℕ ℕ} b (Ok x.0) (Err (address_of at + x.1))) h in
+        (x.0, record { found_at = ap refused all; room = x.1; spot_is = e; fits = grind (arith, nat_tests) })
+    test false h =
+        let all : found windows at n ≡ Err (address_of at + x.1) = plain ∙ ap (λ (o : Option (ℕ × ℕ)). within o (address_of at) n) e ∙ ap (λ (b : Bool). cond {A = Result ℕ ℕ} b (Ok x.0) (Err (address_of at + x.1))) h in
+        absurd (bad (address_of at + x.1) all finds)
+
+-- a part of the bytes is found so many bytes further
+pub located_within : (windows : List Window) (at : Place) (n s k m : ℕ) → AreApart windows → IsPlaced windows at n s → 0 < m → k + m ≤ n → located windows (further at k) m ≡ Ok (s + k)
+located_within windows at n s k m apart p some inside =
+    let fits = p.fits in
+    let e = spot_further windows 0 at s p.room k apart p.spot_is (omega (arith, fits, some, inside)) in
+    let plain : found windows (further at k) m ≡ within (spot windows 0 (further at k)) (address_of (further at k)) m =
+    ap (λ (b : Bool). cond {A = Result ℕ ℕ} b (Ok 0) (within (spot windows 0 (further at k)) (address_of (further at k)) m)) (ne_eqb m 0 (λ z. omega (arith, z, some))) in
+    ap refused (plain ∙ ap (λ (o : Option (ℕ × ℕ)). within o (address_of (further at k)) m) e
+    ∙ ap (λ (b : Bool). cond {A = Result ℕ ℕ} b (Ok (s + k)) (Err (address_of (further at k) + (p.room - k)))) (le-leb m (p.room - k) (omega (arith, fits, inside))))
+
+-- what is placed lies among the bytes
+pub placed_fits : (windows : List Window) (at : Place) (n s : ℕ) → AreApart windows → IsPlaced windows at n s → s + n ≤ total windows
+placed_fits windows at n s apart p =
+    let f = spot_fits windows 0 at (s, p.room) apart p.spot_is in
+    let w = f.within in
+    let fits = p.fits in
+    omega (arith, w, fits)
+
+pub placed_apart : (windows : List Window) (p : Place) (n s : ℕ) (q : Place) (m t : ℕ) → 0 < n → 0 < m → IsPlaced windows p n s → IsPlaced windows q m t → AreDisjoint p n q m → (s + n ≤ t) ⊎ (t + m ≤ s)
+placed_apart windows p n s q m t a b x y d = spots_apart windows 0 p n q m s x.room t y.room a b d x.spot_is x.fits y.spot_is y.fits
+
+-- an access that is found is placed
+pub found_placed : (windows : List Window) (at : Place) (n s : ℕ) → 0 < n → located windows at n ≡ Ok s → IsPlaced windows at n s
+found_placed windows at n s some is = go (spot windows 0 at) refl where
+  plain : found windows at n ≡ within (spot windows 0 at) (address_of at) n
+  plain = ap (λ (b : Bool). cond {A = Result ℕ ℕ} b (Ok 0) (within (spot windows 0 at) (address_of at) n)) (ne_eqb n 0 (λ z. omega (arith, z, some)))
+
+  none : (a : ℕ) → found windows at n ≡ Err a → ⊥
+  none a e = let both : refused (Err a) ≡ Ok s = sym (ap refused e) ∙ is in cc
+
+  go : (o : Option (ℕ × ℕ)) → spot windows 0 at ≡ o → IsPlaced windows at n s
+  go None e = absurd (none (address_of at) (plain ∙ ap (λ (o : Option (ℕ × ℕ)). within o (address_of at) n) e))
+  go (Some x) e = test (nat_le n x.1) refl where
+    test : (b : Bool) → nat_le n x.1 ≡ b → IsPlaced windows at n s
+    test true h =
+        let all : found windows at n ≡ Ok x.0 = plain ∙ ap (λ (o : Option (ℕ × ℕ)). within o (address_of at) n) e ∙ ap (λ (b : Bool). cond {A = Result ℕ ℕ} b (Ok x.0) (Err (address_of at + x.1))) h in
+        let same : x.0 ≡ s = start_is x.0 all in
+        record { found_at = is; room = x.1; spot_is = subst (λ (k : ℕ). spot windows 0 at ≡ Some (k, x.1)) same e; fits = grind (arith, nat_tests) } where
+          start_is : (k : ℕ) → found windows at n ≡ Ok k → k ≡ s
+          start_is k f = let both : refused (Ok k) ≡ Ok s = sym (ap refused f) ∙ is in cc
+    test false h =
+        let all : found windows at n ≡ Err (address_of at + x.1) = plain ∙ ap (λ (o : Option (ℕ × ℕ)). within o (address_of at) n) e ∙ ap (λ (b : Bool). cond {A = Result ℕ ℕ} b (Ok x.0) (Err (address_of at + x.1))) h in
+        absurd (none (address_of at + x.1) all)
+
+-- of a window, the byte so far from its end has one place
+same_place : (place : Place) (n : ℕ) (one other : Place) → 0 < room_from place n one → 0 < room_from place n other → room_from place n one ≡ room_from place n other → one ≡ other
+same_place (Memory base) n (Memory one) (Memory other) a b same =
+    let x = room_in-some base n one (room_in base n one) refl a in
+    let y = room_in-some base n other (room_in base n other) refl b in
+    let x1 = x.1 in
+    let y1 = y.1 in
+    ap Memory (omega (arith, x1, y1, same))
+same_place (Io base) n (Io one) (Io other) a b same =
+    let x = room_in-some base n one (room_in base n one) refl a in
+    let y = room_in-some base n other (room_in base n other) refl b in
+    let x1 = x.1 in
+    let y1 = y.1 in
+    ap Io (omega (arith, x1, y1, same))
+same_place (Memory base) n (Io one) other a b same = absurd (omega (arith, a))
+same_place (Io base) n (Memory one) other a b same = absurd (omega (arith, a))
+same_place (Memory base) n (Memory one) (Io other) a b same = absurd (omega (arith, b))
+same_place (Io base) n (Io one) (Memory other) a b same = absurd (omega (arith, b))
+
+spot_tells : (windows : List Window) (start : ℕ) (one other : Place) (s r u : ℕ) → spot windows start one ≡ Some (s, r) → spot windows start other ≡ Some (s, u) → one ≡ other
+spot_tells [] start one other s r u is it = absurd cc
+spot_tells (window ∷ windows) start one other s r u is it =
+    go (cases_eq (room window one) 0) (cases_eq (room window other) 0) (λ x y. spot_tells windows (start + window.len) one other s r u x y) where
+      go : (room window one ≡ 0) ⊎ (room window one ≡ 0 → ⊥) → (room window other ≡ 0) ⊎ (room window other ≡ 0 → ⊥) →
+          (spot windows (start + window.len) one ≡ Some (s, r) → spot windows (start + window.len) other ≡ Some (s, u) → one ≡ other) → one ≡ other
+      go (inl no_one) (inl no_other) rest = rest (sym (spot_tail window windows start one no_one) ∙ is) (sym (spot_tail window windows start other no_other) ∙ it)
+      go (inr in_one) (inl no_other) rest =
+          let later = spot_from windows (start + window.len) other s u (sym (spot_tail window windows start other no_other) ∙ it) in
+          let more : 0 < room window one = grind arith in
+          let e = head_is window windows start one s r more is in
+          let same = e.0 in
+          let le = room_le window.place window.len one in
+          absurd (omega (arith, later, same, le, more))
+      go (inl no_one) (inr in_other) rest =
+          let later = spot_from windows (start + window.len) one s r (sym (spot_tail window windows start one no_one) ∙ is) in
+          let more : 0 < room window other = grind arith in
+          let e = head_is window windows start other s u more it in
+          let same = e.0 in
+          let le = room_le window.place window.len other in
+          absurd (omega (arith, later, same, le, more))
+      go (inr in_one) (inr in_other) rest =
+          let more_one : 0 < room window one = grind arith in
+          let more_other : 0 < room window other = grind arith in
+          let e = head_is window windows start one s r more_one is in
+          let f = head_is window windows start other s u more_other it in
+          let same_one = e.0 in
+          let same_other = f.0 in
+          let le_one = room_le window.place window.len one in
+          let le_other = room_le window.place window.len other in
+          same_place window.place window.len one other more_one more_other (omega (arith, same_one, same_other, le_one, le_other))
+
+-- no two places have one byte
+pub index_tells : (windows : List Window) (one other : Place) (index : ℕ) → located windows one 1 ≡ Ok index → located windows other 1 ≡ Ok index → one ≡ other
+index_tells windows one other index is it =
+    let p = found_placed windows one 1 index (omega arith) is in
+    let q = found_placed windows other 1 index (omega arith) it in
+    spot_tells windows 0 one other index p.room q.room p.spot_is q.spot_is

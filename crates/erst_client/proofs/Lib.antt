@@ -1,0 +1,5 @@
+pub mod Rules
+pub mod RequestLemmas
+pub mod SequenceLemmas
+pub mod CommandLemmas
+pub mod AttachLemmas

@@ -1,0 +1,8 @@
+use Rattle.erst_client.proofs.AttachLemmas.{attaches_on}
+use Rattle.erst_client.proofs.client.Client.attach.Goals as goal
+
+pub returns-in-Ok-clause-reaches : goal.returns-in-Ok-clause-reaches
+returns-in-Ok-clause-reaches g c = attaches_on _ _ _ _ _ _ _ c.find.ensures
+
+pub returns-in-Err-clause-reaches : goal.returns-in-Err-clause-reaches
+returns-in-Err-clause-reaches g c = attaches_on _ _ _ _ _ _ _ c.find.ensures

@@ -1,0 +1,5 @@
+use Rattle.erst_client.proofs.CommandLemmas.{names_on}
+use Rattle.erst_client.proofs.client.Client.next.Goals as goal
+
+pub returns-clause-reaches : goal.returns-clause-reaches
+returns-clause-reaches g c = names_on _ _ _ _ _ _ _ c.next_identifier.ensures

@@ -1,0 +1,5 @@
+use Rattle.erst_client.proofs.CommandLemmas.{reads_on}
+use Rattle.erst_client.proofs.client.Client.read.Goals as goal
+
+pub returns-clause-reaches : goal.returns-clause-reaches
+returns-clause-reaches g c = reads_on _ _ _ _ _ _ _ _ _ _ c.read_record.ensures

@@ -1,0 +1,241 @@
+// The commands of a client, over the parts that it is made of.
+ghost use Rattle.std.specs.Prelude.{◌≡◌, ◌+◌, ◌≤◌, ◌<◌, ◌^◌, ◌++◌, length, take, drop, codes};
+ghost use Rattle.erst_client.specs.Commands.{Writes, Puts, Reads, Counts, Names, CopiesOut, write_refusal, copy_refusal};
+ghost use Rattle.erst_client.specs.Attaching.{client_with};
+ghost use Rattle.erst_client.specs.Sequences.{Sequence, read_requests, clear_requests, dummy_requests};
+
+use crate::attaching::Found;
+use crate::errors::ClientError;
+use crate::requests::{Request, perform};
+use crate::sequences::sequence;
+use apei_bytes::get_u32;
+use apei_space::Space;
+use cper_frame::Record;
+use erst_entries::{Action, ErstTable};
+use erst_interp::Budget;
+
+/// Where a record says its length, and where it is marked as one in persistent storage (UEFI 2.8, N.2.1).
+const LENGTH_AT: u64 = 20;
+
+const MARK_AT: u64 = 108;
+
+/// The bytes of a record's header.
+const HEADER: u64 = 128;
+
+/// An action that isn't given a value.
+fn plain(action: Action) -> Request
+    ensures { result ≡ record { action = action; given = 0 } }
+{
+    Request { action, given: 0 }
+}
+
+#[tactic(auto, using(crate::proofs::Rules::commands))]
+/// Puts a record into the range, marked, and has the firmware write it.
+pub fn write_record<S: Space>(
+    table: &ErstTable,
+    found: Found,
+    bytes: &[u8],
+    budget: &mut Budget,
+    space: &mut S,
+) -> Result<(), ClientError>
+    ensures { Writes S.allows (client_with table.now found) bytes.now budget.old (S.state space.old) result budget.new (S.state space.new) }
+{
+    if let Some(error) = refusal(bytes, found.len) {
+        return Err(error);
+    }
+    match put(found, bytes, space) {
+        Ok(()) => {}
+        Err(error) => return Err(error),
+    }
+    let requests = [
+        plain(Action::BeginWriteOperation),
+        plain(Action::SetRecordOffset),
+        plain(Action::ExecuteOperation),
+    ];
+    sequence(table, found.timings, &requests, budget, space)
+}
+
+/// Why bytes are not written.
+fn refusal(bytes: &[u8], range: u64) -> Option<ClientError>
+    ensures { result ≡ write_refusal bytes.now range }
+{
+    let len = match Record::decode(bytes) {
+        Ok((_, len)) => len,
+        Err(error) => return Some(ClientError::Frame(error)),
+    };
+    if len < bytes.len() {
+        let bytes = (bytes.len() - len) as u64;
+        return Some(ClientError::Trailing { bytes });
+    }
+    let len = bytes.len() as u64;
+    if range < len {
+        return Some(ClientError::TooLong { len, range });
+    }
+    None
+}
+
+#[tactic(auto, using(crate::proofs::Rules::commands))]
+/// Puts a record's bytes at the start of the range, and its mark over theirs.
+fn put<S: Space>(found: Found, bytes: &[u8], space: &mut S) -> Result<(), ClientError>
+    ensures { Puts S.allows found.address bytes.now (S.state space.old) result (S.state space.new) }
+{
+    match space.write_bytes(found.address, bytes) {
+        Ok(()) => {}
+        Err(fault) => return Err(ClientError::Range(fault)),
+    }
+    match space.write_bytes(found.address.wrapping_add(MARK_AT), b"ER") {
+        Ok(()) => Ok(()),
+        Err(fault) => Err(ClientError::Range(fault)),
+    }
+}
+
+#[tactic(auto, using(crate::proofs::Rules::commands))]
+/// Has the firmware read a record, and copies it out of the range.
+pub fn read_record<S: Space>(
+    table: &ErstTable,
+    found: Found,
+    id: u64,
+    out: &mut [u8],
+    budget: &mut Budget,
+    space: &mut S,
+) -> Result<usize, ClientError>
+    ensures { Reads S.allows (client_with table.now found) id out.old budget.old (S.state space.old) result out.new budget.new (S.state space.new) }
+{
+    match ask_read(table, found, id, budget, space) {
+        Ok(()) => {}
+        Err(error) => return Err(error),
+    }
+    let mut field = [0; 4];
+    match space.read_bytes(found.address.wrapping_add(LENGTH_AT), &mut field) {
+        Ok(()) => {}
+        Err(fault) => return Err(ClientError::Range(fault)),
+    }
+    let len = get_u32(&field, 0);
+    if let Some(error) = copy_refusal(u64::from(len), found.len, out.len() as u64) {
+        return Err(error);
+    }
+    match copy_out(found.address, &mut out[..len as usize], space) {
+        Ok(()) => Ok(len as usize),
+        Err(error) => Err(error),
+    }
+}
+
+/// Has the firmware read a record into the range.
+fn ask_read<S: Space>(
+    table: &ErstTable,
+    found: Found,
+    id: u64,
+    budget: &mut Budget,
+    space: &mut S,
+) -> Result<(), ClientError>
+    ensures { Sequence S.allows table.now.entries found.timings (read_requests id) budget.old (S.state space.old) result budget.new (S.state space.new) }
+{
+    let requests = [
+        plain(Action::BeginReadOperation),
+        plain(Action::SetRecordOffset),
+        Request {
+            action: Action::SetRecordIdentifier,
+            given: id,
+        },
+        plain(Action::ExecuteOperation),
+    ];
+    sequence(table, found.timings, &requests, budget, space)
+}
+
+/// Why a record of this length is not copied out of the range into so much room.
+fn copy_refusal(len: u64, range: u64, room: u64) -> Option<ClientError>
+    ensures { result ≡ copy_refusal len range room }
+{
+    if len < HEADER || range < len {
+        return Some(ClientError::BadLength { found: len });
+    }
+    if room < len {
+        return Some(ClientError::SmallBuffer { need: len });
+    }
+    None
+}
+
+/// Has the firmware clear a record.
+pub fn clear_record<S: Space>(
+    table: &ErstTable,
+    found: Found,
+    id: u64,
+    budget: &mut Budget,
+    space: &mut S,
+) -> Result<(), ClientError>
+    ensures { Sequence S.allows table.now.entries found.timings (clear_requests id) budget.old (S.state space.old) result budget.new (S.state space.new) }
+{
+    let requests = [
+        plain(Action::BeginClearOperation),
+        Request {
+            action: Action::SetRecordIdentifier,
+            given: id,
+        },
+        plain(Action::ExecuteOperation),
+    ];
+    sequence(table, found.timings, &requests, budget, space)
+}
+
+/// Has the firmware go through a write that stores nothing.
+pub fn write_dummy<S: Space>(
+    table: &ErstTable,
+    found: Found,
+    budget: &mut Budget,
+    space: &mut S,
+) -> Result<(), ClientError>
+    ensures { Sequence S.allows table.now.entries found.timings dummy_requests budget.old (S.state space.old) result budget.new (S.state space.new) }
+{
+    let requests = [
+        plain(Action::BeginDummyWriteOperation),
+        plain(Action::SetRecordOffset),
+        plain(Action::ExecuteOperation),
+    ];
+    sequence(table, found.timings, &requests, budget, space)
+}
+
+/// Asks how many records are stored.
+pub fn count_records<S: Space>(
+    table: &ErstTable,
+    budget: &mut Budget,
+    space: &mut S,
+) -> Result<u64, ClientError>
+    ensures { Counts S.allows table.now.entries budget.old (S.state space.old) result budget.new (S.state space.new) }
+{
+    match perform(table, Action::GetRecordCount, 0, budget, space) {
+        Ok(count) => {
+            if count == u64::from(u32::MAX) {
+                Err(ClientError::Hardware)
+            } else {
+                Ok(count)
+            }
+        }
+        Err(stop) => Err(ClientError::Stopped(stop)),
+    }
+}
+
+/// Asks for an identifier.
+pub fn next_identifier<S: Space>(
+    table: &ErstTable,
+    budget: &mut Budget,
+    space: &mut S,
+) -> Result<Option<u64>, ClientError>
+    ensures { Names S.allows table.now.entries budget.old (S.state space.old) result budget.new (S.state space.new) }
+{
+    match perform(table, Action::GetRecordIdentifier, 0, budget, space) {
+        Ok(0) => Err(ClientError::Hardware),
+        Ok(u64::MAX) => Ok(None),
+        Ok(id) => Ok(Some(id)),
+        Err(stop) => Err(ClientError::Stopped(stop)),
+    }
+}
+
+#[tactic(auto, using(crate::proofs::Rules::commands))]
+/// Fills the buffer from the start of the range.
+fn copy_out<S: Space>(address: u64, out: &mut [u8], space: &mut S) -> Result<(), ClientError>
+    ensures { CopiesOut S.allows address out.old out.new (S.state space.old) result (S.state space.new) }
+{
+    match space.read_bytes(address, out) {
+        Ok(()) => Ok(()),
+        Err(fault) => Err(ClientError::Range(fault)),
+    }
+}

@@ -1,0 +1,16 @@
+//! The operating system's side of the Error Record Serialization Interface (ACPI 6.4, section 18.5): a client reads, writes
+//! and clears a firmware's error records by running the programs of its table, and knows nothing else of the firmware.
+#![tactic(auto)]
+
+mod attaching;
+mod client;
+mod commands;
+mod errors;
+mod requests;
+mod sequences;
+
+pub use client::Client;
+pub use errors::{AttachError, ClientError};
+
+#[cfg(test)]
+mod tests;

@@ -1,0 +1,55 @@
+// A firmware's programs, run one after another.
+ghost use Rattle.std.specs.Prelude.{◌≡◌};
+ghost use Rattle.erst_entries.specs.Actions.{code_of};
+ghost use Rattle.erst_entries.specs.Programs.{program_of};
+ghost use Rattle.erst_client.specs.Requests.{Performs, AsksAll};
+
+use apei_space::Space;
+use erst_entries::{Action, ErstTable, Program};
+use erst_interp::{Budget, RunStop, run};
+
+/// An action, and the value that its program is given.
+#[derive(Clone, Copy, Debug, PartialEq, Eq)]
+pub struct Request {
+    pub action: Action,
+    pub given: u64,
+}
+
+/// The table's program of an action.
+pub fn program_for(table: &ErstTable, action: Action) -> Program<'_>
+    ensures { result ≡ program_of (code_of action) table.now.entries }
+{
+    table.program(action.code())
+}
+
+/// Runs the program of an action.
+pub fn perform<S: Space>(
+    table: &ErstTable,
+    action: Action,
+    given: u64,
+    budget: &mut Budget,
+    space: &mut S,
+) -> Result<u64, RunStop>
+    ensures { Performs S.allows table.now.entries action given budget.old (S.state space.old) result budget.new (S.state space.new) }
+{
+    run(&program_for(table, action), given, budget, space)
+}
+
+#[tactic(auto, using(crate::proofs::Rules::requests))]
+/// Makes requests in order, up to the first that stops.
+pub fn ask_all<S: Space>(
+    table: &ErstTable,
+    requests: &[Request],
+    budget: &mut Budget,
+    space: &mut S,
+) -> Result<(), RunStop>
+    ensures { AsksAll S.allows table.now.entries requests.now budget.old (S.state space.old) result budget.new (S.state space.new) }
+{
+    for request in requests {
+        match perform(table, request.action, request.given, budget, space) {
+            Ok(_) => {}
+            Err(stop) => return Err(stop),
+        }
+    }
+    Ok(())
+}

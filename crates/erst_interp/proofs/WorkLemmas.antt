@@ -1,0 +1,32 @@
+-- What a GOTO is, and which work uses a register.
+use Rattle.std.proofs.Common.{◌≡◌, ℕ, true, refl, arith, Result}
+use Rattle.apei_space.specs.Calls.{Call}
+use Rattle.erst_interp.specs.declared.configurations.Configuration.{Configuration}
+use Rattle.erst_interp.specs.declared.configurations.Task.{Task}
+use Rattle.erst_interp.specs.declared.works.FieldUse.{FieldUse}
+use Rattle.erst_interp.specs.declared.works.FieldUse.TheVariants.{Take, Change}
+use Rattle.erst_interp.specs.declared.works.Access.{Access}
+use Rattle.erst_interp.specs.declared.works.Access.TheVariants.{Field, Store, Compare, Copy}
+use Rattle.erst_interp.specs.declared.stops.RunStop.{RunStop}
+use Rattle.erst_interp.specs.Instructions.{GoTo, HasWork, uses_register, reads_first}
+use Rattle.erst_interp.specs.Works.{use_meaning, access_meaning}
+use Rattle.erst_interp.specs.Steps.{GoesTo, Within, Beyond, Executes, GoesOn, Stops, Goes, Outside}
+
+pub uses_register-access : (access : Access) (task : Task) → uses_register (access_meaning access task) ≡ true
+uses_register-access (Field (Take how)) task = refl
+uses_register-access (Field (Change how)) task = refl
+uses_register-access (Store value) task = refl
+uses_register-access Compare task = refl
+uses_register-access Copy task = refl
+
+pub reads_first-use : (how : FieldUse) (task : Task) → reads_first (use_meaning how task) ≡ true
+reads_first-use (Take how) task = refl
+reads_first-use (Change how) task = refl
+
+pub of_goto : {W : Type 0} (allows : W → Call → W → Type 0) (task : Task) (to paid : ℕ) (old : W) (answer : Result Configuration RunStop) →
+    HasWork task (GoTo to) → GoesTo task to answer → Executes allows task paid old answer paid old
+of_goto allows task to paid old answer has goes =
+    elim goes as (λ answer goes. Executes allows task paid old answer paid old) [
+      | Within h ↦ GoesOn _ 0 paid old (Goes to has h) (omega arith)
+      | Beyond h ↦ Stops _ paid old (Outside to has h)
+    ]
