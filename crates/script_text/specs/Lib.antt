@@ -1,6 +1,7 @@
 pub mod CheckGrammar
 pub mod CheckText
 pub mod CheckWords
+pub mod ClientWords
 pub mod FrameWords
 pub mod RunWords
 pub mod ScriptGrammar

@@ -2,6 +2,7 @@
 #![tactic(auto)]
 
 mod check_line;
+mod client_refusals;
 mod frame_refusals;
 mod laws;
 mod refusal;

@@ -5,6 +5,7 @@ use apei_bytes::{MemSink, SinkFault};
 use apei_space::SpaceFault;
 use apei_tables::TableError;
 use cper_frame::FrameError;
+use erst_client::{AttachError, ClientError};
 use erst_entries::ErstError;
 use erst_interp::RunStop;
 use ghes_block::BlockError;
@@ -75,5 +76,35 @@ fn tables(rt: HostRuntime) -> Result<(), Fail> {
     text.add(b"|");
     HestError::UnknownType { at: 40, code: 5 }.add_to(&mut text);
     assert_eq!(rt; text.bytes(), b"sum 1|unknown 40 5".as_slice());
+    Ok(())
+}
+
+#[test]
+fn clients(rt: HostRuntime) -> Result<(), Fail> {
+    let errors: [(ClientError, &[u8]); 6] = [
+        (ClientError::NotFound, b"not-found"),
+        (ClientError::Frame(FrameError::Start), b"frame start"),
+        (
+            ClientError::TooLong {
+                len: 8129,
+                range: 8128,
+            },
+            b"too-long 8129 8128",
+        ),
+        (ClientError::Stopped(RunStop::Budget), b"stopped budget"),
+        (
+            ClientError::Range(SpaceFault::Unmapped { at: 0 }),
+            b"range unmapped 0",
+        ),
+        (ClientError::Late { waited: 20 }, b"late 20"),
+    ];
+    for (error, want) in errors {
+        let mut text = RefusalText::new();
+        error.add_to(&mut text);
+        assert_eq!(rt; text.bytes(), want);
+    }
+    let mut text = RefusalText::new();
+    AttachError::NoRange { len: 127 }.add_to(&mut text);
+    assert_eq!(rt; text.bytes(), b"no-range 127".as_slice());
     Ok(())
 }
