@@ -17,11 +17,11 @@ import sys
 
 TOP = os.path.dirname(os.path.dirname(os.path.abspath(__file__)))
 SECTOR = 256
-HEAD, LEAST, OVERHEAD, PIECE = 32, 128, 64, 256
+HEAD, LEAST, OVERHEAD, PIECE, LONGEST = 32, 128, 64, 256, 65536
 LAST = 2**64 - 1
 LAST_GENERATION = 2**32 - 1
 IDENTIFIERS = [0, 1, 2, 3, 7, LAST - 1, LAST]
-LENGTHS = [128, 200, 256, 300, 384, 448, 449, 704, 705]
+LENGTHS = [128, 200, 256, 300, 384, 448, 449, 704, 705, 896, 897, 1344, 1345, 1408, 1792, 1793, 2112, 2113, 2816, 2817]
 
 
 def number(data):
@@ -45,6 +45,7 @@ class Model:
         self.per_slot, self.fail, self.torn = per_slot, fail, torn
         self.slots = [bytearray(b"\xff" * (SECTOR * per_slot)) for _ in range(slots)]
         self.room = SECTOR * per_slot - OVERHEAD
+        self.reach = min(4 * self.room, LONGEST)
         self.steps = self.cursor = 0
         self.in_doubt = False
 
@@ -56,63 +57,102 @@ class Model:
         if torn:
             raise FlashFailed
 
-    def live(self, slot):
-        """Identifier, generation and body of a live slot."""
+    def upright(self, slot):
+        """Identifier, generation, length and further slots of an upright slot."""
         data = self.slots[slot]
-        identifier, length = number(data[8:16]), number(data[16:20])
-        marks = (data[0], data[1], number(data[2:4]), data[-1]) == (0x5A, 0xFF, 1, 0xA5)
-        if marks and LEAST <= length <= self.room and identifier not in (0, LAST):
-            return identifier, number(data[4:8]), bytes(data[HEAD : HEAD + length])
+        form, identifier, length = number(data[2:4]), number(data[8:16]), number(data[16:20])
+        named = [number(data[at : at + 2]) for at in (20, 22, 24)]
+        further = -(-length // self.room) - 1
+        if (data[0], data[1], data[-1]) != (0x5A, 0xFF, 0xA5) or length < LEAST or identifier in (0, LAST):
+            return None
+        if form == 1 and length <= self.room:
+            return identifier, number(data[4:8]), length, []
+        names = all(slot < len(self.slots) for slot in named[:further]) and all(slot == 0xFFFF for slot in named[further:])
+        if form == 2 and length <= self.reach and names:
+            return identifier, number(data[4:8]), length, named[:further]
         return None
 
+    def live(self, slot):
+        """Identifier, generation, body and further slots of a live slot."""
+        upright = self.upright(slot)
+        if not upright:
+            return None
+        identifier, generation, length, further = upright
+        body = self.slots[slot][HEAD : HEAD + min(length, self.room)]
+        for part, place in enumerate(further, 1):
+            size = min(self.room, length - part * self.room)
+            data = self.slots[place]
+            head = self.part_head(identifier, generation, size, part, slot)
+            if data[0] != head[0] or data[2:24] != head[2:] or data[-1] != 0xA5:
+                return None
+            body += data[HEAD : HEAD + size]
+        return identifier, generation, bytes(body), further
+
+    def part_head(self, identifier, generation, size, part, first):
+        """The head of a further slot: bytes 0 to 23."""
+        numbers = [(3, 2), (generation, 4), (identifier, 8), (size, 4), (part, 2), (first, 2)]
+        return b"\x3c\xff" + b"".join(value.to_bytes(width, "little") for value, width in numbers)
+
     def records(self):
-        """Of each identifier the slot, the generation and the body of its record."""
+        """Of each identifier the first slot, the generation, the body and the further slots of its record."""
         found = {}
         for slot in range(len(self.slots)):
             live = self.live(slot)
             if live and (live[0] not in found or found[live[0]][1] < live[1]):
-                found[live[0]] = (slot, live[1], live[2])
+                found[live[0]] = (slot, *live[1:])
         return found
 
     def settle(self):
         if self.in_doubt:
-            found = self.records()
+            first = {found[0] for found in self.records().values()}
             for slot in range(len(self.slots)):
-                live = self.live(slot)
-                if live and found[live[0]][0] != slot:
+                if self.upright(slot) and slot not in first:
                     self.change(slot, 1, b"\0")
             self.in_doubt = False
         return self.records()
 
     def write(self, text):
         body = bytearray.fromhex(text)
-        if len(body) > self.room:
-            return f"refused too-long {len(body)} {self.room}"
+        if len(body) > self.reach:
+            return f"refused too-long {len(body)} {self.reach}"
         body[108:110] = b"ER"
         identifier = number(body[96:104])
         if identifier in (0, LAST):
             return "refused failed"
-        older = self.settle().get(identifier)
-        free = [slot for slot in range(len(self.slots)) if not self.live(slot)]
+        found = self.settle()
+        older = found.get(identifier)
+        taken = {slot for record in found.values() for slot in [record[0], *record[3]]}
+        free = [slot for slot in range(len(self.slots)) if slot not in taken]
+        parts = -(-len(body) // self.room)
         if older and older[1] == LAST_GENERATION:
             return "refused failed"
-        if len(free) < (1 if older else 2):
+        if len(free) < (parts if older else parts + 1):
             return "refused no-space"
-        self.fill(free[0], identifier, older[1] + 1 if older else 1, bytes(body))
+        self.fill(free[:parts], identifier, older[1] + 1 if older else 1, bytes(body))
         if older:
             self.change(older[0], 1, b"\0")
         return f"wrote {identifier} {len(body)}"
 
-    def fill(self, slot, identifier, generation, body):
+    def fill(self, slots, identifier, generation, body):
+        """Fills the further slots, in order, and then the first one, whose gate comes last."""
+        first, *further = slots
+        for part, slot in enumerate(further, 1):
+            data = body[part * self.room : (part + 1) * self.room]
+            self.fill_slot(slot, 0, self.part_head(identifier, generation, len(data), part, first), data)
+        numbers = [(2, 2), (generation, 4), (identifier, 8), (len(body), 4)]
+        numbers += [(slot, 2) for slot in further + [0xFFFF] * (3 - len(further))]
+        head = b"".join(value.to_bytes(width, "little") for value, width in numbers)
+        self.fill_slot(first, 2, head, body[: self.room])
+        self.change(first, 0, b"\x5a")
+
+    def fill_slot(self, slot, at, head, data):
         upwards = self.slots[slot][-1] != 0xA5
         for sector in range(self.per_slot) if upwards else reversed(range(self.per_slot)):
             self.change(slot, sector * SECTOR, b"\xff" * SECTOR)
-        fields = b"\1\0" + generation.to_bytes(4, "little") + identifier.to_bytes(8, "little") + len(body).to_bytes(4, "little")
-        self.change(slot, 2, fields)
-        for start in range(0, len(body), PIECE):
-            self.change(slot, HEAD + start, body[start : start + PIECE])
+        self.change(slot, at, head)
+        for start in range(0, len(data), PIECE):
+            self.change(slot, HEAD + start, data[start : start + PIECE])
         self.change(slot, SECTOR * self.per_slot - 1, b"\xa5")
-        self.change(slot, 0, b"\x5a")
 
     def clear(self, text):
         identifier = int(text)
@@ -168,8 +208,8 @@ scripts = int(sys.argv[2]) if len(sys.argv) > 2 else 1000
 random.seed(int(sys.argv[3]) if len(sys.argv) > 3 else 1)
 different = 0
 for _ in range(scripts):
-    slots, per_slot, torn = random.choice([2, 3, 4, 5, 8]), random.choice([2, 3]), random.randrange(4)
-    fail = random.choice([None] + [random.randrange(60) for _ in range(4)])
+    slots, per_slot, torn = random.choice([2, 3, 4, 5, 6, 8, 12]), random.choice([2, 3]), random.randrange(4)
+    fail = random.choice([None] + [random.randrange(100) for _ in range(4)])
     lines = [line(random.choice) for _ in range(random.randrange(1, 25))]
     words = ["sim", f"--sector={SECTOR}", f"--per-slot={per_slot}", f"--slots={slots}"]
     words += [] if fail is None else [f"--fail={fail}", f"--torn={torn}"]

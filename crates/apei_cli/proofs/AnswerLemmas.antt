@@ -2,12 +2,13 @@
 use Rattle.std.proofs.Common.{◌≡◌, ℕ, ◌≤◌, ◌⊎◌, Bool, true, false, cond, List, ◌++◌, length, Option, None, Result, Ok, Err, refl, sym, ap, subst, ◌∙◌, arith, inl}
 use Rattle.std.specs.Prelude.{is_none}
 use Rattle.base_model.specs.Faults.{Rose}
-use Rattle.record_model.specs.Records.{Stored, stored_in, is_reserved}
-use Rattle.record_model.proofs.CrashLemmas.{Leaves-exit, Leaves-weaker}
+use Rattle.flash_words.specs.Layout.{Layout}
+use Rattle.record_model.specs.Records.{Stored, is_reserved}
+use Rattle.flash_words.proofs.CrashLemmas.{Leaves-exit, Leaves-weaker}
 use Rattle.std.specs.FinMap.{len}
 use Rattle.record_model.specs.RecordMap.{Command, Write, Clear, Read, Count, Next, IsNextAbove, refusal_of, made_by, after, changes_of}
 use Rattle.record_model.specs.History.{Answer, Counted, Found, Hardware, cursor_after}
-use Rattle.record_store.specs.Store.{StoreView, stored, IsBeforeOrAfter, DividesAlike, KeepsMap}
+use Rattle.record_store.specs.Store.{StoreView, stored, records_of, IsBeforeOrAfter, DividesAlike, KeepsMap}
 use Rattle.record_store.specs.Answers.{RefusesWrite, RefusesClear, HasFaultsOf, UnlessFlash, TakesExactly, AnswersByItself}
 use Rattle.record_store.specs.declared.errors.StoreError.{StoreError}
 use Rattle.record_store.specs.declared.errors.StoreError.TheVariants.{NoSpace, LastGeneration, NotFound, Empty, Flash, Small}
@@ -53,7 +54,7 @@ clear_stays id Flash cursor = refl
 clear_stays id (Small need) cursor = refl
 
 write_says : (old new : StoreView) (id : ℕ) (bytes : List ℕ) (cursor : ℕ) (error : StoreError) → is_reserved id ≡ false → RefusesWrite old new id bytes error
-    → Says old.slots cursor (Write id bytes) (answer_of error) (stored old) (stored new)
+    → Says old.layout cursor (Write id bytes) (answer_of error) (stored old) (stored new)
 write_says old new id bytes cursor (NoSpace free) usable refuses = (refuses.0, refuses.2)
 write_says old new id bytes cursor (LastGeneration found) usable refuses = (refuses.0, refuses.3)
 write_says old new id bytes cursor NotFound usable refuses = absurd refuses
@@ -62,7 +63,7 @@ write_says old new id bytes cursor Flash usable refuses = usable
 write_says old new id bytes cursor (Small need) usable refuses = absurd refuses
 
 clear_says : (old new : StoreView) (id cursor : ℕ) (error : StoreError) → is_reserved id ≡ false → RefusesClear old new id error
-    → Says old.slots cursor (Clear id) (answer_of error) (stored old) (stored new)
+    → Says old.layout cursor (Clear id) (answer_of error) (stored old) (stored new)
 clear_says old new id cursor (NoSpace free) usable refuses = absurd refuses
 clear_says old new id cursor (LastGeneration found) usable refuses = absurd refuses
 clear_says old new id cursor NotFound usable refuses = (refuses.0, refuses.1)
@@ -98,62 +99,61 @@ clear_refused tells old new id cursor steps reply error usable alike is counted 
     text (clear_stays id error cursor)
 
 -- a command that leaves every map as it is, and changes no flash
-pub record IsLook (per_slot slots : ℕ) (command : Command) : Type 0 where
-  pub same : (map : Stored) → after slots command map ≡ map
-  pub no_changes : (map : Stored) → changes_of per_slot slots command map ≡ 0
+pub record IsLook (layout : Layout) (command : Command) : Type 0 where
+  pub same : (map : Stored) → after layout command map ≡ map
+  pub no_changes : (map : Stored) → changes_of layout command map ≡ 0
 
 none_either : (b : Bool) → cond {A = ℕ} b 0 0 ≡ 0
 none_either true = refl
 none_either false = refl
 
-pub IsLook-read : (per_slot slots id : ℕ) → IsLook per_slot slots (Read id)
+pub IsLook-read : (layout : Layout) (id : ℕ) → IsLook layout (Read id)
 unfolding made_by changes_of
-IsLook-read per_slot slots id = record {
-  same = λ map. after_is slots (Read id) map ∙ same_after slots (Read id) map (is_none (refusal_of slots (Read id) map)) refl;
-  no_changes = λ map. none_either (is_none (refusal_of slots (Read id) map));
+IsLook-read layout id = record {
+  same = λ map. after_is layout (Read id) map ∙ same_after layout (Read id) map (is_none (refusal_of layout (Read id) map)) refl;
+  no_changes = λ map. none_either (is_none (refusal_of layout (Read id) map));
 }
 
-pub IsLook-count : (per_slot slots : ℕ) → IsLook per_slot slots Count
+pub IsLook-count : (layout : Layout) → IsLook layout Count
 unfolding made_by changes_of
-IsLook-count per_slot slots = record {
-  same = λ map. after_is slots Count map ∙ same_after slots Count map (is_none (refusal_of slots Count map)) refl;
-  no_changes = λ map. none_either (is_none (refusal_of slots Count map));
+IsLook-count layout = record {
+  same = λ map. after_is layout Count map ∙ same_after layout Count map (is_none (refusal_of layout Count map)) refl;
+  no_changes = λ map. none_either (is_none (refusal_of layout Count map));
 }
 
-pub IsLook-next : (per_slot slots : ℕ) → IsLook per_slot slots Next
+pub IsLook-next : (layout : Layout) → IsLook layout Next
 unfolding made_by changes_of
-IsLook-next per_slot slots = record {
-  same = λ map. after_is slots Next map ∙ same_after slots Next map (is_none (refusal_of slots Next map)) refl;
-  no_changes = λ map. none_either (is_none (refusal_of slots Next map));
+IsLook-next layout = record {
+  same = λ map. after_is layout Next map ∙ same_after layout Next map (is_none (refusal_of layout Next map)) refl;
+  no_changes = λ map. none_either (is_none (refusal_of layout Next map));
 }
 
 -- the map that a look leaves
 pub map_kept : (old new : StoreView) → DividesAlike old new → KeepsMap old new → stored new ≡ stored old
 map_kept old new alike kept =
-    ap (λ (n : ℕ). stored_in n new.slots new.flash.told.image) alike.slot_size
-    ∙ ap (λ (n : ℕ). stored_in old.slot_size n new.flash.told.image) alike.slots
-    ∙ Leaves-exit old.flash.told new.flash.told (λ image. stored_in old.slot_size old.slots image ≡ stored old) kept
+    ap (λ (layout : Layout). records_of layout new.flash.told.image) alike.layout
+    ∙ Leaves-exit old.flash.told new.flash.told (λ image. records_of old.layout image ≡ stored old) kept
 
 -- keeping is one of before and after
 pub keeps_before : (old new : StoreView) (command : Command) → KeepsMap old new → IsBeforeOrAfter old new command
 keeps_before old new command kept =
-    Leaves-weaker old.flash.told new.flash.told (λ image. stored_in old.slot_size old.slots image ≡ stored old)
-    (λ image. (stored_in old.slot_size old.slots image ≡ stored old) ⊎ (stored_in old.slot_size old.slots image ≡ after old.slots command (stored old)))
+    Leaves-weaker old.flash.told new.flash.told (λ image. records_of old.layout image ≡ stored old)
+    (λ image. (records_of old.layout image ≡ stored old) ⊎ (records_of old.layout image ≡ after old.layout command (stored old)))
     kept (λ image same. inl same)
 
 -- a command that only looked
 pub looked : (tells : Type 0) (old new : StoreView) (cursor cursor_now steps : ℕ) (command : Command) (answer : Answer) (reply : List ℕ)
-    → IsLook old.per_slot old.slots command
+    → IsLook old.layout command
     → (tells → KeepsMap old new) → (old.in_doubt ≡ false → new.flash.steps ≡ old.flash.steps) → DividesAlike old new
     → old.flash.faults ≤ new.flash.faults → (IsHardware answer → Rose old.flash.faults new.flash.faults)
     → steps ≡ new.flash.steps → (tells → length new.flash.told.past ≡ new.flash.steps)
-    → (tells → Says old.slots cursor command answer (stored old) (stored old))
+    → (tells → Says old.layout cursor command answer (stored old) (stored old))
     → reply ≡ words_of answer command ++ at_step steps
     → cursor_now ≡ cursor_after command answer cursor
     → IsReplied tells old new command cursor cursor_now reply
 looked tells old new cursor cursor_now steps command answer reply look kept still alike rise cause is counted says text moved =
     IsReplied-one tells old new cursor cursor_now steps command answer reply alike is counted
-    (λ told. subst (λ (m : Stored). Says old.slots cursor command answer (stored old) m) (sym (map_kept old new alike (kept told))) (says told))
+    (λ told. subst (λ (m : Stored). Says old.layout cursor command answer (stored old) m) (sym (map_kept old new alike (kept told))) (says told))
     (λ told. keeps_before old new command (kept told))
     rise cause
     (λ told certain _. let none = look.no_changes (stored old) in let stays = still certain in omega arith)
@@ -171,7 +171,7 @@ itself_still old new (Err (Small need)) same = absurd same
 
 -- the error of a read
 pub named_says : (old : StoreView) (id cursor : ℕ) (bytes : List ℕ) (error : StoreError) → AnswersNamed old id bytes (Err error)
-    → Says old.slots cursor (Read id) (answer_of error) (stored old) (stored old)
+    → Says old.layout cursor (Read id) (answer_of error) (stored old) (stored old)
 named_says old id cursor bytes (NoSpace free) answer = absurd answer
 named_says old id cursor bytes (LastGeneration found) answer = absurd answer
 named_says old id cursor bytes NotFound answer = (answer, refl)
@@ -180,33 +180,33 @@ named_says old id cursor bytes Flash answer = tt
 named_says old id cursor bytes (Small need) answer = absurd answer
 
 -- a count and a next
-count_not_refused : (slots : ℕ) (map : Stored) → refusal_of slots Count map ≡ None
+count_not_refused : (layout : Layout) (map : Stored) → refusal_of layout Count map ≡ None
 unfolding refusal_of
-count_not_refused slots map = refl
+count_not_refused layout map = refl
 
-next_not_refused : (slots : ℕ) (map : Stored) → refusal_of slots Next map ≡ None
+next_not_refused : (layout : Layout) (map : Stored) → refusal_of layout Next map ≡ None
 unfolding refusal_of
-next_not_refused slots map = refl
+next_not_refused layout map = refl
 
-pub count_taken : (store : StoreView) (cursor n : ℕ) → n ≡ len (stored store) → Says store.slots cursor Count (Counted n) (stored store) (stored store)
+pub count_taken : (store : StoreView) (cursor n : ℕ) → n ≡ len (stored store) → Says store.layout cursor Count (Counted n) (stored store) (stored store)
 count_taken store cursor n is =
-    let look = IsLook-count store.per_slot store.slots in
-    (count_not_refused store.slots (stored store), is, sym (look.same (stored store)))
+    let look = IsLook-count store.layout in
+    (count_not_refused store.layout (stored store), is, sym (look.same (stored store)))
 
-pub next_taken : (store : StoreView) (cursor : ℕ) (found : Option ℕ) → IsNextAbove cursor (stored store) found → Says store.slots cursor Next (Found found) (stored store) (stored store)
+pub next_taken : (store : StoreView) (cursor : ℕ) (found : Option ℕ) → IsNextAbove cursor (stored store) found → Says store.layout cursor Next (Found found) (stored store) (stored store)
 next_taken store cursor found is =
-    let look = IsLook-next store.per_slot store.slots in
-    (next_not_refused store.slots (stored store), is, sym (look.same (stored store)))
+    let look = IsLook-next store.layout in
+    (next_not_refused store.layout (stored store), is, sym (look.same (stored store)))
 
 -- they fail by the flash alone
 pub fails_as : (error : StoreError) (P : Answer → Type 0) → error ≡ Flash → P Hardware → P (answer_of error)
 fails_as error P is p = subst (λ (e : StoreError). P (answer_of e)) (sym is) p
 
-pub count_failed : (store : StoreView) (cursor : ℕ) (error : StoreError) → error ≡ Flash → Says store.slots cursor Count (answer_of error) (stored store) (stored store)
-count_failed store cursor error is = fails_as error (λ (a : Answer). Says store.slots cursor Count a (stored store) (stored store)) is tt
+pub count_failed : (store : StoreView) (cursor : ℕ) (error : StoreError) → error ≡ Flash → Says store.layout cursor Count (answer_of error) (stored store) (stored store)
+count_failed store cursor error is = fails_as error (λ (a : Answer). Says store.layout cursor Count a (stored store) (stored store)) is tt
 
-pub next_failed : (store : StoreView) (cursor : ℕ) (error : StoreError) → error ≡ Flash → Says store.slots cursor Next (answer_of error) (stored store) (stored store)
-next_failed store cursor error is = fails_as error (λ (a : Answer). Says store.slots cursor Next a (stored store) (stored store)) is tt
+pub next_failed : (store : StoreView) (cursor : ℕ) (error : StoreError) → error ≡ Flash → Says store.layout cursor Next (answer_of error) (stored store) (stored store)
+next_failed store cursor error is = fails_as error (λ (a : Answer). Says store.layout cursor Next a (stored store) (stored store)) is tt
 
 pub count_stays : (error : StoreError) → error ≡ Flash → (cursor : ℕ) → cursor ≡ cursor_after Count (answer_of error) cursor
 count_stays error is cursor = fails_as error (λ (a : Answer). cursor ≡ cursor_after Count a cursor) is refl

@@ -3,43 +3,43 @@ use Rattle.std.proofs.Common.{◌≡◌, ℕ, ◌⊎◌, inl, inr, List, ◌∷�
 use Rattle.std.specs.Prelude.{String}
 use Rattle.std.specs.declared.alloc.Global.{Global}
 use Rattle.base_model.specs.Faults.{Rose}
-use Rattle.record_model.specs.Flash.{FlashState}
+use Rattle.flash_words.specs.Flash.{FlashState}
 use Rattle.apei_cli.specs.Lines.{Line, lines_of, IsTooLong}
-use Rattle.apei_cli.specs.Script.{asked_by, IsBuilt}
-use Rattle.apei_cli.specs.Plays.{Layout, room_of, ArePlayable}
+use Rattle.apei_cli.specs.Script.{command_in, IsBuilt}
+use Rattle.apei_cli.specs.Plays.{ArePlayable}
 use Rattle.apei_cli.specs.Statuses.{StopsTooLong, StopsNotBuilt}
 use Rattle.apei_cli.specs.Plan.{IsPlanOf}
 use Rattle.apei_cli.specs.declared.job.Plan.{Plan}
-use Rattle.apei_cli.specs.Runs.{IsRun, HasGeometry, IsOnGeometry, IsAdmitted, HasSourceCause, HasSinkCause, HasFlashCause, EndsByItself}
+use Rattle.apei_cli.specs.Runs.{longest_by, IsRun, HasGeometry, IsOnGeometry, IsAdmitted, HasSourceCause, HasSinkCause, HasFlashCause, EndsByItself}
 use Rattle.apei_cli.specs.declared.status.Status.{Status}
 use Rattle.apei_cli.specs.declared.status.Status.TheVariants.{Done, BadWords, SourceFault, SinkFault, FlashFault, BadGeometry, TooLong, Memory, NotYet}
 
 -- a line among playable ones
-playable_at : (before : List Line) (line : Line) (behind : List Line) → ArePlayable (before ++ line ∷ behind) → IsBuilt (asked_by line.text) × (IsTooLong line → ⊥)
+playable_at : (before : List Line) (line : Line) (behind : List Line) → ArePlayable (before ++ line ∷ behind) → IsBuilt (command_in line.text) × (IsTooLong line → ⊥)
 playable_at [] line behind h = h.0
 playable_at (first ∷ before) line behind h = playable_at before line behind h.1
 
 -- with every line built and within the lengths, and no fault, all is read
-pub is_done : (told_source told_sink told_flash : Type 0) (layout : Layout) (plan : Plan) (script rest written now : List ℕ) (old new : FlashState)
+pub is_done : (told_source told_sink told_flash : Type 0) (plan : Plan) (script rest written now : List ℕ) (old new : FlashState)
     (source source_now sink sink_now : ℕ) (status : Status)
-    → IsRun told_source told_sink told_flash layout script rest written now old new status → IsOnGeometry plan old status
+    → IsRun told_source told_sink told_flash plan script rest written now old new status → IsOnGeometry plan old status
     → HasSourceCause source source_now status → HasSinkCause sink sink_now status → HasFlashCause old.faults new.faults status
     → told_source → HasGeometry plan old → ArePlayable (lines_of 0 script)
     → (Rose source source_now → ⊥) → (Rose sink sink_now → ⊥) → (Rose old.faults new.faults → ⊥) → (status ≡ Done) ⊎ (status ≡ Memory)
-is_done told_source told_sink told_flash layout plan script rest written now old new source source_now sink sink_now Done run on in_cause out_cause flash_cause heard fits lines no_source no_sink no_flash = inl refl
-is_done told_source told_sink told_flash layout plan script rest written now old new source source_now sink sink_now BadWords run on in_cause out_cause flash_cause heard fits lines no_source no_sink no_flash = absurd on
-is_done told_source told_sink told_flash layout plan script rest written now old new source source_now sink sink_now SourceFault run on in_cause out_cause flash_cause heard fits lines no_source no_sink no_flash = absurd (no_source in_cause)
-is_done told_source told_sink told_flash layout plan script rest written now old new source source_now sink sink_now SinkFault run on in_cause out_cause flash_cause heard fits lines no_source no_sink no_flash = absurd (no_sink out_cause)
-is_done told_source told_sink told_flash layout plan script rest written now old new source source_now sink sink_now FlashFault run on in_cause out_cause flash_cause heard fits lines no_source no_sink no_flash = absurd (no_flash flash_cause.1)
-is_done told_source told_sink told_flash layout plan script rest written now old new source source_now sink sink_now (BadGeometry s p n size) run on in_cause out_cause flash_cause heard fits lines no_source no_sink no_flash = absurd (on.0 fits)
-is_done told_source told_sink told_flash layout plan script rest written now old new source source_now sink sink_now (TooLong number) run on in_cause out_cause flash_cause heard fits lines no_source no_sink no_flash =
-    let ends : StopsTooLong (room_of layout) script run.commands number = run.lines heard in
+is_done told_source told_sink told_flash plan script rest written now old new source source_now sink sink_now Done run on in_cause out_cause flash_cause heard fits lines no_source no_sink no_flash = inl refl
+is_done told_source told_sink told_flash plan script rest written now old new source source_now sink sink_now BadWords run on in_cause out_cause flash_cause heard fits lines no_source no_sink no_flash = absurd on
+is_done told_source told_sink told_flash plan script rest written now old new source source_now sink sink_now SourceFault run on in_cause out_cause flash_cause heard fits lines no_source no_sink no_flash = absurd (no_source in_cause)
+is_done told_source told_sink told_flash plan script rest written now old new source source_now sink sink_now SinkFault run on in_cause out_cause flash_cause heard fits lines no_source no_sink no_flash = absurd (no_sink out_cause)
+is_done told_source told_sink told_flash plan script rest written now old new source source_now sink sink_now FlashFault run on in_cause out_cause flash_cause heard fits lines no_source no_sink no_flash = absurd (no_flash flash_cause.1)
+is_done told_source told_sink told_flash plan script rest written now old new source source_now sink sink_now (BadGeometry s p n size) run on in_cause out_cause flash_cause heard fits lines no_source no_sink no_flash = absurd (on.0 fits)
+is_done told_source told_sink told_flash plan script rest written now old new source source_now sink sink_now (TooLong number) run on in_cause out_cause flash_cause heard fits lines no_source no_sink no_flash =
+    let ends : StopsTooLong (longest_by plan) script run.commands number = run.lines heard in
     let stops = ends.stops in
     let at = playable_at stops.before ends.line stops.behind (subst ArePlayable stops.lines lines) in
     absurd (at.1 ends.too_long)
-is_done told_source told_sink told_flash layout plan script rest written now old new source source_now sink sink_now Memory run on in_cause out_cause flash_cause heard fits lines no_source no_sink no_flash = inr refl
-is_done told_source told_sink told_flash layout plan script rest written now old new source source_now sink sink_now (NotYet number) run on in_cause out_cause flash_cause heard fits lines no_source no_sink no_flash =
-    let ends : StopsNotBuilt (room_of layout) script run.commands number = run.lines heard in
+is_done told_source told_sink told_flash plan script rest written now old new source source_now sink sink_now Memory run on in_cause out_cause flash_cause heard fits lines no_source no_sink no_flash = inr refl
+is_done told_source told_sink told_flash plan script rest written now old new source source_now sink sink_now (NotYet number) run on in_cause out_cause flash_cause heard fits lines no_source no_sink no_flash =
+    let ends : StopsNotBuilt (longest_by plan) script run.commands number = run.lines heard in
     let stops = ends.stops in
     let at = playable_at stops.before ends.line stops.behind (subst ArePlayable stops.lines lines) in
     absurd (ends.other at.0)

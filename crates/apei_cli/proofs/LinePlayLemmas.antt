@@ -4,28 +4,28 @@ use Rattle.std.specs.Prelude.{MatchBool, Bool}
 use Rattle.std.proofs.lemmas.List.{append-nil}
 use Rattle.record_model.specs.RecordMap.{Command}
 use Rattle.record_store.specs.Store.{StoreView}
-use Rattle.apei_cli.specs.Script.{Asked, nothing, IsBuilt, commands_of}
+use Rattle.apei_cli.specs.Script.{LineCommand, nothing, IsBuilt, commands_of}
 use Rattle.apei_cli.specs.Replies.{reply_of}
-use Rattle.apei_cli.specs.Plays.{layout_of, room_of, Plays, AnswersLine, PlaysLine, PlaysUnheard}
+use Rattle.apei_cli.specs.Plays.{longest_of, Plays, AnswersLine, PlaysLine, PlaysUnheard}
 use Rattle.apei_cli.proofs.PlayLemmas.{Plays-none}
 
--- a line that asks for nothing
-pub PlaysLine-nothing : (told_flash told_sink : Type 0) (old new : StoreView) (asked : Asked) (cursor cursor_now : ℕ) (written : List ℕ) → asked ≡ nothing → new ≡ old → cursor_now ≡ cursor
-    → PlaysLine told_flash told_sink old new asked cursor cursor_now written written
-PlaysLine-nothing told_flash told_sink old new asked cursor cursor_now written asks same moved = record {
+-- a line that is nothing
+pub PlaysLine-nothing : (told_flash told_sink : Type 0) (old new : StoreView) (line : LineCommand) (cursor cursor_now : ℕ) (written : List ℕ) → line ≡ nothing → new ≡ old → cursor_now ≡ cursor
+    → PlaysLine told_flash told_sink old new line cursor cursor_now written written
+PlaysLine-nothing told_flash told_sink old new line cursor cursor_now written is same moved = record {
   commands = [];
-  built = subst IsBuilt (sym asks) tt;
-  commands_are = sym (ap (commands_of (room_of (layout_of old))) asks);
+  built = subst IsBuilt (sym is) tt;
+  commands_are = sym (ap (commands_of (longest_of old.layout)) is);
   moved = moved;
-  plays = subst (λ (s : StoreView). Plays told_flash (old.in_doubt ≡ false) (layout_of old) cursor old.flash s.flash []) (sym same) (Plays-none told_flash (old.in_doubt ≡ false) (layout_of old) cursor old.flash);
+  plays = subst (λ (s : StoreView). Plays told_flash (old.in_doubt ≡ false) old.layout cursor old.flash s.flash []) (sym same) (Plays-none told_flash (old.in_doubt ≡ false) old.layout cursor old.flash);
   text_now = λ _. sym (append-nil written);
 }
 
 -- a command whose reply the sink took a part of
-pub PlaysUnheard-one : (told_flash told_sink : Type 0) (old new : StoreView) (asked : Asked) (cursor cursor_now : ℕ) (reply written written_now : List ℕ)
-    → AnswersLine told_flash old new asked cursor cursor_now reply → (told_sink → (n : ℕ) × (written_now ≡ written ++ take n reply))
-    → PlaysUnheard told_flash told_sink old new asked cursor written written_now
-PlaysUnheard-one told_flash told_sink old new asked cursor cursor_now reply written written_now answers part =
+pub PlaysUnheard-one : (told_flash told_sink : Type 0) (old new : StoreView) (line : LineCommand) (cursor cursor_now : ℕ) (reply written written_now : List ℕ)
+    → AnswersLine told_flash old new line cursor cursor_now reply → (told_sink → (n : ℕ) × (written_now ≡ written ++ take n reply))
+    → PlaysUnheard told_flash told_sink old new line cursor written written_now
+PlaysUnheard-one told_flash told_sink old new line cursor cursor_now reply written written_now answers part =
     let replied = answers.replied in
     record {
       commands = replied.played ∷ [];

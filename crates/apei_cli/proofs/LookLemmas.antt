@@ -1,19 +1,22 @@
 -- What the calls that look for records answer and leave.
-use Rattle.std.proofs.Common.{◌≡◌, ◌≢◌, ℕ, ◌-◌, ◌<◌, ◌≤◌, true, false, List, length, take, drop, Option, Some, None, Result, Ok, Err, IfOk, refl, sym, ap, subst, ◌∙◌, arith, inl, inr}
+use Rattle.std.proofs.Common.{◌≡◌, ◌≢◌, ℕ, ◌<◌, ◌≤◌, true, false, List, length, take, drop, Option, Some, None, Result, Ok, Err, IfOk, refl, sym, ap, subst, ◌∙◌, arith, inl, inr}
 use Rattle.std.proofs.lemmas.List.{take_at}
 use Rattle.std.specs.FinMap.{get}
 use Rattle.std.proofs.lemmas.Option.{none-some}
-use Rattle.record_model.specs.Records.{Stored, stored_in, is_reserved}
-use Rattle.record_model.proofs.CrashLemmas.{Leaves-weaker, Leaves-then}
+use Rattle.flash_words.specs.Layout.{Layout, room_of, reach_of}
+use Rattle.record_model.specs.Records.{Stored, is_reserved}
+use Rattle.flash_words.proofs.CrashLemmas.{Leaves-weaker, Leaves-then}
 use Rattle.record_model.specs.RecordMap.{Read, Refusal, NotFound as not_found, Empty as empty, IsNextAbove, refusal_of}
 use Rattle.record_model.specs.History.{Shown}
-use Rattle.record_store.specs.Store.{StoreView, stored, IsReady, DividesAlike, KeepsMap}
-use Rattle.record_store.specs.Answers.{AnswersRead, HasFaultsOf}
+use Rattle.record_store.specs.Store.{StoreView, stored, records_of, IsReady, DividesAlike, KeepsMap}
+use Rattle.record_store.specs.Answers.{AnswersRead, HasFaultsOf, HasDoubtOf, ReadsExactly}
+use Rattle.record_store.specs.Calls.{OnlyLooks}
 use Rattle.record_store.specs.declared.errors.StoreError.{StoreError}
 use Rattle.record_store.specs.declared.errors.StoreError.TheVariants.{NoSpace, LastGeneration, NotFound, Empty, Flash, Small}
 use Rattle.apei_cli.specs.Records.{AnswersNamed, LooksUp}
 use Rattle.apei_cli.specs.declared.player.HeldRecord.{HeldRecord}
-use Rattle.apei_cli.proofs.RecordLemmas.{stored_says, read_taken, some_kept}
+use Rattle.apei_cli.proofs.RecordLemmas.{read_taken, some_kept}
+use Rattle.record_store.proofs.StoredLemmas.{stored_says}
 use Rattle.apei_cli.proofs.AnswerLemmas.{map_kept, IsLook-read}
 use Rattle.apei_cli.proofs.PlayLemmas.{Says}
 
@@ -26,23 +29,28 @@ pub read_answer : (old : StoreView) (id found size : ℕ) (before now : List ℕ
     → AnswersNamed old id now (Ok (record { id = found; len = size }))
 read_answer old id found size before now usable is answer =
     let body : take size now ≡ answer.0 = ap (take size) answer.3 ∙ take_at answer.0 (drop size before) size (sym answer.2) in (
-      read_taken old.slots id id (stored old) (answer.0, answer.1.0) (inr refl) answer.1.1,
+      read_taken old.layout id id (stored old) (answer.0, answer.1.0) (inr refl) answer.1.1,
       inl (not_zero id usable, is),
       (answer.1.0, ap (get (stored old)) is ∙ answer.1.1 ∙ ap (λ (bytes : List ℕ). Some (bytes, answer.1.0)) (sym body)),
     )
 
+-- no record is longer than a buffer of 70,000 bytes
+reach_most : (room len : ℕ) → len ≤ reach_of room → len ≤ 65536
+unfolding reach_of
+reach_most room len h = omega arith
+
 -- one that was not
-pub read_error : (old : StoreView) (id : ℕ) (before now : List ℕ) (error : StoreError) → old.slot_size ≤ 65600 → length before ≡ 70000 → AnswersRead old id before now (Err error)
+pub read_error : (old : StoreView) (id : ℕ) (before now : List ℕ) (error : StoreError) → length before ≡ 70000 → AnswersRead old id before now (Err error)
     → AnswersNamed old id now (Err error)
-read_error old id before now Empty slot long answer = answer.0
-read_error old id before now NotFound slot long answer = answer.0
-read_error old id before now Flash slot long answer = tt
-read_error old id before now (NoSpace free) slot long answer = answer
-read_error old id before now (LastGeneration found) slot long answer = answer
-read_error old id before now (Small need) slot long answer =
+read_error old id before now Empty long answer = answer.0
+read_error old id before now NotFound long answer = answer.0
+read_error old id before now Flash long answer = tt
+read_error old id before now (NoSpace free) long answer = answer
+read_error old id before now (LastGeneration found) long answer = answer
+read_error old id before now (Small need) long answer =
     let kept = answer.0 in
-    let says = stored_says old.slot_size old.slots id old.flash.told.image (kept.0, kept.1.0) kept.1.1 in
-    let most : length kept.0 ≤ old.slot_size - 64 = says.most in
+    let says = stored_says old.layout id old.flash.told.image (kept.0, kept.1.0) kept.1.1 in
+    let most : length kept.0 ≤ 65536 = reach_most (room_of old.layout) (length kept.0) says.most in
     let short : length before < need = answer.1 in
     let len : need ≡ length kept.0 = kept.2 in
     absurd (omega arith)
@@ -51,24 +59,24 @@ no_refusal : (refusal : Refusal) (found : Option Refusal) → found ≡ None →
 no_refusal refusal found none some = none-some refusal (sym none ∙ some)
 
 -- the record of the least identifier, read on a store that has the same records
-pub least_answer : (old mid : StoreView) (id least : ℕ) (bytes : List ℕ) (result : Result HeldRecord StoreError) → id ≡ 0 → mid.slots ≡ old.slots → stored mid ≡ stored old
+pub least_answer : (old mid : StoreView) (id least : ℕ) (bytes : List ℕ) (result : Result HeldRecord StoreError) → id ≡ 0 → mid.layout ≡ old.layout → stored mid ≡ stored old
     → IsNextAbove 0 (stored old) (Some least) → IfOk result (λ held. held.id ≡ least) → AnswersNamed mid least bytes result → AnswersNamed old id bytes result
-least_answer old mid id least bytes (Ok held) zero slots same next is answer =
+least_answer old mid id least bytes (Ok held) zero layout same next is answer =
     let here : get (stored old) held.id ≡ Some (take held.len bytes, answer.2.0) = ap (λ (m : Stored). get m held.id) (sym same) ∙ answer.2.1 in (
-      read_taken old.slots id held.id (stored old) (take held.len bytes, answer.2.0) (inl zero) here,
+      read_taken old.layout id held.id (stored old) (take held.len bytes, answer.2.0) (inl zero) here,
       inr (zero, subst (λ (n : ℕ). IsNextAbove 0 (stored old) (Some n)) (sym is) next),
       (answer.2.0, here),
     )
-least_answer old mid id least bytes (Err error) zero slots same next is answer = by_error error answer
+least_answer old mid id least bytes (Err error) zero layout same next is answer = by_error error answer
   where
-    taken : refusal_of mid.slots (Read least) (stored mid) ≡ None
+    taken : refusal_of mid.layout (Read least) (stored mid) ≡ None
     taken =
         let kept = some_kept (get (stored old) least) next.here in
-        read_taken mid.slots least least (stored mid) kept.0 (inr refl) (ap (λ (m : Stored). get m least) same ∙ kept.1)
+        read_taken mid.layout least least (stored mid) kept.0 (inr refl) (ap (λ (m : Stored). get m least) same ∙ kept.1)
 
     by_error : (e : StoreError) → AnswersNamed mid least bytes (Err e) → AnswersNamed old id bytes (Err e)
-    by_error Empty a = absurd (no_refusal empty (refusal_of mid.slots (Read least) (stored mid)) taken a)
-    by_error NotFound a = absurd (no_refusal not_found (refusal_of mid.slots (Read least) (stored mid)) taken a)
+    by_error Empty a = absurd (no_refusal empty (refusal_of mid.layout (Read least) (stored mid)) taken a)
+    by_error NotFound a = absurd (no_refusal not_found (refusal_of mid.layout (Read least) (stored mid)) taken a)
     by_error Flash a = tt
     by_error (NoSpace free) a = a
     by_error (LastGeneration found) a = a
@@ -81,30 +89,74 @@ pub looks_then : {T : Type 0} (tells : Type 0) (old mid new : StoreView) (result
 looks_then tells old mid new result kept still ready alike faults second = record {
   kept = λ told.
       let first = kept told in
-      Leaves-then old.flash.told mid.flash.told new.flash.told (λ image. stored_in old.slot_size old.slots image ≡ stored old) first
-      (Leaves-weaker mid.flash.told new.flash.told (λ image. stored_in mid.slot_size mid.slots image ≡ stored mid) (λ image. stored_in old.slot_size old.slots image ≡ stored old)
+      Leaves-then old.flash.told mid.flash.told new.flash.told (λ image. records_of old.layout image ≡ stored old) first
+      (Leaves-weaker mid.flash.told new.flash.told (λ image. records_of mid.layout image ≡ stored mid) (λ image. records_of old.layout image ≡ stored old)
       (second.kept told) (λ image same. here image ∙ same ∙ map_kept old mid alike first));
   still = λ certain. second.still ready.certain ∙ ap (λ (s : StoreView). s.flash.steps) (still certain);
   doubt = second.doubt;
-  alike =
-      let a = second.alike in
-      record {
-        sector = a.sector ∙ alike.sector;
-        per_slot = a.per_slot ∙ alike.per_slot;
-        slots = a.slots ∙ alike.slots;
-        slot_size = a.slot_size ∙ alike.slot_size;
-        size = a.size ∙ alike.size;
-        sector_size = a.sector_size ∙ alike.sector_size;
-      };
+  idle = second.idle;
+  alike = let a = second.alike in record { layout = a.layout ∙ alike.layout; size = a.size ∙ alike.size; sector_size = a.sector_size ∙ alike.sector_size };
   cause = subst (λ (n : ℕ). HasFaultsOf n new.flash.faults result) faults second.cause;
 }
   where
-    here : (image : List ℕ) → stored_in old.slot_size old.slots image ≡ stored_in mid.slot_size mid.slots image
-    here image = ap (λ (n : ℕ). stored_in n old.slots image) (sym alike.slot_size) ∙ ap (λ (n : ℕ). stored_in mid.slot_size n image) (sym alike.slots)
+    here : (image : List ℕ) → records_of old.layout image ≡ records_of mid.layout image
+    here image = ap (λ (layout : Layout). records_of layout image) (sym alike.layout)
 
 -- the answer that a read is
 pub read_says : (old : StoreView) (id cursor : ℕ) (bytes : List ℕ) (held : HeldRecord) → AnswersNamed old id bytes (Ok held)
-    → Says old.slots cursor (Read id) (Shown held.id (take held.len bytes)) (stored old) (stored old)
+    → Says old.layout cursor (Read id) (Shown held.id (take held.len bytes)) (stored old) (stored old)
 read_says old id cursor bytes held answer =
-    let look = IsLook-read old.per_slot old.slots id in
+    let look = IsLook-read old.layout id in
     (answer.0, (answer.1, answer.2), sym (look.same (stored old)))
+
+-- what a read of the store leaves, with the record that was read or the error of the read
+pub looks_ok : (tells : Type 0) (old new : StoreView) (count : ℕ → ℕ) (size : ℕ) (held : HeldRecord) → OnlyLooks tells old new (Ok size)
+    → (old.in_doubt ≡ false → ReadsExactly tells count old new (Ok size)) → LooksUp tells old new (Ok held)
+looks_ok tells old new count size held leaves still = record {
+  kept = leaves.kept;
+  still = λ certain. let reads = still certain in let only = reads.only in only.steps;
+  doubt = leaves.doubt;
+  idle = leaves.idle;
+  alike = leaves.alike;
+  cause = leaves.cause;
+}
+
+reads_still : (tells : Type 0) (old new : StoreView) (count : ℕ → ℕ) (error : StoreError) → ReadsExactly {T = ℕ} tells count old new (Err error) → new.flash.steps ≡ old.flash.steps
+reads_still tells old new count (NoSpace free) same = ap (λ (s : StoreView). s.flash.steps) same
+reads_still tells old new count (LastGeneration id) same = ap (λ (s : StoreView). s.flash.steps) same
+reads_still tells old new count NotFound same = ap (λ (s : StoreView). s.flash.steps) same
+reads_still tells old new count Empty same = ap (λ (s : StoreView). s.flash.steps) same
+reads_still tells old new count Flash only = only.steps
+reads_still tells old new count (Small need) same = ap (λ (s : StoreView). s.flash.steps) same
+
+-- the error of one answer is that of another
+same_doubt : (T S : Type 0) (store : StoreView) (error : StoreError) → HasDoubtOf {T = T} store (Err error) → HasDoubtOf {T = S} store (Err error)
+same_doubt T S store (NoSpace free) doubt = doubt
+same_doubt T S store (LastGeneration id) doubt = doubt
+same_doubt T S store NotFound doubt = doubt
+same_doubt T S store Empty doubt = doubt
+same_doubt T S store Flash doubt = doubt
+same_doubt T S store (Small need) doubt = doubt
+
+same_faults : (T S : Type 0) (before after : ℕ) (error : StoreError) → HasFaultsOf {T = T} before after (Err error) → HasFaultsOf {T = S} before after (Err error)
+same_faults T S before after (NoSpace free) cause = cause
+same_faults T S before after (LastGeneration id) cause = cause
+same_faults T S before after NotFound cause = cause
+same_faults T S before after Empty cause = cause
+same_faults T S before after Flash cause = cause
+same_faults T S before after (Small need) cause = cause
+
+pub looks_err : (T S : Type 0) (tells : Type 0) (old new : StoreView) (error : StoreError) → OnlyLooks {T = T} tells old new (Err error)
+    → (old.in_doubt ≡ false → new.flash.steps ≡ old.flash.steps) → LooksUp {T = S} tells old new (Err error)
+looks_err T S tells old new error leaves still = record {
+  kept = leaves.kept;
+  still = still;
+  doubt = same_doubt T S new error leaves.doubt;
+  idle = leaves.idle;
+  alike = leaves.alike;
+  cause = same_faults T S old.flash.faults new.flash.faults error leaves.cause;
+}
+
+pub read_looks_err : (tells : Type 0) (old new : StoreView) (count : ℕ → ℕ) (error : StoreError) → OnlyLooks {T = ℕ} tells old new (Err error)
+    → (old.in_doubt ≡ false → ReadsExactly {T = ℕ} tells count old new (Err error)) → LooksUp {T = HeldRecord} tells old new (Err error)
+read_looks_err tells old new count error leaves still = looks_err ℕ HeldRecord tells old new error leaves (λ certain. reads_still tells old new count error (still certain))

@@ -7,15 +7,16 @@ use Rattle.std.specs.Cmp.{nat_cmp_total}
 use Rattle.std.proofs.lemmas.Bool.{cases_lt, eq-eqb, ne_eqb}
 use Rattle.std.proofs.lemmas.Bool.Decides.{nat_tests}
 use Rattle.base_model.specs.Faults.{Rose}
-use Rattle.record_model.specs.Flash.{FlashState}
-use Rattle.record_model.specs.Records.{Stored, stored_in, is_reserved}
-use Rattle.record_model.proofs.CrashLemmas.{Leaves-exit}
+use Rattle.flash_words.specs.Flash.{FlashState}
+use Rattle.flash_words.specs.Layout.{Layout}
+use Rattle.record_model.specs.Records.{Stored, is_reserved}
+use Rattle.flash_words.proofs.CrashLemmas.{Leaves-exit}
 use Rattle.record_model.specs.RecordMap.{Command, Write, WriteOversize, Clear, Read, Count, Next, Refusal, Failed, NotFound, refusal_of, next_generation, made_by, after, changes_of}
 use Rattle.record_model.specs.History.{Answer, Done, Shown, Counted, Found, Refused, Hardware, Played, IsDone, AsksStore, IsAnswered, cursor_after, cursor_left, ended_last, TakeSteps}
 use Rattle.record_model.proofs.HistoryLemmas.{IsHistory-none, IsHistory-one, IsHistory-then, TakeSteps-append}
-use Rattle.record_store.specs.Store.{StoreView, stored, IsBeforeOrAfter, DividesAlike}
+use Rattle.record_store.specs.Store.{StoreView, stored, records_of, IsBeforeOrAfter, DividesAlike}
 use Rattle.apei_cli.specs.Replies.{words_of, at_step}
-use Rattle.apei_cli.specs.Plays.{IsHardware, HasHardware, Layout, layout_of, Plays, IsReplied}
+use Rattle.apei_cli.specs.Plays.{IsHardware, HasHardware, Plays, IsReplied}
 
 -- the generation that a map has of an identifier, counted from 1
 abbrev pub mark_of : Option (List ℕ × ℕ) → ℕ
@@ -48,21 +49,21 @@ inserted id bytes old new e =
     ∙ ap not (next_is_other (get old id))
 
 -- the map that a command leaves, in or out
-left_out : (slots : ℕ) (command : Command) (taken : Bool) (old new : Stored) → taken ≡ false → new ≡ old → new ≡ cond taken (after slots command old) old
-left_out slots command taken old new out e = e ∙ sym (ap (λ (b : Bool). cond b (after slots command old) old) out)
+left_out : (layout : Layout) (command : Command) (taken : Bool) (old new : Stored) → taken ≡ false → new ≡ old → new ≡ cond taken (after layout command old) old
+left_out layout command taken old new out e = e ∙ sym (ap (λ (b : Bool). cond b (after layout command old) old) out)
 
-left_in : (slots : ℕ) (command : Command) (taken : Bool) (old new : Stored) → taken ≡ true → new ≡ after slots command old → new ≡ cond taken (after slots command old) old
-left_in slots command taken old new in_it e = e ∙ sym (ap (λ (b : Bool). cond b (after slots command old) old) in_it)
+left_in : (layout : Layout) (command : Command) (taken : Bool) (old new : Stored) → taken ≡ true → new ≡ after layout command old → new ≡ cond taken (after layout command old) old
+left_in layout command taken old new in_it e = e ∙ sym (ap (λ (b : Bool). cond b (after layout command old) old) in_it)
 
-pub after_is : (slots : ℕ) (command : Command) (old : Stored) → after slots command old ≡ cond (is_none (refusal_of slots command old)) (made_by command old) old
+pub after_is : (layout : Layout) (command : Command) (old : Stored) → after layout command old ≡ cond (is_none (refusal_of layout command old)) (made_by command old) old
 unfolding after
-after_is slots command old = refl
+after_is layout command old = refl
 
-written : (slots id : ℕ) (bytes : List ℕ) (old new : Stored) (refusal : Option Refusal) → new ≡ cond (is_none refusal) (made_by (Write id bytes) old) old
-    → new ≡ after slots (Write id bytes) old → new ≡ cond (is_changed id old new) (after slots (Write id bytes) old) old
+written : (layout : Layout) (id : ℕ) (bytes : List ℕ) (old new : Stored) (refusal : Option Refusal) → new ≡ cond (is_none refusal) (made_by (Write id bytes) old) old
+    → new ≡ after layout (Write id bytes) old → new ≡ cond (is_changed id old new) (after layout (Write id bytes) old) old
 unfolding made_by
-written slots id bytes old new None e is = left_in slots (Write id bytes) (is_changed id old new) old new (inserted id bytes old new e) is
-written slots id bytes old new (Some refusal) e is = left_out slots (Write id bytes) (is_changed id old new) old new (unchanged id old new e) e
+written layout id bytes old new None e is = left_in layout (Write id bytes) (is_changed id old new) old new (inserted id bytes old new e) is
+written layout id bytes old new (Some refusal) e is = left_out layout (Write id bytes) (is_changed id old new) old new (unchanged id old new e) e
 
 -- a cleared identifier that the map had is gone
 removed : (id : ℕ) (old new : Stored) (kept : List ℕ × ℕ) → get old id ≡ Some kept → new ≡ remove old id → is_changed id old new ≡ true
@@ -78,80 +79,80 @@ known true found e = absurd (cc e)
 known false None e = absurd (cc e)
 known false (Some kept) e = (kept, refl)
 
-clear_known : (slots id : ℕ) (old : Stored) → refusal_of slots (Clear id) old ≡ None → (kept : List ℕ × ℕ) × (get old id ≡ Some kept)
+clear_known : (layout : Layout) (id : ℕ) (old : Stored) → refusal_of layout (Clear id) old ≡ None → (kept : List ℕ × ℕ) × (get old id ≡ Some kept)
 unfolding refusal_of
-clear_known slots id old e = known (is_reserved id) (get old id) e
+clear_known layout id old e = known (is_reserved id) (get old id) e
 
-cleared : (slots id : ℕ) (old new : Stored) (refusal : Option Refusal) → refusal_of slots (Clear id) old ≡ refusal → new ≡ cond (is_none refusal) (made_by (Clear id) old) old
-    → new ≡ after slots (Clear id) old → new ≡ cond (is_changed id old new) (after slots (Clear id) old) old
+cleared : (layout : Layout) (id : ℕ) (old new : Stored) (refusal : Option Refusal) → refusal_of layout (Clear id) old ≡ refusal → new ≡ cond (is_none refusal) (made_by (Clear id) old) old
+    → new ≡ after layout (Clear id) old → new ≡ cond (is_changed id old new) (after layout (Clear id) old) old
 unfolding made_by
-cleared slots id old new None r e is =
-    let known = clear_known slots id old r in
-    left_in slots (Clear id) (is_changed id old new) old new (removed id old new known.0 known.1 e) is
-cleared slots id old new (Some refusal) r e is = left_out slots (Clear id) (is_changed id old new) old new (unchanged id old new e) e
+cleared layout id old new None r e is =
+    let known = clear_known layout id old r in
+    left_in layout (Clear id) (is_changed id old new) old new (removed id old new known.0 known.1 e) is
+cleared layout id old new (Some refusal) r e is = left_out layout (Clear id) (is_changed id old new) old new (unchanged id old new e) e
 
 -- whether a command that the flash failed is in the map
-abbrev pub is_taken : Command → Stored → Stored → Bool
-is_taken (Write id bytes) old new = is_changed id old new
-is_taken (Clear id) old new = is_changed id old new
-is_taken (WriteOversize size room) old new = false
-is_taken (Read id) old new = false
-is_taken Count old new = false
-is_taken Next old new = false
+abbrev pub is_in_map : Command → Stored → Stored → Bool
+is_in_map (Write id bytes) old new = is_changed id old new
+is_in_map (Clear id) old new = is_changed id old new
+is_in_map (WriteOversize size room) old new = false
+is_in_map (Read id) old new = false
+is_in_map Count old new = false
+is_in_map Next old new = false
 
 -- one that changes nothing
-pub same_after : (slots : ℕ) (command : Command) (old : Stored) (b : Bool) → made_by command old ≡ old → cond b (made_by command old) old ≡ old
-same_after slots command old true same = same
-same_after slots command old false same = refl
+pub same_after : (layout : Layout) (command : Command) (old : Stored) (b : Bool) → made_by command old ≡ old → cond b (made_by command old) old ≡ old
+same_after layout command old true same = same
+same_after layout command old false same = refl
 
-hardware_left : (slots : ℕ) (command : Command) (old new : Stored)
-    → (new ≡ old) ⊎ (new ≡ after slots command old) → new ≡ cond (is_taken command old new) (after slots command old) old
+hardware_left : (layout : Layout) (command : Command) (old new : Stored)
+    → (new ≡ old) ⊎ (new ≡ after layout command old) → new ≡ cond (is_in_map command old new) (after layout command old) old
 unfolding made_by
-hardware_left slots (Write id bytes) old new (inl e) = left_out slots (Write id bytes) (is_changed id old new) old new (unchanged id old new e) e
-hardware_left slots (Write id bytes) old new (inr e) =
-    written slots id bytes old new (refusal_of slots (Write id bytes) old) (e ∙ after_is slots (Write id bytes) old) e
-hardware_left slots (Clear id) old new (inl e) = left_out slots (Clear id) (is_changed id old new) old new (unchanged id old new e) e
-hardware_left slots (Clear id) old new (inr e) =
-    cleared slots id old new (refusal_of slots (Clear id) old) refl (e ∙ after_is slots (Clear id) old) e
-hardware_left slots (WriteOversize size room) old new (inl e) = e
-hardware_left slots (WriteOversize size room) old new (inr e) = e ∙ after_is slots (WriteOversize size room) old ∙ same_after slots (WriteOversize size room) old _ refl
-hardware_left slots (Read id) old new (inl e) = e
-hardware_left slots (Read id) old new (inr e) = e ∙ after_is slots (Read id) old ∙ same_after slots (Read id) old _ refl
-hardware_left slots Count old new (inl e) = e
-hardware_left slots Count old new (inr e) = e ∙ after_is slots Count old ∙ same_after slots Count old _ refl
-hardware_left slots Next old new (inl e) = e
-hardware_left slots Next old new (inr e) = e ∙ after_is slots Next old ∙ same_after slots Next old _ refl
+hardware_left layout (Write id bytes) old new (inl e) = left_out layout (Write id bytes) (is_changed id old new) old new (unchanged id old new e) e
+hardware_left layout (Write id bytes) old new (inr e) =
+    written layout id bytes old new (refusal_of layout (Write id bytes) old) (e ∙ after_is layout (Write id bytes) old) e
+hardware_left layout (Clear id) old new (inl e) = left_out layout (Clear id) (is_changed id old new) old new (unchanged id old new e) e
+hardware_left layout (Clear id) old new (inr e) =
+    cleared layout id old new (refusal_of layout (Clear id) old) refl (e ∙ after_is layout (Clear id) old) e
+hardware_left layout (WriteOversize size room) old new (inl e) = e
+hardware_left layout (WriteOversize size room) old new (inr e) = e ∙ after_is layout (WriteOversize size room) old ∙ same_after layout (WriteOversize size room) old _ refl
+hardware_left layout (Read id) old new (inl e) = e
+hardware_left layout (Read id) old new (inr e) = e ∙ after_is layout (Read id) old ∙ same_after layout (Read id) old _ refl
+hardware_left layout Count old new (inl e) = e
+hardware_left layout Count old new (inr e) = e ∙ after_is layout Count old ∙ same_after layout Count old _ refl
+hardware_left layout Next old new (inl e) = e
+hardware_left layout Next old new (inr e) = e ∙ after_is layout Next old ∙ same_after layout Next old _ refl
 
 -- the answer to a command by the maps before and after it
-abbrev pub Says : ℕ → ℕ → Command → Answer → Stored → Stored → Type 0
-Says slots cursor command (Refused refusal) old new = (refusal_of slots command old ≡ Some refusal) × (new ≡ old)
-Says slots cursor command Hardware old new = AsksStore command
-Says slots cursor command answer old new =
-    (refusal_of slots command old ≡ None) × IsDone command answer cursor old × (new ≡ after slots command old)
+abbrev pub Says : Layout → ℕ → Command → Answer → Stored → Stored → Type 0
+Says layout cursor command (Refused refusal) old new = (refusal_of layout command old ≡ Some refusal) × (new ≡ old)
+Says layout cursor command Hardware old new = AsksStore command
+Says layout cursor command answer old new =
+    (refusal_of layout command old ≡ None) × IsDone command answer cursor old × (new ≡ after layout command old)
 
 abbrev pub taken_by : Command → Answer → Stored → Stored → Bool
 taken_by command (Refused refusal) old new = false
-taken_by command Hardware old new = is_taken command old new
+taken_by command Hardware old new = is_in_map command old new
 taken_by command answer old new = true
 
-says_answered : (slots cursor : ℕ) (command : Command) (answer : Answer) (old new : Stored) → Says slots cursor command answer old new
-    → IsAnswered slots cursor command answer (taken_by command answer old new) old
-says_answered slots cursor command (Refused refusal) old new says = (says.0, refl)
-says_answered slots cursor command Hardware old new says = says
-says_answered slots cursor command Done old new says = (says.0, says.1, refl)
-says_answered slots cursor command (Shown id bytes) old new says = (says.0, says.1, refl)
-says_answered slots cursor command (Counted n) old new says = (says.0, says.1, refl)
-says_answered slots cursor command (Found found) old new says = (says.0, says.1, refl)
+says_answered : (layout : Layout) (cursor : ℕ) (command : Command) (answer : Answer) (old new : Stored) → Says layout cursor command answer old new
+    → IsAnswered layout cursor command answer (taken_by command answer old new) old
+says_answered layout cursor command (Refused refusal) old new says = (says.0, refl)
+says_answered layout cursor command Hardware old new says = says
+says_answered layout cursor command Done old new says = (says.0, says.1, refl)
+says_answered layout cursor command (Shown id bytes) old new says = (says.0, says.1, refl)
+says_answered layout cursor command (Counted n) old new says = (says.0, says.1, refl)
+says_answered layout cursor command (Found found) old new says = (says.0, says.1, refl)
 
-says_left : (slots cursor : ℕ) (command : Command) (answer : Answer) (old new : Stored) → Says slots cursor command answer old new
-    → (new ≡ old) ⊎ (new ≡ after slots command old)
-    → new ≡ cond (taken_by command answer old new) (after slots command old) old
-says_left slots cursor command (Refused refusal) old new says shown = says.1
-says_left slots cursor command Hardware old new says shown = hardware_left slots command old new shown
-says_left slots cursor command Done old new says shown = says.2
-says_left slots cursor command (Shown id bytes) old new says shown = says.2
-says_left slots cursor command (Counted n) old new says shown = says.2
-says_left slots cursor command (Found found) old new says shown = says.2
+says_left : (layout : Layout) (cursor : ℕ) (command : Command) (answer : Answer) (old new : Stored) → Says layout cursor command answer old new
+    → (new ≡ old) ⊎ (new ≡ after layout command old)
+    → new ≡ cond (taken_by command answer old new) (after layout command old) old
+says_left layout cursor command (Refused refusal) old new says shown = says.1
+says_left layout cursor command Hardware old new says shown = hardware_left layout command old new shown
+says_left layout cursor command Done old new says shown = says.2
+says_left layout cursor command (Shown id bytes) old new says shown = says.2
+says_left layout cursor command (Counted n) old new says shown = says.2
+says_left layout cursor command (Found found) old new says shown = says.2
 
 -- a command that was played, by its answer and the maps before and after it
 abbrev pub played_as : Command → Answer → ℕ → Stored → Stored → Played
@@ -160,31 +161,29 @@ played_as command answer steps old new = record { command = command; answer = an
 -- one command was played on a store
 pub Plays-one : (tells : Type 0) (old new : StoreView) (cursor : ℕ) (command : Command) (answer : Answer) → DividesAlike old new
     → (tells → new.flash.steps ≡ length new.flash.told.past)
-    → (tells → Says old.slots cursor command answer (stored old) (stored new))
+    → (tells → Says old.layout cursor command answer (stored old) (stored new))
     → (tells → IsBeforeOrAfter old new command)
     → old.flash.faults ≤ new.flash.faults → (IsHardware answer → Rose old.flash.faults new.flash.faults)
     → (tells → old.in_doubt ≡ false → (Rose old.flash.faults new.flash.faults → ⊥)
-    → new.flash.steps ≡ old.flash.steps + changes_of old.per_slot old.slots command (stored old))
-    → Plays tells (old.in_doubt ≡ false) (layout_of old) cursor old.flash new.flash (played_as command answer new.flash.steps (stored old) (stored new) ∷ [])
+    → new.flash.steps ≡ old.flash.steps + changes_of old.layout command (stored old))
+    → Plays tells (old.in_doubt ≡ false) old.layout cursor old.flash new.flash (played_as command answer new.flash.steps (stored old) (stored new) ∷ [])
 Plays-one tells old new cursor command answer alike ended says leaves faults cause steps = record {
   history = λ told.
-      IsHistory-one old.slots cursor (stored_in old.slot_size old.slots) old.flash.told new.flash.told (played_as command answer new.flash.steps (stored old) (stored new)) (ended told)
-      (says_answered old.slots cursor command answer (stored old) (stored new) (says told))
-      (here ∙ says_left old.slots cursor command answer (stored old) (stored new) (says told) (which told)) (leaves told);
+      IsHistory-one old.layout cursor (records_of old.layout) old.flash.told new.flash.told (played_as command answer new.flash.steps (stored old) (stored new)) (ended told)
+      (says_answered old.layout cursor command answer (stored old) (stored new) (says told))
+      (here ∙ says_left old.layout cursor command answer (stored old) (stored new) (says told) (which told)) (leaves told);
   ended = refl;
   steps = λ told certain still. (steps told certain still, tt);
   faults = faults;
   cause = one;
 }
   where
-    here : stored_in old.slot_size old.slots new.flash.told.image ≡ stored_in new.slot_size new.slots new.flash.told.image
-    here =
-        ap (λ (n : ℕ). stored_in n old.slots new.flash.told.image) (sym alike.slot_size)
-        ∙ ap (λ (n : ℕ). stored_in new.slot_size n new.flash.told.image) (sym alike.slots)
+    here : records_of old.layout new.flash.told.image ≡ stored new
+    here = ap (λ (layout : Layout). records_of layout new.flash.told.image) (sym alike.layout)
 
-    which : tells → (stored new ≡ stored old) ⊎ (stored new ≡ after old.slots command (stored old))
+    which : tells → (stored new ≡ stored old) ⊎ (stored new ≡ after old.layout command (stored old))
     which told =
-        elim (Leaves-exit old.flash.told new.flash.told (λ image. (stored_in old.slot_size old.slots image ≡ stored old) ⊎ (stored_in old.slot_size old.slots image ≡ after old.slots command (stored old))) (leaves told)) [
+        elim (Leaves-exit old.flash.told new.flash.told (λ image. (records_of old.layout image ≡ stored old) ⊎ (records_of old.layout image ≡ after old.layout command (stored old))) (leaves told)) [
           | inl e ↦ inl (sym here ∙ e)
           | inr e ↦ inr (sym here ∙ e)
         ]
@@ -197,11 +196,11 @@ Plays-one tells old new cursor command answer alike ended says leaves faults cau
 pub IsReplied-one : (tells : Type 0) (old new : StoreView) (cursor cursor_now steps : ℕ) (command : Command) (answer : Answer) (reply : List ℕ) → DividesAlike old new
     → steps ≡ new.flash.steps
     → (tells → length new.flash.told.past ≡ new.flash.steps)
-    → (tells → Says old.slots cursor command answer (stored old) (stored new))
+    → (tells → Says old.layout cursor command answer (stored old) (stored new))
     → (tells → IsBeforeOrAfter old new command)
     → old.flash.faults ≤ new.flash.faults → (IsHardware answer → Rose old.flash.faults new.flash.faults)
     → (tells → old.in_doubt ≡ false → (Rose old.flash.faults new.flash.faults → ⊥)
-    → new.flash.steps ≡ old.flash.steps + changes_of old.per_slot old.slots command (stored old))
+    → new.flash.steps ≡ old.flash.steps + changes_of old.layout command (stored old))
     → reply ≡ words_of answer command ++ at_step steps
     → cursor_now ≡ cursor_after command answer cursor
     → IsReplied tells old new command cursor cursor_now reply
@@ -216,7 +215,7 @@ IsReplied-one tells old new cursor cursor_now steps command answer reply alike i
 -- nothing was played
 pub Plays-none : (tells certain : Type 0) (layout : Layout) (cursor : ℕ) (flash : FlashState) → Plays tells certain layout cursor flash flash []
 Plays-none tells certain layout cursor flash = record {
-  history = λ told. IsHistory-none layout.slots cursor (stored_in layout.slot_size layout.slots) flash.told;
+  history = λ told. IsHistory-none layout cursor (records_of layout) flash.told;
   ended = refl;
   steps = λ told sure still. tt;
   faults = omega arith;
@@ -248,15 +247,15 @@ pub Plays-then : (tells certain still_certain : Type 0) (layout : Layout) (curso
     → Plays tells certain layout cursor old new (some ++ more)
 Plays-then tells certain still_certain layout cursor old mid new some more first second stays = record {
   history = λ told.
-      IsHistory-then layout.slots cursor (stored_in layout.slot_size layout.slots) old.told mid.told new.told some more (first.history told) (second.history told);
+      IsHistory-then layout cursor (records_of layout) old.told mid.told new.told some more (first.history told) (second.history told);
   ended = ended_last-append old.steps some more ∙ ap (λ (n : ℕ). ended_last n more) first.ended ∙ second.ended;
   steps = λ told sure still.
       let before = first.history told in
       let still_first = λ (h : Rose old.faults mid.faults). still (Rose-then old.faults mid.faults new.faults first.faults h second.faults) in
       let still_second = λ (h : Rose mid.faults new.faults). still (Rose-after old.faults mid.faults new.faults first.faults h) in
-      TakeSteps-append layout.per_slot layout.slots old.steps mid.steps some more (stored_in layout.slot_size layout.slots old.told.image) first.ended
+      TakeSteps-append layout old.steps mid.steps some more (records_of layout old.told.image) first.ended
       (first.steps told sure still_first)
-      (subst (λ (m : Stored). TakeSteps layout.per_slot layout.slots mid.steps more m) before.now (second.steps told (stays sure still_first) still_second));
+      (subst (λ (m : Stored). TakeSteps layout mid.steps more m) before.now (second.steps told (stays sure still_first) still_second));
   faults = let a = first.faults in let b = second.faults in omega arith;
   cause = λ h. by_part (HasHardware-append some more h);
 }

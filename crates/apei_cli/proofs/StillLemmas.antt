@@ -1,17 +1,18 @@
 -- Commands that the map refuses without the store being asked.
 use Rattle.std.proofs.Common.{◌≡◌, ℕ, ◌<◌, ◌≤◌, Bool, true, cond, List, ◌++◌, length, take, drop, codes, Option, Some, refl, ap, ◌∙◌, arith, length-append, length-drop}
 use Rattle.std.specs.Prelude.{is_none}
-use Rattle.record_model.specs.Records.{Stored, stored_in, is_reserved}
+use Rattle.flash_words.specs.Layout.{Layout}
+use Rattle.record_model.specs.Records.{Stored, is_reserved}
 use Rattle.record_model.specs.RecordMap.{Command, Write, WriteOversize, Clear, Refusal, Failed, TooLong, refusal_of, changes_made, changes_of}
 use Rattle.record_model.specs.History.{Refused, cursor_after}
-use Rattle.record_model.proofs.CrashLemmas.{CrashImage-now, IsLater-refl}
-use Rattle.record_store.specs.Store.{StoreView, stored, KeepsMap, DividesAlike}
+use Rattle.flash_words.proofs.CrashLemmas.{CrashImage-now, IsLater-refl}
+use Rattle.record_store.specs.Store.{StoreView, stored, records_of, KeepsMap, DividesAlike}
 use Rattle.std.proofs.lemmas.Bool.{le-ltb, lt-ltb}
 use Rattle.std.proofs.lemmas.List.{length-take-le, take_at}
 use Rattle.base_model.proofs.BytesLemmas.{length-put_at, number_at-before, SameOutside-put_at}
 use Rattle.base_model.specs.Bytes.{put_at}
 use Rattle.apei_cli.specs.Records.{IsMarked}
-use Rattle.apei_cli.specs.Script.{id_of, marked, write_of}
+use Rattle.apei_cli.specs.Script.{id_of, with_mark, write_of}
 use Rattle.apei_cli.specs.Replies.{words_of, at_step}
 use Rattle.apei_cli.specs.Plays.{IsReplied}
 use Rattle.apei_cli.proofs.PlayLemmas.{IsReplied-one}
@@ -19,64 +20,64 @@ use Rattle.apei_cli.proofs.AnswerLemmas.{keeps_before}
 
 -- a store that nothing was asked of
 DividesAlike-refl : (store : StoreView) → DividesAlike store store
-DividesAlike-refl store = record { sector = refl; per_slot = refl; slots = refl; slot_size = refl; size = refl; sector_size = refl }
+DividesAlike-refl store = record { layout = refl; size = refl; sector_size = refl }
 
 KeepsMap-refl : (store : StoreView) → KeepsMap store store
 KeepsMap-refl store = record {
   later = IsLater-refl store.flash.told;
-  each = λ s image from crash. ap (stored_in store.slot_size store.slots) (CrashImage-now store.flash.told s image from crash);
+  each = λ s image from crash. ap (records_of store.layout) (CrashImage-now store.flash.told s image from crash);
 }
 
-no_change : (per_slot slots : ℕ) (command : Command) (map : Stored) (refusal : Refusal) → refusal_of slots command map ≡ Some refusal → changes_of per_slot slots command map ≡ 0
+no_change : (layout : Layout) (command : Command) (map : Stored) (refusal : Refusal) → refusal_of layout command map ≡ Some refusal → changes_of layout command map ≡ 0
 unfolding changes_of
-no_change per_slot slots command map refusal e = ap (λ (o : Option Refusal). cond (is_none o) (changes_made per_slot command map) 0) e
+no_change layout command map refusal e = ap (λ (o : Option Refusal). cond (is_none o) (changes_made layout command map) 0) e
 
 -- a command that is refused, with no call of the store
 pub refused_still : (tells : Type 0) (store : StoreView) (cursor steps : ℕ) (command : Command) (refusal : Refusal) (reply : List ℕ)
     → steps ≡ store.flash.steps → (tells → length store.flash.told.past ≡ store.flash.steps)
-    → ((map : Stored) → refusal_of store.slots command map ≡ Some refusal)
+    → ((map : Stored) → refusal_of store.layout command map ≡ Some refusal)
     → reply ≡ words_of (Refused refusal) command ++ at_step steps → cursor ≡ cursor_after command (Refused refusal) cursor
     → IsReplied tells store store command cursor cursor reply
 refused_still tells store cursor steps command refusal reply is counted refused text moved =
     IsReplied-one tells store store cursor cursor steps command (Refused refusal) reply (DividesAlike-refl store) is counted
     (λ told. (refused (stored store), refl)) (λ told. keeps_before store store command (KeepsMap-refl store))
     (omega arith) (λ h. absurd h)
-    (λ told certain still. let none = no_change store.per_slot store.slots command (stored store) refusal (refused (stored store)) in omega arith)
+    (λ told certain still. let none = no_change store.layout command (stored store) refusal (refused (stored store)) in omega arith)
     text moved
 
 -- an identifier that no record has
-pub write_reserved : (slots id : ℕ) (bytes : List ℕ) → is_reserved id ≡ true → (map : Stored) → refusal_of slots (Write id bytes) map ≡ Some Failed
+pub write_reserved : (layout : Layout) (id : ℕ) (bytes : List ℕ) → is_reserved id ≡ true → (map : Stored) → refusal_of layout (Write id bytes) map ≡ Some Failed
 unfolding refusal_of
-write_reserved slots id bytes reserved map = rw reserved refl
+write_reserved layout id bytes reserved map = rw reserved refl
 
-pub clear_reserved : (slots id : ℕ) → is_reserved id ≡ true → (map : Stored) → refusal_of slots (Clear id) map ≡ Some Failed
+pub clear_reserved : (layout : Layout) (id : ℕ) → is_reserved id ≡ true → (map : Stored) → refusal_of layout (Clear id) map ≡ Some Failed
 unfolding refusal_of
-clear_reserved slots id reserved map = rw reserved refl
+clear_reserved layout id reserved map = rw reserved refl
 
 -- a record that is too long
-pub write_oversize : (slots size room : ℕ) (map : Stored) → refusal_of slots (WriteOversize size room) map ≡ Some TooLong
+pub write_oversize : (layout : Layout) (size reach : ℕ) (map : Stored) → refusal_of layout (WriteOversize size reach) map ≡ Some TooLong
 unfolding refusal_of
-write_oversize slots size room map = refl
+write_oversize layout size reach map = refl
 
 -- the write of a record, by its length
-pub write_of-fits : (room : ℕ) (bytes : List ℕ) → length bytes ≤ room → write_of room bytes ≡ Write (id_of bytes) (marked bytes)
-write_of-fits room bytes fits =
-    ap (λ (b : Bool). cond b (WriteOversize (length bytes) room) (Write (id_of bytes) (marked bytes))) (le-ltb room (length bytes) fits)
+pub write_of-fits : (reach : ℕ) (bytes : List ℕ) → length bytes ≤ reach → write_of reach bytes ≡ Write (id_of bytes) (with_mark bytes)
+write_of-fits reach bytes fits =
+    ap (λ (b : Bool). cond b (WriteOversize (length bytes) reach) (Write (id_of bytes) (with_mark bytes))) (le-ltb reach (length bytes) fits)
 
-pub write_of-long : (room : ℕ) (bytes : List ℕ) → room < length bytes → write_of room bytes ≡ WriteOversize (length bytes) room
-write_of-long room bytes long =
-    ap (λ (b : Bool). cond b (WriteOversize (length bytes) room) (Write (id_of bytes) (marked bytes))) (lt-ltb room (length bytes) long)
+pub write_of-long : (reach : ℕ) (bytes : List ℕ) → reach < length bytes → write_of reach bytes ≡ WriteOversize (length bytes) reach
+write_of-long reach bytes long =
+    ap (λ (b : Bool). cond b (WriteOversize (length bytes) reach) (Write (id_of bytes) (with_mark bytes))) (lt-ltb reach (length bytes) long)
 
 -- the mark leaves the length
-length-marked : (bytes : List ℕ) → 128 ≤ length bytes → length (marked bytes) ≡ length bytes
-unfolding marked
-length-marked bytes h = length-put_at bytes 108 (codes "ER") (omega arith)
+length-with_mark : (bytes : List ℕ) → 128 ≤ length bytes → length (with_mark bytes) ≡ length bytes
+unfolding with_mark
+length-with_mark bytes h = length-put_at bytes 108 (codes "ER") (omega arith)
 
-pub marked_held : (items stamped : List ℕ) (len : ℕ) → len ≤ length items → 128 ≤ len → stamped ≡ marked (take len items)
+pub with_mark_held : (items stamped : List ℕ) (len : ℕ) → len ≤ length items → 128 ≤ len → stamped ≡ with_mark (take len items)
     → IsMarked len items (stamped ++ drop len items)
-marked_held items stamped len within least stamp =
+with_mark_held items stamped len within least stamp =
     let whole : length (take len items) ≡ len = length-take-le len items within in
-    let size : length (marked (take len items)) ≡ len = length-marked (take len items) (omega arith) ∙ whole in
+    let size : length (with_mark (take len items)) ≡ len = length-with_mark (take len items) (omega arith) ∙ whole in
     let stamped_size : length stamped ≡ len = ap length stamp ∙ size in
     record {
       same_length = omega (arith, length-append stamped (drop len items), length-drop len items);
@@ -85,6 +86,6 @@ marked_held items stamped len within least stamp =
     }
 
 -- the mark leaves the identifier
-pub id_of-marked : (bytes : List ℕ) → 128 ≤ length bytes → id_of (marked bytes) ≡ id_of bytes
-unfolding marked
-id_of-marked bytes h = number_at-before 108 2 96 8 bytes (put_at bytes 108 (codes "ER")) (SameOutside-put_at bytes 108 (codes "ER") (omega arith)) (omega arith)
+pub id_of-with_mark : (bytes : List ℕ) → 128 ≤ length bytes → id_of (with_mark bytes) ≡ id_of bytes
+unfolding with_mark
+id_of-with_mark bytes h = number_at-before 108 2 96 8 bytes (put_at bytes 108 (codes "ER")) (SameOutside-put_at bytes 108 (codes "ER") (omega arith)) (omega arith)

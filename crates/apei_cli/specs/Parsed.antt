@@ -1,26 +1,26 @@
 -- What the text of a line is taken for.
 use Rattle.std.specs.Prelude.{◌≡◌, ◌≤◌, List, ℕ, length}
 use Rattle.hex.specs.Hex.{decode_of}
-use Rattle.apei_cli.specs.Script.{Asked, asked_by, asked_by_words, asked_by_word, asked_by_hex, nothing, read, clear, count, next, not_built}
+use Rattle.apei_cli.specs.Script.{LineCommand, command_in, command_in_words, command_in_word, command_in_hex, nothing, read, clear, count, next, not_built}
 use Rattle.apei_cli.specs.declared.script_line.ScriptLine.{ScriptLine}
 use Rattle.apei_cli.specs.declared.script_line.ScriptLine.TheVariants.{Blank, Write, Read, Clear, Count, Next, Other}
 
--- a line of so many bytes asks for this
-abbrev pub IsLineOf : Asked → ℕ → ScriptLine → Type 0
-IsLineOf asked size Blank = asked ≡ nothing
-IsLineOf asked size (Write hex) = (asked ≡ asked_by_hex (decode_of hex.now)) × (length hex.now ≤ size)
-IsLineOf asked size (Read id) = asked ≡ read id
-IsLineOf asked size (Clear id) = asked ≡ clear id
-IsLineOf asked size Count = asked ≡ count
-IsLineOf asked size Next = asked ≡ next
-IsLineOf asked size Other = asked ≡ not_built
+-- a line of so many bytes is this
+abbrev pub IsLineOf : LineCommand → ℕ → ScriptLine → Type 0
+IsLineOf command size Blank = command ≡ nothing
+IsLineOf command size (Write hex) = (command ≡ command_in_hex (decode_of hex.now)) × (length hex.now ≤ size)
+IsLineOf command size (Read id) = command ≡ read id
+IsLineOf command size (Clear id) = command ≡ clear id
+IsLineOf command size Count = command ≡ count
+IsLineOf command size Next = command ≡ next
+IsLineOf command size Other = command ≡ not_built
 
--- a line asks for what its text does
+-- a line is what its text says
 abbrev pub IsParsed : List ℕ → ScriptLine → Type 0
-IsParsed text line = IsLineOf (asked_by text) (length text) line
+IsParsed text line = IsLineOf (command_in text) (length text) line
 
 abbrev pub IsParsedWords : List ℕ → ScriptLine → Type 0
-IsParsedWords text line = IsLineOf (asked_by_words text) (length text) line
+IsParsedWords text line = IsLineOf (command_in_words text) (length text) line
 
 abbrev pub IsParsedWord : List ℕ → ScriptLine → Type 0
-IsParsedWord text line = IsLineOf (asked_by_word text) (length text) line
+IsParsedWord text line = IsLineOf (command_in_word text) (length text) line

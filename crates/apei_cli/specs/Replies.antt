@@ -10,7 +10,7 @@ use Rattle.apei_cli.specs.Script.{id_of}
 abbrev pub words_when_done : Command → List ℕ
 words_when_done (Write id bytes) = codes "wrote " ++ decimal id ++ codes " " ++ decimal (length bytes)
 words_when_done (Clear id) = codes "cleared " ++ decimal id
-words_when_done (WriteOversize size room) = []
+words_when_done (WriteOversize size reach) = []
 words_when_done (Read id) = []
 words_when_done Count = []
 words_when_done Next = []
@@ -23,9 +23,9 @@ abbrev pub words_of_next : Option ℕ → List ℕ
 words_of_next (Some id) = codes "next " ++ decimal id
 words_of_next None = codes "next end"
 
--- a record that is too long is refused with its length and the room
+-- a record that is too long is refused with its length and that of the longest one
 abbrev pub words_of_length : Command → List ℕ
-words_of_length (WriteOversize size room) = decimal size ++ codes " " ++ decimal room
+words_of_length (WriteOversize size reach) = decimal size ++ codes " " ++ decimal reach
 words_of_length (Write id bytes) = []
 words_of_length (Clear id) = []
 words_of_length (Read id) = []

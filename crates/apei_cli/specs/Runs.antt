@@ -1,27 +1,30 @@
 -- What a run of the program over a script leaves.
-use Rattle.std.specs.Prelude.{◌≡◌, ◌≤◌, ◌⊎◌, ℕ, ◌+◌, ◌*◌, List, String}
+use Rattle.std.specs.Prelude.{◌≡◌, ◌≤◌, ◌⊎◌, ℕ, ◌+◌, ◌-◌, ◌*◌, List, String}
 use Rattle.std.specs.declared.alloc.Global.{Global}
 use Rattle.base_model.specs.Faults.{Rose}
+use Rattle.flash_words.specs.Flash.{FlashState}
+use Rattle.flash_words.specs.Layout.{Layout, reach_of}
 use Rattle.flash_model.specs.Limits.{IsGeometry}
-use Rattle.record_model.specs.Flash.{FlashState}
-use Rattle.record_recovery.specs.declared.scanning.ScanError.{ScanError}
-use Rattle.record_recovery.specs.declared.scanning.ScanError.TheVariants.{Size, Flash as flash_failed, Memory as no_memory}
-use Rattle.record_model.specs.Records.{stored_in, second_copies}
-use Rattle.record_model.specs.History.{Played, IsHistory, TakeSteps}
+use Rattle.record_model.specs.Records.{second_copies}
+use Rattle.record_model.specs.History.{Played, ended_last, IsHistory, TakeSteps}
+use Rattle.record_store.specs.Store.{records_of}
 use Rattle.apei_cli.specs.Lines.{lines_of}
 use Rattle.apei_cli.specs.Plan.{IsPlanOf, AreBad}
 use Rattle.apei_cli.specs.declared.job.Plan.{Plan}
-use Rattle.apei_cli.specs.Plays.{Layout, room_of, HasHardware, Plays, ArePlayable}
-use Rattle.apei_cli.specs.Statuses.{EndsBy, IsWritten}
+use Rattle.apei_cli.specs.Plays.{longest_of, HasHardware, Plays, ArePlayable}
+use Rattle.apei_cli.specs.Statuses.{EndsBy, WritesReplies}
 use Rattle.apei_cli.specs.declared.status.Status.{Status}
 use Rattle.apei_cli.specs.declared.status.Status.TheVariants.{Done, BadWords, SourceFault, SinkFault, FlashFault, BadGeometry, TooLong, Memory, NotYet}
 
--- slots of so many sectors of a size
-abbrev pub layout_by : ℕ → ℕ → ℕ → Layout
-layout_by sector per_slot slots = record { per_slot = per_slot; slots = slots; slot_size = sector * per_slot }
+-- the layout of a plan's numbers
+pub record IsLayoutOf (plan : Plan) (layout : Layout) : Type 0 where
+  pub sector : layout.sector ≡ plan.sector
+  pub per_slot : layout.per_slot ≡ plan.per_slot
+  pub slots : layout.slots ≡ plan.slots
 
-abbrev pub layout_of_plan : Plan → Layout
-layout_of_plan plan = layout_by plan.sector plan.per_slot plan.slots
+-- the length of the longest record of a store of these numbers
+abbrev pub longest_by : Plan → ℕ
+longest_by plan = reach_of (plan.sector * plan.per_slot - 64)
 
 -- the geometry is within its limits, and the flash has its size and its sector size
 pub record HasGeometry (plan : Plan) (flash : FlashState) : Type 0 where
@@ -34,26 +37,13 @@ pub record HasGeometry (plan : Plan) (flash : FlashState) : Type 0 where
 pub record PlaysScript (told_source told_sink told_flash : Type 0) (layout : Layout) (script rest written written_now : List ℕ) (old new : FlashState) (status : Status) : Type 0 where
   pub commands : List Played
   pub plays : Plays told_flash (Unit {0}) layout 0 old new commands
-  pub lines : told_source → EndsBy (room_of layout) script rest commands status
-  pub text : told_sink → IsWritten commands written written_now status
+  pub lines : told_source → EndsBy (longest_of layout) script rest commands status
+  pub text : told_sink → WritesReplies commands written written_now status
 
--- the opening takes one step for each live slot that is not its identifier's record, and then each command exactly those
--- that the map gives it
-abbrev pub TakesItsSteps : Layout → FlashState → List Played → Type 0
-TakesItsSteps layout old commands =
-    TakeSteps layout.per_slot layout.slots (old.steps + second_copies layout.slot_size layout.slots old.told.image) commands
-    (stored_in layout.slot_size layout.slots old.told.image)
-
--- the commands of a run: they are the history of the flash, their lines are those that the status says, and what was
--- written are their replies. Where the flash's count of faults did not rise no reply says `hardware`, and the steps are
--- those of the map
-pub record IsRun (told_source told_sink told_flash : Type 0) (layout : Layout) (script rest written written_now : List ℕ) (old new : FlashState) (status : Status) : Type 0 where
-  pub commands : List Played
-  pub history : told_flash → IsHistory layout.slots 0 (stored_in layout.slot_size layout.slots) old.told new.told commands
-  pub steps : told_flash → ¬ Rose old.faults new.faults → TakesItsSteps layout old commands
-  pub cause : HasHardware commands → Rose old.faults new.faults
-  pub lines : told_source → EndsBy (room_of layout) script rest commands status
-  pub text : told_sink → IsWritten commands written written_now status
+-- the step at which the opening of a store ends: it takes one for each upright slot that is not the first slot of its
+-- identifier's record
+abbrev pub opened_at : Layout → FlashState → ℕ
+opened_at layout old = old.steps + second_copies layout.slot_size layout.slots old.told.image
 
 -- a status that comes before the script is read
 abbrev pub ComesFirst : Status → Type 0
@@ -71,6 +61,22 @@ ComesFirst (NotYet line) = ⊥
 abbrev pub LeavesFlash : Status → Type 0
 LeavesFlash FlashFault = ⊥
 LeavesFlash status = ComesFirst status
+
+-- The commands of a run. They are the history of the flash, their lines are those that the status says, and what was
+-- written are their replies. The last one ended at the flash's last step: nothing is changed behind it. Where the flash's
+-- count of faults did not rise no reply says `hardware`, and from the opening on each command takes exactly the steps that
+-- the map gives it.
+pub record IsRun (told_source told_sink told_flash : Type 0) (plan : Plan) (script rest written written_now : List ℕ) (old new : FlashState) (status : Status) : Type 0 where
+  pub commands : List Played
+  pub history : told_flash → (layout : Layout) → IsLayoutOf plan layout → IsHistory layout 0 (records_of layout) old.told new.told commands
+  pub steps : told_flash → (layout : Layout) → IsLayoutOf plan layout → ¬ Rose old.faults new.faults
+      → TakeSteps layout (opened_at layout old) commands (records_of layout old.told.image)
+  pub ended : ended_last new.steps commands ≡ new.steps
+  pub opened : told_flash → (layout : Layout) → IsLayoutOf plan layout → ¬ Rose old.faults new.faults → ¬ ComesFirst status
+      → ended_last (opened_at layout old) commands ≡ new.steps
+  pub cause : HasHardware commands → Rose old.faults new.faults
+  pub lines : told_source → EndsBy (longest_by plan) script rest commands status
+  pub text : told_sink → WritesReplies commands written written_now status
 
 -- a status that says that a fault was met comes only where the count rose, and every other one leaves the count of the
 -- source and of the sink
@@ -105,12 +111,6 @@ EndsByItself (BadGeometry sector per_slot slots size) = ⊥
 EndsByItself (TooLong line) = Unit {0}
 EndsByItself Memory = Unit {0}
 EndsByItself (NotYet line) = Unit {0}
-
--- what a store that was not opened is answered with
-abbrev pub IsStatusOf : ScanError → Status → Status → Type 0
-IsStatusOf (Size found sector) refused status = status ≡ refused
-IsStatusOf flash_failed refused status = status ≡ FlashFault
-IsStatusOf no_memory refused status = status ≡ Memory
 
 -- the words are refused exactly where they are not of the program's form, and their geometry where it is not the flash's;
 -- want of memory aside

@@ -1,5 +1,7 @@
 // What the words of the command line ask for.
 
+use thiserror::Error;
+
 /// What the program does.
 #[derive(Clone, Copy, Debug, PartialEq, Eq)]
 pub enum Job {
@@ -25,10 +27,12 @@ pub struct Plan {
 }
 
 /// Why there is no plan.
-#[derive(Clone, Copy, Debug, PartialEq, Eq)]
+#[derive(Clone, Copy, Debug, PartialEq, Eq, Error)]
 pub enum PlanError {
     /// The words are not of the program's form.
+    #[error("bad words")]
     BadWords,
     /// There was no memory.
+    #[error("out of memory")]
     Memory,
 }

@@ -16,7 +16,6 @@ mod words;
 
 pub use job::{Job, Plan, PlanError};
 pub use program::run;
-pub use script_line::stamp;
 pub use sim::sim_flash;
 pub use status::Status;
 pub use words::plan;

@@ -5,15 +5,18 @@ ghost use Rattle.base_model.specs.Faults.{Rose};
 ghost use Rattle.record_model.specs.RecordMap.{Command, Write, Clear, Read, Count, Next};
 ghost use Rattle.record_model.specs.Records.{is_reserved};
 ghost use Rattle.record_model.specs.History.{Found, cursor_after};
-ghost use Rattle.apei_cli.specs.Script.{nothing, asked_by, asked_by_hex, IsPlain, IsBuilt, id_of, write_of};
+ghost use Rattle.apei_cli.specs.Script.{nothing, command_in, command_in_hex, IsPlain, IsBuilt, id_of, write_of};
 ghost use Rattle.apei_cli.specs.Replies.{words_of, at_step};
-ghost use Rattle.apei_cli.specs.Records.{IsMarked, AsksToWrite, AnswersNamed, LooksUp};
+ghost use Rattle.apei_cli.specs.Records.{IsMarked, IsPlainWrite, AnswersNamed, LooksUp};
 ghost use Rattle.apei_cli.specs.Refusals.{answer_of};
-ghost use Rattle.apei_cli.specs.Plays.{IsOpen, StaysIdle, IsReplied, AnswersLine, PlaysLine, PlaysUnheard};
+ghost use Rattle.record_store.specs.Store.{Idle};
+ghost use Rattle.apei_cli.specs.declared.player.PlayStop.TheVariants.{SinkFault as TheSinkFault};
+ghost use Rattle.apei_cli.specs.Plays.{longest_of, StaysIdle, IsReplied, AnswersLine, PlaysLine, PlaysUnheard};
 
 use crate::reply::Reply;
-use crate::script_line::{ScriptLine, decode, is_plain, stamp};
+use crate::script_line::{ScriptLine, decode, is_plain};
 use apei_bytes::{Memory, Sink, SinkFault, get_u64, write_all};
+use cper_frame::stamp;
 use erst_ids::RecordId;
 use flash_model::Flash;
 use record_store::{Store, StoreError};
@@ -32,6 +35,14 @@ pub enum PlayStop {
     SinkFault,
 }
 
+impl From<SinkFault> for PlayStop {
+    ghost from_gives = { λ _ stop. stop ≡ TheSinkFault };
+
+    fn from(_: SinkFault) -> Self {
+        PlayStop::SinkFault
+    }
+}
+
 /// A record at the start of a buffer, with the identifier that it was found under.
 #[derive(Clone, Copy)]
 pub struct HeldRecord {
@@ -39,27 +50,23 @@ pub struct HeldRecord {
     pub len: usize,
 }
 
-/// Where the record of a line and its reply are made, and the cursor of `next`.
+/// Plays lines: it holds the record of a line, its reply, and the cursor of `next`.
 #[derive(Drop)]
-pub struct Desk {
+pub struct Player {
     pub bytes: Vec<u8>,
     pub reply: Reply,
-    pub room: u64,
     pub cursor: u64,
     ghost size: { vec_len bytes ≡ 70000 },
 }
 
-impl Desk {
-    /// A desk for a store whose slots have `room` bytes for a record, with the cursor at the start. It takes all the
-    /// memory that it will have.
-    pub fn new(alloc: Global, room: u64) -> Result<Desk, Memory>
-        ensures room { IfOk result (λ desk. desk.room ≡ room) }
-        ensures cursor { IfOk result (λ desk. desk.cursor ≡ 0) }
+impl Player {
+    /// A player with the cursor at the start. It takes all the memory that it will have.
+    pub fn new(alloc: Global) -> Result<Player, Memory>
+        ensures { IfOk result (λ player. player.cursor ≡ 0) }
     {
-        Ok(Desk {
+        Ok(Player {
             bytes: vec![in alloc; 0u8; LONGEST_RECORD]?,
             reply: Reply::new(alloc)?,
-            room,
             cursor: 0,
         })
     }
@@ -72,37 +79,31 @@ impl Desk {
         out: &mut O,
     ) -> Result<(), PlayStop>
         requires text { length text.now ≤ 140000 }
-        requires room { self.old.room ≡ store.old.slot_size - 64 }
-        requires open_store { IsOpen store.old }
-        ensures played { OnOk result (PlaysLine F.tells O.tells store.old store.new (asked_by text.now) self.old.cursor self.new.cursor (O.written out.old) (O.written out.new)) }
-        ensures not_built { result ≡ Err PlayStop.NotBuilt → ¬ IsBuilt (asked_by text.now) }
+        requires idle { store.old.pending ≡ Idle }
+        ensures played { OnOk result (PlaysLine F.tells O.tells store.old store.new (command_in text.now) self.old.cursor self.new.cursor (O.written out.old) (O.written out.new)) }
+        ensures not_built { result ≡ Err PlayStop.NotBuilt → ¬ IsBuilt (command_in text.now) }
         ensures untouched { result ≡ Err PlayStop.NotBuilt → (store.new ≡ store.old) × (out.new ≡ out.old) }
-        ensures unheard { result ≡ Err PlayStop.SinkFault → PlaysUnheard F.tells O.tells store.old store.new (asked_by text.now) self.old.cursor (O.written out.old) (O.written out.new) }
+        ensures unheard { result ≡ Err PlayStop.SinkFault → PlaysUnheard F.tells O.tells store.old store.new (command_in text.now) self.old.cursor (O.written out.old) (O.written out.new) }
         ensures fault { result ≡ Err PlayStop.SinkFault → Rose (O.faults out.old) (O.faults out.new) }
         ensures no_fault { result ≢ Err PlayStop.SinkFault → O.faults out.new ≡ O.faults out.old }
         ensures idle { StaysIdle store.old store.new }
-        ensures room { self.new.room ≡ self.old.room }
     {
         if !self.answer(store, text)? {
             return Ok(());
         }
-        match write_all(out, self.reply.text()) {
-            Ok(()) => Ok(()),
-            Err(SinkFault) => Err(PlayStop::SinkFault),
-        }
+        write_all(out, self.reply.text())?;
+        Ok(())
     }
 
     // Carries out what a line asks for, and answers whether there is a reply.
     fn answer<F: Flash>(&mut self, store: &mut Store<F>, text: &[u8]) -> Result<bool, PlayStop>
         requires text { length text.now ≤ 140000 }
-        requires room { self.old.room ≡ store.old.slot_size - 64 }
-        requires open_store { IsOpen store.old }
+        requires idle { store.old.pending ≡ Idle }
         ensures answered { IfOk result (λ replied. MatchBool replied
-            (AnswersLine F.tells store.old store.new (asked_by text.now) self.old.cursor self.new.cursor self.new.reply)
-            ((asked_by text.now ≡ nothing) × (store.new ≡ store.old) × (self.new.cursor ≡ self.old.cursor))) }
-        ensures not_built { IfErr result (λ stop. (stop ≡ PlayStop.NotBuilt) × ¬ IsBuilt (asked_by text.now) × (store.new ≡ store.old)) }
+            (AnswersLine F.tells store.old store.new (command_in text.now) self.old.cursor self.new.cursor self.new.reply)
+            ((command_in text.now ≡ nothing) × (store.new ≡ store.old) × (self.new.cursor ≡ self.old.cursor))) }
+        ensures not_built { IfErr result (λ stop. (stop ≡ PlayStop.NotBuilt) × ¬ IsBuilt (command_in text.now) × (store.new ≡ store.old)) }
         ensures idle { StaysIdle store.old store.new }
-        ensures room { self.new.room ≡ self.old.room }
     {
         match ScriptLine::parse(text) {
             ScriptLine::Blank => Ok(false),
@@ -130,13 +131,11 @@ impl Desk {
     // Writes the record of a write line, where the line is built.
     fn write<F: Flash>(&mut self, store: &mut Store<F>, hex: &[u8]) -> Result<bool, PlayStop>
         requires text { length hex.now ≤ 140000 }
-        requires room { self.old.room ≡ store.old.slot_size - 64 }
-        requires open_store { IsOpen store.old }
+        requires idle { store.old.pending ≡ Idle }
         ensures answered { IfOk result (λ replied. (replied ≡ true)
-            × AnswersLine F.tells store.old store.new (asked_by_hex (decode_of hex.now)) self.old.cursor self.new.cursor self.new.reply) }
-        ensures not_built { IfErr result (λ stop. (stop ≡ PlayStop.NotBuilt) × ¬ IsBuilt (asked_by_hex (decode_of hex.now)) × (store.new ≡ store.old)) }
+            × AnswersLine F.tells store.old store.new (command_in_hex (decode_of hex.now)) self.old.cursor self.new.cursor self.new.reply) }
+        ensures not_built { IfErr result (λ stop. (stop ≡ PlayStop.NotBuilt) × ¬ IsBuilt (command_in_hex (decode_of hex.now)) × (store.new ≡ store.old)) }
         ensures idle { StaysIdle store.old store.new }
-        ensures room { self.new.room ≡ self.old.room }
     {
         let Some(len) = read_plain(hex, &mut self.bytes) else {
             return Err(PlayStop::NotBuilt);
@@ -149,15 +148,14 @@ impl Desk {
     fn write_plain<F: Flash>(&mut self, store: &mut Store<F>, len: usize)
         requires within { len ≤ length self.old.bytes.items }
         requires plain { IsPlain (take len self.old.bytes.items) }
-        requires room { self.old.room ≡ store.old.slot_size - 64 }
-        requires open_store { IsOpen store.old }
-        ensures replied { IsReplied F.tells store.old store.new (write_of self.old.room (take len self.old.bytes.items)) self.old.cursor self.new.cursor self.new.reply }
+        requires idle { store.old.pending ≡ Idle }
+        ensures replied { IsReplied F.tells store.old store.new (write_of (longest_of store.old.layout) (take len self.old.bytes.items)) self.old.cursor self.new.cursor self.new.reply }
         ensures idle { StaysIdle store.old store.new }
-        ensures room { self.new.room ≡ self.old.room }
     {
-        if len as u64 > self.room {
+        let reach = store.geometry().reach();
+        if len as u64 > reach {
             let steps = store.flash().steps();
-            self.reply.too_long(len as u64, self.room, steps);
+            self.reply.too_long(len as u64, reach, steps);
             return;
         }
         let id = mark(&mut self.bytes, len);
@@ -166,10 +164,9 @@ impl Desk {
 
     // Shows the record of an identifier, and moves the cursor to it.
     fn read<F: Flash>(&mut self, store: &mut Store<F>, id: u64)
-        requires open_store { IsOpen store.old }
+        requires idle { store.old.pending ≡ Idle }
         ensures replied { IsReplied F.tells store.old store.new (Read id) self.old.cursor self.new.cursor self.new.reply }
         ensures idle { StaysIdle store.old store.new }
-        ensures room { self.new.room ≡ self.old.room }
     {
         let read = read_named(store, id, &mut self.bytes);
         let steps = store.flash().steps();
@@ -186,7 +183,6 @@ impl Desk {
     fn refuse_read(&mut self, error: StoreError, steps: u64)
         ensures reply { (command : Command) → self.new.reply ≡ words_of (answer_of error) command ++ at_step steps }
         ensures cursor { (id : ℕ) → self.new.cursor ≡ cursor_after (Read id) (answer_of error) self.old.cursor }
-        ensures room { self.new.room ≡ self.old.room }
     {
         refuse(&mut self.reply, error, steps);
         if let StoreError::NotFound = error {
@@ -196,10 +192,9 @@ impl Desk {
 
     // Clears an identifier.
     fn clear<F: Flash>(&mut self, store: &mut Store<F>, id: u64)
-        requires open_store { IsOpen store.old }
+        requires idle { store.old.pending ≡ Idle }
         ensures replied { IsReplied F.tells store.old store.new (Clear id) self.old.cursor self.new.cursor self.new.reply }
         ensures idle { StaysIdle store.old store.new }
-        ensures room { self.new.room ≡ self.old.room }
     {
         match RecordId::new(id) {
             Some(id) => clear_record(store, &mut self.reply, id),
@@ -209,32 +204,30 @@ impl Desk {
 
     // Counts the identifiers.
     fn count<F: Flash>(&mut self, store: &mut Store<F>)
-        requires open_store { IsOpen store.old }
+        requires idle { store.old.pending ≡ Idle }
         ensures replied { IsReplied F.tells store.old store.new Count self.old.cursor self.new.cursor self.new.reply }
         ensures idle { StaysIdle store.old store.new }
-        ensures room { self.new.room ≡ self.old.room }
     {
         let count = store.count();
         let steps = store.flash().steps();
         match count {
-            Ok(count) => self.reply.counted(count, steps),
+            Ok(count) => self.reply.count(count, steps),
             Err(error) => refuse(&mut self.reply, error, steps),
         }
     }
 
     // Shows the next identifier, and moves the cursor to it.
     fn next<F: Flash>(&mut self, store: &mut Store<F>)
-        requires open_store { IsOpen store.old }
+        requires idle { store.old.pending ≡ Idle }
         ensures replied { IsReplied F.tells store.old store.new Next self.old.cursor self.new.cursor self.new.reply }
         ensures idle { StaysIdle store.old store.new }
-        ensures room { self.new.room ≡ self.old.room }
     {
         let found = store.next(self.cursor);
         let steps = store.flash().steps();
         match found {
             Ok(next) => {
                 let next = value_of(next);
-                self.reply.found(next, steps);
+                self.reply.next(next, steps);
                 self.cursor = cursor_at(next);
             }
             Err(error) => refuse(&mut self.reply, error, steps),
@@ -248,8 +241,8 @@ fn read_plain(hex: &[u8], out: &mut [u8]) -> Option<usize>
     requires room { length out.old ≡ 70000 }
     ensures within { IfSome result (λ len. len ≤ length out.new) }
     ensures read { MatchOption result
-        (¬ IsBuilt (asked_by_hex (decode_of hex.now)))
-        (λ len. AsksToWrite (asked_by_hex (decode_of hex.now)) (take len out.new)) }
+        (¬ IsBuilt (command_in_hex (decode_of hex.now)))
+        (λ len. IsPlainWrite (command_in_hex (decode_of hex.now)) (take len out.new)) }
 {
     let len = decode(hex, out)?;
     if is_plain(&out[..len]) {
@@ -274,8 +267,8 @@ fn mark(bytes: &mut [u8], len: usize) -> u64
 // Writes a record that has its mark, and makes the reply. An identifier that no record has is refused.
 fn write_marked<F: Flash>(store: &mut Store<F>, reply: &mut Reply, id: u64, bytes: &[u8])
     requires least { 128 ≤ length bytes.now }
-    requires room { length bytes.now ≤ store.old.slot_size - 64 }
-    requires open_store { IsOpen store.old }
+    requires reach { length bytes.now ≤ longest_of store.old.layout }
+    requires idle { store.old.pending ≡ Idle }
     ensures replied { (cursor : ℕ) → IsReplied F.tells store.old store.new (Write id bytes.now) cursor cursor reply.new }
     ensures idle { StaysIdle store.old store.new }
 {
@@ -289,8 +282,8 @@ fn write_marked<F: Flash>(store: &mut Store<F>, reply: &mut Reply, id: u64, byte
 fn write_record<F: Flash>(store: &mut Store<F>, reply: &mut Reply, id: RecordId, bytes: &[u8])
     requires usable { is_reserved id ≡ false }
     requires least { 128 ≤ length bytes.now }
-    requires room { length bytes.now ≤ store.old.slot_size - 64 }
-    requires open_store { IsOpen store.old }
+    requires reach { length bytes.now ≤ longest_of store.old.layout }
+    requires idle { store.old.pending ≡ Idle }
     ensures replied { (cursor : ℕ) → IsReplied F.tells store.old store.new (Write id bytes.now) cursor cursor reply.new }
     ensures idle { StaysIdle store.old store.new }
 {
@@ -305,7 +298,7 @@ fn write_record<F: Flash>(store: &mut Store<F>, reply: &mut Reply, id: RecordId,
 // Clears an identifier, and makes the reply.
 fn clear_record<F: Flash>(store: &mut Store<F>, reply: &mut Reply, id: RecordId)
     requires usable { is_reserved id ≡ false }
-    requires open_store { IsOpen store.old }
+    requires idle { store.old.pending ≡ Idle }
     ensures replied { (cursor : ℕ) → IsReplied F.tells store.old store.new (Clear id) cursor cursor reply.new }
     ensures idle { StaysIdle store.old store.new }
 {
@@ -323,7 +316,7 @@ fn read_named<F: Flash>(
     id: u64,
     out: &mut [u8],
 ) -> Result<HeldRecord, StoreError>
-    requires open_store { IsOpen store.old }
+    requires idle { store.old.pending ≡ Idle }
     requires out { length out.old ≡ 70000 }
     ensures answer { F.tells → AnswersNamed store.old id out.new result }
     ensures held { IfOk result (λ held. (128 ≤ held.len) × (held.len ≤ length out.new)) }
@@ -342,25 +335,19 @@ fn read_reserved<F: Flash>(
     out: &mut [u8],
 ) -> Result<HeldRecord, StoreError>
     requires reserved { is_reserved id ≡ true }
-    requires open_store { IsOpen store.old }
+    requires idle { store.old.pending ≡ Idle }
     requires out { length out.old ≡ 70000 }
     ensures answer { F.tells → AnswersNamed store.old id out.new result }
     ensures held { IfOk result (λ held. (128 ≤ held.len) × (held.len ≤ length out.new)) }
     ensures looks { LooksUp F.tells store.old store.new result }
 {
-    let first = match store.first() {
-        Ok(first) => first,
-        Err(error) => return Err(error),
+    let Some(least) = store.first()? else {
+        return Err(StoreError::Empty);
     };
-    match first {
-        None => Err(StoreError::Empty),
-        Some(least) => {
-            if id != 0 {
-                return Err(StoreError::NotFound);
-            }
-            read_record(store, least, out)
-        }
+    if id != 0 {
+        return Err(StoreError::NotFound);
     }
+    read_record(store, least, out)
 }
 
 // Reads the record of an identifier to the start of `out`.
@@ -369,17 +356,15 @@ fn read_record<F: Flash>(
     id: RecordId,
     out: &mut [u8],
 ) -> Result<HeldRecord, StoreError>
-    requires open_store { IsOpen store.old }
+    requires idle { store.old.pending ≡ Idle }
     requires out { length out.old ≡ 70000 }
     ensures answer { F.tells → AnswersNamed store.old id out.new result }
     ensures held { IfOk result (λ held. (128 ≤ held.len) × (held.len ≤ length out.new)) }
     ensures id { IfOk result (λ held. held.id ≡ id) }
     ensures looks { LooksUp F.tells store.old store.new result }
 {
-    match store.read(id, out) {
-        Ok(len) => Ok(HeldRecord { id: id.get(), len }),
-        Err(error) => Err(error),
-    }
+    let len = store.read(id, out)?;
+    Ok(HeldRecord { id: id.get(), len })
 }
 
 // The number of an identifier.

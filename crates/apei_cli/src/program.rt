@@ -1,14 +1,13 @@
 // The program's top call.
-ghost use Rattle.std.specs.Prelude.{◌≡◌, ℕ, ◌-◌, [], ◌∷◌, false};
+ghost use Rattle.std.specs.Prelude.{◌≡◌, ℕ, [], false};
 ghost use Rattle.base_model.specs.Faults.{Rose};
 ghost use Rattle.record_store.specs.Store.{IsReady};
 ghost use Rattle.apei_cli.specs.Plan.{IsPlanOf};
-ghost use Rattle.apei_cli.specs.Plays.{IsOpen, layout_of};
-ghost use Rattle.apei_cli.specs.Runs.{layout_of_plan, PlaysScript, IsRun, IsOnGeometry, IsAdmitted, HasSourceCause, HasSinkCause, HasFlashCause, ComesFirst, LeavesFlash, IsComplete, IsDoneWhere, IsStatusOf};
+ghost use Rattle.apei_cli.specs.Runs.{PlaysScript, IsRun, IsOnGeometry, IsAdmitted, HasSourceCause, HasSinkCause, HasFlashCause, ComesFirst, LeavesFlash, IsComplete, IsDoneWhere};
 
 use crate::job::{Plan, PlanError};
 use crate::lines::{LineReader, LineStop};
-use crate::player::{Desk, PlayStop};
+use crate::player::{PlayStop, Player};
 use crate::status::Status;
 use crate::words::plan;
 use apei_bytes::{Sink, Source};
@@ -19,17 +18,15 @@ use std::alloc::Global;
 // Plays the lines of a script, one after another, until it ends or a line stops it.
 fn play_script<I: Source, O: Sink, F: Flash>(
     lines: &mut LineReader,
-    desk: &mut Desk,
+    player: &mut Player,
     store: &mut Store<F>,
     script: &mut I,
     out: &mut O,
 ) -> Status
     requires start { lines.old ≡ record { line = []; number = 0; end = 0; pending = []; at_end = false } }
-    requires room { desk.old.room ≡ store.old.slot_size - 64 }
-    requires cursor { desk.old.cursor ≡ 0 }
-    requires open_store { IsOpen store.old }
+    requires cursor { player.old.cursor ≡ 0 }
     requires ready { IsReady store.old }
-    ensures played { PlaysScript I.tells O.tells F.tells (layout_of store.old) (I.rest script.old) (I.rest script.new)
+    ensures played { PlaysScript I.tells O.tells F.tells store.old.layout (I.rest script.old) (I.rest script.new)
         (O.written out.old) (O.written out.new) store.old.flash store.new.flash result }
     ensures reads { ComesFirst result → ⊥ }
     ensures source { HasSourceCause (I.faults script.old) (I.faults script.new) result }
@@ -46,7 +43,7 @@ fn play_script<I: Source, O: Sink, F: Flash>(
             }
             Err(LineStop::SourceFault) => return Status::SourceFault,
         }
-        match desk.play(store, lines.line(), out) {
+        match player.play(store, lines.line(), out) {
             Ok(()) => {}
             Err(PlayStop::NotBuilt) => {
                 return Status::NotYet {
@@ -58,17 +55,6 @@ fn play_script<I: Source, O: Sink, F: Flash>(
     }
 }
 
-// What a store that was not opened is answered with.
-fn status_of(why: ScanError, refused: Status) -> Status
-    ensures { IsStatusOf why refused result }
-{
-    match why {
-        ScanError::Size { .. } => refused,
-        ScanError::Flash => Status::FlashFault,
-        ScanError::Memory => Status::Memory,
-    }
-}
-
 // Plays a script on a flash, by a plan.
 fn run_plan<I: Source, O: Sink, F: Flash>(
     alloc: Global,
@@ -77,7 +63,7 @@ fn run_plan<I: Source, O: Sink, F: Flash>(
     out: &mut O,
     flash: F,
 ) -> (Status, F)
-    ensures run { IsRun I.tells O.tells F.tells (layout_of_plan plan.now) (I.rest script.old) (I.rest script.new)
+    ensures run { IsRun I.tells O.tells F.tells plan.now (I.rest script.old) (I.rest script.new)
         (O.written out.old) (O.written out.new) (F.state flash) (F.state result.1) result.0 }
     ensures geometry { IsOnGeometry plan.now (F.state flash) result.0 }
     ensures script_untouched { ComesFirst result.0 → script.new ≡ script.old }
@@ -99,14 +85,18 @@ fn run_plan<I: Source, O: Sink, F: Flash>(
     let Ok(mut lines) = LineReader::new(alloc) else {
         return (Status::Memory, flash);
     };
-    let Ok(mut desk) = Desk::new(alloc, geometry.room()) else {
+    let Ok(mut player) = Player::new(alloc) else {
         return (Status::Memory, flash);
     };
     let mut store = match Store::attach(alloc, flash, geometry) {
         Ok(store) => store,
-        Err(StoreRefused { why, flash }) => return (status_of(why, refused), flash),
+        Err(StoreRefused { why, flash }) => match why {
+            ScanError::Size { .. } => return (refused, flash),
+            ScanError::Flash => return (Status::FlashFault, flash),
+            ScanError::Memory => return (Status::Memory, flash),
+        },
     };
-    let status = play_script(&mut lines, &mut desk, &mut store, script, out);
+    let status = play_script(&mut lines, &mut player, &mut store, script, out);
     (status, store.into_flash())
 }
 
@@ -122,7 +112,7 @@ pub fn run<I: Source, O: Sink, F: Flash>(
     flash: F,
 ) -> (Status, F)
     // The commands that were played are the history of the flash, and their replies are what was written.
-    ensures run { (plan : Plan) → IsPlanOf words.now plan → IsRun I.tells O.tells F.tells (layout_of_plan plan)
+    ensures run { (plan : Plan) → IsPlanOf words.now plan → IsRun I.tells O.tells F.tells plan
         (I.rest script.old) (I.rest script.new) (O.written out.old) (O.written out.new) (F.state flash) (F.state result.1) result.0 }
 
     ensures admitted { IsAdmitted words.now (F.state flash) result.0 }

@@ -87,7 +87,7 @@ impl Reply {
     }
 
     /// Makes it the reply to the identifiers that were counted.
-    pub fn counted(&mut self, count: u32, steps: u64)
+    pub fn count(&mut self, count: u32, steps: u64)
         ensures { self.new ≡ codes "count " ++ decimal count ++ at_step steps }
     {
         self.text.clear();
@@ -97,7 +97,7 @@ impl Reply {
     }
 
     /// Makes it the reply to the next identifier, or to none.
-    pub fn found(&mut self, next: Option<u64>, steps: u64)
+    pub fn next(&mut self, next: Option<u64>, steps: u64)
         ensures { self.new ≡ words_of_next next ++ at_step steps }
     {
         self.text.clear();
@@ -120,15 +120,15 @@ impl Reply {
         self.end(steps);
     }
 
-    /// Makes it the reply to a record of `len` bytes where there is room for fewer.
-    pub fn too_long(&mut self, len: u64, room: u64, steps: u64)
-        ensures { self.new ≡ codes "refused " ++ (codes "too-long " ++ (decimal len ++ codes " " ++ decimal room)) ++ at_step steps }
+    /// Makes it the reply to a record of `len` bytes where the longest one has `reach`.
+    pub fn too_long(&mut self, len: u64, reach: u64, steps: u64)
+        ensures { self.new ≡ codes "refused " ++ (codes "too-long " ++ (decimal len ++ codes " " ++ decimal reach)) ++ at_step steps }
     {
         self.text.clear();
         self.add(b"refused too-long ");
         self.add_number(len);
         self.add(b" ");
-        self.add_number(room);
+        self.add_number(reach);
         self.end(steps);
     }
 

@@ -1,7 +1,7 @@
-// What a line of a script asks for.
+// What a line of a script is.
 ghost use Rattle.std.specs.Prelude.{◌≡◌, ℕ, ◌+◌, ◌*◌, ◌<◌, ◌≤◌, ◌↔◌, List, length, take, IsTrue, MatchOption};
 ghost use Rattle.hex.specs.Hex.{decode_of};
-ghost use Rattle.apei_cli.specs.Script.{asked_by_hex, write, not_built, IsPlain, marked};
+ghost use Rattle.apei_cli.specs.Script.{command_in_hex, write, not_built, IsPlain};
 ghost use Rattle.apei_cli.specs.Parsed.{IsParsed, IsParsedWords, IsParsedWord};
 
 use crate::number::number;
@@ -79,8 +79,8 @@ impl ScriptLine<'_> {
 pub fn decode(hex: &[u8], out: &mut [u8]) -> Option<usize>
     requires { length hex.now ≤ 2 * length out.old }
     ensures { MatchOption result
-        (asked_by_hex (decode_of hex.now) ≡ not_built)
-        (λ n. (n ≤ length out.new) × (asked_by_hex (decode_of hex.now) ≡ write (take n out.new))) }
+        (command_in_hex (decode_of hex.now) ≡ not_built)
+        (λ n. (n ≤ length out.new) × (command_in_hex (decode_of hex.now) ≡ write (take n out.new))) }
 {
     let count = hex.len() / 2;
     if count == 0 {
@@ -108,12 +108,4 @@ pub fn is_plain(bytes: &[u8]) -> bool
         return false;
     }
     get_u32(bytes, 20) as usize == bytes.len()
-}
-
-/// Marks a record as persistent: its persistence information begins with "ER".
-pub fn stamp(bytes: &mut [u8])
-    requires { 110 ≤ length bytes.old }
-    ensures { bytes.new ≡ marked bytes.old }
-{
-    bytes[108..110].copy_from_slice(b"ER");
 }

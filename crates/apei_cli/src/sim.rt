@@ -60,33 +60,3 @@ fn tear_numbered(torn: u8) -> Tear
         Tear::Marks
     }
 }
-
-#[cfg(test)]
-mod tests {
-    use super::*;
-    use crate::Job;
-    use flash_model::Flash;
-    use std::test::Fail;
-
-    #[test]
-    fn is_of_the_geometry(rt: HostRuntime) -> Result<(), Fail> {
-        let plan = Plan {
-            job: Job::Sim,
-            sector: 256,
-            per_slot: 2,
-            slots: 3,
-            fail: Some(0),
-            fail_read: Some(0),
-            torn: 1,
-        };
-        let flash = sim_flash(rt.alloc(), &plan)?;
-        assert_eq!(rt; flash.size(), 1536);
-        assert_eq!(rt; flash.sector_size(), 256);
-        let empty = Plan {
-            sector: 300,
-            ..plan
-        };
-        assert_eq!(rt; sim_flash(rt.alloc(), &empty)?.size(), 0);
-        Ok(())
-    }
-}

@@ -36,11 +36,11 @@ pub enum Status {
 }
 
 impl Status {
-    ghost use Rattle.apei_cli.specs.Numbers.{number_of};
+    ghost use Rattle.apei_cli.specs.Numbers.{exit_number};
 
     /// The program's exit number.
     pub fn number(&self) -> u8
-        ensures { result ≡ number_of self.now }
+        ensures { result ≡ exit_number self.now }
     {
         match self {
             Status::Done => 0,
@@ -75,5 +75,38 @@ impl fmt::Display for Status {
             Status::Memory => write!(f, "apei: out of memory"),
             Status::NotYet { line } => write!(f, "apei: line {line} not built"),
         }
+    }
+}
+
+#[cfg(test)]
+mod tests {
+    use super::*;
+    use std::test::Fail;
+
+    #[test]
+    fn has_a_text_and_a_number(rt: HostRuntime) -> Result<(), Fail> {
+        let refused = Status::BadGeometry {
+            sector: 300,
+            per_slot: 2,
+            slots: 32,
+            size: 0,
+        };
+        let statuses = [
+            (Status::Done, "", 0u8),
+            (Status::BadWords, "apei: bad words", 1),
+            (Status::SourceFault, "apei: read failed", 3),
+            (Status::SinkFault, "apei: write failed", 4),
+            (Status::FlashFault, "apei: flash failed", 5),
+            (refused, "apei: bad geometry 300 2 32 0", 6),
+            (Status::TooLong { line: 7 }, "apei: line 7 too long", 7),
+            (Status::Memory, "apei: out of memory", 8),
+            (Status::NotYet { line: 12 }, "apei: line 12 not built", 9),
+        ];
+        for (status, text, number) in statuses {
+            let said = format!(in rt.alloc(); "{status}")?;
+            assert_eq!(rt; said.as_str(), text);
+            assert_eq!(rt; status.number(), number);
+        }
+        Ok(())
     }
 }

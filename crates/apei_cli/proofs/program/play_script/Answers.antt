@@ -1,7 +1,7 @@
-use Rattle.std.proofs.Common.{◌≡◌, ◌-◌, Err, true, false, refl, sym, ap, ◌∙◌, arith}
+use Rattle.std.proofs.Common.{◌≡◌, Err, true, false, refl, sym, ap, ◌∙◌, arith}
 use Rattle.apei_cli.specs.Lines.{Reading}
 use Rattle.apei_cli.proofs.LinePlayLemmas.{on_true, on_false}
-use Rattle.apei_cli.proofs.RunLemmas.{SoFar-start, SoFar-played, IsOpen-then, end_small, ends_done, ends_fault, ends_not_built, ends_unheard}
+use Rattle.apei_cli.proofs.RunLemmas.{SoFar-start, SoFar-played, end_small, ends_done, ends_fault, ends_not_built, ends_unheard}
 use Rattle.apei_cli.proofs.program.play_script.Goals as goal
 
 pub lines-init : goal.lines-init
@@ -11,8 +11,7 @@ lines-init g c =
     let place = ap (λ (r : Reading). r.end) start in
     record {
       so_far = SoFar-start _ _ _ _ _ _ _ _ start c.requires.cursor ready.certain;
-      open_store = c.requires.open_store;
-      room = c.requires.room;
+      idle = ready.idle;
       at_end = λ told e. let clash : true ≡ false = sym e ∙ ap (λ (r : Reading). r.at_end) start in absurd (cc clash);
       near = omega arith;
       source = refl;
@@ -34,11 +33,9 @@ lines-preserved g c =
     let inv = c.lines.invariant in
     let next = on_true c.in-Ok-true.field-0 _ _ c.in-Ok-true.field-0-test c.in-Ok-true.ensures.next in
     let stays = c.in-Ok.ensures.idle in
-    let alike = stays.alike in
     record {
       so_far = SoFar-played _ _ _ _ _ _ _ _ _ _ _ _ _ _ _ _ _ inv.so_far next c.line.ensures c.in-Ok.ensures.played stays;
-      open_store = IsOpen-then _ _ inv.open_store stays;
-      room = c.in-Ok.ensures.room ∙ inv.room ∙ ap (λ (n : _). n - 64) (sym alike.slot_size);
+      idle = stays.idle;
       at_end = c.in-Ok-true.ensures.at_end;
       near = end_small _ _ _ _ _ next;
       source = c.in-Ok-true.ensures.no_fault (λ e. absurd (cc e)) ∙ inv.source;

@@ -1,5 +1,5 @@
 use Rattle.std.proofs.Common.{◌≡◌, ◌-◌, ◌^◌, ◌≤◌, true, []}
-use Rattle.apei_cli.specs.Plays.{IsOpen}
+use Rattle.record_store.specs.Store.{Idle}
 use Rattle.apei_cli.proofs.RunLemmas.{SoFar}
 use Rattle.apei_cli.proofs.program.play_script.Given as goal
 
@@ -7,9 +7,8 @@ use Rattle.apei_cli.proofs.program.play_script.Given as goal
 abbrev pub invariant-lines : goal.invariant-lines
 invariant-lines g l = record {
   so_far : SoFar g.I.Source.tells g.O.Sink.tells g.F.Flash.tells (g.I.Source.rest l.fn.script) (g.I.Source.rest l.script)
-      (g.O.Sink.written l.fn.out) (g.O.Sink.written l.out) l.fn.store l.store l.desk.cursor l.lines;
-  open_store : IsOpen l.store;
-  room : l.desk.room ≡ l.store.slot_size - 64;
+      (g.O.Sink.written l.fn.out) (g.O.Sink.written l.out) l.fn.store l.store l.player.cursor l.lines;
+  idle : l.store.pending ≡ Idle;
   at_end : g.I.Source.tells → l.lines.at_end ≡ true → g.I.Source.rest l.script ≡ [];
   near : l.lines.end ≤ 2 ^ 24;
   source : g.I.Source.faults l.script ≡ g.I.Source.faults l.fn.script;
