@@ -12,3 +12,4 @@ pub mod CopiesLemmas
 pub mod StartLemmas
 pub mod BeginLemmas
 pub mod FinishLemmas
+pub mod StoredLemmas
