@@ -1,6 +1,6 @@
 // The sequence of a command.
 ghost use Rattle.std.specs.Prelude.{◌≡◌, ◌≤◌, ◌^◌, IfOk};
-ghost use Rattle.erst_client.specs.Sequences.{Waits, Commands, Sequence, judged};
+ghost use Rattle.erst_client.specs.Sequences.{Waits, UntilStatus, Sequence, judged};
 ghost use Rattle.erst_client.specs.Waiting.{Paused};
 
 use crate::errors::ClientError;
@@ -53,7 +53,7 @@ fn command<S: Space>(
     budget: &mut Budget,
     space: &mut S,
 ) -> Result<(), ClientError>
-    ensures { Commands S.allows table.now.entries timings requests.now budget.old (S.state space.old) result budget.new (S.state space.new) }
+    ensures { UntilStatus S.allows table.now.entries timings requests.now budget.old (S.state space.old) result budget.new (S.state space.new) }
 {
     match ask_all(table, requests, budget, space) {
         Ok(()) => {}
