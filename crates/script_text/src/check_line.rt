@@ -64,7 +64,7 @@ impl CheckLine<'_> {
         if text.is_empty() {
             return Ok(CheckLine::Blank);
         }
-        match CheckLine::begun(text) {
+        match CheckLine::from_text(text) {
             Ok(line) => Ok(line),
             Err(reach) => Err(BadLine {
                 column: reach as u32 + 1,
@@ -73,7 +73,7 @@ impl CheckLine<'_> {
     }
 
     // The line that a text is which isn't empty, or how far it goes along with a line.
-    fn begun(text: &[u8]) -> Result<CheckLine<'_>, usize>
+    fn from_text(text: &[u8]) -> Result<CheckLine<'_>, usize>
         requires { 1 ≤ length text.now }
         ensures { MatchResult result (λ line. IsCheckText text.now line) (λ reach. Breaks IsCheckLine text.now reach) }
     {
@@ -82,14 +82,14 @@ impl CheckLine<'_> {
             Err(reach) => return Err(reach),
         };
         let at = word.bytes().len();
-        match CheckLine::behind(word, &text[at..]) {
+        match CheckLine::from_parts(word, &text[at..]) {
             Ok(line) => Ok(line),
             Err(reach) => Err(at + reach),
         }
     }
 
     // The line of a keyword and what follows it.
-    fn behind(word: CheckWord, rest: &[u8]) -> Result<CheckLine<'_>, usize>
+    fn from_parts(word: CheckWord, rest: &[u8]) -> Result<CheckLine<'_>, usize>
         ensures { MatchResult result (λ line. IsCheckTextBehind word rest.now line) (λ reach. Breaks (CheckFollows word) rest.now reach) }
     {
         match word {

@@ -54,7 +54,7 @@ impl ScriptLine<'_> {
         if text.is_empty() {
             return Ok(ScriptLine::Blank);
         }
-        match ScriptLine::begun(text) {
+        match ScriptLine::from_text(text) {
             Ok(line) => Ok(line),
             Err(reach) => Err(BadLine {
                 column: reach as u32 + 1,
@@ -63,7 +63,7 @@ impl ScriptLine<'_> {
     }
 
     // The line that a text is which isn't empty, or how far it goes along with a line.
-    fn begun(text: &[u8]) -> Result<ScriptLine<'_>, usize>
+    fn from_text(text: &[u8]) -> Result<ScriptLine<'_>, usize>
         requires { 1 ≤ length text.now }
         ensures { MatchResult result (λ line. IsText text.now line) (λ reach. Breaks IsLine text.now reach) }
     {
@@ -72,14 +72,14 @@ impl ScriptLine<'_> {
             Err(reach) => return Err(reach),
         };
         let at = word.bytes().len();
-        match ScriptLine::behind(word, &text[at..]) {
+        match ScriptLine::from_parts(word, &text[at..]) {
             Ok(line) => Ok(line),
             Err(reach) => Err(at + reach),
         }
     }
 
     // The line of a keyword and what follows it.
-    fn behind(word: ScriptWord, rest: &[u8]) -> Result<ScriptLine<'_>, usize>
+    fn from_parts(word: ScriptWord, rest: &[u8]) -> Result<ScriptLine<'_>, usize>
         ensures { MatchResult result (λ line. IsTextBehind word rest.now line) (λ reach. Breaks (Follows word) rest.now reach) }
     {
         match word {
@@ -112,7 +112,7 @@ impl ScriptLine<'_> {
                 let (code, value) = two_numbers(rest, 255, 0, u64::MAX)?;
                 Ok(ScriptLine::Action { code, value })
             }
-            ScriptWord::Table => ScriptLine::table(rest),
+            ScriptWord::Table => ScriptLine::from_table(rest),
             ScriptWord::Error => {
                 pairs(rest)?;
                 Ok(ScriptLine::Error { hex: rest })
@@ -153,7 +153,7 @@ impl ScriptLine<'_> {
     }
 
     // The line that takes a table into use: one in hexadecimal digits, the machine's own, or its shadow.
-    fn table(rest: &[u8]) -> Result<ScriptLine<'_>, usize>
+    fn from_table(rest: &[u8]) -> Result<ScriptLine<'_>, usize>
         ensures { MatchResult result (λ line. IsTextBehind ScriptWord.Table rest.now line) (λ reach. Breaks IsTable rest.now reach) }
     {
         if rest == b"own".as_slice() {

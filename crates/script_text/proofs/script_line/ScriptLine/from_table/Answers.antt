@@ -7,7 +7,7 @@ use Rattle.line_grammar.specs.Columns.{Breaks}
 use Rattle.script_text.specs.ScriptWords.{IsTable}
 use Rattle.line_grammar.specs.Keywords.{common_length}
 use Rattle.line_grammar.proofs.CommonLemmas.{word_breaks, either_breaks}
-use Rattle.script_text.proofs.script_line.ScriptLine.table.Goals as goal
+use Rattle.script_text.proofs.script_line.ScriptLine.from_table.Goals as goal
 
 pub returns : goal.returns
 returns c =

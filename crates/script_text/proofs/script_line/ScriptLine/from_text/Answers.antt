@@ -4,11 +4,11 @@ use Rattle.script_text.specs.ScriptGrammar.{IsLine}
 use Rattle.script_text.specs.ScriptWords.{codes_of, all_words, Follows}
 use Rattle.script_text.proofs.ScriptLemmas.{script}
 use Rattle.line_grammar.proofs.KeywordLemmas.{behind_breaks, passed_all}
-use Rattle.script_text.proofs.script_line.ScriptLine.begun.Goals as goal
+use Rattle.script_text.proofs.script_line.ScriptLine.from_text.Goals as goal
 
-pub returns-in-Err-behind : goal.returns-in-Err-behind
-returns-in-Err-behind c =
-    behind_breaks codes_of Follows all_words IsLine script c.in-Ok.word c.args.text.now c.bytes-at.result.now _ c.in-Err-behind.reach c.requires c.bytes-at.ensures c.in-Ok.ensures (between_to_end c.args.text.now _ _ (omega arith)) c.in-Err-behind.ensures
+pub returns-in-Err-from_parts : goal.returns-in-Err-from_parts
+returns-in-Err-from_parts c =
+    behind_breaks codes_of Follows all_words IsLine script c.in-Ok.word c.args.text.now c.bytes-at.result.now _ c.in-Err-from_parts.reach c.requires c.bytes-at.ensures c.in-Ok.ensures (between_to_end c.args.text.now _ _ (omega arith)) c.in-Err-from_parts.ensures
 
 pub returns-in-Err : goal.returns-in-Err
 returns-in-Err c = passed_all codes_of Follows all_words IsLine script c.args.text.now c.in-Err.reach c.requires c.in-Err.ensures
