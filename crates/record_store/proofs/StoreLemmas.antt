@@ -30,11 +30,6 @@ use Rattle.record_store.specs.declared.work.Work.TheVariants as works
 pub KeepsMap-none : (v : StoreView) → KeepsMap v v
 KeepsMap-none v = Leaves-none v.flash.told (λ image. records_of v.layout image ≡ stored v) refl
 
-pub kept_since : (geometry : Geometry) (flash : FlashState) (doubt : Bool) (pending : Pending) (v : StoreView) (new : Told) → view_of geometry flash doubt pending ≡ v
-    → KeepsRecords geometry.slot_size geometry.slots flash.told new → Leaves v.flash.told new (λ image. records_of v.layout image ≡ stored v)
-kept_since geometry flash doubt pending v new is kept =
-    subst (λ (u : StoreView). Leaves u.flash.told new (λ image. records_of u.layout image ≡ stored u)) is kept
-
 pub may_since : (geometry : Geometry) (flash : FlashState) (doubt : Bool) (pending : Pending) (v : StoreView) (new : Told) → view_of geometry flash doubt pending ≡ v
     → MayMake geometry pending flash.told new
     → Leaves v.flash.told new (λ image. (records_of v.layout image ≡ stored v) ⊎ (records_of v.layout image ≡ map_after v.layout v.pending (stored v)))
@@ -119,18 +114,6 @@ alike_then old mid new first second = record {
 pub power_refl : (flash : FlashState) → LosesOnlyByChange flash flash
 power_refl flash = record { never_back = λ on. on; lost = inl refl }
 
-pub power_then : (old mid new : FlashState) → old.steps ≤ mid.steps → mid.steps ≤ new.steps → LosesOnlyByChange old mid → LosesOnlyByChange mid new → LosesOnlyByChange old new
-power_then old mid new up more first second = record {
-  never_back = λ on. first.never_back (second.never_back on);
-  lost = elim second.lost [
-    | inr lost ↦ inr (omega arith)
-    | inl same ↦ elim first.lost [ inl kept ↦ inl (same ∙ kept) | inr lost ↦ inr (omega arith) ]
-  ];
-}
-
-pub NotFlash : {T : Type 0} → Result T StoreError → Type 0
-NotFlash result = UnlessFlash result ⊥ → ⊥
-
 looks_by : {T U : Type 0} (tells : Type 0) (old new : StoreView) (x : Result T StoreError) (y : Result U StoreError) → (tells → EndsCopies old new y) → HasDoubtOf new y
     → HasFaultsOf old.flash.faults new.flash.faults y → OnlyLooks tells old new x → OnlyLooks tells old new y
 looks_by tells old new x y ended doubt cause had = record {
@@ -185,10 +168,6 @@ looks_ready tells v x ready = record {
   power = power_refl v.flash;
   cause = refl;
 }
-
--- what a store is after it has looked again, in doubt or not
-abbrev after_look : Geometry → FlashState → Bool → Pending → StoreView
-after_look geometry flash doubt pending = view_of geometry flash doubt pending
 
 rescanned_few : (geometry : Geometry) (flash new : FlashState) → ChangesFew geometry.slot_size geometry.slots flash new → NearlyOnlyFirstUp geometry.slot_size geometry.slots flash.told.image → new.steps ≤ flash.steps + 1
 rescanned_few geometry flash new few nearly = let one = second_copies-few geometry.slot_size geometry.slots flash.told.image nearly in omega arith
