@@ -1,6 +1,7 @@
 //! Work for the scripts in `bench/`: `apei_bench JOB TIMES` does one job many times, and prints what it counted.
 #![tactic(auto)]
 
+mod clients;
 mod frames;
 mod lines;
 mod programs;
@@ -32,6 +33,7 @@ fn done(alloc: Global, job: &str, times: u64) -> Option<u64> {
     match job {
         "goto" => programs::go_round(alloc, times),
         "move" => programs::move_bytes(alloc, times),
+        "dummies" => clients::write_dummies(alloc, times),
         "records" => frames::read_records(alloc, times),
         "blocks" => frames::walk_blocks(times),
         "lines" => lines::parse_lines(times),

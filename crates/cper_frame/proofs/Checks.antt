@@ -1,11 +1,12 @@
 -- What it means that a record's checks pass, and that they see the record's own bytes alone.
-use Rattle.std.proofs.Common.{◌≡◌, ℕ, ◌-◌, ◌≤◌, ◌^◌, Bool, true, false, cond, List, length, Option, Some, None, Result, Ok, Err, refl, ap, ◌∙◌}
+use Rattle.std.proofs.Common.{◌≡◌, ℕ, ◌-◌, ◌≤◌, ◌^◌, List, length, Option, Some, None, Ok, Err, refl, ap, ◌∙◌}
 use Rattle.std.proofs.lemmas.Bool.{eqb-true, ltb-false, eq-eqb, le-ltb, cond-true, cond-false}
 use Rattle.std.specs.Prelude.{◌==◌, nat_lt}
 use Rattle.base_model.specs.Bytes.{number_at}
+use Rattle.apei_fields.proofs.Tests.{ok_if, ok_unless}
 use Rattle.cper_frame.specs.declared.error.FrameError.TheVariants.{Need, Start, End, Length, Limit}
 use Rattle.cper_frame.specs.Grammar.{bodies_from}
-use Rattle.cper_frame.specs.Reading.{signature, section_count, record_length, misplaced, placed, judged, checked}
+use Rattle.cper_frame.specs.Reading.{signature, section_count, record_length, misplaced, length_if_placed, head_verdict, checked}
 
 -- all checks of a record of at most limit bytes pass
 pub record Passed (limit : ℕ) (bytes : List ℕ) : Type 0 where
@@ -17,9 +18,9 @@ pub record Passed (limit : ℕ) (bytes : List ℕ) : Type 0 where
   pub there : record_length bytes ≤ length bytes
   pub sections : misplaced bytes ≡ None
 
-pub Ok-placed : (n len : ℕ) (bad : Option ℕ) → placed n bad ≡ Ok len → (bad ≡ None) × (n ≡ len)
-Ok-placed n len None h = (refl, cc)
-Ok-placed n len (Some k) h = absurd (cc)
+pub Ok-length_if_placed : (n len : ℕ) (bad : Option ℕ) → length_if_placed n bad ≡ Ok len → (bad ≡ None) × (n ≡ len)
+Ok-length_if_placed n len None h = (refl, cc)
+Ok-length_if_placed n len (Some k) h = absurd (cc)
 
 pub record Judged (limit have s e count n : ℕ) (bad : Option ℕ) (m : ℕ) : Type 0 where
   pub start : s ≡ signature
@@ -30,24 +31,15 @@ pub record Judged (limit have s e count n : ℕ) (bad : Option ℕ) (m : ℕ) : 
   pub sections : bad ≡ None
   pub len : n ≡ m
 
--- the test that leads to a result that is no error
-pub ok_if : {A E : Type 0} (b : Bool) (x : Result A E) (e : E) (v : A) → cond b x (Err e) ≡ Ok v → (b ≡ true) × (x ≡ Ok v)
-ok_if true x e v h = (refl, h)
-ok_if false x e v h = absurd (cc)
-
-pub ok_unless : {A E : Type 0} (b : Bool) (x : Result A E) (e : E) (v : A) → cond b (Err e) x ≡ Ok v → (b ≡ false) × (x ≡ Ok v)
-ok_unless true x e v h = absurd (cc)
-ok_unless false x e v h = (refl, h)
-
-is_judged : (limit have start end sections n : ℕ) (bad : Option ℕ) (len : ℕ) → judged limit have start end sections n bad ≡ Ok len → Judged limit have start end sections n bad len
-unfolding judged
+is_judged : (limit have start end sections n : ℕ) (bad : Option ℕ) (len : ℕ) → head_verdict limit have start end sections n bad ≡ Ok len → Judged limit have start end sections n bad len
+unfolding head_verdict
 is_judged limit have start end sections n bad len h =
     let a = ok_if _ _ _ _ h in
     let b = ok_if _ _ _ _ a.1 in
     let d = ok_unless _ _ _ _ b.1 in
     let f = ok_unless _ _ _ _ d.1 in
     let g = ok_unless _ _ _ _ f.1 in
-    let k = Ok-placed n len bad g.1 in
+    let k = Ok-length_if_placed n len bad g.1 in
     record {
       start = eqb-true start signature a.0;
       end = eqb-true end (2 ^ 32 - 1) b.0;
@@ -65,15 +57,15 @@ passed limit bytes len h =
     let j = is_judged limit (length bytes) (number_at bytes 0 4) (number_at bytes 6 4) (section_count bytes) (record_length bytes) (misplaced bytes) len a.1 in
     (record { header = ltb-false (length bytes) 128 a.0; start = j.start; end = j.end; heads = j.heads; within = j.within; there = j.there; sections = j.sections }, j.len)
 
-judges : (limit have start end sections n : ℕ) (bad : Option ℕ) → Judged limit have start end sections n bad n → judged limit have start end sections n bad ≡ Ok n
-unfolding judged
+judges : (limit have start end sections n : ℕ) (bad : Option ℕ) → Judged limit have start end sections n bad n → head_verdict limit have start end sections n bad ≡ Ok n
+unfolding head_verdict
 judges limit have start end sections n bad j =
     cond-true (start == signature) _ (Err Start) (eq-eqb start signature j.start)
     ∙ cond-true (end == 2 ^ 32 - 1) _ (Err End) (eq-eqb end (2 ^ 32 - 1) j.end)
     ∙ cond-false (nat_lt n (bodies_from sections)) (Err (Length n)) _ (le-ltb n (bodies_from sections) j.heads)
     ∙ cond-false (nat_lt limit n) (Err (Limit n)) _ (le-ltb limit n j.within)
     ∙ cond-false (nat_lt have n) (Err (Need (n - have))) _ (le-ltb have n j.there)
-    ∙ ap (placed n) j.sections
+    ∙ ap (length_if_placed n) j.sections
 
 pub passes : (limit : ℕ) (bytes : List ℕ) → Passed limit bytes → checked limit bytes ≡ Ok (record_length bytes)
 unfolding checked

@@ -11,7 +11,8 @@ use Rattle.cper_frame.specs.Reading.{section_count, record_length, descriptor_at
 use Rattle.apei_fields.proofs.Parts.{part-first, part-second}
 use Rattle.cper_frame.proofs.Checks.{Passed, passes}
 use Rattle.cper_frame.proofs.Laws.{header_reads, descriptor_reads, length-header, length-descriptor}
-use Rattle.cper_frame.proofs.Sound.{number_at-front, misplaced-front}
+use Rattle.apei_fields.proofs.Parts.{number_at-front}
+use Rattle.cper_frame.proofs.Sound.{misplaced-front}
 
 -- how long so many descriptors are
 pub length-descriptors : (first : ℕ) (bytes : List ℕ) (sections : List SectionValue) → All (IsSectionOf first bytes) sections → length (descriptors sections) ≡ 72 * length sections

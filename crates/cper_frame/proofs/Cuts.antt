@@ -1,6 +1,8 @@
 -- A stream that is cut into records step by step.
-use Rattle.std.proofs.Common.{◌≡◌, ℕ, zero, suc, ◌+◌, ◌-◌, ◌<◌, ◌≤◌, Bool, true, false, cond, List, [], ◌∷◌, ◌++◌, length, take, drop, Option, Some, None, Result, Ok, Err, refl, sym, ap, subst, ◌∙◌, arith, length-drop, append_assoc}
+use Rattle.std.proofs.Common.{◌≡◌, ℕ, zero, suc, ◌+◌, ◌-◌, ◌<◌, ◌≤◌, inl, inr, Bool, true, false, cond, List, [], ◌∷◌, ◌++◌, length, take, drop, Option, Some, None, Result, Ok, Err, refl, sym, ap, subst, ◌∙◌, arith, length-drop, append_assoc}
 use Rattle.std.proofs.Common.{get_or}
+use Rattle.std.specs.Prelude.{◌==◌, is_some}
+use Rattle.std.proofs.lemmas.Bool.{cases_Bool, cond-true, cond-false}
 use Rattle.std.proofs.lemmas.List.{append-nil, take-append-drop, length-take, take_all, take_at, drop_at, drop_more}
 use Rattle.std.proofs.lemmas.Grind.{flat_map-append}
 use Rattle.std.specs.List.{flat_map}
@@ -14,10 +16,11 @@ use Rattle.cper_frame.specs.declared.fed.Fed.{Fed}
 use Rattle.cper_frame.specs.declared.pieces.Progress.TheVariants.{Took, Stopped}
 use Rattle.cper_frame.specs.Grammar.{RecordValue, IsRecord}
 use Rattle.cper_frame.specs.Reading.{record_length, checked, record_of}
-use Rattle.cper_frame.specs.Stream.{Reader, is_need, holding, failing, taking, feeding, fed, framed, frame_of, dropped, advanced, refusal, IsRecordWithin, Splits, Waits, Going, Refused}
+use Rattle.cper_frame.specs.Stream.{Reader, is_need, reader_holding, reader_failing, feed_result_by, feed_result_unless, feed_result, frame_by, frame_of, without_frame_by, without_frame, GetsOn, refusal, IsRecordWithin, Splits, Waits, Going, Refused}
 use Rattle.cper_frame.specs.Pieces.{Stepped, Passed as PassedPiece}
 use Rattle.cper_frame.proofs.Checks.{Passed, passed, passes}
-use Rattle.cper_frame.proofs.Sound.{number_at-front, passed-front}
+use Rattle.apei_fields.proofs.Parts.{number_at-front}
+use Rattle.cper_frame.proofs.Sound.{passed-front}
 use Rattle.cper_frame.proofs.Streams.{Missing, missing, nothing, waits, stays}
 use Rattle.cper_frame.proofs.Streams.Missing.{of_header, of_record}
 use Rattle.cper_frame.proofs.Complete.{found_again}
@@ -64,27 +67,27 @@ take_over (x ∷ xs) ys zero h = absurd (omega arith)
 take_over (x ∷ xs) ys (suc n) h = ap (λ (zs : List ℕ). x ∷ zs) (take_over xs ys n (omega arith) ∙ ap (λ (k : ℕ). xs ++ take k ys) (omega arith))
 
 -- what a reader that waits makes of a rest
-fed_is : (r : Reader) (rest : List ℕ) (answer : Result ℕ FrameError) → r.failed ≡ None → checked r.limit (r.held ++ rest) ≡ answer → fed r rest ≡ taking r rest answer
-fed_is r rest answer sound e = ap (feeding r rest) sound ∙ ap (taking r rest) e
+fed_is : (r : Reader) (rest : List ℕ) (answer : Result ℕ FrameError) → r.failed ≡ None → checked r.limit (r.held ++ rest) ≡ answer → feed_result r rest ≡ feed_result_by r rest answer
+fed_is r rest answer sound e = ap (feed_result_unless r rest) sound ∙ ap (feed_result_by r rest) e
 
 same_fed : (f g : Fed) → ◌≡◌ {A = Result Fed FrameError} (Ok f) (Ok g) → f ≡ g
 same_fed f g e = cc
 
-refused_answer : (r : Reader) (rest : List ℕ) (error : FrameError) → is_need error ≡ false → (taking r rest (Err error)).1 ≡ Err error
+refused_answer : (r : Reader) (rest : List ℕ) (error : FrameError) → is_need error ≡ false → (feed_result_by r rest (Err error)).1 ≡ Err error
 refused_answer r rest error no_need =
-    ap (λ (t : Bool). (cond {A = Reader × Result Fed FrameError} t (holding r (r.held ++ rest), Ok (record { taken = length rest; whole = false })) (failing r error, Err error)).1) no_need
+    ap (λ (t : Bool). (cond {A = Reader × Result Fed FrameError} t (reader_holding r (r.held ++ rest), Ok (record { taken = length rest; whole = false })) (reader_failing r error, Err error)).1) no_need
 
-pub none_step : (r new : Reader) (rest : List ℕ) (f : Fed) (before : List (List ℕ)) → Waits r → 0 < length rest → new ≡ (fed r rest).0 → Ok f ≡ (fed r rest).1 → frame_of new ≡ None
+pub none_step : (r new : Reader) (rest : List ℕ) (f : Fed) (before : List (List ℕ)) → Waits r → 0 < length rest → new ≡ (feed_result r rest).0 → Ok f ≡ (feed_result r rest).1 → frame_of new ≡ None
     → Cases (checked r.limit (r.held ++ rest)) → Stepped r new before before rest (Took f.taken)
 none_step r new rest f before waits some a b none (at_ok len e) =
     let is = fed_is r rest (Ok len) waits.sound e in
-    let new_is : new ≡ holding r (take len (r.held ++ rest)) = a ∙ ap (λ (x : Reader × Result Fed FrameError). x.0) is in
+    let new_is : new ≡ reader_holding r (take len (r.held ++ rest)) = a ∙ ap (λ (x : Reader × Result Fed FrameError). x.0) is in
     let whole = (front_ok r.limit (r.held ++ rest) len e).1 in
-    let clash : ◌≡◌ {A = Option RecordValue} None (Some (record_of (take len (r.held ++ rest)))) = sym none ∙ ap frame_of new_is ∙ ap (framed (take len (r.held ++ rest))) whole in
+    let clash : ◌≡◌ {A = Option RecordValue} None (Some (record_of (take len (r.held ++ rest)))) = sym none ∙ ap frame_of new_is ∙ ap (frame_by (take len (r.held ++ rest))) whole in
     absurd (cc)
 none_step r new rest f before waits some a b none (at_need k e) =
     let is = fed_is r rest (Err (Need k)) waits.sound e in
-    let new_is : new ≡ holding r (r.held ++ rest) = a ∙ ap (λ (x : Reader × Result Fed FrameError). x.0) is in
+    let new_is : new ≡ reader_holding r (r.held ++ rest) = a ∙ ap (λ (x : Reader × Result Fed FrameError). x.0) is in
     let f_is : f ≡ record { taken = length rest; whole = false } = same_fed f (record { taken = length rest; whole = false }) (b ∙ ap (λ (x : Reader × Result Fed FrameError). x.1) is) in
     let taken_is : f.taken ≡ length rest = ap (λ (x : Fed). x.taken) f_is in
     let all : take f.taken rest ≡ rest = ap (λ (n : ℕ). take n rest) taken_is ∙ take_all (length rest) rest (omega arith) in
@@ -101,12 +104,12 @@ none_step r new rest f before waits some a b none (at_err error e no_need) =
     b ∙ ap (λ (x : Reader × Result Fed FrameError). x.1) is ∙ refused_answer r rest error no_need in
     absurd (cc)
 
-pub some_step : (r new final : Reader) (rest : List ℕ) (f : Fed) (before after : List (List ℕ)) (value : RecordValue) → Waits r → new ≡ (fed r rest).0 → Ok f ≡ (fed r rest).1 → Some value ≡ frame_of new → IsRecord value new.held
-    → final ≡ advanced new → after ≡ before ++ new.held ∷ [] → f.taken ≤ length rest → Cases (checked r.limit (r.held ++ rest)) → Stepped r final before after rest (Took f.taken)
+pub some_step : (r new final : Reader) (rest : List ℕ) (f : Fed) (before after : List (List ℕ)) (value : RecordValue) → Waits r → new ≡ (feed_result r rest).0 → Ok f ≡ (feed_result r rest).1 → Some value ≡ frame_of new → IsRecord value new.held
+    → final ≡ without_frame new → after ≡ before ++ new.held ∷ [] → f.taken ≤ length rest → Cases (checked r.limit (r.held ++ rest)) → Stepped r final before after rest (Took f.taken)
 some_step r new final rest f before after value waits a b some is_record advance pushed within (at_ok len e) =
     let is = fed_is r rest (Ok len) waits.sound e in
     let held = take len (r.held ++ rest) in
-    let new_is : new ≡ holding r held = a ∙ ap (λ (x : Reader × Result Fed FrameError). x.0) is in
+    let new_is : new ≡ reader_holding r held = a ∙ ap (λ (x : Reader × Result Fed FrameError). x.0) is in
     let f_is : f ≡ record { taken = len - length r.held; whole = true } = same_fed f (record { taken = len - length r.held; whole = true }) (b ∙ ap (λ (x : Reader × Result Fed FrameError). x.1) is) in
     let taken_is : f.taken ≡ len - length r.held = ap (λ (x : Fed). x.taken) f_is in
     let front = front_ok r.limit (r.held ++ rest) len e in
@@ -114,13 +117,13 @@ some_step r new final rest f before after value waits a b some is_record advance
     let p = passed r.limit (r.held ++ rest) len e in
     let low = p.0.within in
     let len_is = p.1 in
-    let final_is : final ≡ holding r [] = advance ∙ ap advanced new_is ∙ ap (dropped (holding r held)) front.1 in
+    let final_is : final ≡ reader_holding r [] = advance ∙ ap without_frame new_is ∙ ap (without_frame_by (reader_holding r held)) front.1 in
     let after_is : after ≡ before ++ held ∷ [] = pushed ∙ ap (λ (x : Reader). before ++ x.held ∷ []) new_is in
     let size = front.0 in
     let record_is : IsRecordWithin r.limit held = record { within = omega arith; is_record = (value, subst (λ (x : Reader). IsRecord value x.held) new_is is_record) } in
     let taken : r.held ++ take f.taken rest ≡ held = ap (λ (n : ℕ). r.held ++ take n rest) taken_is ∙ sym (take_over r.held rest len (omega arith)) in
     subst (λ (x : Reader). Stepped r x before after rest (Took f.taken)) (sym final_is)
-    (subst (λ (xs : List (List ℕ)). Stepped r (holding r []) before xs rest (Took f.taken)) (sym after_is) (
+    (subst (λ (xs : List (List ℕ)). Stepped r (reader_holding r []) before xs rest (Took f.taken)) (sym after_is) (
       omega arith,
       within,
       record { sound = refl; missing = (128, omega arith, nothing r.limit) },
@@ -138,8 +141,8 @@ some_step r new final rest f before after value waits a b some is_record advance
     ))
 some_step r new final rest f before after value waits a b some is_record advance pushed within (at_need k e) =
     let is = fed_is r rest (Err (Need k)) waits.sound e in
-    let new_is : new ≡ holding r (r.held ++ rest) = a ∙ ap (λ (x : Reader × Result Fed FrameError). x.0) is in
-    let clash : ◌≡◌ {A = Option RecordValue} (Some value) None = some ∙ ap frame_of new_is ∙ ap (framed (r.held ++ rest)) e in
+    let new_is : new ≡ reader_holding r (r.held ++ rest) = a ∙ ap (λ (x : Reader × Result Fed FrameError). x.0) is in
+    let clash : ◌≡◌ {A = Option RecordValue} (Some value) None = some ∙ ap frame_of new_is ∙ ap (frame_by (r.held ++ rest)) e in
     absurd (cc)
 some_step r new final rest f before after value waits a b some is_record advance pushed within (at_err error e no_need) =
     let is = fed_is r rest (Err error) waits.sound e in
@@ -308,3 +311,43 @@ whole_at f xs i x h e =
     ap (flat_map f) split
     ∙ flat_map-append f (take i xs) (x ∷ drop (i + 1) xs)
     ∙ sym (append_assoc (flat_map f (take i xs)) (f x) (flat_map f (drop (i + 1) xs)))
+
+-- a reader that took a piece gets on
+whole_or_missing : (r : Reader) (gone : ℕ) → checked r.limit r.held ≡ cond (gone == 0) (Ok (length r.held)) (Err (Need gone)) → frame_of r ≡ None → checked r.limit r.held ≡ Err (Need gone)
+whole_or_missing r gone state none = elim (cases_Bool (gone == 0)) [
+  | inl whole ↦
+      let e : checked r.limit r.held ≡ Ok (length r.held) = state ∙ cond-true (gone == 0) (Ok (length r.held)) (Err (Need gone)) whole in
+      let clash : ◌≡◌ {A = Option RecordValue} None (Some (record_of r.held)) = sym none ∙ ap (frame_by r.held) e in
+      absurd (cc)
+  | inr some ↦ state ∙ cond-false (gone == 0) (Ok (length r.held)) (Err (Need gone)) some
+]
+
+pub gets_on : (r new : Reader) (gone : ℕ) (piece : List ℕ) (f : Fed) → r.failed ≡ None → checked r.limit r.held ≡ cond (gone == 0) (Ok (length r.held)) (Err (Need gone))
+    → ◌≡◌ {A = Reader × Result Fed FrameError} (new, Ok f) (feed_result r piece) → Cases (checked r.limit (r.held ++ piece)) → GetsOn r new piece f
+gets_on r new gone piece f sound state e (at_ok len h) =
+    let all = e ∙ fed_is r piece (Ok len) sound h in
+    let new_is : new ≡ reader_holding r (take len (r.held ++ piece)) = ap (λ (x : Reader × Result Fed FrameError). x.0) all in
+    let f_is : f ≡ record { taken = len - length r.held; whole = true } = same_fed f (record { taken = len - length r.held; whole = true }) (ap (λ (x : Reader × Result Fed FrameError). x.1) all) in
+    let taken_is : f.taken ≡ len - length r.held = ap (λ (x : Fed). x.taken) f_is in
+    let whole_is : f.whole ≡ true = ap (λ (x : Fed). x.whole) f_is in
+    record {
+      some = λ none more.
+          let longer = longer_of r.limit r.held piece gone len (missing r.limit r.held gone (whole_or_missing r gone state none)) h in
+          omega arith;
+      all = λ part_taken. let clash : true ≡ false = sym whole_is ∙ part_taken in absurd (cc);
+      whole = whole_is ∙ sym (ap (λ (x : Reader). is_some (frame_of x)) new_is ∙ ap (λ (x : Result ℕ FrameError). is_some (frame_by (take len (r.held ++ piece)) x)) (front_ok r.limit (r.held ++ piece) len h).1);
+    }
+gets_on r new gone piece f sound state e (at_need k h) =
+    let all = e ∙ fed_is r piece (Err (Need k)) sound h in
+    let new_is : new ≡ reader_holding r (r.held ++ piece) = ap (λ (x : Reader × Result Fed FrameError). x.0) all in
+    let f_is : f ≡ record { taken = length piece; whole = false } = same_fed f (record { taken = length piece; whole = false }) (ap (λ (x : Reader × Result Fed FrameError). x.1) all) in
+    let taken_is : f.taken ≡ length piece = ap (λ (x : Fed). x.taken) f_is in
+    record {
+      some = λ none more. omega arith;
+      all = λ part_taken. taken_is;
+      whole = ap (λ (x : Fed). x.whole) f_is ∙ sym (ap (λ (x : Reader). is_some (frame_of x)) new_is ∙ ap (λ (x : Result ℕ FrameError). is_some (frame_by (r.held ++ piece) x)) h);
+    }
+gets_on r new gone piece f sound state e (at_err error h no_need) =
+    let all = e ∙ fed_is r piece (Err error) sound h in
+    let clash : ◌≡◌ {A = Result Fed FrameError} (Ok f) (Err error) = ap (λ (x : Reader × Result Fed FrameError). x.1) all ∙ refused_answer r piece error no_need in
+    absurd (cc)

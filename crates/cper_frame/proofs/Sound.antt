@@ -2,21 +2,16 @@
 use Rattle.std.proofs.Common.{◌≡◌, ℕ, zero, suc, ◌+◌, ◌-◌, ◌*◌, ◌<◌, ◌≤◌, ◌^◌, Bool, true, false, cond, List, ◌++◌, length, drop, Option, Some, None, refl, sym, ap, subst, ◌∙◌, arith}
 use Rattle.std.specs.Prelude.{All, codes, nat_lt, ◌||◌}
 use Rattle.std.proofs.lemmas.Bool.{ltb-false, or_parts}
-use Rattle.std.proofs.lemmas.List.{take-append-drop}
 use Rattle.std.proofs.lemmas.List.Elements.{All-nil, All-cons}
-use Rattle.base_model.specs.Bytes.{part, number_at, little, spelled, joined, AreBytes}
+use Rattle.base_model.specs.Bytes.{part, number_at, spelled, joined, AreBytes}
 use Rattle.base_model.proofs.BytesLemmas.{spelled-number_at, number_at-lt, length-part, part-append, part-append_left, part-whole, AreBytes-part}
 use Rattle.cper_frame.specs.Grammar.{header, descriptor, descriptors, bodies_from, IsRecordHead, IsSectionHead, IsSectionOf, IsRecord}
 use Rattle.cper_frame.specs.Reading.{signature, head_at, section_count, record_length, section_head_at, section_in, descriptor_at, section_at, sections_from, record_of, is_misplaced, misplaced_from, misplaced}
-use Rattle.apei_fields.proofs.Parts.{parts, joined-parts}
+use Rattle.apei_fields.proofs.Parts.{parts, joined-parts, number_at-front, part-append-drop}
 use Rattle.cper_frame.proofs.Checks.{Passed}
 use Rattle.cper_frame.proofs.Laws.{header_sizes, descriptor_sizes}
 
 -- bytes that follow change no number and no test
-pub number_at-front : (bytes more : List ℕ) (at n : ℕ) → at + n ≤ length bytes → number_at (bytes ++ more) at n ≡ number_at bytes at n
-unfolding number_at
-number_at-front bytes more at n h = ap little (part-append_left bytes more at n h)
-
 is_misplaced-front : (bytes more : List ℕ) (first last index : ℕ) → 128 + 72 * (index + 1) ≤ length bytes → is_misplaced (bytes ++ more) first last index ≡ is_misplaced bytes first last index
 unfolding is_misplaced
 is_misplaced-front bytes more first last index h =
@@ -89,18 +84,22 @@ header_part bytes h k start end = ap joined (header_again bytes h k start end) �
 
 pub is_record_head : (bytes : List ℕ) → AreBytes bytes → 128 ≤ length bytes → IsRecordHead (head_at bytes)
 is_record_head bytes h k = record {
-  revision = number_at-lt bytes 4 2 h (omega arith);
-  severity = number_at-lt bytes 12 4 h (omega arith);
-  validation = number_at-lt bytes 16 4 h (omega arith);
-  timestamp = number_at-lt bytes 24 8 h (omega arith);
-  platform = length-part bytes 32 16 (omega arith);
-  partition = length-part bytes 48 16 (omega arith);
-  creator = length-part bytes 64 16 (omega arith);
-  notification = length-part bytes 80 16 (omega arith);
-  id = number_at-lt bytes 96 8 h (omega arith);
-  flags = number_at-lt bytes 104 4 h (omega arith);
-  persistence = length-part bytes 108 8 (omega arith);
-  reserved = length-part bytes 116 12 (omega arith);
+  front = record {
+    revision = number_at-lt bytes 4 2 h (omega arith);
+    severity = number_at-lt bytes 12 4 h (omega arith);
+    validation = number_at-lt bytes 16 4 h (omega arith);
+  };
+  back = record {
+    timestamp = number_at-lt bytes 24 8 h (omega arith);
+    platform = length-part bytes 32 16 (omega arith);
+    partition = length-part bytes 48 16 (omega arith);
+    creator = length-part bytes 64 16 (omega arith);
+    notification = length-part bytes 80 16 (omega arith);
+    id = number_at-lt bytes 96 8 h (omega arith);
+    flags = number_at-lt bytes 104 4 h (omega arith);
+    persistence = length-part bytes 108 8 (omega arith);
+    reserved = length-part bytes 116 12 (omega arith);
+  };
 }
 
 pub is_section_head : (bytes : List ℕ) → AreBytes bytes → length bytes ≡ 72 → IsSectionHead (section_head_at bytes)
@@ -203,10 +202,6 @@ pub none_is : (bytes : List ℕ) → misplaced bytes ≡ None → record_length 
 unfolding misplaced
 none_is bytes h e = subst (λ (k : ℕ). misplaced_from bytes (bodies_from (section_count bytes)) k (section_count bytes) 0 ≡ None) e h
 
-whole : (bytes : List ℕ) (n : ℕ) → part bytes 0 n ++ drop n bytes ≡ bytes
-unfolding part
-whole bytes n = take-append-drop n bytes
-
 -- a whole record
 pub is_record : (limit : ℕ) (bytes : List ℕ) → AreBytes bytes → Passed limit bytes → record_length bytes ≡ length bytes → IsRecord (record_of bytes) bytes
 unfolding record_of
@@ -232,6 +227,6 @@ is_record limit bytes h p e =
             ∙ ap (λ (xs : List ℕ). xs ++ descriptors (sections_from bytes n 0) ++ drop (128 + 72 * n) bytes) front
             ∙ ap (λ (xs : List ℕ). part bytes 0 128 ++ xs ++ drop (128 + 72 * n) bytes) behind
             ∙ ap (λ (xs : List ℕ). xs ++ drop (128 + 72 * n) bytes) (part-append bytes 0 128 (72 * n))
-            ∙ whole bytes (128 + 72 * n)),
+            ∙ part-append-drop bytes (128 + 72 * n)),
       );
     }

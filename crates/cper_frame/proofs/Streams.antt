@@ -6,19 +6,20 @@ use Rattle.base_model.specs.Bytes.{number_at}
 use Rattle.cper_frame.specs.declared.error.FrameError.{FrameError}
 use Rattle.cper_frame.specs.declared.error.FrameError.TheVariants.{Need, Start, End, Length, Limit}
 use Rattle.cper_frame.specs.Grammar.{bodies_from}
-use Rattle.cper_frame.specs.Reading.{signature, section_count, record_length, misplaced, placed, judged, checked}
+use Rattle.cper_frame.specs.Reading.{signature, section_count, record_length, misplaced, length_if_placed, head_verdict, checked}
 use Rattle.cper_frame.specs.Stream.{is_need}
 use Rattle.cper_frame.proofs.Checks.{passed}
-use Rattle.cper_frame.proofs.Sound.{number_at-front, misplaced-front}
+use Rattle.apei_fields.proofs.Parts.{number_at-front}
+use Rattle.cper_frame.proofs.Sound.{misplaced-front}
 
 -- whether more bytes could change the answer
 abbrev pub waits : Result ℕ FrameError → Bool
 waits (Ok len) = false
 waits (Err error) = is_need error
 
-waits-placed : (len : ℕ) (bad : Option ℕ) → waits (placed len bad) ≡ false
-waits-placed len None = refl
-waits-placed len (Some index) = refl
+waits-length_if_placed : (len : ℕ) (bad : Option ℕ) → waits (length_if_placed len bad) ≡ false
+waits-length_if_placed len None = refl
+waits-length_if_placed len (Some index) = refl
 
 same_branch : (a b c d f f' : Bool) (n n' p p' e1 e2 e3 e4 : Result ℕ FrameError) → waits n ≡ true
     → (a ≡ true → b ≡ true → c ≡ false → d ≡ false → f ≡ false → (f' ≡ false) × (p' ≡ p))
@@ -34,16 +35,16 @@ same_branch true true false false false f' n n' p p' e1 e2 e3 e4 w h k =
     ap (λ (t : Bool). cond t n' p') both.0 ∙ both.1
 
 judged_stays : (limit have have' s e n len : ℕ) (bad bad' : Option ℕ) → have ≤ have' → (bodies_from n ≤ len → len ≤ have → bad' ≡ bad)
-    → waits (judged limit have s e n len bad) ≡ false → judged limit have' s e n len bad' ≡ judged limit have s e n len bad
-unfolding judged
+    → waits (head_verdict limit have s e n len bad) ≡ false → head_verdict limit have' s e n len bad' ≡ head_verdict limit have s e n len bad
+unfolding head_verdict
 judged_stays limit have have' s e n len bad bad' more h k =
     same_branch (s == signature) (e == 2 ^ 32 - 1) (nat_lt len (bodies_from n)) (nat_lt limit len) (nat_lt have len) (nat_lt have' len)
-    (Err (Need (len - have))) (Err (Need (len - have'))) (placed len bad) (placed len bad') (Err (Length len)) (Err (Limit len)) (Err End) (Err Start)
+    (Err (Need (len - have))) (Err (Need (len - have'))) (length_if_placed len bad) (length_if_placed len bad') (Err (Length len)) (Err (Limit len)) (Err End) (Err Start)
     refl
     (λ _ _ heads _ there.
     let low = ltb-false len (bodies_from n) heads in
     let all = ltb-false have len there in
-    (le-ltb have' len (omega arith), ap (placed len) (h low all)))
+    (le-ltb have' len (omega arith), ap (length_if_placed len) (h low all)))
     k
 
 first_test : (b : Bool) (e : FrameError) (x : Result ℕ FrameError) → is_need e ≡ true → waits (cond b (Err e) x) ≡ false → b ≡ false
@@ -56,13 +57,13 @@ long_enough limit bytes h = ltb-false (length bytes) 128 (first_test (nat_lt (le
 
 -- the checks behind the first
 pub checked_long : (limit : ℕ) (bytes : List ℕ) → 128 ≤ length bytes
-    → checked limit bytes ≡ judged limit (length bytes) (number_at bytes 0 4) (number_at bytes 6 4) (section_count bytes) (record_length bytes) (misplaced bytes)
+    → checked limit bytes ≡ head_verdict limit (length bytes) (number_at bytes 0 4) (number_at bytes 6 4) (section_count bytes) (record_length bytes) (misplaced bytes)
 unfolding checked
 checked_long limit bytes h = cond-false (nat_lt (length bytes) 128) (Err (Need (128 - length bytes))) _ (le-ltb (length bytes) 128 h)
 
 -- those of a longer list, by the numbers of its front
 checked_front : (limit : ℕ) (front more : List ℕ) → 128 ≤ length front
-    → checked limit (front ++ more) ≡ judged limit (length (front ++ more)) (number_at front 0 4) (number_at front 6 4) (section_count front) (record_length front) (misplaced (front ++ more))
+    → checked limit (front ++ more) ≡ head_verdict limit (length (front ++ more)) (number_at front 0 4) (number_at front 6 4) (section_count front) (record_length front) (misplaced (front ++ more))
 checked_front limit front more long =
     let size = length-append front more in
     let start = number_at-front front more 0 4 (omega arith) in
@@ -70,10 +71,10 @@ checked_front limit front more long =
     let count = number_at-front front more 10 2 (omega arith) in
     let len = number_at-front front more 20 4 (omega arith) in
     checked_long limit (front ++ more) (omega arith)
-    ∙ ap (λ (x : ℕ). judged limit (length (front ++ more)) x (number_at (front ++ more) 6 4) (section_count (front ++ more)) (record_length (front ++ more)) (misplaced (front ++ more))) start
-    ∙ ap (λ (x : ℕ). judged limit (length (front ++ more)) (number_at front 0 4) x (section_count (front ++ more)) (record_length (front ++ more)) (misplaced (front ++ more))) end
-    ∙ ap (λ (x : ℕ). judged limit (length (front ++ more)) (number_at front 0 4) (number_at front 6 4) x (record_length (front ++ more)) (misplaced (front ++ more))) count
-    ∙ ap (λ (x : ℕ). judged limit (length (front ++ more)) (number_at front 0 4) (number_at front 6 4) (section_count front) x (misplaced (front ++ more))) len
+    ∙ ap (λ (x : ℕ). head_verdict limit (length (front ++ more)) x (number_at (front ++ more) 6 4) (section_count (front ++ more)) (record_length (front ++ more)) (misplaced (front ++ more))) start
+    ∙ ap (λ (x : ℕ). head_verdict limit (length (front ++ more)) (number_at front 0 4) x (section_count (front ++ more)) (record_length (front ++ more)) (misplaced (front ++ more))) end
+    ∙ ap (λ (x : ℕ). head_verdict limit (length (front ++ more)) (number_at front 0 4) (number_at front 6 4) x (record_length (front ++ more)) (misplaced (front ++ more))) count
+    ∙ ap (λ (x : ℕ). head_verdict limit (length (front ++ more)) (number_at front 0 4) (number_at front 6 4) (section_count front) x (misplaced (front ++ more))) len
 
 -- what is decided stays decided
 pub stays : (limit : ℕ) (front more : List ℕ) → waits (checked limit front) ≡ false → checked limit (front ++ more) ≡ checked limit front
@@ -97,8 +98,8 @@ need_unless : (b : Bool) (x : Result ℕ FrameError) (e : FrameError) (w : ℕ) 
 need_unless true x e w h k = let same : e ≡ Need w = cc in let no_need : is_need e ≡ true = ap is_need same in absurd (cc)
 need_unless false x e w h k = (refl, k)
 
-never_placed : (len : ℕ) (bad : Option ℕ) (w : ℕ) → placed len bad ≡ Err (Need w) → ⊥
-never_placed len bad w h = let a = waits-placed len bad in let b : waits (placed len bad) ≡ true = ap waits h in cc
+never_needs : (len : ℕ) (bad : Option ℕ) (w : ℕ) → length_if_placed len bad ≡ Err (Need w) → ⊥
+never_needs len bad w h = let a = waits-length_if_placed len bad in let b : waits (length_if_placed len bad) ≡ true = ap waits h in cc
 
 -- a header that is right, of a record that isn't there yet
 pub record Partial (limit have s e n len : ℕ) : Type 0 where
@@ -108,12 +109,12 @@ pub record Partial (limit have s e n len : ℕ) : Type 0 where
   pub within : len ≤ limit
   pub less : have < len
 
-last_test : (b : Bool) (m len : ℕ) (bad : Option ℕ) (w : ℕ) → cond b (Err (Need m)) (placed len bad) ≡ Err (Need w) → (b ≡ true) × (m ≡ w)
+last_test : (b : Bool) (m len : ℕ) (bad : Option ℕ) (w : ℕ) → cond b (Err (Need m)) (length_if_placed len bad) ≡ Err (Need w) → (b ≡ true) × (m ≡ w)
 last_test true m len bad w h = (refl, cc)
-last_test false m len bad w h = absurd (never_placed len bad w h)
+last_test false m len bad w h = absurd (never_needs len bad w h)
 
-is_partial : (limit have s e n len : ℕ) (bad : Option ℕ) (w : ℕ) → judged limit have s e n len bad ≡ Err (Need w) → Partial limit have s e n len × (len - have ≡ w)
-unfolding judged
+is_partial : (limit have s e n len : ℕ) (bad : Option ℕ) (w : ℕ) → head_verdict limit have s e n len bad ≡ Err (Need w) → Partial limit have s e n len × (len - have ≡ w)
+unfolding head_verdict
 is_partial limit have s e n len bad w h =
     let a = need_if (s == signature) _ Start w refl h in
     let b = need_if (e == 2 ^ 32 - 1) _ End w refl a.1 in
@@ -130,8 +131,8 @@ is_partial limit have s e n len bad w h =
       g.1,
     )
 
-partial_needs : (limit have s e n len : ℕ) (bad : Option ℕ) → Partial limit have s e n len → judged limit have s e n len bad ≡ Err (Need (len - have))
-unfolding judged
+partial_needs : (limit have s e n len : ℕ) (bad : Option ℕ) → Partial limit have s e n len → head_verdict limit have s e n len bad ≡ Err (Need (len - have))
+unfolding head_verdict
 partial_needs limit have s e n len bad p =
     cond-true (s == signature) _ (Err Start) (eq-eqb s signature p.start)
     ∙ cond-true (e == 2 ^ 32 - 1) _ (Err End) (eq-eqb e (2 ^ 32 - 1) p.end)
@@ -139,8 +140,8 @@ partial_needs limit have s e n len bad p =
     ∙ cond-false (nat_lt limit len) (Err (Limit len)) _ (le-ltb limit len p.within)
     ∙ cond-true (nat_lt have len) (Err (Need (len - have))) _ (lt-ltb have len p.less)
 
-complete_placed : (limit have s e n len : ℕ) (bad : Option ℕ) → s ≡ signature → e ≡ 2 ^ 32 - 1 → bodies_from n ≤ len → len ≤ limit → len ≤ have → judged limit have s e n len bad ≡ placed len bad
-unfolding judged
+complete_placed : (limit have s e n len : ℕ) (bad : Option ℕ) → s ≡ signature → e ≡ 2 ^ 32 - 1 → bodies_from n ≤ len → len ≤ limit → len ≤ have → head_verdict limit have s e n len bad ≡ length_if_placed len bad
+unfolding head_verdict
 complete_placed limit have s e n len bad start end heads within there =
     cond-true (s == signature) _ (Err Start) (eq-eqb s signature start)
     ∙ cond-true (e == 2 ^ 32 - 1) _ (Err End) (eq-eqb e (2 ^ 32 - 1) end)
@@ -238,7 +239,7 @@ decided_of limit front more w long h (of_record low p e) =
     ap waits (checked_front limit front more long
     ∙ complete_placed limit (length (front ++ more)) (number_at front 0 4) (number_at front 6 4) (section_count front) (record_length front) (misplaced (front ++ more))
     p.start p.end p.heads p.within (omega arith))
-    ∙ waits-placed (record_length front) (misplaced (front ++ more))
+    ∙ waits-length_if_placed (record_length front) (misplaced (front ++ more))
 
 pub decided : (limit : ℕ) (front more : List ℕ) (w : ℕ) → 128 ≤ length front → checked limit front ≡ Err (Need w) → length more ≡ w → waits (checked limit (front ++ more)) ≡ false
 decided limit front more w long e h = decided_of limit front more w long h (missing limit front w e)

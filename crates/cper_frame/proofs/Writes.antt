@@ -6,28 +6,23 @@ use Rattle.std.proofs.lemmas.List.Elements.{All-nil, All-cons, All-append, All-w
 use Rattle.base_model.specs.Bytes.{part, spelled, joined, SameOutside}
 use Rattle.base_model.proofs.BytesLemmas.{length-spelled, part-append, part-part, part-before, part-after, length-part, SameOutside-wider, length-joined}
 use Rattle.apei_fields.specs.Writing.{Wrote}
-use Rattle.apei_fields.proofs.Parts.{part-first, part-second}
+use Rattle.apei_fields.proofs.Parts.{part-first, part-second, part-take}
 use Rattle.apei_fields.proofs.Puts.{wrote_there, wrote_others, joined-append}
 use Rattle.cper_frame.specs.declared.heads.RecordHead.{RecordHead}
 use Rattle.cper_frame.specs.declared.heads.SectionHead.{SectionHead}
-use Rattle.cper_frame.specs.Grammar.{SectionValue, header_back, header, descriptor, descriptor_fields, descriptors, bodies_from, IsRecordHead, IsSectionHead, IsSectionOf, IsRecord}
-use Rattle.cper_frame.specs.Writer.{Given, placed, bodies_end, written_record, Writing}
+use Rattle.cper_frame.specs.Grammar.{SectionValue, header_back, header, descriptor, descriptor_fields, descriptors, bodies_from, IsRecordHead, IsSectionHead, IsSectionOf}
+use Rattle.cper_frame.specs.Writer.{Given, sections_given, bodies_end, written_record, Writing, IsWritten}
 use Rattle.cper_frame.proofs.Laws.{length-header, length-descriptor}
 
--- a part within what stands first
-pub part-take : (bytes : List ℕ) (n at m : ℕ) → at + m ≤ n → part (take n bytes) at m ≡ part bytes at m
-unfolding part
-part-take bytes n at m h = part-part bytes 0 n at m h ∙ ap (λ (k : ℕ). take m (drop k bytes)) (omega arith)
+length-sections_given : (at : ℕ) (given : List Given) → length (sections_given at given) ≡ length given
+length-sections_given at [] = refl
+length-sections_given at (section ∷ given) = let e = length-sections_given (at + length section.body) given in omega (arith, e)
 
-length-placed : (at : ℕ) (given : List Given) → length (placed at given) ≡ length given
-length-placed at [] = refl
-length-placed at (section ∷ given) = let e = length-placed (at + length section.body) given in omega (arith, e)
-
-placed-push : (at : ℕ) (given : List Given) (section : Given)
-    → placed at (given ++ section ∷ []) ≡ placed at given ++ (record { head = section.head; offset = bodies_end at given; body = section.body }) ∷ []
-placed-push at [] section = refl
-placed-push at (first ∷ given) section =
-    ap (λ (xs : List SectionValue). (record { head = first.head; offset = at; body = first.body }) ∷ xs) (placed-push (at + length first.body) given section)
+sections_given-push : (at : ℕ) (given : List Given) (section : Given)
+    → sections_given at (given ++ section ∷ []) ≡ sections_given at given ++ (record { head = section.head; offset = bodies_end at given; body = section.body }) ∷ []
+sections_given-push at [] section = refl
+sections_given-push at (first ∷ given) section =
+    ap (λ (xs : List SectionValue). (record { head = first.head; offset = at; body = first.body }) ∷ xs) (sections_given-push (at + length first.body) given section)
 
 bodies_end-push : (at : ℕ) (given : List Given) (section : Given) → bodies_end at (given ++ section ∷ []) ≡ bodies_end at given + length section.body
 bodies_end-push at [] section = refl
@@ -121,8 +116,8 @@ goes_on before a b c head n given end section w more put =
     let wide_ab = SameOutside-wider (128 + 72 * k) 72 0 end a b (omega arith) (omega arith) ab in
     let same : (at m : ℕ) → first ≤ at → at + m ≤ end → part c at m ≡ part a at m = λ at m low high.
     part-before end (length section.body) at m b c bc high ∙ part-after (128 + 72 * k) 72 at m a b ab (omega arith) in
-    let value_is : placed first (given ++ section ∷ []) ≡ placed first given ++ value ∷ [] =
-    placed-push first given section ∙ ap (λ (m : ℕ). placed first given ++ (record { head = section.head; offset = m; body = section.body }) ∷ []) (sym w.end_is) in
+    let value_is : sections_given first (given ++ section ∷ []) ≡ sections_given first given ++ value ∷ [] =
+    sections_given-push first given section ∙ ap (λ (m : ℕ). sections_given first given ++ (record { head = section.head; offset = m; body = section.body }) ∷ []) (sym w.end_is) in
     let long : end + length section.body ≤ length c = omega arith in
     let larger : length (take (end + length section.body) c) ≡ end + length section.body = length-take (end + length section.body) c ∙ omega arith in
     let body : section.body ≡ part (take (end + length section.body) c) end (length section.body) =
@@ -134,8 +129,8 @@ goes_on before a b c head n given end section w more put =
       body = body;
     } in
     let others = All-weaker (IsSectionOf first (take end a)) (IsSectionOf first (take (end + length section.body) c))
-    (λ s is. same_section first end (length section.body) a c s room long same is) (placed first given) w.sections_are in
-    let all = All-append (IsSectionOf first (take (end + length section.body) c)) (placed first given) (value ∷ []) others
+    (λ s is. same_section first end (length section.body) a c s room long same is) (sections_given first given) w.sections_are in
+    let all = All-append (IsSectionOf first (take (end + length section.body) c)) (sections_given first given) (value ∷ []) others
     (All-cons (IsSectionOf first (take (end + length section.body) c)) value [] last (All-nil (IsSectionOf first (take (end + length section.body) c)))) in
     record {
       few = omega arith;
@@ -148,8 +143,8 @@ goes_on before a b c head n given end section w more put =
           ap (part c 128) (sizes k (length (given ++ section ∷ [])) (omega arith))
           ∙ sym (part-append c 128 (72 * k) 72)
           ∙ ap (λ (xs : List ℕ). xs ++ part c (128 + 72 * k) 72) (part-before end (length section.body) 128 (72 * k) b c bc (omega arith) ∙ part-before (128 + 72 * k) 72 128 (72 * k) a b ab (omega arith) ∙ w.descriptors_are)
-          ∙ ap (λ (xs : List ℕ). descriptors (placed first given) ++ xs) (part-before end (length section.body) (128 + 72 * k) 72 b c bc (omega arith) ∙ there)
-          ∙ sym (descriptors-push (placed first given) value)
+          ∙ ap (λ (xs : List ℕ). descriptors (sections_given first given) ++ xs) (part-before end (length section.body) (128 + 72 * k) 72 b c bc (omega arith) ∙ there)
+          ∙ sym (descriptors-push (sections_given first given) value)
           ∙ ap descriptors (sym value_is);
       sections_are = subst (All (IsSectionOf first (take (end + length section.body) c))) (sym value_is) all;
       after =
@@ -193,17 +188,13 @@ patched a b xs m m' ys long e sx sm sm' w =
     ∙ ap (λ (zs : List ℕ). xs ++ (m' ++ zs)) (part-after 20 4 24 104 a b others (omega arith) ∙ back)
 
 -- the record is whole
-pub record Finished (before now : List ℕ) (head : RecordHead) (given : List Given) (end : ℕ) : Type 0 where
-  pub is_record : IsRecord (written_record head given) (take end now)
-  pub after : drop end now ≡ drop end before
-
 pub ends : (before a b : List ℕ) (head : RecordHead) (given : List Given) (end : ℕ) → Writing before a head (length given) given end → length given < 2 ^ 16 → end < 2 ^ 32
-    → Wrote a b 20 24 (spelled 4 end) → Finished before b head given end
+    → Wrote a b 20 24 (spelled 4 end) → IsWritten (written_record head given) end before b
 ends before a b head given end w few short put =
     let n = length given in
     let first = bodies_from n in
-    let sections = placed first given in
-    let count = length-placed first given in
+    let sections = sections_given first given in
+    let count = length-sections_given first given in
     let others = subst (λ (k : ℕ). SameOutside 20 k a b) (length-spelled 4 end) (wrote_others a b 20 24 (spelled 4 end) put) in
     let same_length = others.same_length in
     let room = w.room in

@@ -71,11 +71,13 @@ descriptors sections = flat_map (λ section. joined (descriptor section)) sectio
 abbrev pub bodies_from : ℕ → ℕ
 bodies_from sections = 128 + 72 * sections
 
--- each number of a header fits its field, and each array has its length
-pub record IsRecordHead (head : RecordHead) : Type 0 where
+-- each number of a header fits its field, and each array has its length: those before the record length, and those behind it
+pub record FrontFits (head : RecordHead) : Type 0 where
   pub revision : head.revision < 2 ^ 16
   pub severity : head.severity < 2 ^ 32
   pub validation : head.validation < 2 ^ 32
+
+pub record BackFits (head : RecordHead) : Type 0 where
   pub timestamp : head.timestamp < 2 ^ 64
   pub platform : length head.platform ≡ 16
   pub partition : length head.partition ≡ 16
@@ -85,6 +87,10 @@ pub record IsRecordHead (head : RecordHead) : Type 0 where
   pub flags : head.flags < 2 ^ 32
   pub persistence : length head.persistence ≡ 8
   pub reserved : length head.reserved ≡ 12
+
+pub record IsRecordHead (head : RecordHead) : Type 0 where
+  pub front : FrontFits head
+  pub back : BackFits head
 
 -- the same of a descriptor
 pub record IsSectionHead (head : SectionHead) : Type 0 where

@@ -1,5 +1,5 @@
 -- Records in a stream, however it is cut into pieces.
-use Rattle.std.specs.Prelude.{◌≡◌, ℕ, ◌+◌, ◌-◌, ◌≤◌, List, [], ◌++◌, length, take, All, Option, Some, None, Result, Ok, Err, Bool, true, false, cond, if◌then◌else◌, min, ◌==◌, ◌<◌, ◌^◌}
+use Rattle.std.specs.Prelude.{◌≡◌, ℕ, ◌+◌, ◌-◌, ◌≤◌, List, [], ◌++◌, length, take, All, Option, Some, None, Result, Ok, Err, Bool, true, false, cond, if◌then◌else◌, min, ◌==◌, ◌<◌, ◌^◌, is_some}
 use Rattle.base_model.specs.Bytes.{joined}
 use Rattle.cper_frame.specs.declared.error.FrameError.{FrameError}
 use Rattle.cper_frame.specs.declared.error.FrameError.TheVariants.{Need, Start, End, Length, Section, Limit}
@@ -31,43 +31,43 @@ missing_of (Length found) = 0
 missing_of (Section index) = 0
 missing_of (Limit found) = 0
 
-abbrev pub wanted : Result ℕ FrameError → ℕ
-wanted (Ok len) = 0
-wanted (Err error) = missing_of error
+abbrev pub missing_by : Result ℕ FrameError → ℕ
+missing_by (Ok len) = 0
+missing_by (Err error) = missing_of error
 
 -- the reader with an error
-abbrev pub failing : Reader → FrameError → Reader
-failing reader error = record { limit = reader.limit; held = []; failed = Some error }
+abbrev pub reader_failing : Reader → FrameError → Reader
+reader_failing reader error = record { limit = reader.limit; held = []; failed = Some error }
 
-abbrev pub holding : Reader → List ℕ → Reader
-holding reader held = record { limit = reader.limit; held = held; failed = None }
+abbrev pub reader_holding : Reader → List ℕ → Reader
+reader_holding reader held = record { limit = reader.limit; held = held; failed = None }
 
 -- what a reader makes of the record's bytes and a piece that follows them, where they are so judged: it takes the piece up to
 -- the record's end, or all of it where the record isn't whole yet, or it fails
-abbrev pub taking : Reader → List ℕ → Result ℕ FrameError → Reader × Result Fed FrameError
-taking reader piece (Ok len) = (holding reader (take len (reader.held ++ piece)), Ok (record { taken = len - length reader.held; whole = true }))
-taking reader piece (Err error) =
-    if is_need error then (holding reader (reader.held ++ piece), Ok (record { taken = length piece; whole = false }))
-    else (failing reader error, Err error)
+abbrev pub feed_result_by : Reader → List ℕ → Result ℕ FrameError → Reader × Result Fed FrameError
+feed_result_by reader piece (Ok len) = (reader_holding reader (take len (reader.held ++ piece)), Ok (record { taken = len - length reader.held; whole = true }))
+feed_result_by reader piece (Err error) =
+    if is_need error then (reader_holding reader (reader.held ++ piece), Ok (record { taken = length piece; whole = false }))
+    else (reader_failing reader error, Err error)
 
-abbrev pub feeding : Reader → List ℕ → Option FrameError → Reader × Result Fed FrameError
-feeding reader piece None = taking reader piece (checked reader.limit (reader.held ++ piece))
-feeding reader piece (Some error) = (reader, Err error)
+abbrev pub feed_result_unless : Reader → List ℕ → Option FrameError → Reader × Result Fed FrameError
+feed_result_unless reader piece None = feed_result_by reader piece (checked reader.limit (reader.held ++ piece))
+feed_result_unless reader piece (Some error) = (reader, Err error)
 
 -- what a piece does
-abbrev pub fed : Reader → List ℕ → Reader × Result Fed FrameError
-fed reader piece = feeding reader piece reader.failed
+abbrev pub feed_result : Reader → List ℕ → Reader × Result Fed FrameError
+feed_result reader piece = feed_result_unless reader piece reader.failed
 
 -- what a reader makes of the first bytes of a piece, as many as are wanted or there
-abbrev pub filled : Reader → List ℕ → ℕ → Result ℕ FrameError → Reader × Result ℕ FrameError
-filled reader held count (Ok len) = (holding reader held, Ok count)
-filled reader held count (Err error) = if is_need error then (holding reader held, Ok count) else (failing reader error, Err error)
+abbrev pub fill_result_by : Reader → List ℕ → ℕ → Result ℕ FrameError → Reader × Result ℕ FrameError
+fill_result_by reader held count (Ok len) = (reader_holding reader held, Ok count)
+fill_result_by reader held count (Err error) = if is_need error then (reader_holding reader held, Ok count) else (reader_failing reader error, Err error)
 
-abbrev pub filling : Reader → List ℕ → Reader × Result ℕ FrameError
-filling reader piece =
-    let count = min (wanted (checked reader.limit reader.held)) (length piece) in
+abbrev pub fill_result : Reader → List ℕ → Reader × Result ℕ FrameError
+fill_result reader piece =
+    let count = min (missing_by (checked reader.limit reader.held)) (length piece) in
     let held = reader.held ++ take count piece in
-    filled reader held count (checked reader.limit held)
+    fill_result_by reader held count (checked reader.limit held)
 
 -- what is held is the beginning of a record that has its place, or one that is whole
 pub record IsReader (limit : ℕ) (held : List ℕ) (capacity missing : ℕ) : Type 0 where
@@ -78,20 +78,27 @@ pub record IsReader (limit : ℕ) (held : List ℕ) (capacity missing : ℕ) : T
   pub state : checked limit held ≡ cond (missing == 0) (Ok (length held)) (Err (Need missing))
 
 -- the record that is whole
-abbrev pub framed : List ℕ → Result ℕ FrameError → Option RecordValue
-framed held (Ok len) = Some (record_of held)
-framed held (Err error) = None
+abbrev pub frame_by : List ℕ → Result ℕ FrameError → Option RecordValue
+frame_by held (Ok len) = Some (record_of held)
+frame_by held (Err error) = None
 
 abbrev pub frame_of : Reader → Option RecordValue
-frame_of reader = framed reader.held (checked reader.limit reader.held)
+frame_of reader = frame_by reader.held (checked reader.limit reader.held)
 
 -- without the record that is whole
-abbrev pub dropped : Reader → Result ℕ FrameError → Reader
-dropped reader (Ok len) = record { limit = reader.limit; held = []; failed = reader.failed }
-dropped reader (Err error) = reader
+abbrev pub without_frame_by : Reader → Result ℕ FrameError → Reader
+without_frame_by reader (Ok len) = record { limit = reader.limit; held = []; failed = reader.failed }
+without_frame_by reader (Err error) = reader
 
-abbrev pub advanced : Reader → Reader
-advanced reader = dropped reader (checked reader.limit reader.held)
+abbrev pub without_frame : Reader → Reader
+without_frame reader = without_frame_by reader (checked reader.limit reader.held)
+
+-- what a reader took of a piece gets a caller on: with no whole record at hand before it is some of the piece, where none is whole
+-- then it is all of it, and `whole` says which
+pub record GetsOn (old new : Reader) (piece : List ℕ) (took : Fed) : Type 0 where
+  pub some : frame_of old ≡ None → 0 < length piece → 0 < took.taken
+  pub all : took.whole ≡ false → took.taken ≡ length piece
+  pub whole : took.whole ≡ is_some (frame_of new)
 
 -- a whole record of at most `limit` bytes
 pub record IsRecordWithin (limit : ℕ) (bytes : List ℕ) : Type 0 where

@@ -5,7 +5,7 @@ use Rattle.base_model.specs.Bytes.{part, joined}
 use Rattle.cper_frame.specs.declared.heads.RecordHead.{RecordHead}
 use Rattle.cper_frame.specs.declared.heads.SectionHead.{SectionHead}
 use Rattle.cper_frame.specs.declared.writer.RecordWriter.{RecordWriter}
-use Rattle.cper_frame.specs.Grammar.{SectionValue, RecordValue, header, descriptors, bodies_from, IsRecordHead, IsSectionOf}
+use Rattle.cper_frame.specs.Grammar.{SectionValue, RecordValue, header, descriptors, bodies_from, IsRecordHead, IsSectionOf, IsRecord}
 
 -- a section that was given to the writer
 pub record Given : Type 0 where
@@ -13,9 +13,9 @@ pub record Given : Type 0 where
   pub body : List ℕ
 
 -- their bodies stand one after another, from a place on
-abbrev pub placed : ℕ → List Given → List SectionValue
-placed at [] = []
-placed at (section ∷ sections) = record { head = section.head; offset = at; body = section.body } ∷ placed (at + length section.body) sections
+abbrev pub sections_given : ℕ → List Given → List SectionValue
+sections_given at [] = []
+sections_given at (section ∷ sections) = record { head = section.head; offset = at; body = section.body } ∷ sections_given (at + length section.body) sections
 
 -- where they end
 abbrev pub bodies_end : ℕ → List Given → ℕ
@@ -24,7 +24,7 @@ bodies_end at (section ∷ sections) = bodies_end (at + length section.body) sec
 
 -- the record of a head and so many sections, as a writer places them
 abbrev pub written_record : RecordHead → List Given → RecordValue
-written_record head given = record { head = head; sections = placed (bodies_from (length given)) given }
+written_record head given = record { head = head; sections = sections_given (bodies_from (length given)) given }
 
 -- how many bytes a writer has for the record, and how many of them are in use
 abbrev pub room_of : RecordWriter → ℕ
@@ -44,8 +44,8 @@ given_to writer = writer.done
 abbrev pub name_of : RecordWriter → GName
 name_of writer = writer.out.ghost_name
 
--- it stands behind the descriptors, within its room
-pub record IsReady (writer : RecordWriter) : Type 0 where
+-- a writer that stands behind the descriptors, within its room
+pub record IsRecordWriter (writer : RecordWriter) : Type 0 where
   pub behind : bodies_from writer.sections ≤ writer.end
   pub room : writer.end ≤ length writer.out.now
   pub short : writer.end < 2 ^ 32
@@ -66,8 +66,8 @@ pub record Writing (before now : List ℕ) (head : RecordHead) (n : ℕ) (given 
   pub room : end ≤ length now
   pub head_fits : IsRecordHead head
   pub header_is : part now 0 128 ≡ joined (header head n 0)
-  pub descriptors_are : part now 128 (72 * length given) ≡ descriptors (placed (bodies_from n) given)
-  pub sections_are : All (IsSectionOf (bodies_from n) (take end now)) (placed (bodies_from n) given)
+  pub descriptors_are : part now 128 (72 * length given) ≡ descriptors (sections_given (bodies_from n) given)
+  pub sections_are : All (IsSectionOf (bodies_from n) (take end now)) (sections_given (bodies_from n) given)
   pub after : drop end now ≡ drop end before
   pub same_length : length now ≡ length before
 
@@ -76,19 +76,7 @@ pub record IsWriting (before : List ℕ) (head : RecordHead) (given : List Given
   pub done : writer.done ≡ length given
   pub bytes : Writing before writer.out.now head writer.sections given writer.end
 
--- the numbers and arrays of a head that stand before the record length, and behind it
-pub record FrontFits (head : RecordHead) : Type 0 where
-  pub revision : head.revision < 2 ^ 16
-  pub severity : head.severity < 2 ^ 32
-  pub validation : head.validation < 2 ^ 32
-
-pub record BackFits (head : RecordHead) : Type 0 where
-  pub timestamp : head.timestamp < 2 ^ 64
-  pub platform : length head.platform ≡ 16
-  pub partition : length head.partition ≡ 16
-  pub creator : length head.creator ≡ 16
-  pub notification : length head.notification ≡ 16
-  pub id : head.id < 2 ^ 64
-  pub flags : head.flags < 2 ^ 32
-  pub persistence : length head.persistence ≡ 8
-  pub reserved : length head.reserved ≡ 12
+-- the first bytes are this record, and the others are as before
+pub record IsWritten (value : RecordValue) (size : ℕ) (before now : List ℕ) : Type 0 where
+  pub is_record : IsRecord value (take size now)
+  pub after : drop size now ≡ drop size before

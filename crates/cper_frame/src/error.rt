@@ -1,4 +1,4 @@
-// Why a record can't be read or written.
+// Why bytes are no record.
 
 /// Why bytes are no record, the first reason that applies. Sections count from 0.
 #[derive(Clone, Copy, Debug, PartialEq, Eq)]
@@ -15,10 +15,4 @@ pub enum FrameError {
     Section { index: u64 },
     /// The record length is above what a reader takes.
     Limit { found: u64 },
-}
-
-/// The bytes given are fewer than those needed.
-#[derive(Clone, Copy, Debug, PartialEq, Eq)]
-pub struct NoRoom {
-    pub need: u64,
 }

@@ -12,7 +12,8 @@ mod record;
 mod tests;
 mod writer;
 
-pub use error::{FrameError, NoRoom};
+pub use apei_fields::NoRoom;
+pub use error::FrameError;
 pub use fed::Fed;
 pub use heads::{RecordHead, SectionHead};
 pub use mark::stamp;

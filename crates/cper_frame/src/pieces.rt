@@ -40,12 +40,8 @@ fn step(
         Ok(fed) => match reader.frame() {
             None => Ok(Progress::Took(fed.taken)),
             Some(_) => {
-                let Ok(record) = Vec::from_slice(alloc, reader.bytes()) else {
-                    return Err(Memory);
-                };
-                if records.push(record).is_err() {
-                    return Err(Memory);
-                }
+                let record = Vec::from_slice(alloc, reader.bytes())?;
+                records.push(record)?;
                 reader.advance();
                 Ok(Progress::Took(fed.taken))
             }
@@ -65,10 +61,9 @@ fn feed_piece(
 {
     let mut at = 0;
     while at < piece.len() {
-        match step(alloc, reader, records, &piece[at..]) {
-            Ok(Progress::Took(taken)) => at += taken,
-            Ok(Progress::Stopped(error)) => return Ok(Some(error)),
-            Err(Memory) => return Err(Memory),
+        match step(alloc, reader, records, &piece[at..])? {
+            Progress::Took(taken) => at += taken,
+            Progress::Stopped(error) => return Ok(Some(error)),
         }
     }
     Ok(None)
@@ -86,13 +81,12 @@ pub fn frames_in(alloc: Global, limit: u32, pieces: &[Vec<u8>]) -> Result<Frames
     let mut reader = FrameReader::new(alloc, limit)?;
     let mut records = Vec::new(alloc);
     for piece in pieces {
-        match feed_piece(alloc, &mut reader, &mut records, piece.as_slice()) {
-            Ok(None) => {}
-            Ok(Some(error)) => return Ok(Frames {
+        match feed_piece(alloc, &mut reader, &mut records, piece.as_slice())? {
+            None => {}
+            Some(error) => return Ok(Frames {
                 records,
                 refused: Some(error),
             }),
-            Err(Memory) => return Err(Memory),
         }
     }
     Ok(Frames {

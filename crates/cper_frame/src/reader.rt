@@ -3,7 +3,7 @@ ghost use Rattle.std.specs.Prelude.{◌≡◌, ℕ, ◌+◌, ◌-◌, ◌≤◌,
 ghost use Rattle.cper_frame.specs.Grammar.{IsRecord};
 ghost use Rattle.std.specs.Prelude.{is_ok, vec_capacity};
 ghost use Rattle.cper_frame.specs.Reading.{checked};
-ghost use Rattle.cper_frame.specs.Stream.{fed, filling, frame_of, advanced};
+ghost use Rattle.cper_frame.specs.Stream.{feed_result, fill_result, frame_of, without_frame, GetsOn};
 
 use crate::error::FrameError;
 use crate::fed::Fed;
@@ -46,38 +46,37 @@ impl FrameReader {
     /// A reader of records of at most `limit` bytes.
     pub fn new(alloc: Global, limit: u32) -> Result<FrameReader, Memory>
         requires { 128 ≤ limit }
-        ensures { IfOk result (λ r. r ≡ record { limit = limit; held = []; failed = None }) }
+        ensures reader { IfOk result (λ r. r ≡ record { limit = limit; held = []; failed = None }) }
+        ensures none { IfOk result (λ r. frame_of r ≡ None) }
     {
-        match Vec::with_capacity(alloc, limit as usize) {
-            Ok(held) => Ok(FrameReader {
-                limit,
-                held,
-                missing: HEADER,
-                failed: None,
-            }),
-            Err(_) => Err(Memory),
-        }
+        let held = Vec::with_capacity(alloc, limit as usize)?;
+        Ok(FrameReader {
+            limit,
+            held,
+            missing: HEADER,
+            failed: None,
+        })
     }
 
     /// Takes a piece up to the end of one record. After an error it answers that error for good; it never answers
     /// `Need`.
     pub fn feed(&mut self, piece: &[u8]) -> Result<Fed, FrameError>
-        ensures reader { self.new ≡ (fed self.old piece.now).0 }
-        ensures answer { result ≡ (fed self.old piece.now).1 }
+        ensures reader { self.new ≡ (feed_result self.old piece.now).0 }
+        ensures answer { result ≡ (feed_result self.old piece.now).1 }
         ensures within { IfOk result (λ f. f.taken ≤ length piece.now) }
+        // It gets on: without a whole record before, it takes some of a piece, and all of it where none is whole then.
+        ensures on { IfOk result (GetsOn self.old self.new piece.now) }
     {
         match self.failed {
             Some(error) => Err(error),
-            None => match self.fill(piece) {
-                Ok(first) => match self.fill(&piece[first..]) {
-                    Ok(second) => Ok(Fed {
-                        taken: first + second,
-                        whole: self.is_whole(),
-                    }),
-                    Err(error) => Err(error),
-                },
-                Err(error) => Err(error),
-            },
+            None => {
+                let first = self.fill(piece)?;
+                let second = self.fill(&piece[first..])?;
+                Ok(Fed {
+                    taken: first + second,
+                    whole: self.is_whole(),
+                })
+            }
         }
     }
 
@@ -91,8 +90,8 @@ impl FrameReader {
     /// Takes a piece up to the end of the header, where it isn't whole yet, or else of the record.
     fn fill(&mut self, piece: &[u8]) -> Result<usize, FrameError>
         requires { self.old.failed ≡ None }
-        ensures reader { self.new ≡ (filling self.old piece.now).0 }
-        ensures answer { result ≡ (filling self.old piece.now).1 }
+        ensures reader { self.new ≡ (fill_result self.old piece.now).0 }
+        ensures answer { result ≡ (fill_result self.old piece.now).1 }
     {
         let count = min(self.missing, piece.len());
         if count == 0 {
@@ -139,7 +138,8 @@ impl FrameReader {
 
     /// Drops a record that is whole. Does nothing where none is.
     pub fn advance(&mut self)
-        ensures { self.new ≡ advanced self.old }
+        ensures reader { self.new ≡ without_frame self.old }
+        ensures none { frame_of self.new ≡ None }
     {
         if self.is_whole() {
             self.held.clear();

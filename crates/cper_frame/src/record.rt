@@ -81,7 +81,7 @@ fn first_outside(bytes: &[u8], first: u32, last: u32, sections: u16) -> Option<u
 }
 
 /// The length of the record that the bytes begin with, of at most `limit` bytes.
-#[tactic(auto, using(std::proofs::lemmas::Bool::Decides::nat_tests), unfolding(crate::specs::Reading::checked, crate::specs::Reading::judged, crate::specs::Reading::misplaced))]
+#[tactic(auto, using(std::proofs::lemmas::Bool::Decides::nat_tests), unfolding(crate::specs::Reading::checked, crate::specs::Reading::head_verdict, crate::specs::Reading::misplaced))]
 pub(crate) fn checked_length(bytes: &[u8], limit: u32) -> Result<u32, FrameError>
     ensures { result ≡ checked limit bytes.now }
 {
@@ -130,18 +130,11 @@ impl<'a> Record<'a> {
         // The error is the first check that fails.
         ensures exact { MatchResult result (λ x. checked (2 ^ 32 - 1) bytes.now ≡ Ok x.1) (λ e. checked (2 ^ 32 - 1) bytes.now ≡ Err e) }
     {
-        match checked_length(bytes, u32::MAX) {
-            Ok(length) => {
-                let length = length as usize;
-                Ok((
-                    Record {
-                        bytes: &bytes[..length],
-                    },
-                    length,
-                ))
-            }
-            Err(error) => Err(error),
-        }
+        let length = checked_length(bytes, u32::MAX)? as usize;
+        let record = Record {
+            bytes: &bytes[..length],
+        };
+        Ok((record, length))
     }
 
     /// The record that the bytes are.

@@ -1,4 +1,6 @@
-ghost use Rattle.std.specs.Prelude.{◌+◌, ◌≤◌, ◌<◌, length};
+ghost use Rattle.std.specs.Prelude.{◌≡◌, ◌+◌, ◌≤◌, ◌<◌, length, None, IfSome};
+ghost use Rattle.cper_frame.specs.Stream.{frame_of};
+ghost use Rattle.cper_frame.specs.Writer.{announced_to, given_to, used_by, IsRecordWriter};
 
 use crate::{
     FrameError, FrameReader, Record, RecordHead, RecordWriter, SectionHead, frames_in, one_end,
@@ -7,7 +9,7 @@ use crate::{
 use apei_bytes::{Guid, put_u16, put_u32, put_u64};
 use std::test::Fail;
 
-/// A processor error section, as firmware stores its type.
+/// A platform memory error section, as firmware stores its type.
 const KIND: [u8; 16] = [
     0x14, 0x11, 0xbc, 0xa5, 0x64, 0x6f, 0xde, 0x4e, 0xb8, 0x63, 0x3e, 0x83, 0xed, 0x7c, 0x83, 0xb1,
 ];
@@ -129,11 +131,13 @@ fn the_first_refusal(rt: HostRuntime) {
     }
 }
 
-/// Writes the record of two sections, where a third call finds no room between them.
-fn write(out: &mut [u8]) -> Option<usize>
-    requires { 400 ≤ length out.old }
+/// Writes two sections behind what a writer has begun, where a third call finds no room between them.
+fn write_behind(mut writer: RecordWriter<'_>) -> Option<usize>
+    requires ready { IsRecordWriter writer }
+    requires announced { announced_to writer ≡ 2 }
+    requires given { given_to writer ≡ 0 }
+    requires used { used_by writer ≡ 272 }
 {
-    let mut writer = RecordWriter::start(out, &head(7), 2);
     if writer.section(&section_head(), &[0x11; 80]).is_err() {
         return None;
     }
@@ -146,13 +150,24 @@ fn write(out: &mut [u8]) -> Option<usize>
     Some(writer.finish())
 }
 
+/// The same from the beginning.
+fn write(out: &mut [u8]) -> Option<usize> {
+    match RecordWriter::begin(out, &head(7), 2) {
+        Ok(writer) => write_behind(writer),
+        Err(_) => None,
+    }
+}
+
 #[test]
 fn what_is_written(rt: HostRuntime) {
     let mut out = [0xee; 440];
-    assert!(rt; RecordWriter::begin(&mut [0; 271], &head(7), 2).is_err());
+    assert!(rt; write(&mut [0; 271]) == None);
     assert!(rt; write(&mut out) == Some(432));
     assert!(rt; out.starts_with(&two_sections()));
     assert!(rt; out.ends_with(&[0xee; 8]));
+    let again = RecordWriter::start(&mut out, &head(7), 2);
+    assert!(rt; write_behind(again) == Some(432));
+    assert!(rt; out.starts_with(&two_sections()));
     stamp(&mut out);
     assert!(rt; out[108] == b'E' && out[109] == b'R');
 }
@@ -163,25 +178,34 @@ fn place(bytes: &mut [u8], at: usize, id: u64)
     bytes[at..at + 128].copy_from_slice(&plain(id));
 }
 
-/// How many records of 128 bytes, with identifiers from 1 on, a reader finds in the pieces.
-fn count_in(reader: &mut FrameReader, pieces: [&[u8]; 2]) -> u64 {
-    let mut count: u64 = 0;
-    for piece in pieces {
-        let mut rest = piece;
-        for _ in 0..4u8 {
-            let Ok(fed) = reader.feed(rest) else {
-                return 0;
-            };
-            rest = &rest[fed.taken..];
-            if let Some(record) = reader.frame() {
-                if record.head().id == count.wrapping_add(1) {
-                    count = count.wrapping_add(1);
-                }
+/// Feeds a whole piece, and counts on the records whose identifiers go on from the count.
+fn count_on(reader: &mut FrameReader, piece: &[u8], before: u64) -> Option<u64>
+    requires { frame_of reader.old ≡ None }
+    ensures { IfSome result (λ _. frame_of reader.new ≡ None) }
+{
+    let mut count = before;
+    let mut rest = piece;
+    while !rest.is_empty() {
+        let Ok(fed) = reader.feed(rest) else {
+            return None;
+        };
+        rest = &rest[fed.taken..];
+        if let Some(record) = reader.frame() {
+            if record.head().id == count.wrapping_add(1) {
+                count = count.wrapping_add(1);
             }
-            reader.advance();
         }
+        reader.advance();
     }
-    count
+    Some(count)
+}
+
+/// How many records of 128 bytes, with identifiers from 1 on, a reader finds in two pieces.
+fn count_in(reader: &mut FrameReader, front: &[u8], rest: &[u8]) -> Option<u64>
+    requires { frame_of reader.old ≡ None }
+{
+    let count = count_on(reader, front, 0)?;
+    count_on(reader, rest, count)
 }
 
 #[test]
@@ -193,7 +217,7 @@ fn records_in_any_pieces(rt: HostRuntime) -> Result<(), Fail> {
     for cut in 0..=384 {
         let mut reader = FrameReader::new(rt.alloc(), 128).map_err(|_| Fail::from("no memory"))?;
         let (front, rest) = stream.split_at(cut);
-        assert!(rt; count_in(&mut reader, [front, rest]) == 3);
+        assert!(rt; count_in(&mut reader, front, rest) == Some(3));
     }
     let mut reader = FrameReader::new(rt.alloc(), 128).map_err(|_| Fail::from("no memory"))?;
     for (at, byte) in plain(1).iter().enumerate() {

@@ -1,15 +1,18 @@
 // A record written section by section.
-ghost use Rattle.std.specs.Prelude.{◌≡◌, ℕ, ◌+◌, ◌*◌, ◌^◌, ◌<◌, ◌≤◌, ◌++◌, List, [], ◌∷◌, length, take, drop, IfOk, OnOk, OnErr, MatchResult};
+ghost use Rattle.std.specs.Prelude.{◌≡◌, ℕ, ◌+◌, ◌*◌, ◌^◌, ◌<◌, ◌≤◌, ◌++◌, List, [], ◌∷◌, length, IfOk, OnOk, OnErr};
 ghost use Rattle.base_model.specs.Bytes.{joined};
+ghost use Rattle.apei_fields.specs.Room.{NeedsRoom};
 ghost use Rattle.apei_fields.specs.Writing.{Wrote};
 ghost use Rattle.cper_frame.specs.declared.heads.RecordHead.{RecordHead as Head};
-ghost use Rattle.cper_frame.specs.Grammar.{header_front, header_back, header, descriptor_fields, IsRecordHead, IsSectionHead, IsRecord};
-ghost use Rattle.cper_frame.specs.Writer.{Given, written_record, room_of, used_by, announced_to, given_to, name_of, IsReady, IsUnchanged, IsWriting, FrontFits, BackFits};
+ghost use Rattle.cper_frame.specs.Grammar.{header_front, header_back, header, descriptor_fields, FrontFits, BackFits, IsRecordHead, IsSectionHead};
+ghost use Rattle.cper_frame.specs.Writer.{Given, written_record, room_of, used_by, announced_to, given_to, name_of, IsRecordWriter, IsUnchanged, IsWriting, IsWritten};
 
-use crate::error::NoRoom;
 use crate::heads::{RecordHead, SectionHead};
 use crate::record::{DESCRIPTOR, HEADER, SIGNATURE_END};
-use apei_fields::{write_u8, write_u16, write_u32, write_u64, write_array, write_bytes, write_guid};
+use apei_fields::{
+    NoRoom, room_for, write_array, write_bytes, write_guid, write_u8, write_u16, write_u32,
+    write_u64,
+};
 
 /// Puts a header's fields up to the record length, which stays 0.
 fn put_front(out: &mut [u8], head: &RecordHead, sections: u16)
@@ -91,13 +94,16 @@ impl<'a> RecordWriter<'a> {
         head: &RecordHead,
         sections: u16,
     ) -> Result<RecordWriter<'a>, NoRoom>
-        ensures refused { MatchResult result (λ w. 128 + 72 * sections ≤ length out.old) (λ e. (length out.old < 128 + 72 * sections) × (e.need ≡ 128 + 72 * sections)) }
-        ensures begun { IfOk result (λ w. IsReady w × IsWriting out.old head.now [] w) }
+        ensures begun { IfOk result (IsWriting out.old head.now []) }
+        ensures ready { IfOk result IsRecordWriter }
+        ensures used { IfOk result (λ w. used_by w ≡ 128 + 72 * sections) }
+        ensures room { IfOk result (λ w. room_of w ≡ length out.old) }
+        ensures announced { IfOk result (λ w. announced_to w ≡ sections) }
+        ensures given { IfOk result (λ w. given_to w ≡ 0) }
+        // It is refused exactly where there is no room for the header and the descriptors.
+        ensures refused { NeedsRoom (128 + 72 * sections) (length out.old) result }
     {
-        let need = HEADER + DESCRIPTOR * sections as usize;
-        if out.len() < need {
-            return Err(NoRoom { need: need as u64 });
-        }
+        room_for(out.len(), HEADER + DESCRIPTOR * sections as usize)?;
         Ok(RecordWriter::start(out, head, sections))
     }
 
@@ -105,7 +111,7 @@ impl<'a> RecordWriter<'a> {
     pub fn start(out: &'a mut [u8], head: &RecordHead, sections: u16) -> RecordWriter<'a>
         requires { 128 + 72 * sections ≤ length out.old }
         ensures begun { IsWriting out.old head.now [] result }
-        ensures ready { IsReady result }
+        ensures ready { IsRecordWriter result }
         ensures used { used_by result ≡ 128 + 72 * sections }
         ensures room { room_of result ≡ length out.old }
         ensures announced { announced_to result ≡ sections }
@@ -123,7 +129,7 @@ impl<'a> RecordWriter<'a> {
 
     /// Writes a section. At most as many are written as were announced, and the record stays below 2^32 bytes.
     pub fn section(&mut self, head: &SectionHead, body: &[u8]) -> Result<(), NoRoom>
-        requires ready { IsReady self.old }
+        requires ready { IsRecordWriter self.old }
         requires left { given_to self.old < announced_to self.old }
         requires short { used_by self.old + length body.now < 2 ^ 32 }
         // The section is the next one of the record.
@@ -132,17 +138,14 @@ impl<'a> RecordWriter<'a> {
         ensures used { OnOk result (used_by self.new ≡ used_by self.old + length body.now) }
         ensures given { OnOk result (given_to self.new ≡ given_to self.old + 1) }
         // It is refused exactly where there is no room for its body.
-        ensures refused { MatchResult result (λ _. used_by self.old + length body.now ≤ room_of self.old)
-            (λ e. (room_of self.old < used_by self.old + length body.now) × (e.need ≡ used_by self.old + length body.now)) }
+        ensures refused { NeedsRoom (used_by self.old + length body.now) (room_of self.old) result }
         ensures unchanged { OnErr result (IsUnchanged self.old self.new) }
-        ensures ready { IsReady self.new }
+        ensures ready { IsRecordWriter self.new }
         ensures same { (announced_to self.new ≡ announced_to self.old) × (room_of self.new ≡ room_of self.old) }
         ensures same_slice { name_of self.new ≡ name_of self.old }
     {
         let need = self.end + body.len();
-        if self.out.len() < need {
-            return Err(NoRoom { need: need as u64 });
-        }
+        room_for(self.out.len(), need)?;
         let at = HEADER + DESCRIPTOR * self.done as usize;
         put_descriptor(self.out, at, head, self.end as u32, body.len() as u32);
         write_bytes(self.out, self.end, body);
@@ -153,11 +156,11 @@ impl<'a> RecordWriter<'a> {
 
     /// Writes the record length, and says it. Each announced section was written.
     pub fn finish(self) -> usize
-        requires ready { IsReady self }
+        requires ready { IsRecordWriter self }
         requires all { given_to self ≡ announced_to self }
         // The first bytes are exactly the record of the head and the sections that were given.
         ensures written { (before : List ℕ) (head : Head) (given : List Given) → IsWriting before head given self.entry
-            → IsRecord (written_record head given) (take result self.exit.0.now) × (drop result self.exit.0.now ≡ drop result before) }
+            → IsWritten (written_record head given) result before self.exit.0.now }
         ensures used { result ≡ used_by self.entry }
     {
         let RecordWriter { out, end, .. } = self;

@@ -11,7 +11,7 @@ use Rattle.erst_client.specs.Commands.{ClientState, Puts, NotPut, NotMarked, IsP
 use Rattle.erst_client.proofs.RequestLemmas.{performs_on}
 use Rattle.erst_client.proofs.SequenceLemmas.{sequence_on}
 
-puts_on : {W : Type 0} (allows : W → Call → W → Type 0) (address : ℕ) (bytes : List ℕ) (old : W) (result : Result (Unit {0}) ClientError) (new : W) → Puts allows address bytes old result new → Reaches allows old new
+pub puts_on : {W : Type 0} (allows : W → Call → W → Type 0) (address : ℕ) (bytes : List ℕ) (old : W) (result : Result (Unit {0}) ClientError) (new : W) → Puts allows address bytes old result new → Reaches allows old new
 puts_on allows address bytes old result new puts =
     elim puts as (λ result new puts. Reaches allows old new) [
       | NotPut fault last first ↦ Goes old _ last Stays first
@@ -29,7 +29,7 @@ writes_on allows client bytes budget old result left last writes =
           sequence_on allows client.table.entries old client.timings write_requests budget mid result left last (puts_on allows client.address bytes old (Ok tt) mid puts) sequence
     ]
 
-copies_on : {W : Type 0} (allows : W → Call → W → Type 0) (first : W) (address : ℕ) (before after : List ℕ) (old : W) (result : Result (Unit {0}) ClientError) (new : W) →
+pub copies_on : {W : Type 0} (allows : W → Call → W → Type 0) (first : W) (address : ℕ) (before after : List ℕ) (old : W) (result : Result (Unit {0}) ClientError) (new : W) →
     Reaches allows first old → CopiesOut allows address before after old result new → Reaches allows first new
 copies_on allows first address before after old result new so copies =
     elim copies as (λ result new copies. Reaches allows first new) [

@@ -3,3 +3,5 @@ pub mod RequestLemmas
 pub mod SequenceLemmas
 pub mod CommandLemmas
 pub mod AttachLemmas
+pub mod CauseLemmas
+pub mod CommandCauses

@@ -8,7 +8,7 @@ use Rattle.erst_client.specs.declared.errors.ClientError.{ClientError}
 use Rattle.erst_client.specs.declared.errors.ClientError.TheVariants.{Late}
 use Rattle.erst_client.specs.declared.requests.Request.{Request}
 use Rattle.erst_client.specs.Requests.{Performs}
-use Rattle.erst_client.specs.Sequences.{Pauses, Untimed, Timed, TooOften, Busy, NotYet, Again, Waits, IsIdle, IsStopped, IsLate, Commands, NotAsked, NotWaited, NotTold, IsTold, Sequence, end_steps}
+use Rattle.erst_client.specs.Sequences.{Pauses, Untimed, Timed, TooOften, Busy, NotYet, Again, Waits, IsIdle, IsStopped, IsLate, UntilStatus, NotAsked, NotWaited, NotTold, IsTold, Sequence, end_steps}
 use Rattle.erst_client.specs.Waiting.{HasWaited, Paused, NoPause, Pause, NoTime}
 use Rattle.erst_client.proofs.RequestLemmas.{performs_on, asks_on}
 
@@ -21,14 +21,14 @@ pauses_on allows first timings busy old result new so pauses =
       | TooOften known is more ↦ so
     ]
 
-busy_on : {W : Type 0} (allows : W → Call → W → Type 0) (entries : List Entry) (first : W) (timings : Option (ℕ × ℕ)) (budget : ℕ) (from : W) (busy left : ℕ) (last : W) →
+pub busy_on : {W : Type 0} (allows : W → Call → W → Type 0) (entries : List Entry) (first : W) (timings : Option (ℕ × ℕ)) (budget : ℕ) (from : W) (busy left : ℕ) (last : W) →
     Reaches allows first from → Busy allows entries timings budget from busy left last → Reaches allows first last
 busy_on allows entries first timings budget from busy left last so NotYet = so
 busy_on allows entries first timings budget from busy left last so (Again before asked mid answer after next new earlier run some pauses) =
     pauses_on allows first timings (suc before) next (Ok tt) new
     (performs_on allows entries first CheckBusyStatus 0 asked mid (Ok answer) after next (busy_on allows entries first timings budget from before asked mid so earlier) run) pauses
 
-waits_on : {W : Type 0} (allows : W → Call → W → Type 0) (entries : List Entry) (first : W) (timings : Option (ℕ × ℕ)) (budget : ℕ) (from : W) (result : Result (Unit {0}) ClientError) (left : ℕ) (last : W) →
+pub waits_on : {W : Type 0} (allows : W → Call → W → Type 0) (entries : List Entry) (first : W) (timings : Option (ℕ × ℕ)) (budget : ℕ) (from : W) (result : Result (Unit {0}) ClientError) (left : ℕ) (last : W) →
     Reaches allows first from → Waits allows entries timings budget from result left last → Reaches allows first last
 waits_on allows entries first timings budget from result left last so waits =
     elim waits as (λ result left last waits. Reaches allows first last) [
@@ -41,9 +41,9 @@ waits_on allows entries first timings budget from result left last so waits =
           (performs_on allows entries first CheckBusyStatus 0 asked mid (Ok answer) after next (busy_on allows entries first timings budget from busy asked mid so earlier) run) pauses
     ]
 
-commands_on : {W : Type 0} (allows : W → Call → W → Type 0) (entries : List Entry) (first : W) (timings : Option (ℕ × ℕ)) (requests : List Request) (budget : ℕ) (from : W)
-    (result : Result (Unit {0}) ClientError) (left : ℕ) (last : W) → Reaches allows first from → Commands allows entries timings requests budget from result left last → Reaches allows first last
-commands_on allows entries first timings requests budget from result left last so commands =
+pub until_status_on : {W : Type 0} (allows : W → Call → W → Type 0) (entries : List Entry) (first : W) (timings : Option (ℕ × ℕ)) (requests : List Request) (budget : ℕ) (from : W)
+    (result : Result (Unit {0}) ClientError) (left : ℕ) (last : W) → Reaches allows first from → UntilStatus allows entries timings requests budget from result left last → Reaches allows first last
+until_status_on allows entries first timings requests budget from result left last so commands =
     elim commands as (λ result left last commands. Reaches allows first last) [
       | NotAsked stop left last asks ↦ asks_on allows entries first requests budget from (Err stop) left last so asks
       | NotWaited answers asked mid error left last asks waits ↦
@@ -60,7 +60,7 @@ pub sequence_on : {W : Type 0} (allows : W → Call → W → Type 0) (entries :
     (result : Result (Unit {0}) ClientError) (left : ℕ) (last : W) → Reaches allows first from → Sequence allows entries timings requests budget from result left last → Reaches allows first last
 sequence_on allows entries first timings requests budget from result left last so sequence =
     performs_on allows entries first EndOperation 0 end_steps sequence.told sequence.ended sequence.spare last
-    (commands_on allows entries first timings requests budget from sequence.outcome left sequence.told so sequence.commands) sequence.ends
+    (until_status_on allows entries first timings requests budget from sequence.outcome left sequence.told so sequence.until_status) sequence.ends
 
 -- the client's count of microseconds says how often the firmware was busy
 abbrev pub PausesBy : {W : Type 0} → (W → Call → W → Type 0) → Option (ℕ × ℕ) → ℕ → W → Result ℕ ClientError → W → Type 0

@@ -3,5 +3,6 @@ pub mod Requests
 pub mod Sequences
 pub mod Commands
 pub mod Attaching
+pub mod Causes
 pub mod Waiting
 pub mod Steps

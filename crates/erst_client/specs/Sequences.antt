@@ -61,17 +61,17 @@ judged status =
     else Err (Status status))))))
 
 -- a command up to its status
-pub data Commands {W : Type 0} (allows : W → Call → W → Type 0) (entries : List Entry) (timings : Option (ℕ × ℕ)) (requests : List Request) (budget : ℕ) (first : W) :
+pub data UntilStatus {W : Type 0} (allows : W → Call → W → Type 0) (entries : List Entry) (timings : Option (ℕ × ℕ)) (requests : List Request) (budget : ℕ) (first : W) :
     Result (Unit {0}) ClientError → ℕ → W → Type 0 where
-  NotAsked : (stop : RunStop) (left : ℕ) (last : W) → Asks allows entries requests budget first (Err stop) left last → Commands allows entries timings requests budget first (Err (Stopped stop)) left last
+  NotAsked : (stop : RunStop) (left : ℕ) (last : W) → Asks allows entries requests budget first (Err stop) left last → UntilStatus allows entries timings requests budget first (Err (Stopped stop)) left last
   NotWaited : (answers : List ℕ) (asked : ℕ) (mid : W) (error : ClientError) (left : ℕ) (last : W) → Asks allows entries requests budget first (Ok answers) asked mid →
-      Waits allows entries timings asked mid (Err error) left last → Commands allows entries timings requests budget first (Err error) left last
+      Waits allows entries timings asked mid (Err error) left last → UntilStatus allows entries timings requests budget first (Err error) left last
   NotTold : (answers : List ℕ) (asked : ℕ) (mid : W) (waited : ℕ) (idle : W) (stop : RunStop) (left : ℕ) (last : W) → Asks allows entries requests budget first (Ok answers) asked mid →
       Waits allows entries timings asked mid (Ok tt) waited idle → Performs allows entries GetCommandStatus 0 waited idle (Err stop) left last →
-      Commands allows entries timings requests budget first (Err (Stopped stop)) left last
+      UntilStatus allows entries timings requests budget first (Err (Stopped stop)) left last
   IsTold : (answers : List ℕ) (asked : ℕ) (mid : W) (waited : ℕ) (idle : W) (status left : ℕ) (last : W) → Asks allows entries requests budget first (Ok answers) asked mid →
       Waits allows entries timings asked mid (Ok tt) waited idle → Performs allows entries GetCommandStatus 0 waited idle (Ok status) left last →
-      Commands allows entries timings requests budget first (judged status) left last
+      UntilStatus allows entries timings requests budget first (judged status) left last
 
 -- the stop of END_OPERATION is answered only where all before it was well
 abbrev pub closed : Result (Unit {0}) ClientError → Result ℕ RunStop → Result (Unit {0}) ClientError
@@ -90,6 +90,6 @@ pub record Sequence {W : Type 0} (allows : W → Call → W → Type 0) (entries
   pub told : W
   pub ended : Result ℕ RunStop
   pub spare : ℕ
-  pub commands : Commands allows entries timings requests budget first outcome left told
+  pub until_status : UntilStatus allows entries timings requests budget first outcome left told
   pub ends : Performs allows entries EndOperation 0 end_steps told ended spare last
   pub result_is : result ≡ closed outcome ended

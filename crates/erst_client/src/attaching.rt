@@ -60,8 +60,8 @@ pub fn find<S: Space>(
     }
 }
 
-#[tactic(auto, using(crate::proofs::Rules::timings))]
 /// Asks for the timings where the table has entries for them.
+#[tactic(auto, using(crate::proofs::Rules::timings))]
 fn ask_timings<S: Space>(
     table: &ErstTable,
     budget: &mut Budget,

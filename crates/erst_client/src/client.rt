@@ -5,6 +5,7 @@ ghost use Rattle.erst_client.specs.Timings.{enough_steps};
 ghost use Rattle.erst_client.specs.Sequences.{Sequence, clear_requests, dummy_requests};
 ghost use Rattle.erst_client.specs.Commands.{ClientState, Writes, Reads, Counts, Names};
 ghost use Rattle.erst_client.specs.Attaching.{Attaches};
+ghost use Rattle.erst_client.specs.Causes.{HasDeviceCause, HasAttachCause};
 
 use crate::attaching::{Found, find};
 use crate::commands::{
@@ -44,6 +45,7 @@ impl Client {
     ) -> Result<Client, AttachError>
         ensures attaches { Attaches S.allows table budget.old (S.state space.old) result budget.new (S.state space.new) }
         ensures reaches { Reaches S.allows (S.state space.old) (S.state space.new) }
+        ensures cause { HasAttachCause (S.faults (S.state space.old)) (S.faults (S.state space.new)) result }
     {
         match find(&table, budget, space) {
             Ok(found) => Ok(Client { table, found }),
@@ -66,7 +68,7 @@ impl Client {
         self.found.timings
     }
 
-    /// Steps that a firmware with these timings can't pass in one command.
+    /// A budget of steps for one command, by the greatest time that the firmware names.
     pub fn enough(&self) -> u64
         ensures { result ≡ enough_steps self.now.timings }
     {
@@ -85,6 +87,7 @@ impl Client {
     ) -> Result<(), ClientError>
         ensures writes { Writes S.allows self.old bytes.now budget.old (S.state space.old) result budget.new (S.state space.new) }
         ensures reaches { Reaches S.allows (S.state space.old) (S.state space.new) }
+        ensures cause { HasDeviceCause (S.faults (S.state space.old)) (S.faults (S.state space.new)) result }
         ensures kept { self.new ≡ self.old }
     {
         write_record(&self.table, self.found, bytes, budget, space)
@@ -101,6 +104,7 @@ impl Client {
     ) -> Result<usize, ClientError>
         ensures reads { Reads S.allows self.old id out.old budget.old (S.state space.old) result out.new budget.new (S.state space.new) }
         ensures reaches { Reaches S.allows (S.state space.old) (S.state space.new) }
+        ensures cause { HasDeviceCause (S.faults (S.state space.old)) (S.faults (S.state space.new)) result }
         ensures kept { self.new ≡ self.old }
     {
         read_record(&self.table, self.found, id, out, budget, space)
@@ -115,6 +119,7 @@ impl Client {
     ) -> Result<(), ClientError>
         ensures clears { Sequence S.allows self.old.table.entries self.old.timings (clear_requests id) budget.old (S.state space.old) result budget.new (S.state space.new) }
         ensures reaches { Reaches S.allows (S.state space.old) (S.state space.new) }
+        ensures cause { HasDeviceCause (S.faults (S.state space.old)) (S.faults (S.state space.new)) result }
         ensures kept { self.new ≡ self.old }
     {
         clear_record(&self.table, self.found, id, budget, space)
@@ -124,6 +129,7 @@ impl Client {
     pub fn dummy<S: Space>(&mut self, budget: &mut Budget, space: &mut S) -> Result<(), ClientError>
         ensures dummy { Sequence S.allows self.old.table.entries self.old.timings dummy_requests budget.old (S.state space.old) result budget.new (S.state space.new) }
         ensures reaches { Reaches S.allows (S.state space.old) (S.state space.new) }
+        ensures cause { HasDeviceCause (S.faults (S.state space.old)) (S.faults (S.state space.new)) result }
         ensures kept { self.new ≡ self.old }
     {
         write_dummy(&self.table, self.found, budget, space)
@@ -137,6 +143,7 @@ impl Client {
     ) -> Result<u64, ClientError>
         ensures counts { Counts S.allows self.old.table.entries budget.old (S.state space.old) result budget.new (S.state space.new) }
         ensures reaches { Reaches S.allows (S.state space.old) (S.state space.new) }
+        ensures cause { HasDeviceCause (S.faults (S.state space.old)) (S.faults (S.state space.new)) result }
         ensures kept { self.new ≡ self.old }
     {
         count_records(&self.table, budget, space)
@@ -150,6 +157,7 @@ impl Client {
     ) -> Result<Option<u64>, ClientError>
         ensures names { Names S.allows self.old.table.entries budget.old (S.state space.old) result budget.new (S.state space.new) }
         ensures reaches { Reaches S.allows (S.state space.old) (S.state space.new) }
+        ensures cause { HasDeviceCause (S.faults (S.state space.old)) (S.faults (S.state space.new)) result }
         ensures kept { self.new ≡ self.old }
     {
         next_identifier(&self.table, budget, space)

@@ -29,8 +29,8 @@ fn plain(action: Action) -> Request
     Request { action, given: 0 }
 }
 
-#[tactic(auto, using(crate::proofs::Rules::commands))]
 /// Puts a record into the range, marked, and has the firmware write it.
+#[tactic(auto, using(crate::proofs::Rules::commands))]
 pub fn write_record<S: Space>(
     table: &ErstTable,
     found: Found,
@@ -43,10 +43,7 @@ pub fn write_record<S: Space>(
     if let Some(error) = refusal(bytes, found.len) {
         return Err(error);
     }
-    match put(found, bytes, space) {
-        Ok(()) => {}
-        Err(error) => return Err(error),
-    }
+    put(found, bytes, space)?;
     let requests = [
         plain(Action::BeginWriteOperation),
         plain(Action::SetRecordOffset),
@@ -74,8 +71,8 @@ fn refusal(bytes: &[u8], range: u64) -> Option<ClientError>
     None
 }
 
-#[tactic(auto, using(crate::proofs::Rules::commands))]
 /// Puts a record's bytes at the start of the range, and its mark over theirs.
+#[tactic(auto, using(crate::proofs::Rules::commands))]
 fn put<S: Space>(found: Found, bytes: &[u8], space: &mut S) -> Result<(), ClientError>
     ensures { Puts S.allows found.address bytes.now (S.state space.old) result (S.state space.new) }
 {
@@ -89,8 +86,8 @@ fn put<S: Space>(found: Found, bytes: &[u8], space: &mut S) -> Result<(), Client
     }
 }
 
-#[tactic(auto, using(crate::proofs::Rules::commands))]
 /// Has the firmware read a record, and copies it out of the range.
+#[tactic(auto, using(crate::proofs::Rules::commands))]
 pub fn read_record<S: Space>(
     table: &ErstTable,
     found: Found,
@@ -101,10 +98,7 @@ pub fn read_record<S: Space>(
 ) -> Result<usize, ClientError>
     ensures { Reads S.allows (client_with table.now found) id out.old budget.old (S.state space.old) result out.new budget.new (S.state space.new) }
 {
-    match ask_read(table, found, id, budget, space) {
-        Ok(()) => {}
-        Err(error) => return Err(error),
-    }
+    ask_read(table, found, id, budget, space)?;
     let mut field = [0; 4];
     match space.read_bytes(found.address.wrapping_add(LENGTH_AT), &mut field) {
         Ok(()) => {}
@@ -229,8 +223,8 @@ pub fn next_identifier<S: Space>(
     }
 }
 
-#[tactic(auto, using(crate::proofs::Rules::commands))]
 /// Fills the buffer from the start of the range.
+#[tactic(auto, using(crate::proofs::Rules::commands))]
 fn copy_out<S: Space>(address: u64, out: &mut [u8], space: &mut S) -> Result<(), ClientError>
     ensures { CopiesOut S.allows address out.old out.new (S.state space.old) result (S.state space.new) }
 {

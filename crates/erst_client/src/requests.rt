@@ -35,8 +35,8 @@ pub fn perform<S: Space>(
     run(&program_for(table, action), given, budget, space)
 }
 
-#[tactic(auto, using(crate::proofs::Rules::requests))]
 /// Makes requests in order, up to the first that stops.
+#[tactic(auto, using(crate::proofs::Rules::requests))]
 pub fn ask_all<S: Space>(
     table: &ErstTable,
     requests: &[Request],

@@ -1,6 +1,6 @@
 // The sequence of a command.
 ghost use Rattle.std.specs.Prelude.{◌≡◌, ◌≤◌, ◌^◌, IfOk};
-ghost use Rattle.erst_client.specs.Sequences.{Waits, Commands, Sequence, judged};
+ghost use Rattle.erst_client.specs.Sequences.{Waits, UntilStatus, Sequence, judged};
 ghost use Rattle.erst_client.specs.Waiting.{Paused};
 
 use crate::errors::ClientError;
@@ -15,9 +15,9 @@ const END_STEPS: u64 = 64;
 /// How long a client waits before it asks again whether the firmware is busy, in microseconds.
 const PAUSE: u64 = 10;
 
-#[tactic(auto, using(crate::proofs::Rules::sequences))]
 /// Makes the requests, waits until the firmware isn't busy, and asks for the command status; then runs END_OPERATION,
 /// with 64 steps of its own, however that went.
+#[tactic(auto, using(crate::proofs::Rules::sequences))]
 pub fn sequence<S: Space>(
     table: &ErstTable,
     timings: Option<(u32, u32)>,
@@ -44,8 +44,8 @@ pub fn sequence<S: Space>(
     }
 }
 
-#[tactic(auto, using(crate::proofs::Rules::sequences))]
 /// A command up to its status.
+#[tactic(auto, using(crate::proofs::Rules::sequences))]
 fn command<S: Space>(
     table: &ErstTable,
     timings: Option<(u32, u32)>,
@@ -53,24 +53,21 @@ fn command<S: Space>(
     budget: &mut Budget,
     space: &mut S,
 ) -> Result<(), ClientError>
-    ensures { Commands S.allows table.now.entries timings requests.now budget.old (S.state space.old) result budget.new (S.state space.new) }
+    ensures { UntilStatus S.allows table.now.entries timings requests.now budget.old (S.state space.old) result budget.new (S.state space.new) }
 {
     match ask_all(table, requests, budget, space) {
         Ok(()) => {}
         Err(stop) => return Err(ClientError::Stopped(stop)),
     }
-    match wait(table, timings, budget, space) {
-        Ok(()) => {}
-        Err(error) => return Err(error),
-    }
+    wait(table, timings, budget, space)?;
     match perform(table, Action::GetCommandStatus, 0, budget, space) {
         Ok(status) => judge(status),
         Err(stop) => Err(ClientError::Stopped(stop)),
     }
 }
 
-#[tactic(auto, using(crate::proofs::Rules::sequences))]
 /// Runs CHECK_BUSY_STATUS until it answers 0.
+#[tactic(auto, using(crate::proofs::Rules::sequences))]
 fn wait<S: Space>(
     table: &ErstTable,
     timings: Option<(u32, u32)>,
@@ -97,8 +94,8 @@ fn wait<S: Space>(
     }
 }
 
-#[tactic(auto, using(crate::proofs::Rules::sequences))]
 /// Waits a little where the firmware names its timings, unless it is late; answers how long was waited in all.
+#[tactic(auto, using(crate::proofs::Rules::sequences))]
 fn pause<S: Space>(
     timings: Option<(u32, u32)>,
     waited: u64,

@@ -1,4 +1,4 @@
-use Rattle.std.proofs.Common.{ℕ, List, [], ◌∷◌, ◌++◌, cond, sym, ap, ◌∙◌}
+use Rattle.std.proofs.Common.{ℕ, List, [], ◌∷◌, ◌++◌, sym, ap, ◌∙◌}
 use Rattle.std.proofs.lemmas.List.{map_push}
 use Rattle.cper_frame.specs.Pieces.{contents}
 use Rattle.cper_frame.proofs.Readers.{cases}
@@ -10,11 +10,11 @@ returns-in-None c =
     none_step c.args.reader.now c.feed.new.self c.args.rest.now c.in-Ok.fed (contents c.args.records.now.items) c.requires.waits c.requires.some
     c.feed.ensures.reader (sym c.in-Ok.is ∙ c.feed.ensures.answer) (sym c.frame.ensures.found ∙ c.in-None.is) (cases _)
 
-pub returns-else-is_err : goal.returns-else-is_err
-returns-else-is_err c =
+pub returns-in_ok-push-in-Some : goal.returns-in_ok-push-in-Some
+returns-in_ok-push-in-Some c =
     some_step c.args.reader.now c.feed.new.self c.advance.new.self c.args.rest.now c.in-Ok.fed (contents c.args.records.now.items) (contents c.push.new.self.items) c.in-Some.field-0 c.requires.waits
-    c.feed.ensures.reader (sym c.in-Ok.is ∙ c.feed.ensures.answer) (sym c.in-Some.is ∙ c.frame.ensures.found) c.in-Some.ensures.record c.advance.ensures
-    (ap contents (c.push.ensures.items ∙ ap (λ b. cond b (c.args.records.now.items ++ c.in-Ok-from_slice.record ∷ []) c.args.records.now.items) c.if-is_err.ensures.negation)
-    ∙ map_push (λ v. v.items) c.args.records.now.items c.in-Ok-from_slice.record
-    ∙ ap (λ (xs : List ℕ). contents c.args.records.now.items ++ xs ∷ []) (c.in-Ok-from_slice.ensures.items ∙ c.bytes.ensures))
+    c.feed.ensures.reader (sym c.in-Ok.is ∙ c.feed.ensures.answer) (sym c.in-Some.is ∙ c.frame.ensures.found) c.in-Some.ensures.record c.advance.ensures.reader
+    (ap contents c.in_ok-push-in-Some.ensures.items
+    ∙ map_push (λ v. v.items) c.args.records.now.items c.in_ok-record-in-Some.record
+    ∙ ap (λ (xs : List ℕ). contents c.args.records.now.items ++ xs ∷ []) (c.in_ok-record-in-Some.ensures.items ∙ c.bytes.ensures))
     c.in-Ok.ensures.within (cases _)

@@ -4,7 +4,7 @@ use Rattle.std.proofs.lemmas.List.{length-take}
 use Rattle.cper_frame.specs.declared.error.FrameError.{FrameError}
 use Rattle.cper_frame.specs.declared.error.FrameError.TheVariants.{Need}
 use Rattle.cper_frame.specs.Reading.{checked}
-use Rattle.cper_frame.specs.Stream.{IsReader, Reader, filling}
+use Rattle.cper_frame.specs.Stream.{IsReader, Reader, fill_result}
 use Rattle.cper_frame.proofs.Readers.{ord_min-min, grown, grown_whole, grown_needs, emptied, filled_less}
 use Rattle.cper_frame.proofs.reader.FrameReader.fill.Goals as goal
 
@@ -29,11 +29,11 @@ sound : (c : goal.Then-self-gt0) → c.self.inside.failed ≡ None
 sound c = ap (λ (r : Reader). r.failed) c.self.view_is ∙ c.requires
 
 -- what the piece does where something is missing still
-less : (c : goal.Then-self-gt0) → filling c.args.self.now c.args.piece.now ≡ (record { limit = c.self.inside.limit; held = c.add.new.held.items; failed = None }, Ok c.min-count.result)
+less : (c : goal.Then-self-gt0) → fill_result c.args.self.now c.args.piece.now ≡ (record { limit = c.self.inside.limit; held = c.add.new.held.items; failed = None }, Ok c.min-count.result)
 less c =
     let count_is = c.min-count.ensures ∙ ord_min-min c.self.inside.missing (length c.args.piece.now) in
     let less = c.if-self-gt0.true in
-    ap (λ (r : Reader). filling r c.args.piece.now)
+    ap (λ (r : Reader). fill_result r c.args.piece.now)
     (sym c.self.view_is ∙ ap (λ (f : Option FrameError). record { limit = c.self.inside.limit; held = c.self.inside.held.items; failed = f }) (sound c))
     ∙ filled_less c.self.inside.limit c.self.inside.held.items c.args.piece.now (vec_capacity c.self.inside.held) c.self.inside.missing c.min-count.result c.self.invariant count_is (omega arith)
     ∙ ap (λ (xs : List ℕ). (record { limit = c.self.inside.limit; held = xs; failed = None }, Ok c.min-count.result)) (sym c.add.ensures.items)

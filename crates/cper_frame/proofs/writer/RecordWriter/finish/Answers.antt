@@ -9,9 +9,8 @@ pub returns-clause-written : goal.returns-clause-written
 returns-clause-written c = λ before head given is.
     let all : c.args.self.sections ≡ length given = sym c.requires.all ∙ is.done in
     let few : length given < 2 ^ 16 = let r = c.requires.ready.few in omega arith in
-    let done = ends before c.args.self.out.now c.write_u32.new.out head given c.args.self.end
+    ends before c.args.self.out.now c.write_u32.new.out head given c.args.self.end
     (subst (λ (n : ℕ). Writing before c.args.self.out.now head n given c.args.self.end) all is.bytes)
     few
     c.requires.ready.short
-    (subst (λ (k : ℕ). Wrote c.args.self.out.now c.write_u32.new.out 20 k (spelled 4 c.args.self.end)) c.write_u32.ensures.end c.write_u32.ensures.wrote) in
-    (done.is_record, done.after)
+    (subst (λ (k : ℕ). Wrote c.args.self.out.now c.write_u32.new.out 20 k (spelled 4 c.args.self.end)) c.write_u32.ensures.end c.write_u32.ensures.wrote)
