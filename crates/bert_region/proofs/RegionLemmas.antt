@@ -8,7 +8,8 @@ use Rattle.std.proofs.lemmas.Bool.Decides.{nat_tests}
 use Rattle.base_model.specs.Bytes.{part, little, number_at, joined}
 use Rattle.ghes_block.specs.declared.error.BlockError.{BlockError}
 use Rattle.ghes_block.specs.Reading.{checked}
-use Rattle.ghes_block.proofs.Blocks.{number_at-front, found_again}
+use Rattle.apei_fields.proofs.Parts.{number_at-front}
+use Rattle.ghes_block.proofs.Blocks.{found_again}
 use Rattle.ghes_block.proofs.Whole.{block_has_head}
 use Rattle.bert_region.specs.Region.{IsOneBlock, ends, IsListOf, zeros, IsLaidOut, read_at, FindsNext}
 
