@@ -8,5 +8,6 @@ pub mod ScriptGrammar
 pub mod ScriptText
 pub mod ScriptWords
 pub mod TableWords
+pub mod SubmitWords
 pub mod Turns
 pub mod Words

@@ -12,6 +12,7 @@ mod refusal_text;
 mod run_refusals;
 mod script_line;
 mod script_word;
+mod submit_refusals;
 mod table_refusals;
 #[cfg(test)]
 mod tests;

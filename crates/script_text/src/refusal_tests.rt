@@ -4,10 +4,12 @@ use crate::refusal_text::RefusalText;
 use apei_bytes::{MemSink, SinkFault};
 use apei_space::SpaceFault;
 use apei_tables::TableError;
+use bert_region::RegionFull;
 use cper_frame::FrameError;
 use erst_client::{AttachError, ClientError};
 use erst_entries::ErstError;
 use erst_interp::RunStop;
+use ghes_ack::SubmitError;
 use ghes_block::BlockError;
 use hest_sources::HestError;
 use std::test::Fail;
@@ -106,5 +108,27 @@ fn clients(rt: HostRuntime) -> Result<(), Fail> {
     let mut text = RefusalText::new();
     AttachError::NoRange { len: 127 }.add_to(&mut text);
     assert_eq!(rt; text.bytes(), b"no-range 127".as_slice());
+    Ok(())
+}
+
+#[test]
+fn blocks_that_are_not_taken(rt: HostRuntime) -> Result<(), Fail> {
+    let refusals: [(SubmitError, &[u8]); 4] = [
+        (
+            SubmitError::Malformed(BlockError::Rest { bytes: 3 }),
+            b"block rest 3",
+        ),
+        (SubmitError::Long { len: 4097 }, b"long 4097"),
+        (SubmitError::Trailing { bytes: 1 }, b"trailing 1"),
+        (SubmitError::Full, b"full"),
+    ];
+    for (refusal, want) in refusals {
+        let mut text = RefusalText::new();
+        refusal.add_to(&mut text);
+        assert_eq!(rt; text.bytes(), want);
+    }
+    let mut text = RefusalText::new();
+    RegionFull { need: 92 }.add_to(&mut text);
+    assert_eq!(rt; text.bytes(), b"region 92".as_slice());
     Ok(())
 }
