@@ -3,6 +3,7 @@
 
 mod clients;
 mod frames;
+mod handovers;
 mod lines;
 mod programs;
 
@@ -36,6 +37,8 @@ fn done(alloc: Global, job: &str, times: u64) -> Option<u64> {
         "dummies" => clients::write_dummies(alloc, times),
         "records" => frames::read_records(alloc, times),
         "blocks" => frames::walk_blocks(times),
+        "handover" => handovers::hand_over(alloc, times),
+        "copies" => handovers::copy_twice(times),
         "lines" => lines::parse_lines(times),
         "readings" => lines::read_lines(times),
         _ => None,

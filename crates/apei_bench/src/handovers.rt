@@ -1,0 +1,125 @@
+// A handover of error status blocks, and plain copies of as many bytes.
+ghost use Rattle.std.specs.Prelude.{◌≡◌, IfOk, IfSome};
+ghost use Rattle.ghes_ack.specs.Maps.{HasWindows};
+ghost use Rattle.ghes_ack.specs.Sides.{Stands};
+
+use apei_bytes::put_u32;
+use apei_gas::{Place, Register, Width};
+use apei_space::{Ram, Window};
+use ghes_ack::{Event, Handover, HandoverMap, Side, SubmitError};
+use std::alloc::Global;
+
+const BLOCK: usize = 4096;
+
+/// The turns of the firmware that fill and publish a block, those of the reader that find, copy, clear and acknowledge it.
+const FIRMWARE: u32 = 65;
+
+const READER: u32 = 67;
+
+const MAP: HandoverMap = HandoverMap {
+    status: 0x30_0000,
+    ack: Register {
+        place: Place::Memory(0x30_0008),
+        access: Width::B64,
+        offset: 0,
+    },
+    preserve: 0xffff_ffff_ffff_fffe,
+    write: 1,
+    block: 0x30_1000,
+    len: 4096,
+};
+
+fn memory(alloc: Global) -> Option<Ram>
+    ensures { IfSome result (HasWindows MAP) }
+{
+    let windows = [Window {
+        place: Place::Memory(0x30_0000),
+        len: 0x2000,
+    }];
+    match Ram::new(alloc, &windows) {
+        Ok(ram) => Some(ram),
+        Err(_) => None,
+    }
+}
+
+fn begun(alloc: Global, ram: &mut Ram) -> Option<Handover>
+    requires { HasWindows MAP ram.old }
+    ensures { IfSome result (λ handover. Stands handover ram.new) }
+{
+    match Handover::new(alloc, MAP, ram) {
+        Ok(handover) => Some(handover),
+        Err(_) => None,
+    }
+}
+
+// A block of 4,096 bytes: raw data behind no entries.
+fn block() -> [u8; BLOCK] {
+    let mut bytes = [0x5a; BLOCK];
+    put_u32(&mut bytes, 0, 1);
+    put_u32(&mut bytes, 4, 20);
+    put_u32(&mut bytes, 8, BLOCK as u32 - 20);
+    put_u32(&mut bytes, 12, 0);
+    put_u32(&mut bytes, 16, 1);
+    bytes
+}
+
+fn submit(handover: &mut Handover, _ram: &Ram, block: &[u8]) -> Result<u32, SubmitError>
+    requires { Stands handover.old _ram.now }
+    ensures { Stands handover.new _ram.now }
+{
+    match handover.submit(block) {
+        Ok(waiting) => Ok(waiting),
+        Err(error) => Err(error),
+    }
+}
+
+fn turn(handover: &mut Handover, ram: &mut Ram, side: Side) -> Event
+    requires { Stands handover.old ram.old }
+    ensures { Stands handover.new ram.new }
+{
+    handover.turn(side, ram)
+}
+
+// So many turns of a side. It answers the event of the last one.
+fn turns(handover: &mut Handover, ram: &mut Ram, side: Side, count: u32) -> Event
+    requires { Stands handover.old ram.old }
+    ensures { Stands handover.new ram.new }
+{
+    let mut last = Event::Idle;
+    for _ in 0..count {
+        last = turn(handover, ram, side);
+    }
+    last
+}
+
+/// Hands a block of 4,096 bytes over so many times, by the turns of both sides. It answers how many were acknowledged.
+pub fn hand_over(alloc: Global, times: u64) -> Option<u64> {
+    let mut ram = memory(alloc)?;
+    let mut handover = begun(alloc, &mut ram)?;
+    let block = block();
+    let mut acknowledged = 0u64;
+    for _ in 0..times {
+        let _ = submit(&mut handover, &ram, &block);
+        turns(&mut handover, &mut ram, Side::Firmware, FIRMWARE);
+        if turns(&mut handover, &mut ram, Side::Reader, READER) == Event::Ack {
+            acknowledged = acknowledged.wrapping_add(1);
+        }
+        turns(&mut handover, &mut ram, Side::Firmware, 1);
+    }
+    handover.end();
+    Some(acknowledged)
+}
+
+/// Copies a block of 4,096 bytes twice, so many times. It answers the sum of one byte of each.
+pub fn copy_twice(times: u64) -> Option<u64> {
+    let mut one = block();
+    let mut other = [0; BLOCK];
+    let mut sum = 0u64;
+    for k in 0..times {
+        other.copy_from_slice(&one);
+        one.copy_from_slice(&other);
+        one[(k % 4096) as usize] = (k % 256) as u8;
+        sum = sum.wrapping_add(u64::from(one[(k / 7 % 4096) as usize]));
+    }
+    Some(sum)
+}
