@@ -117,8 +117,8 @@ pub fn copy_twice(times: u64) -> Option<u64> {
     let mut sum = 0u64;
     for k in 0..times {
         other.copy_from_slice(&one);
+        other[(k % 4096) as usize] = (k % 256) as u8;
         one.copy_from_slice(&other);
-        one[(k % 4096) as usize] = (k % 256) as u8;
         sum = sum.wrapping_add(u64::from(one[(k / 7 % 4096) as usize]));
     }
     Some(sum)
