@@ -5,6 +5,42 @@ use std::test::Fail;
 
 // A row is the column at which a text leaves the script lines, or 00 for a line, and then the text.
 const COLUMNS: &[u8] = b"\
+03 wr\n\
+04 wri\n\
+02 r\n\
+03 re\n\
+02 c\n\
+03 cl\n\
+03 co\n\
+04 cou\n\
+02 n\n\
+03 ne\n\
+03 du\n\
+04 dum\n\
+02 a\n\
+03 ac\n\
+04 act\n\
+05 acti\n\
+02 t\n\
+04 tab\n\
+09 table sh\n\
+10 table sha\n\
+11 table shad\n\
+02 e\n\
+03 er\n\
+04 err\n\
+04 tur\n\
+02 p\n\
+03 pe\n\
+03 fa\n\
+04 fat\n\
+03 he\n\
+04 hea\n\
+04 res\n\
+03 po\n\
+04 pow\n\
+04 bri\n\
+05 brid\n\
 00 \n\
 00 #\n\
 00 # any \xff rest\n\
@@ -213,6 +249,16 @@ const COLUMNS: &[u8] = b"\
 03 tu";
 
 const CHECK_COLUMNS: &[u8] = b"\
+02 e\n\
+03 er\n\
+02 h\n\
+03 he\n\
+03 be\n\
+02 r\n\
+03 re\n\
+04 rec\n\
+05 reco\n\
+04 blo\n\
 00 \n\
 00 #\n\
 00 # x\n\
