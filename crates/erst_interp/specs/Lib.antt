@@ -4,3 +4,4 @@ pub mod Works
 pub mod Accesses
 pub mod Steps
 pub mod Runs
+pub mod Straight

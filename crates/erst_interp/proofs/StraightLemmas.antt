@@ -1,0 +1,258 @@
+-- A run of a straight program.
+use Rattle.std.proofs.Common.{◌≡◌, ℕ, zero, suc, ◌+◌, ◌<◌, ◌≤◌, true, List, [], ◌∷◌, length, Some, None, Result, Ok, Err, refl, sym, ap, subst, ◌∙◌, arith}
+use Rattle.std.specs.Prelude.{slice_get, bit_and}
+use Rattle.std.proofs.lemmas.Option.{none-some, same_Some}
+use Rattle.apei_gas.specs.declared.registers.Register.{Register}
+use Rattle.apei_gas.specs.declared.registers.BadRegister.{BadRegister}
+use Rattle.apei_gas.specs.Check.{checked}
+use Rattle.apei_gas.specs.Fields.{field, stored}
+use Rattle.apei_space.specs.declared.faults.SpaceFault.{SpaceFault}
+use Rattle.apei_space.specs.Calls.{Call, Read, Write}
+use Rattle.erst_entries.specs.declared.entries.Entry.{Entry}
+use Rattle.erst_entries.specs.declared.instructions.Instruction.{Instruction}
+use Rattle.erst_entries.specs.Instructions.{instruction_of}
+use Rattle.erst_entries.specs.Programs.{Listed}
+use Rattle.erst_interp.specs.declared.configurations.Configuration.{Configuration}
+use Rattle.erst_interp.specs.declared.configurations.Task.{Task}
+use Rattle.erst_interp.specs.declared.stops.RunStop.{RunStop}
+use Rattle.erst_interp.specs.Instructions.{Work, GoOn, GoTo, WaitFor, TakeField, StoreValue, ChangeField, CompareField, MoveBytes, work_of, HasWork, reads_first}
+use Rattle.erst_interp.specs.Configurations.{begin}
+use Rattle.erst_interp.specs.Accesses.{FieldRead, Got, Refused, Store, Whole, Beside, Unread}
+use Rattle.erst_interp.specs.Steps.{Step, Computes, Goes, Stalls, Takes, Stores, Changes, Compares, Moves, Refusal, NotRead, NotCompared, NotStored, NotChanged, Halt, Unknown, Unregistered, Outside, IsRefused, TooLong, Unpaid, NotCopied}
+use Rattle.erst_interp.specs.Runs.{Walk, Begun, Then, Run, NoProgram, Finishes, Exhausted, Halts, task_of}
+use Rattle.erst_interp.specs.Straight.{IsStraight, TakesOnly, StoresOnly, Does, Serves, AreStraight, NoEntry, OneEntry, DoFirst, RanStraight, Through, OutOfSteps}
+
+-- an entry has one instruction, one work and one register
+same_work : (task : Task) (i : Instruction) (work other : Work) → instruction_of task.entry.code ≡ Some i → work_of task i ≡ work → HasWork task other → other ≡ work
+same_work task i work other code is has =
+    let same : has.instruction ≡ i = same_Some _ _ (sym has.code ∙ code) in
+    sym has.work_is ∙ ap (work_of task) same ∙ is
+
+same_register : (r s : Register) (answer : Result Register BadRegister) → answer ≡ Ok r → answer ≡ Ok s → s ≡ r
+same_register r s answer e f = cc
+
+no_register : (r : Register) (why : BadRegister) (answer : Result Register BadRegister) → answer ≡ Ok r → answer ≡ Err why → ⊥
+no_register r why answer e f = absurd (cc)
+
+whole_of : {W : Type 0} (allows : W → Call → W → Type 0) (register : Register) (entry : Entry) (value : ℕ) (old : W) (answer : Result (Unit {0}) SpaceFault) (new : W) →
+    Store allows register entry value old answer new → bit_and entry.flags 1 ≡ 0 → allows old (Write register.place register.access (stored value register.offset entry.mask) answer) new
+whole_of allows register entry value old answer new done plain =
+    elim done as (λ answer new done. allows old (Write register.place register.access (stored value register.offset entry.mask) answer) new) [
+      | Whole answer new flags h ↦ h
+      | Beside number mid answer new keeps h k ↦ absurd (keeps plain)
+      | Unread fault new keeps h ↦ absurd (keeps plain)
+    ]
+
+got_of : {W : Type 0} (allows : W → Call → W → Type 0) (register : Register) (mask : ℕ) (old : W) (answer : Result ℕ SpaceFault) (new : W) (x : ℕ) → FieldRead allows register mask old answer new → answer ≡ Ok x →
+    (number : ℕ) × ((x ≡ field number register.offset mask) × allows old (Read register.place register.access (Ok number)) new)
+got_of allows register mask old answer new x read =
+    elim read as (λ answer new read. answer ≡ Ok x → (number : ℕ) × ((x ≡ field number register.offset mask) × allows old (Read register.place register.access (Ok number)) new)) [
+      | Got number new h ↦ λ e. (number, (cc, h))
+      | Refused fault new h ↦ λ e. absurd (cc)
+    ]
+
+refused_of : {W : Type 0} (allows : W → Call → W → Type 0) (register : Register) (mask : ℕ) (old : W) (answer : Result ℕ SpaceFault) (new : W) (fault : SpaceFault) → FieldRead allows register mask old answer new → answer ≡ Err fault →
+    allows old (Read register.place register.access (Err fault)) new
+refused_of allows register mask old answer new fault read =
+    elim read as (λ answer new read. answer ≡ Err fault → allows old (Read register.place register.access (Err fault)) new) [
+      | Got number new h ↦ λ e. absurd (cc)
+      | Refused other new h ↦ λ e. let same : other ≡ fault = cc in subst (λ (f : SpaceFault). allows old (Read register.place register.access (Err f)) new) same h
+    ]
+
+-- the step of a straight entry
+record DoesStep {W : Type 0} (allows : W → Call → W → Type 0) (program : Listed) (given : ℕ) (entry : Entry) (straight : IsStraight entry) (c : Configuration) (old : W)
+    (d : Configuration) (more : ℕ) (new : W) : Type 0 where
+  only : more ≡ 0
+  place : d.place ≡ c.place + 1
+  does : Does allows program given entry straight c old d new
+
+step_takes : {W : Type 0} (allows : W → Call → W → Type 0) (program : Listed) (given : ℕ) (entry : Entry) (c : Configuration)
+    (i : Instruction) (taken : Task → ℕ → Configuration) (register : Register) (code : instruction_of entry.code ≡ Some i)
+    (work : (task : Task) → task.entry ≡ entry → work_of task i ≡ TakeField (taken task)) (on : (task : Task) (x : ℕ) → (taken task x).place ≡ task.at.place + 1)
+    (region : checked entry.region ≡ Ok register) (old : W) (d : Configuration) (more : ℕ) (new : W) →
+    Step allows (task_of program given entry c) old d more new → DoesStep allows program given entry (TakesOnly i taken register code work on region) c old d more new
+step_takes allows program given entry c i taken register code work on region old d more new step =
+    let task : Task = task_of program given entry c in
+    let is : work_of task i ≡ TakeField (taken task) = work task refl in
+    elim step as (λ d more new step. DoesStep allows program given entry (TakesOnly i taken register code work on region) c old d more new) [
+      | Computes d has ↦ let clash = same_work task i (TakeField (taken task)) (GoOn d) code is has in absurd (cc clash)
+      | Goes to has within ↦ let clash = same_work task i (TakeField (taken task)) (GoTo to) code is has in absurd (cc clash)
+      | Stalls micros new has h ↦ let clash = same_work task i (TakeField (taken task)) (WaitFor micros) code is has in absurd (cc clash)
+      | Takes how other x new has at h ↦
+          let same = same_work task i (TakeField (taken task)) (TakeField how) code is has in
+          let also : how ≡ taken task = cc same in
+          let read = subst (λ (r : Register). FieldRead allows r entry.mask old (Ok x) new) (same_register register other (checked entry.region) region at) h in
+          let got = got_of allows register entry.mask old (Ok x) new x read refl in
+          let so : how x ≡ taken task x = ap (λ (f : ℕ → Configuration). f x) also in
+          record {
+            only = refl;
+            place = ap (λ (b : Configuration). b.place) so ∙ on task x;
+            does = (got.0, (so ∙ ap (taken task) got.1.0, got.1.1));
+          }
+      | Stores value other new has at h ↦ let clash = same_work task i (TakeField (taken task)) (StoreValue value) code is has in absurd (cc clash)
+      | Changes changed other x mid new has at h k ↦ let clash = same_work task i (TakeField (taken task)) (ChangeField changed) code is has in absurd (cc clash)
+      | Compares other x mid new has at h k ↦ let clash = same_work task i (TakeField (taken task)) CompareField code is has in absurd (cc clash)
+      | Moves other x mid new has at h less k ↦ let clash = same_work task i (TakeField (taken task)) MoveBytes code is has in absurd (cc clash)
+    ]
+
+step_stores : {W : Type 0} (allows : W → Call → W → Type 0) (program : Listed) (given : ℕ) (entry : Entry) (c : Configuration)
+    (i : Instruction) (value : Task → ℕ) (register : Register) (code : instruction_of entry.code ≡ Some i)
+    (work : (task : Task) → task.entry ≡ entry → work_of task i ≡ StoreValue (value task)) (flags : bit_and entry.flags 1 ≡ 0)
+    (region : checked entry.region ≡ Ok register) (old : W) (d : Configuration) (more : ℕ) (new : W) →
+    Step allows (task_of program given entry c) old d more new → DoesStep allows program given entry (StoresOnly i value register code work flags region) c old d more new
+step_stores allows program given entry c i value register code work flags region old d more new step =
+    let task : Task = task_of program given entry c in
+    let is : work_of task i ≡ StoreValue (value task) = work task refl in
+    elim step as (λ d more new step. DoesStep allows program given entry (StoresOnly i value register code work flags region) c old d more new) [
+      | Computes d has ↦ let clash = same_work task i (StoreValue (value task)) (GoOn d) code is has in absurd (cc clash)
+      | Goes to has within ↦ let clash = same_work task i (StoreValue (value task)) (GoTo to) code is has in absurd (cc clash)
+      | Stalls micros new has h ↦ let clash = same_work task i (StoreValue (value task)) (WaitFor micros) code is has in absurd (cc clash)
+      | Takes how other x new has at h ↦ let clash = same_work task i (StoreValue (value task)) (TakeField how) code is has in absurd (cc clash)
+      | Stores put other new has at h ↦
+          let same = same_work task i (StoreValue (value task)) (StoreValue put) code is has in
+          let also : put ≡ value task = cc same in
+          let stands = subst (λ (r : Register). Store allows r entry put old (Ok tt) new) (same_register register other (checked entry.region) region at) h in
+          let wrote = subst (λ (n : ℕ). Store allows register entry n old (Ok tt) new) also stands in
+          record { only = refl; place = refl; does = (refl, whole_of allows register entry (value task) old (Ok tt) new wrote flags) }
+      | Changes changed other x mid new has at h k ↦ let clash = same_work task i (StoreValue (value task)) (ChangeField changed) code is has in absurd (cc clash)
+      | Compares other x mid new has at h k ↦ let clash = same_work task i (StoreValue (value task)) CompareField code is has in absurd (cc clash)
+      | Moves other x mid new has at h less k ↦ let clash = same_work task i (StoreValue (value task)) MoveBytes code is has in absurd (cc clash)
+    ]
+
+step_does : {W : Type 0} (allows : W → Call → W → Type 0) (program : Listed) (given : ℕ) (entry : Entry) (straight : IsStraight entry) (c : Configuration) (old : W) (d : Configuration) (more : ℕ) (new : W) →
+    Step allows (task_of program given entry c) old d more new → DoesStep allows program given entry straight c old d more new
+step_does allows program given entry (TakesOnly i taken register code work on region) c old d more new step = step_takes allows program given entry c i taken register code work on region old d more new step
+step_does allows program given entry (StoresOnly i value register code work flags region) c old d more new step = step_stores allows program given entry c i value register code work flags region old d more new step
+
+refusal_never : {W : Type 0} (allows : W → Call → W → Type 0) (program : Listed) (given : ℕ) (entry : Entry) (straight : IsStraight entry) → Serves allows entry straight → (c : Configuration) (old : W) (fault : SpaceFault) (new : W) →
+    Refusal allows (task_of program given entry c) old fault new → ⊥
+refusal_never allows program given entry (TakesOnly i taken register code work on region) serves c old fault new refusal =
+    let task : Task = task_of program given entry c in
+    let is : work_of task i ≡ TakeField (taken task) = work task refl in
+    elim refusal as (λ fault new refusal. ⊥) [
+      | NotRead other r fault new has early at h ↦
+          let read = subst (λ (x : Register). FieldRead allows x entry.mask old (Err fault) new) (same_register register r (checked entry.region) region at) h in
+          serves old new fault (refused_of allows register entry.mask old (Err fault) new fault read refl)
+      | NotCompared r fault mid new has at h k ↦ let clash = same_work task i (TakeField (taken task)) CompareField code is has in absurd (cc clash)
+      | NotStored value r fault new has at h ↦ let clash = same_work task i (TakeField (taken task)) (StoreValue value) code is has in absurd (cc clash)
+      | NotChanged changed r x fault mid new has at h k ↦ let clash = same_work task i (TakeField (taken task)) (ChangeField changed) code is has in absurd (cc clash)
+    ]
+refusal_never allows program given entry (StoresOnly i value register code work flags region) serves c old fault new refusal =
+    let task : Task = task_of program given entry c in
+    let is : work_of task i ≡ StoreValue (value task) = work task refl in
+    elim refusal as (λ fault new refusal. ⊥) [
+      | NotRead other r fault new has early at h ↦
+          let same = same_work task i (StoreValue (value task)) other code is has in
+          let first : reads_first (StoreValue (value task)) ≡ true = subst (λ (w : Work). reads_first w ≡ true) same early in
+          absurd (cc first)
+      | NotCompared r fault mid new has at h k ↦ let clash = same_work task i (StoreValue (value task)) CompareField code is has in absurd (cc clash)
+      | NotStored put r fault new has at h ↦
+          let stands = subst (λ (x : Register). Store allows x entry put old (Err fault) new) (same_register register r (checked entry.region) region at) h in
+          serves old new _ fault (whole_of allows register entry put old (Err fault) new stands flags)
+      | NotChanged changed r x fault mid new has at h k ↦ let clash = same_work task i (StoreValue (value task)) (ChangeField changed) code is has in absurd (cc clash)
+    ]
+
+-- a straight entry has an instruction, whose register serves, and which neither goes elsewhere nor moves
+record IsNoOther (task : Task) : Type 0 where
+  known : instruction_of task.entry.code ≡ None → ⊥
+  placed : (why : BadRegister) → checked task.entry.region ≡ Err why → ⊥
+  no_going : (to : ℕ) → HasWork task (GoTo to) → ⊥
+  no_moving : HasWork task MoveBytes → ⊥
+
+no_other : (task : Task) → IsStraight task.entry → IsNoOther task
+no_other task (TakesOnly i taken register code work on region) =
+    let is : work_of task i ≡ TakeField (taken task) = work task refl in
+    record {
+      known = λ none. none-some i (sym none ∙ code);
+      placed = λ why bad. no_register register why (checked task.entry.region) region bad;
+      no_going = λ to has. let clash = same_work task i (TakeField (taken task)) (GoTo to) code is has in absurd (cc clash);
+      no_moving = λ has. let clash = same_work task i (TakeField (taken task)) MoveBytes code is has in absurd (cc clash);
+    }
+no_other task (StoresOnly i value register code work flags region) =
+    let is : work_of task i ≡ StoreValue (value task) = work task refl in
+    record {
+      known = λ none. none-some i (sym none ∙ code);
+      placed = λ why bad. no_register register why (checked task.entry.region) region bad;
+      no_going = λ to has. let clash = same_work task i (StoreValue (value task)) (GoTo to) code is has in absurd (cc clash);
+      no_moving = λ has. let clash = same_work task i (StoreValue (value task)) MoveBytes code is has in absurd (cc clash);
+    }
+
+halt_never : {W : Type 0} (allows : W → Call → W → Type 0) (program : Listed) (given : ℕ) (entry : Entry) (straight : IsStraight entry) → Serves allows entry straight → (c : Configuration) (paid : ℕ) (old : W)
+    (stop : RunStop) (left : ℕ) (new : W) → Halt allows (task_of program given entry c) paid old stop left new → ⊥
+halt_never allows program given entry straight serves c paid old stop left new halt =
+    let other = no_other (task_of program given entry c) straight in
+    elim halt as (λ stop left new halt. ⊥) [
+      | Unknown e ↦ other.known e
+      | Unregistered work why has used is ↦ other.placed why is
+      | Outside to has beyond ↦ other.no_going to has
+      | IsRefused fault new h ↦ refusal_never allows program given entry straight serves c old fault new h
+      | TooLong register x new has is h more ↦ other.no_moving has
+      | Unpaid register x new has is h less short ↦ other.no_moving has
+      | NotCopied register x fault mid new has is h less enough k ↦ other.no_moving has
+    ]
+
+-- the entry at a place is straight, and serves
+nth : {W : Type 0} (allows : W → Call → W → Type 0) (entries : List Entry) → AreStraight allows entries → (n : ℕ) (entry : Entry) → slice_get entries n ≡ Some entry →
+    (straight : IsStraight entry) × Serves allows entry straight
+nth allows [] NoEntry n entry here = absurd (none-some entry here)
+nth allows (head ∷ rest) (OneEntry same others one serves more) zero entry here =
+    subst (λ (e : Entry). (straight : IsStraight e) × Serves allows e straight) (same_Some _ _ here) (one, serves)
+nth allows (head ∷ rest) (OneEntry same others one serves more) (suc n) entry here = nth allows rest more n entry here
+
+-- one entry more is done
+one_more : {W : Type 0} (allows : W → Call → W → Type 0) (program : Listed) (given : ℕ) (entries : List Entry) (straight : AreStraight allows entries) (n : ℕ) (b : Configuration) (first : W) (c : Configuration) (mid : W)
+    (entry : Entry) (d : Configuration) (last : W) → DoFirst allows program given entries straight n b first c mid → slice_get entries n ≡ Some entry →
+    ((one : IsStraight entry) → Does allows program given entry one c mid d last) → DoFirst allows program given entries straight (suc n) b first d last
+one_more allows program given [] NoEntry n b first c mid entry d last done here does = absurd (none-some entry here)
+one_more allows program given (e ∷ rest) (OneEntry same others one serves more) zero b first c mid entry d last done here does =
+    let is : entry ≡ e = sym (same_Some _ _ here) in
+    let did : Does allows program given e one c mid d last = (subst (λ (x : Entry). (p : IsStraight x) → Does allows program given x p c mid d last) is does) one in
+    let from : Does allows program given e one b mid d last = subst (λ (x : Configuration). Does allows program given e one x mid d last) done.0 did in
+    (d, (last, (subst (λ (w : _). Does allows program given e one b w d last) done.1 from, (refl, refl))))
+one_more allows program given (e ∷ rest) (OneEntry same others one serves more) (suc n) b first c mid entry d last done here does =
+    (done.0, (done.1.0, (done.1.1.0, one_more allows program given rest more n done.0 done.1.0 c mid entry d last done.1.1.1 here does)))
+
+-- how far a walk has come
+record IsAt {W : Type 0} (allows : W → Call → W → Type 0) (program : Listed) (straight : AreStraight allows program.entries) (given budget : ℕ) (first : W) (left : ℕ) (c : Configuration) (last : W) : Type 0 where
+  done : DoFirst allows program given program.entries straight c.place begin first c last
+  spent : left + c.place ≡ budget
+  within : c.place ≤ length program.entries
+
+walks_straight : {W : Type 0} (allows : W → Call → W → Type 0) (program : Listed) (straight : AreStraight allows program.entries) (given budget : ℕ) (first : W) (left : ℕ) (c : Configuration) (last : W) →
+    Walk allows program given budget first left c last → IsAt allows program straight given budget first left c last
+walks_straight allows program straight given budget first left c last Begun = record { done = (refl, refl); spent = omega arith; within = omega arith }
+walks_straight allows program straight given budget first left c last (Then before from mid entry d more after new walk here step sum) =
+    let at = walks_straight allows program straight given budget first before from mid walk in
+    let one = nth allows program.entries straight from.place entry here in
+    let did = step_does allows program given entry one.0 from mid d more new step in
+    let grown = one_more allows program given program.entries straight from.place begin first from mid entry d new at.done here
+    (λ (p : IsStraight entry). (step_does allows program given entry p from mid d more new step).does) in
+    let place : suc from.place ≡ d.place = omega (arith, did.place) in
+    record {
+      done = subst (λ (n : ℕ). DoFirst allows program given program.entries straight n begin first d new) place grown;
+      spent = omega (arith, at.spent, did.only, did.place);
+      within = omega (arith, did.place, slice_get_less program.entries from.place entry here);
+    }
+  where
+    slice_get_less : (entries : List Entry) (n : ℕ) (entry : Entry) → slice_get entries n ≡ Some entry → n < length entries
+    slice_get_less [] n entry here = absurd (none-some entry here)
+    slice_get_less (e ∷ rest) zero entry here = omega arith
+    slice_get_less (e ∷ rest) (suc n) entry here = let less = slice_get_less rest n entry here in omega (arith, less)
+
+pub ran_straight : {W : Type 0} (allows : W → Call → W → Type 0) (program : Listed) (straight : AreStraight allows program.entries) → 0 < length program.entries → (given budget : ℕ) (first : W)
+    (answer : Result ℕ RunStop) (left : ℕ) (last : W) → Run allows program given budget first answer left last → RanStraight allows program straight given budget first answer left last
+ran_straight allows program straight some given budget first answer left last run =
+    elim run as (λ answer left last run. RanStraight allows program straight given budget first answer left last) [
+      | NoProgram none empty ↦ absurd (omega (arith, none, some))
+      | Finishes left c last has walk end ↦
+          let at = walks_straight allows program straight given budget first left c last walk in
+          let all : c.place ≡ length program.entries = omega (arith, end, at.within) in
+          Through c left last (subst (λ (n : ℕ). DoFirst allows program given program.entries straight n begin first c last) all at.done) (omega (arith, all, at.spent))
+      | Exhausted c last has walk more ↦
+          let at = walks_straight allows program straight given budget first 0 c last walk in
+          let all : c.place ≡ budget = omega (arith, at.spent) in
+          OutOfSteps c last (subst (λ (n : ℕ). DoFirst allows program given program.entries straight n begin first c last) all at.done) (omega (arith, all, more))
+      | Halts paid c mid entry stop left last has walk here halt ↦
+          let one = nth allows program.entries straight c.place entry here in
+          absurd (halt_never allows program given entry one.0 one.1 c paid mid stop left last halt)
+    ]
