@@ -1,5 +1,5 @@
 -- From the answers of a store to the replies.
-use Rattle.std.proofs.Common.{◌≡◌, ℕ, ◌≤◌, ◌⊎◌, Bool, true, false, cond, List, ◌++◌, length, Option, None, Result, Ok, Err, refl, sym, ap, subst, ◌∙◌, arith, inl}
+use Rattle.std.proofs.Common.{◌≡◌, ℕ, ◌+◌, ◌≤◌, ◌⊎◌, Bool, true, false, cond, List, ◌++◌, length, Option, None, Result, Ok, Err, refl, sym, ap, subst, ◌∙◌, arith, inl}
 use Rattle.std.specs.Prelude.{is_none}
 use Rattle.base_model.specs.Faults.{Rose}
 use Rattle.flash_words.specs.Layout.{Layout}
@@ -9,7 +9,7 @@ use Rattle.std.specs.FinMap.{len}
 use Rattle.record_model.specs.RecordMap.{Command, Write, Clear, Read, Count, Next, IsNextAbove, refusal_of, made_by, after, changes_of}
 use Rattle.record_model.specs.History.{Answer, Counted, Found, Hardware, cursor_after}
 use Rattle.record_store.specs.Store.{StoreView, stored, records_of, IsBeforeOrAfter, DividesAlike, KeepsMap}
-use Rattle.record_store.specs.Answers.{RefusesWrite, RefusesClear, HasFaultsOf, UnlessFlash, TakesExactly, AnswersByItself}
+use Rattle.record_store.specs.Answers.{RefusesWrite, RefusesClear, HasFaultsOf, UnlessFlash, TakesExactly, AnswersByItself, copies_in, copies_of}
 use Rattle.record_store.specs.declared.errors.StoreError.{StoreError}
 use Rattle.record_store.specs.declared.errors.StoreError.TheVariants.{NoSpace, LastGeneration, NotFound, Empty, Flash, Small}
 use Rattle.apei_cli.specs.Replies.{words_of, at_step}
@@ -71,6 +71,14 @@ clear_says old new id cursor Empty usable refuses = absurd refuses
 clear_says old new id cursor Flash usable refuses = usable
 clear_says old new id cursor (Small need) usable refuses = absurd refuses
 
+-- a store that knows its records ends no copy
+pub certain_steps : {T : Type 0} (old new : StoreView) (command : Command) (result : Result T StoreError) → TakesExactly old new command result → old.in_doubt ≡ false
+    → UnlessFlash result (new.flash.steps ≡ old.flash.steps + changes_of old.layout command (stored old))
+certain_steps old new command result exact certain =
+    let none : copies_of old ≡ 0 = ap (λ (b : Bool). cond {A = ℕ} b (copies_in old) 0) certain in
+    let all : copies_of old + changes_of old.layout command (stored old) ≡ changes_of old.layout command (stored old) = omega arith in
+    subst (λ (n : ℕ). UnlessFlash result (new.flash.steps ≡ old.flash.steps + n)) all exact
+
 -- a write that the store refused
 pub write_refused : (tells : Type 0) (old new : StoreView) (id : ℕ) (bytes : List ℕ) (cursor steps : ℕ) (reply : List ℕ) (error : StoreError)
     → is_reserved id ≡ false → DividesAlike old new → steps ≡ new.flash.steps → (tells → length new.flash.told.past ≡ new.flash.steps)
@@ -82,7 +90,7 @@ write_refused tells old new id bytes cursor steps reply error usable alike is co
     let cause = error_cause old.flash.faults new.flash.faults error faults in
     IsReplied-one tells old new cursor cursor steps (Write id bytes) (answer_of error) reply alike is counted
     (λ told. write_says old new id bytes cursor error usable (refuses told)) leaves cause.0 cause.1
-    (λ told certain still. unless_rose old.flash.faults new.flash.faults error _ faults (exact told certain) still)
+    (λ told certain still. unless_rose old.flash.faults new.flash.faults error _ faults (certain_steps {T = Unit {0}} old new _ (Err error) (exact told) certain) still)
     text (write_stays id bytes error cursor)
 
 pub clear_refused : (tells : Type 0) (old new : StoreView) (id cursor steps : ℕ) (reply : List ℕ) (error : StoreError)
@@ -95,7 +103,7 @@ clear_refused tells old new id cursor steps reply error usable alike is counted 
     let cause = error_cause old.flash.faults new.flash.faults error faults in
     IsReplied-one tells old new cursor cursor steps (Clear id) (answer_of error) reply alike is counted
     (λ told. clear_says old new id cursor error usable (refuses told)) leaves cause.0 cause.1
-    (λ told certain still. unless_rose old.flash.faults new.flash.faults error _ faults (exact told certain) still)
+    (λ told certain still. unless_rose old.flash.faults new.flash.faults error _ faults (certain_steps {T = Unit {0}} old new _ (Err error) (exact told) certain) still)
     text (clear_stays id error cursor)
 
 -- a command that leaves every map as it is, and changes no flash

@@ -1,11 +1,11 @@
-use Rattle.std.proofs.Common.{◌≡◌, ℕ, ◌++◌, length, codes, refl, ap, subst, ◌∙◌, arith}
+use Rattle.std.proofs.Common.{◌≡◌, ℕ, ◌++◌, length, codes, Ok, refl, ap, subst, ◌∙◌, arith}
 use Rattle.std.specs.Prelude.{decimal}
 use Rattle.flash_words.specs.Flash.{FlashState}
 use Rattle.record_model.specs.RecordMap.{Clear}
 use Rattle.record_model.specs.History.{Done}
 use Rattle.apei_cli.specs.Replies.{at_step}
 use Rattle.apei_cli.proofs.PlayLemmas.{IsReplied-one}
-use Rattle.apei_cli.proofs.AnswerLemmas.{clear_refused}
+use Rattle.apei_cli.proofs.AnswerLemmas.{clear_refused, certain_steps}
 use Rattle.apei_cli.proofs.player.clear_record.Goals as goal
 
 pub returns-in-Ok-clause-replied : goal.returns-in-Ok-clause-replied
@@ -17,7 +17,7 @@ returns-in-Ok-clause-replied g c = λ cursor.
     (λ told. let a = c.in-Ok.ensures.answer told in (a.0, tt, a.1))
     leaves.crash
     (omega (arith, leaves.cause)) (λ h. absurd h)
-    (λ told certain still. leaves.steps told certain)
+    (λ told certain still. certain_steps {T = Unit {0}} c.args.store.now c.clear-cleared.new.self (Clear c.args.id) (Ok tt) (leaves.steps told) certain)
     (c.cleared.ensures ∙ ap (λ (n : ℕ). codes "cleared " ++ decimal n ++ at_step c.steps-steps.result) c.get.ensures.value)
     refl
 
