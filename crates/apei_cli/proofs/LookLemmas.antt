@@ -1,5 +1,5 @@
 -- What the calls that look for records answer and leave.
-use Rattle.std.proofs.Common.{◌≡◌, ◌≢◌, ℕ, ◌<◌, ◌≤◌, true, false, List, length, take, drop, Option, Some, None, Result, Ok, Err, IfOk, refl, sym, ap, subst, ◌∙◌, arith, inl, inr}
+use Rattle.std.proofs.Common.{◌≡◌, ◌≢◌, ℕ, ◌+◌, ◌<◌, ◌≤◌, Bool, true, false, cond, List, length, take, drop, Option, Some, None, Result, Ok, Err, IfOk, refl, sym, ap, subst, ◌∙◌, arith, inl, inr}
 use Rattle.std.proofs.lemmas.List.{take_at}
 use Rattle.std.specs.FinMap.{get}
 use Rattle.std.proofs.lemmas.Option.{none-some}
@@ -9,7 +9,7 @@ use Rattle.flash_words.proofs.CrashLemmas.{Leaves-weaker, Leaves-then}
 use Rattle.record_model.specs.RecordMap.{Read, Refusal, NotFound as not_found, Empty as empty, IsNextAbove, refusal_of}
 use Rattle.record_model.specs.History.{Shown}
 use Rattle.record_store.specs.Store.{StoreView, stored, records_of, IsReady, DividesAlike, KeepsMap}
-use Rattle.record_store.specs.Answers.{AnswersRead, HasFaultsOf, HasDoubtOf, ReadsExactly}
+use Rattle.record_store.specs.Answers.{AnswersRead, HasFaultsOf, HasDoubtOf, UnlessFlash, copies_in, copies_of}
 use Rattle.record_store.specs.Calls.{OnlyLooks}
 use Rattle.record_store.specs.declared.errors.StoreError.{StoreError}
 use Rattle.record_store.specs.declared.errors.StoreError.TheVariants.{NoSpace, LastGeneration, NotFound, Empty, Flash, Small}
@@ -84,15 +84,17 @@ least_answer old mid id least bytes (Err error) zero layout same next is answer 
 
 -- a look and then a look
 pub looks_then : {T : Type 0} (tells : Type 0) (old mid new : StoreView) (result : Result T StoreError)
-    → (tells → KeepsMap old mid) → (old.in_doubt ≡ false → mid ≡ old) → IsReady mid → DividesAlike old mid → mid.flash.faults ≡ old.flash.faults
+    → (tells → KeepsMap old mid) → (tells → mid.flash.steps ≡ old.flash.steps + copies_of old) → IsReady mid → DividesAlike old mid → mid.flash.faults ≡ old.flash.faults
     → LooksUp tells mid new result → LooksUp tells old new result
-looks_then tells old mid new result kept still ready alike faults second = record {
+looks_then tells old mid new result kept ended ready alike faults second = record {
   kept = λ told.
       let first = kept told in
       Leaves-then old.flash.told mid.flash.told new.flash.told (λ image. records_of old.layout image ≡ stored old) first
       (Leaves-weaker mid.flash.told new.flash.told (λ image. records_of mid.layout image ≡ stored mid) (λ image. records_of old.layout image ≡ stored old)
       (second.kept told) (λ image same. here image ∙ same ∙ map_kept old mid alike first));
-  still = λ certain. second.still ready.certain ∙ ap (λ (s : StoreView). s.flash.steps) (still certain);
+  ended = λ told.
+      subst (λ (n : ℕ). UnlessFlash result (new.flash.steps ≡ n)) (let first = ended told in let known = none in omega arith) (second.ended told);
+  at_most = λ told. let first = ended told in let more = second.at_most told in let known = none in omega arith;
   doubt = second.doubt;
   idle = second.idle;
   alike = let a = second.alike in record { layout = a.layout ∙ alike.layout; size = a.size ∙ alike.size; sector_size = a.sector_size ∙ alike.sector_size };
@@ -102,6 +104,9 @@ looks_then tells old mid new result kept still ready alike faults second = recor
     here : (image : List ℕ) → records_of old.layout image ≡ records_of mid.layout image
     here image = ap (λ (layout : Layout). records_of layout image) (sym alike.layout)
 
+    none : copies_of mid ≡ 0
+    none = ap (λ (b : Bool). cond {A = ℕ} b (copies_in mid) 0) ready.certain
+
 -- the answer that a read is
 pub read_says : (old : StoreView) (id cursor : ℕ) (bytes : List ℕ) (held : HeldRecord) → AnswersNamed old id bytes (Ok held)
     → Says old.layout cursor (Read id) (Shown held.id (take held.len bytes)) (stored old) (stored old)
@@ -110,24 +115,16 @@ read_says old id cursor bytes held answer =
     (answer.0, (answer.1, answer.2), sym (look.same (stored old)))
 
 -- what a read of the store leaves, with the record that was read or the error of the read
-pub looks_ok : (tells : Type 0) (old new : StoreView) (count : ℕ → ℕ) (size : ℕ) (held : HeldRecord) → OnlyLooks tells old new (Ok size)
-    → (old.in_doubt ≡ false → ReadsExactly tells count old new (Ok size)) → LooksUp tells old new (Ok held)
-looks_ok tells old new count size held leaves still = record {
+pub looks_ok : (tells : Type 0) (old new : StoreView) (size : ℕ) (held : HeldRecord) → OnlyLooks tells old new (Ok size) → LooksUp tells old new (Ok held)
+looks_ok tells old new size held leaves = record {
   kept = leaves.kept;
-  still = λ certain. let reads = still certain in let only = reads.only in only.steps;
+  ended = leaves.ended;
+  at_most = leaves.at_most;
   doubt = leaves.doubt;
   idle = leaves.idle;
   alike = leaves.alike;
   cause = leaves.cause;
 }
-
-reads_still : (tells : Type 0) (old new : StoreView) (count : ℕ → ℕ) (error : StoreError) → ReadsExactly {T = ℕ} tells count old new (Err error) → new.flash.steps ≡ old.flash.steps
-reads_still tells old new count (NoSpace free) same = ap (λ (s : StoreView). s.flash.steps) same
-reads_still tells old new count (LastGeneration id) same = ap (λ (s : StoreView). s.flash.steps) same
-reads_still tells old new count NotFound same = ap (λ (s : StoreView). s.flash.steps) same
-reads_still tells old new count Empty same = ap (λ (s : StoreView). s.flash.steps) same
-reads_still tells old new count Flash only = only.steps
-reads_still tells old new count (Small need) same = ap (λ (s : StoreView). s.flash.steps) same
 
 -- the error of one answer is that of another
 same_doubt : (T S : Type 0) (store : StoreView) (error : StoreError) → HasDoubtOf {T = T} store (Err error) → HasDoubtOf {T = S} store (Err error)
@@ -147,16 +144,16 @@ same_faults T S before after Flash cause = cause
 same_faults T S before after (Small need) cause = cause
 
 pub looks_err : (T S : Type 0) (tells : Type 0) (old new : StoreView) (error : StoreError) → OnlyLooks {T = T} tells old new (Err error)
-    → (old.in_doubt ≡ false → new.flash.steps ≡ old.flash.steps) → LooksUp {T = S} tells old new (Err error)
-looks_err T S tells old new error leaves still = record {
+    → LooksUp {T = S} tells old new (Err error)
+looks_err T S tells old new error leaves = record {
   kept = leaves.kept;
-  still = still;
+  ended = leaves.ended;
+  at_most = leaves.at_most;
   doubt = same_doubt T S new error leaves.doubt;
   idle = leaves.idle;
   alike = leaves.alike;
   cause = same_faults T S old.flash.faults new.flash.faults error leaves.cause;
 }
 
-pub read_looks_err : (tells : Type 0) (old new : StoreView) (count : ℕ → ℕ) (error : StoreError) → OnlyLooks {T = ℕ} tells old new (Err error)
-    → (old.in_doubt ≡ false → ReadsExactly {T = ℕ} tells count old new (Err error)) → LooksUp {T = HeldRecord} tells old new (Err error)
-read_looks_err tells old new count error leaves still = looks_err ℕ HeldRecord tells old new error leaves (λ certain. reads_still tells old new count error (still certain))
+pub read_looks_err : (tells : Type 0) (old new : StoreView) (error : StoreError) → OnlyLooks {T = ℕ} tells old new (Err error) → LooksUp {T = HeldRecord} tells old new (Err error)
+read_looks_err tells old new error leaves = looks_err ℕ HeldRecord tells old new error leaves

@@ -7,16 +7,17 @@ use Rattle.std.specs.Cmp.{nat_cmp_total}
 use Rattle.std.proofs.lemmas.Bool.{cases_lt, eq-eqb, ne_eqb}
 use Rattle.std.proofs.lemmas.Bool.Decides.{nat_tests}
 use Rattle.base_model.specs.Faults.{Rose}
-use Rattle.flash_words.specs.Flash.{FlashState}
+use Rattle.flash_words.specs.Flash.{Told, FlashState, IsLater, image_at}
 use Rattle.flash_words.specs.Layout.{Layout}
-use Rattle.record_model.specs.Records.{Stored, is_reserved}
-use Rattle.flash_words.proofs.CrashLemmas.{Leaves-exit}
+use Rattle.record_model.specs.Records.{Stored, is_reserved, second_copies}
+use Rattle.flash_words.proofs.CrashLemmas.{Leaves-exit, image_at-later, image_at-now}
 use Rattle.record_model.specs.RecordMap.{Command, Write, WriteOversize, Clear, Read, Count, Next, Refusal, Failed, NotFound, refusal_of, next_generation, made_by, after, changes_of}
-use Rattle.record_model.specs.History.{Answer, Done, Shown, Counted, Found, Refused, Hardware, Played, IsDone, AsksStore, IsAnswered, cursor_after, cursor_left, ended_last, TakeSteps}
-use Rattle.record_model.proofs.HistoryLemmas.{IsHistory-none, IsHistory-one, IsHistory-then, TakeSteps-append}
+use Rattle.record_model.specs.History.{Answer, Done, Shown, Counted, Found, Refused, Hardware, Played, IsDone, AsksStore, IsAnswered, cursor_after, cursor_left, left_by, left_by_all, ended_last, EndInOrder}
+use Rattle.record_model.proofs.HistoryLemmas.{IsHistory-none, IsHistory-one, IsHistory-then}
 use Rattle.record_store.specs.Store.{StoreView, stored, records_of, IsBeforeOrAfter, DividesAlike}
+use Rattle.record_store.specs.Answers.{copies_in, copies_of}
 use Rattle.apei_cli.specs.Replies.{words_of, at_step}
-use Rattle.apei_cli.specs.Plays.{IsHardware, HasHardware, Plays, IsReplied}
+use Rattle.apei_cli.specs.Plays.{IsHardware, is_hardware, asks_store, doubt_of, doubt_after, doubt_left, copies_ended, EndsAt, TakeEach, HasHardware, Plays, IsReplied}
 
 -- the generation that a map has of an identifier, counted from 1
 abbrev pub mark_of : Option (List ℕ × ℕ) → ℕ
@@ -164,16 +165,15 @@ pub Plays-one : (tells : Type 0) (old new : StoreView) (cursor : ℕ) (command :
     → (tells → Says old.layout cursor command answer (stored old) (stored new))
     → (tells → IsBeforeOrAfter old new command)
     → old.flash.faults ≤ new.flash.faults → (IsHardware answer → Rose old.flash.faults new.flash.faults)
-    → (tells → old.in_doubt ≡ false → (Rose old.flash.faults new.flash.faults → ⊥)
-    → new.flash.steps ≡ old.flash.steps + changes_of old.layout command (stored old))
-    → Plays tells (old.in_doubt ≡ false) old.layout cursor old.flash new.flash (played_as command answer new.flash.steps (stored old) (stored new) ∷ [])
+    → (tells → EndsAt (is_hardware answer) (old.flash.steps + (copies_ended old.layout (doubt_of old) command + changes_of old.layout command (stored old))) new.flash.steps)
+    → Plays tells (doubt_of old) old.layout cursor old.flash new.flash (played_as command answer new.flash.steps (stored old) (stored new) ∷ [])
 Plays-one tells old new cursor command answer alike ended says leaves faults cause steps = record {
   history = λ told.
       IsHistory-one old.layout cursor (records_of old.layout) old.flash.told new.flash.told (played_as command answer new.flash.steps (stored old) (stored new)) (ended told)
       (says_answered old.layout cursor command answer (stored old) (stored new) (says told))
       (here ∙ says_left old.layout cursor command answer (stored old) (stored new) (says told) (which told)) (leaves told);
   ended = refl;
-  steps = λ told certain still. (steps told certain still, tt);
+  steps = λ told. (steps told, tt);
   faults = faults;
   cause = one;
 }
@@ -199,25 +199,49 @@ pub IsReplied-one : (tells : Type 0) (old new : StoreView) (cursor cursor_now st
     → (tells → Says old.layout cursor command answer (stored old) (stored new))
     → (tells → IsBeforeOrAfter old new command)
     → old.flash.faults ≤ new.flash.faults → (IsHardware answer → Rose old.flash.faults new.flash.faults)
-    → (tells → old.in_doubt ≡ false → (Rose old.flash.faults new.flash.faults → ⊥)
-    → new.flash.steps ≡ old.flash.steps + changes_of old.layout command (stored old))
+    → (tells → EndsAt (is_hardware answer) (old.flash.steps + (copies_ended old.layout (doubt_of old) command + changes_of old.layout command (stored old))) new.flash.steps)
+    → (tells → image_at new.flash.told new.flash.steps ≡ new.flash.told.image → doubt_of new ≡ doubt_after new.flash.told (played_as command answer new.flash.steps (stored old) (stored new)) (doubt_of old))
     → reply ≡ words_of answer command ++ at_step steps
     → cursor_now ≡ cursor_after command answer cursor
     → IsReplied tells old new command cursor cursor_now reply
-IsReplied-one tells old new cursor cursor_now steps command answer reply alike is counted says leaves faults cause exact text moved = record {
+IsReplied-one tells old new cursor cursor_now steps command answer reply alike is counted says leaves faults cause exact doubt text moved = record {
   played = played_as command answer new.flash.steps (stored old) (stored new);
   of_command = refl;
   text = text ∙ ap (λ (n : ℕ). words_of answer command ++ at_step n) is;
   moved = moved;
   plays = Plays-one tells old new cursor command answer alike (λ told. sym (counted told)) says leaves faults cause exact;
+  doubt = λ told. doubt told (let c = counted told in image_at-now new.flash.told new.flash.steps (omega arith));
 }
 
+-- the doubt after a command that asks the store
+pub doubt_asked : (old new : StoreView) (played : Played) → asks_store played.command ≡ true → new.in_doubt ≡ is_hardware played.answer
+    → image_at new.flash.told played.ended ≡ new.flash.told.image → doubt_of new ≡ doubt_after new.flash.told played (doubt_of old)
+doubt_asked old new played asks doubt here =
+    ap (λ (b : Bool). cond b (Some new.flash.told.image) None) doubt ∙ by_answer (is_hardware played.answer)
+  where
+    by_answer : (h : Bool) → cond {A = Option (List ℕ)} h (Some new.flash.told.image) None
+        ≡ cond h (Some (image_at new.flash.told played.ended)) (cond (asks_store played.command) None (doubt_of old))
+    by_answer true = ap (λ (image : List ℕ). Some image) (sym here)
+    by_answer false = sym (ap (λ (b : Bool). cond {A = Option (List ℕ)} b None (doubt_of old)) asks)
+
+-- and the changes that end it
+pub copies_asked : (old : StoreView) (command : Command) → asks_store command ≡ true → copies_ended old.layout (doubt_of old) command ≡ copies_of old
+copies_asked old command asks = by_doubt old.in_doubt
+  where
+    by_doubt : (b : Bool) → copies_ended old.layout (cond b (Some old.flash.told.image) None) command ≡ cond b (copies_in old) 0
+    by_doubt true = ap (λ (a : Bool). cond {A = ℕ} a (copies_in old) 0) asks
+    by_doubt false = refl
+
+pub copies_unasked : (layout : Layout) (doubt : Option (List ℕ)) (command : Command) → asks_store command ≡ false → copies_ended layout doubt command ≡ 0
+copies_unasked layout None command asks = refl
+copies_unasked layout (Some image) command asks = ap (λ (b : Bool). cond {A = ℕ} b (second_copies layout.slot_size layout.slots image) 0) asks
+
 -- nothing was played
-pub Plays-none : (tells certain : Type 0) (layout : Layout) (cursor : ℕ) (flash : FlashState) → Plays tells certain layout cursor flash flash []
-Plays-none tells certain layout cursor flash = record {
+pub Plays-none : (tells : Type 0) (doubt : Option (List ℕ)) (layout : Layout) (cursor : ℕ) (flash : FlashState) → Plays tells doubt layout cursor flash flash []
+Plays-none tells doubt layout cursor flash = record {
   history = λ told. IsHistory-none layout cursor (records_of layout) flash.told;
   ended = refl;
-  steps = λ told sure still. tt;
+  steps = λ told. tt;
   faults = omega arith;
   cause = λ h. absurd h;
 }
@@ -240,22 +264,65 @@ ended_last-append : (from : ℕ) (some more : List Played) → ended_last from (
 ended_last-append from [] more = refl
 ended_last-append from (played ∷ rest) more = ended_last-append played.ended rest more
 
+-- the doubt that commands leave, and what they take, one after another
+pub doubt_left-append : (told : Told) (some more : List Played) (doubt : Option (List ℕ)) → doubt_left told (some ++ more) doubt ≡ doubt_left told more (doubt_left told some doubt)
+doubt_left-append told [] more doubt = refl
+doubt_left-append told (played ∷ rest) more doubt = doubt_left-append told rest more (doubt_after told played doubt)
+
+TakeEach-append : (layout : Layout) (told : Told) (from : ℕ) (doubt : Option (List ℕ)) (some more : List Played) (stored : Stored)
+    → TakeEach layout told from doubt some stored → TakeEach layout told (ended_last from some) (doubt_left told some doubt) more (left_by_all layout some stored)
+    → TakeEach layout told from doubt (some ++ more) stored
+TakeEach-append layout told from doubt [] more stored first second = second
+TakeEach-append layout told from doubt (played ∷ rest) more stored first second =
+    (first.0, TakeEach-append layout told played.ended (doubt_after told played doubt) rest more (left_by layout played stored) first.1 second)
+
+-- a flash later tells the same of them
+ended_within : (from : ℕ) (played : List Played) (to : ℕ) → EndInOrder from played to → from ≤ to
+ended_within from [] to order = order
+ended_within from (played ∷ rest) to order =
+    let first : from ≤ played.ended = order.0 in
+    let behind : played.ended ≤ to = ended_within played.ended rest to order.1 in
+    omega arith
+
+doubt_after-later : (mid new : Told) (played : Played) (doubt : Option (List ℕ)) → IsLater mid new → played.ended ≤ length mid.past → doubt_after new played doubt ≡ doubt_after mid played doubt
+doubt_after-later mid new played doubt later bound =
+    ap (λ (image : List ℕ). cond (is_hardware played.answer) (Some image) (cond (asks_store played.command) None doubt)) (image_at-later mid new played.ended later bound)
+
+pub doubt_left-later : (mid new : Told) (from : ℕ) (some : List Played) (doubt : Option (List ℕ)) → IsLater mid new → EndInOrder from some (length mid.past)
+    → doubt_left new some doubt ≡ doubt_left mid some doubt
+doubt_left-later mid new from [] doubt later order = refl
+doubt_left-later mid new from (played ∷ rest) doubt later order =
+    doubt_left-later mid new played.ended rest (doubt_after new played doubt) later order.1
+    ∙ ap (doubt_left mid rest) (doubt_after-later mid new played doubt later (ended_within played.ended rest (length mid.past) order.1))
+
+TakeEach-later : (layout : Layout) (mid new : Told) (start from : ℕ) (doubt : Option (List ℕ)) (some : List Played) (stored : Stored) → IsLater mid new → EndInOrder start some (length mid.past)
+    → TakeEach layout mid from doubt some stored → TakeEach layout new from doubt some stored
+TakeEach-later layout mid new start from doubt [] stored later order taken = tt
+TakeEach-later layout mid new start from doubt (played ∷ rest) stored later order taken = (
+  taken.0,
+  subst (λ (d : Option (List ℕ)). TakeEach layout new played.ended d rest (left_by layout played stored))
+      (sym (doubt_after-later mid new played doubt later (ended_within played.ended rest (length mid.past) order.1)))
+      (TakeEach-later layout mid new played.ended played.ended (doubt_after mid played doubt) rest (left_by layout played stored) later order.1 taken.1),
+)
+
 -- some commands and then more
-pub Plays-then : (tells certain still_certain : Type 0) (layout : Layout) (cursor : ℕ) (old mid new : FlashState) (some more : List Played)
-    → Plays tells certain layout cursor old mid some → Plays tells still_certain layout (cursor_left some cursor) mid new more
-    → (certain → (Rose old.faults mid.faults → ⊥) → still_certain)
-    → Plays tells certain layout cursor old new (some ++ more)
-Plays-then tells certain still_certain layout cursor old mid new some more first second stays = record {
+pub Plays-then : (tells : Type 0) (doubt doubt_now : Option (List ℕ)) (layout : Layout) (cursor : ℕ) (old mid new : FlashState) (some more : List Played)
+    → Plays tells doubt layout cursor old mid some → Plays tells doubt_now layout (cursor_left some cursor) mid new more
+    → (tells → doubt_now ≡ doubt_left mid.told some doubt)
+    → Plays tells doubt layout cursor old new (some ++ more)
+Plays-then tells doubt doubt_now layout cursor old mid new some more first second is = record {
   history = λ told.
       IsHistory-then layout cursor (records_of layout) old.told mid.told new.told some more (first.history told) (second.history told);
   ended = ended_last-append old.steps some more ∙ ap (λ (n : ℕ). ended_last n more) first.ended ∙ second.ended;
-  steps = λ told sure still.
+  steps = λ told.
       let before = first.history told in
-      let still_first = λ (h : Rose old.faults mid.faults). still (Rose-then old.faults mid.faults new.faults first.faults h second.faults) in
-      let still_second = λ (h : Rose mid.faults new.faults). still (Rose-after old.faults mid.faults new.faults first.faults h) in
-      TakeSteps-append layout old.steps mid.steps some more (records_of layout old.told.image) first.ended
-      (first.steps told sure still_first)
-      (subst (λ (m : Stored). TakeSteps layout mid.steps more m) before.now (second.steps told (stays sure still_first) still_second));
+      let behind = second.history told in
+      let doubt_is = is told ∙ sym (doubt_left-later mid.told new.told (length old.told.past) some doubt behind.later before.in_order) in
+      TakeEach-append layout new.told old.steps doubt some more (records_of layout old.told.image)
+      (TakeEach-later layout mid.told new.told (length old.told.past) old.steps doubt some (records_of layout old.told.image) behind.later before.in_order (first.steps told))
+      (subst (λ (n : ℕ). TakeEach layout new.told n (doubt_left new.told some doubt) more (left_by_all layout some (records_of layout old.told.image))) (sym first.ended)
+      (subst (λ (d : Option (List ℕ)). TakeEach layout new.told mid.steps d more (left_by_all layout some (records_of layout old.told.image))) doubt_is
+      (subst (λ (m : Stored). TakeEach layout new.told mid.steps doubt_now more m) before.now (second.steps told))));
   faults = let a = first.faults in let b = second.faults in omega arith;
   cause = λ h. by_part (HasHardware-append some more h);
 }

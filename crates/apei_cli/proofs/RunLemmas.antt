@@ -1,5 +1,5 @@
 -- Laws of a run over the lines of a script.
-use Rattle.std.proofs.Common.{◌≡◌, ℕ, ◌-◌, ◌*◌, ◌^◌, ◌≤◌, ◌⊎◌, inl, inr, Bool, true, false, List, [], ◌∷◌, ◌++◌, length, take, refl, sym, ap, subst, ◌∙◌, arith, append_assoc, length-append}
+use Rattle.std.proofs.Common.{◌≡◌, ℕ, ◌-◌, ◌*◌, ◌^◌, ◌≤◌, inl, inr, Bool, true, false, cond, List, [], ◌∷◌, ◌++◌, length, take, Option, Some, None, refl, sym, ap, subst, ◌∙◌, arith, append_assoc, length-append}
 use Rattle.std.proofs.Math.Bridge.{le_prop}
 use Rattle.std.proofs.Math.Nat.{ℕ_set}
 use Rattle.std.proofs.lemmas.Bool.{cases_lt}
@@ -9,7 +9,7 @@ use Rattle.flash_words.specs.Layout.{Layout, reach_of}
 use Rattle.flash_model.specs.Layouts.{layout_of}
 use Rattle.record_model.specs.Records.{Stored}
 use Rattle.record_model.specs.RecordMap.{Command}
-use Rattle.record_model.specs.History.{Played, cursor_left, ended_last, IsHistory, TakeSteps}
+use Rattle.record_model.specs.History.{Played, cursor_left, ended_last, IsHistory}
 use Rattle.record_model.proofs.HistoryLemmas.{cursor_left-append, IsHistory-then}
 use Rattle.flash_words.proofs.CrashLemmas.{Leaves-exit, past_grows, IsLater-refl, CrashImage-now}
 use Rattle.flash_words.specs.Flash.{Told, Leaves}
@@ -19,14 +19,14 @@ use Rattle.flash_model.specs.declared.geometry.Geometry.{Geometry}
 use Rattle.apei_cli.specs.Lines.{Line, Reading, lines_of, ended_lines_of, lines_ahead, IsTooLong, ReadsLine, with_newline, last_one, IsNextLine, IsAtEnd, HasNoLine}
 use Rattle.apei_cli.specs.Script.{command_in, IsBuilt, commands_of}
 use Rattle.apei_cli.specs.Replies.{reply_of, text_of}
-use Rattle.apei_cli.specs.Plays.{longest_of, StaysIdle, Plays, ArePlayable, commands_of_lines, commands_played, AreOf, PartlyWritten, PlaysLine, PlaysUnheard}
+use Rattle.apei_cli.specs.Plays.{longest_of, doubt_of, doubt_left, TakeEach, StaysIdle, Plays, ArePlayable, commands_of_lines, commands_played, AreOf, PartlyWritten, PlaysLine, PlaysUnheard}
 use Rattle.apei_cli.specs.Statuses.{EndsBy, WritesReplies}
 use Rattle.apei_cli.specs.declared.job.Plan.{Plan}
 use Rattle.apei_cli.specs.Runs.{IsLayoutOf, longest_by, opened_at, PlaysScript, ComesFirst, IsRun}
 use Rattle.apei_cli.specs.declared.status.Status.{Status}
 use Rattle.apei_cli.specs.declared.status.Status.TheVariants.{Done, BadWords, SourceFault, SinkFault, FlashFault, BadGeometry, TooLong, Memory, NotYet}
 use Rattle.apei_cli.proofs.LineLemmas.{lines_of-newline, lines_of-nil, lines_of-last, ended_lines_of-newline, ended_lines_of-one_line}
-use Rattle.apei_cli.proofs.PlayLemmas.{Plays-none, Plays-then, Rose-then, Rose-after}
+use Rattle.apei_cli.proofs.PlayLemmas.{Plays-none, Plays-then, doubt_left-append, doubt_left-later}
 
 -- the line that was read
 abbrev pub line_of : Reading → Line
@@ -127,8 +127,7 @@ partly-then some more written middle now first part = record {
       (ap (λ (bs : List ℕ). bs ++ text_of part.before) first ∙ append_assoc written (text_of some) (text_of part.before) ∙ ap (λ (bs : List ℕ). written ++ bs) (sym (text_of-append some part.before)));
 }
 
--- a run so far: the lines that were read, all of them played, and their commands. The store is in doubt only where the
--- flash's count of faults rose
+-- a run so far: the lines that were read, all of them played, and their commands
 pub record SoFar (told_source told_sink told_flash : Type 0) (script rest written written_now : List ℕ) (old new : StoreView) (cursor : ℕ) (reading : Reading) : Type 0 where
   pub lines : List Line
   pub commands : List Played
@@ -136,11 +135,11 @@ pub record SoFar (told_source told_sink told_flash : Type 0) (script rest writte
   pub played : AreOf (longest_of old.layout) lines commands
   pub ahead : told_source → lines_of 0 script ≡ lines ++ lines_ahead reading rest
   pub taken : told_source → reading.at_end ≡ false → TakenSoFar script rest lines reading
-  pub plays : Plays told_flash (Unit {0}) old.layout 0 old.flash new.flash commands
+  pub plays : Plays told_flash None old.layout 0 old.flash new.flash commands
   pub moved : cursor ≡ cursor_left commands 0
   pub text : told_sink → written_now ≡ written ++ text_of commands
   pub alike : DividesAlike old new
-  pub doubt : new.in_doubt ≡ true → Rose old.flash.faults new.flash.faults
+  pub doubt : told_flash → doubt_of new ≡ doubt_left new.flash.told commands None
 
 -- nothing was read
 pub SoFar-start : (told_source told_sink told_flash : Type 0) (script written : List ℕ) (store : StoreView) (cursor : ℕ) (reading : Reading)
@@ -154,11 +153,11 @@ SoFar-start told_source told_sink told_flash script written store cursor reading
       played = record { playable = tt; commands_are = refl };
       ahead = λ told. refl;
       taken = λ told e. record { taken = []; source = refl; ended = λ more. refl };
-      plays = Plays-none told_flash (Unit {0}) store.layout 0 store.flash;
+      plays = Plays-none told_flash None store.layout 0 store.flash;
       moved = at_start;
       text = λ told. sym (append-nil written);
       alike = record { layout = refl; size = refl; sector_size = refl };
-      doubt = λ doubtful. let clash : true ≡ false = sym doubtful ∙ certain in absurd (cc clash);
+      doubt = λ told. ap (λ (b : Bool). cond {A = Option (List ℕ)} b (Some store.flash.told.image) None) certain;
     })
 
 DividesAlike-then : (old mid new : StoreView) → DividesAlike old mid → DividesAlike mid new → DividesAlike old new
@@ -168,21 +167,16 @@ DividesAlike-then old mid new first second = record {
   sector_size = second.sector_size ∙ first.sector_size;
 }
 
--- a store that is not in doubt where no fault was counted
-certain_where : (b : Bool) (P : Type 0) → (b ≡ true → P) → (P → ⊥) → b ≡ false
-certain_where true P rose still = absurd (still (rose refl))
-certain_where false P rose still = refl
-
 -- some lines, and then the commands of one more
 commands_then : (told_source told_sink told_flash : Type 0) (script rest written middle : List ℕ) (old mid new : StoreView) (cursor : ℕ) (a : Reading) (commands : List Played)
     → (so_far : SoFar told_source told_sink told_flash script rest written middle old mid cursor a)
-    → Plays told_flash (mid.in_doubt ≡ false) mid.layout cursor mid.flash new.flash commands
-    → Plays told_flash (Unit {0}) old.layout 0 old.flash new.flash (so_far.commands ++ commands)
+    → Plays told_flash (doubt_of mid) mid.layout cursor mid.flash new.flash commands
+    → Plays told_flash None old.layout 0 old.flash new.flash (so_far.commands ++ commands)
 commands_then told_source told_sink told_flash script rest written middle old mid new cursor a commands so_far plays =
-    Plays-then told_flash (Unit {0}) (mid.in_doubt ≡ false) old.layout 0 old.flash mid.flash new.flash so_far.commands commands so_far.plays
-    (subst (λ (n : ℕ). Plays told_flash (mid.in_doubt ≡ false) old.layout n mid.flash new.flash commands) so_far.moved
-    (subst (λ (l : Layout). Plays told_flash (mid.in_doubt ≡ false) l cursor mid.flash new.flash commands) (let alike = so_far.alike in alike.layout) plays))
-    (λ sure still. certain_where mid.in_doubt (Rose old.flash.faults mid.flash.faults) so_far.doubt still)
+    Plays-then told_flash None (doubt_of mid) old.layout 0 old.flash mid.flash new.flash so_far.commands commands so_far.plays
+    (subst (λ (n : ℕ). Plays told_flash (doubt_of mid) old.layout n mid.flash new.flash commands) so_far.moved
+    (subst (λ (l : Layout). Plays told_flash (doubt_of mid) l cursor mid.flash new.flash commands) (let alike = so_far.alike in alike.layout) plays))
+    so_far.doubt
 
 -- one more line was read and played
 pub SoFar-played : (told_source told_sink told_flash : Type 0) (script rest rest_now written middle now text : List ℕ) (old mid new : StoreView) (cursor cursor_now : ℕ) (a b : Reading)
@@ -203,15 +197,19 @@ SoFar-played told_source told_sink told_flash script rest rest_now written middl
   moved = line.moved ∙ ap (cursor_left line.commands) so_far.moved ∙ sym (cursor_left-append so_far.commands line.commands 0);
   text = λ told. text-then so_far.commands line.commands written middle now (so_far.text told) (line.text_now told);
   alike = DividesAlike-then old mid new so_far.alike stays.alike;
-  doubt = λ doubtful. by_part (stays.doubt doubtful);
+  doubt = λ told.
+      let plays = so_far.plays in
+      let before = plays.history told in
+      let more = line.plays in
+      let behind = more.history told in
+      line.doubt told
+      ∙ ap (doubt_left new.flash.told line.commands)
+      (so_far.doubt told ∙ sym (doubt_left-later mid.flash.told new.flash.told (length old.flash.told.past) so_far.commands None behind.later before.in_order))
+      ∙ sym (doubt_left-append new.flash.told so_far.commands line.commands None);
 }
   where
     built : IsBuilt (command_in b.line)
     built = subst (λ (t : List ℕ). IsBuilt (command_in t)) is line.built
-
-    by_part : (mid.in_doubt ≡ true) ⊎ Rose mid.flash.faults new.flash.faults → Rose old.flash.faults new.flash.faults
-    by_part (inl doubtful) = let plays = so_far.plays in Rose-then old.flash.faults mid.flash.faults new.flash.faults plays.faults (so_far.doubt doubtful) stays.faults
-    by_part (inr rose) = let plays = so_far.plays in Rose-after old.flash.faults mid.flash.faults new.flash.faults plays.faults rose
 
 -- the script was read to its end
 pub ends_done : (told_source told_sink told_flash : Type 0) (script rest rest_now written written_now : List ℕ) (old new : StoreView) (cursor : ℕ) (a b : Reading)
@@ -260,7 +258,7 @@ pub ends_not_built : (told_source told_sink told_flash : Type 0) (script rest re
     → PlaysScript told_source told_sink told_flash old.layout script rest_now written now old.flash new.flash (NotYet number)
 ends_not_built told_source told_sink told_flash script rest rest_now written middle now text old mid new cursor a b number next is text_is other same quiet so_far = record {
   commands = so_far.commands;
-  plays = subst (λ (s : StoreView). Plays told_flash (Unit {0}) old.layout 0 old.flash s.flash so_far.commands) (sym same) so_far.plays;
+  plays = subst (λ (s : StoreView). Plays told_flash None old.layout 0 old.flash s.flash so_far.commands) (sym same) so_far.plays;
   lines = λ told. record {
     line = line_of b;
     stops = record {
@@ -348,9 +346,9 @@ pub run_kept : (told_source told_sink told_flash : Type 0) (plan : Plan) (script
 run_kept told_source told_sink told_flash plan script written old new status first kept = record {
   commands = [];
   history = λ told layout of. IsHistory-kept layout 0 (records_of layout) old.told new.told (kept told layout of);
-  steps = λ told layout of still. tt;
+  steps = λ told layout of. tt;
   ended = refl;
-  opened = λ told layout of still later. absurd (later first);
+  opened = λ told layout of later. absurd (later first);
   cause = λ h. absurd h;
   lines = λ told. ends_first (longest_by plan) script script status first;
   text = λ told. written_first written status first;
@@ -444,14 +442,14 @@ run_opened told_source told_sink told_flash plan geometry script rest written no
           subst (λ (l : Layout). IsHistory l 0 (records_of l) old.told new.told played.commands) (layout_is plan geometry layout is of)
           (IsHistory-then (layout_of geometry) 0 (records_of (layout_of geometry)) old.told mid.told new.told [] played.commands
           (IsHistory-kept (layout_of geometry) 0 (records_of (layout_of geometry)) old.told mid.told (kept told)) (plays.history told));
-      steps = λ told layout of still.
-          subst (λ (l : Layout). TakeSteps l (opened_at l old) played.commands (records_of l old.told.image)) (layout_is plan geometry layout is of)
-          (subst (λ (n : ℕ). TakeSteps (layout_of geometry) n played.commands (records_of (layout_of geometry) old.told.image)) (opens told)
-          (subst (TakeSteps (layout_of geometry) mid.steps played.commands)
+      steps = λ told layout of.
+          subst (λ (l : Layout). TakeEach l new.told (opened_at l old) None played.commands (records_of l old.told.image)) (layout_is plan geometry layout is of)
+          (subst (λ (n : ℕ). TakeEach (layout_of geometry) new.told n None played.commands (records_of (layout_of geometry) old.told.image)) (opens told)
+          (subst (λ (m : Stored). TakeEach (layout_of geometry) new.told mid.steps None played.commands m)
           (Leaves-exit old.told mid.told (λ image. records_of (layout_of geometry) image ≡ records_of (layout_of geometry) old.told.image) (kept told))
-          (plays.steps told tt (subst (λ (n : ℕ). Rose n new.faults → ⊥) (sym faults) still))));
+          (plays.steps told)));
       ended = ended_last-later mid.steps new.steps new.steps played.commands plays.ended (λ none. refl);
-      opened = λ told layout of still later.
+      opened = λ told layout of later.
           subst (λ (l : Layout). ended_last (opened_at l old) played.commands ≡ new.steps) (layout_is plan geometry layout is of)
           (ap (λ (n : ℕ). ended_last n played.commands) (sym (opens told)) ∙ plays.ended);
       cause = λ h. subst (λ (n : ℕ). Rose n new.faults) faults (plays.cause h);

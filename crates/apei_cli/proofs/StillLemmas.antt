@@ -1,5 +1,5 @@
 -- Commands that the map refuses without the store being asked.
-use Rattle.std.proofs.Common.{◌≡◌, ℕ, ◌<◌, ◌≤◌, Bool, true, cond, List, ◌++◌, length, take, drop, codes, Option, Some, refl, ap, ◌∙◌, arith, length-append, length-drop}
+use Rattle.std.proofs.Common.{◌≡◌, ℕ, ◌<◌, ◌≤◌, Bool, true, false, cond, List, ◌++◌, length, take, drop, codes, Option, Some, None, refl, sym, ap, ◌∙◌, arith, length-append, length-drop}
 use Rattle.std.specs.Prelude.{is_none}
 use Rattle.flash_words.specs.Layout.{Layout}
 use Rattle.record_model.specs.Records.{Stored, is_reserved}
@@ -14,8 +14,8 @@ use Rattle.base_model.specs.Bytes.{put_at}
 use Rattle.apei_cli.specs.Records.{IsMarked}
 use Rattle.apei_cli.specs.Script.{id_of, with_mark, write_of}
 use Rattle.apei_cli.specs.Replies.{words_of, at_step}
-use Rattle.apei_cli.specs.Plays.{IsReplied}
-use Rattle.apei_cli.proofs.PlayLemmas.{IsReplied-one}
+use Rattle.apei_cli.specs.Plays.{asks_store, doubt_of, IsReplied}
+use Rattle.apei_cli.proofs.PlayLemmas.{IsReplied-one, copies_unasked}
 use Rattle.apei_cli.proofs.AnswerLemmas.{keeps_before}
 
 -- a store that nothing was asked of
@@ -35,14 +35,15 @@ no_change layout command map refusal e = ap (λ (o : Option Refusal). cond (is_n
 -- a command that is refused, with no call of the store
 pub refused_still : (tells : Type 0) (store : StoreView) (cursor steps : ℕ) (command : Command) (refusal : Refusal) (reply : List ℕ)
     → steps ≡ store.flash.steps → (tells → length store.flash.told.past ≡ store.flash.steps)
-    → ((map : Stored) → refusal_of store.layout command map ≡ Some refusal)
+    → ((map : Stored) → refusal_of store.layout command map ≡ Some refusal) → asks_store command ≡ false
     → reply ≡ words_of (Refused refusal) command ++ at_step steps → cursor ≡ cursor_after command (Refused refusal) cursor
     → IsReplied tells store store command cursor cursor reply
-refused_still tells store cursor steps command refusal reply is counted refused text moved =
+refused_still tells store cursor steps command refusal reply is counted refused asks text moved =
     IsReplied-one tells store store cursor cursor steps command (Refused refusal) reply (DividesAlike-refl store) is counted
     (λ told. (refused (stored store), refl)) (λ told. keeps_before store store command (KeepsMap-refl store))
     (omega arith) (λ h. absurd h)
-    (λ told certain still. let none = no_change store.layout command (stored store) refusal (refused (stored store)) in omega arith)
+    (λ told. let none = no_change store.layout command (stored store) refusal (refused (stored store)) in let no_copy = copies_unasked store.layout (doubt_of store) command asks in omega arith)
+    (λ told here. sym (ap (λ (b : Bool). cond {A = Option (List ℕ)} b None (doubt_of store)) asks))
     text moved
 
 -- an identifier that no record has

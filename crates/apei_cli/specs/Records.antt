@@ -1,10 +1,10 @@
 -- Records in memory.
-use Rattle.std.specs.Prelude.{◌≡◌, ℕ, false, List, length, take, Result, Ok, Err, None, Some}
+use Rattle.std.specs.Prelude.{◌≡◌, ℕ, ◌+◌, ◌≤◌, List, length, take, Result, Ok, Err, None, Some}
 use Rattle.std.specs.FinMap.{get}
 use Rattle.record_model.specs.RecordMap.{Read, NotFound as not_found, Empty as empty, refusal_of}
 use Rattle.record_model.specs.History.{IsNamed}
 use Rattle.record_store.specs.Store.{StoreView, Idle, stored, KeepsMap, DividesAlike}
-use Rattle.record_store.specs.Answers.{HasFaultsOf, HasDoubtOf}
+use Rattle.record_store.specs.Answers.{HasFaultsOf, HasDoubtOf, EndsCopies, copies_of}
 use Rattle.record_store.specs.declared.errors.StoreError.{StoreError}
 use Rattle.record_store.specs.declared.errors.StoreError.TheVariants.{NoSpace, LastGeneration, NotFound, Empty, Flash, Small}
 use Rattle.apei_cli.specs.Script.{LineCommand, write, IsPlain, with_mark}
@@ -37,7 +37,8 @@ AnswersNamed old id bytes (Err (LastGeneration found)) = ⊥
 -- a call that looks for records and makes no change of the map: what it leaves
 pub record LooksUp {T : Type 0} (tells : Type 0) (old new : StoreView) (result : Result T StoreError) : Type 0 where
   pub kept : tells → KeepsMap old new
-  pub still : old.in_doubt ≡ false → new.flash.steps ≡ old.flash.steps
+  pub ended : tells → EndsCopies old new result
+  pub at_most : tells → new.flash.steps ≤ old.flash.steps + copies_of old
   pub doubt : HasDoubtOf new result
   pub idle : new.pending ≡ Idle
   pub alike : DividesAlike old new

@@ -1,17 +1,17 @@
 -- What a run of the program over a script leaves.
-use Rattle.std.specs.Prelude.{◌≡◌, ◌≤◌, ◌⊎◌, ℕ, ◌+◌, ◌-◌, ◌*◌, List, String}
+use Rattle.std.specs.Prelude.{◌≡◌, ◌≤◌, ◌⊎◌, ℕ, ◌+◌, ◌-◌, ◌*◌, List, String, None}
 use Rattle.std.specs.declared.alloc.Global.{Global}
 use Rattle.base_model.specs.Faults.{Rose}
 use Rattle.flash_words.specs.Flash.{FlashState}
 use Rattle.flash_words.specs.Layout.{Layout, reach_of}
 use Rattle.flash_model.specs.Limits.{IsGeometry}
 use Rattle.record_model.specs.Records.{second_copies}
-use Rattle.record_model.specs.History.{Played, ended_last, IsHistory, TakeSteps}
+use Rattle.record_model.specs.History.{Played, ended_last, IsHistory}
 use Rattle.record_store.specs.Store.{records_of}
 use Rattle.apei_cli.specs.Lines.{lines_of}
 use Rattle.apei_cli.specs.Plan.{IsPlanOf, AreBad}
 use Rattle.apei_cli.specs.declared.job.Plan.{Plan}
-use Rattle.apei_cli.specs.Plays.{longest_of, HasHardware, Plays, ArePlayable}
+use Rattle.apei_cli.specs.Plays.{longest_of, HasHardware, TakeEach, Plays, ArePlayable}
 use Rattle.apei_cli.specs.Statuses.{EndsBy, WritesReplies}
 use Rattle.apei_cli.specs.declared.status.Status.{Status}
 use Rattle.apei_cli.specs.declared.status.Status.TheVariants.{Done, BadWords, SourceFault, SinkFault, FlashFault, BadGeometry, TooLong, Memory, NotYet}
@@ -36,7 +36,7 @@ pub record HasGeometry (plan : Plan) (flash : FlashState) : Type 0 where
 -- their replies
 pub record PlaysScript (told_source told_sink told_flash : Type 0) (layout : Layout) (script rest written written_now : List ℕ) (old new : FlashState) (status : Status) : Type 0 where
   pub commands : List Played
-  pub plays : Plays told_flash (Unit {0}) layout 0 old new commands
+  pub plays : Plays told_flash None layout 0 old new commands
   pub lines : told_source → EndsBy (longest_of layout) script rest commands status
   pub text : told_sink → WritesReplies commands written written_now status
 
@@ -63,16 +63,16 @@ LeavesFlash FlashFault = ⊥
 LeavesFlash status = ComesFirst status
 
 -- The commands of a run. They are the history of the flash, their lines are those that the status says, and what was
--- written are their replies. The last one ended at the flash's last step: nothing is changed behind it. Where the flash's
--- count of faults did not rise no reply says `hardware`, and from the opening on each command takes exactly the steps that
--- the map gives it.
+-- written are their replies. From the opening on each command takes exactly the steps that the map gives it, and those that
+-- end the doubt behind a `hardware`, whatever came before it. The last one ended at the flash's last step: nothing is
+-- changed behind it. Where the flash's count of faults did not rise no reply says `hardware`.
 pub record IsRun (told_source told_sink told_flash : Type 0) (plan : Plan) (script rest written written_now : List ℕ) (old new : FlashState) (status : Status) : Type 0 where
   pub commands : List Played
   pub history : told_flash → (layout : Layout) → IsLayoutOf plan layout → IsHistory layout 0 (records_of layout) old.told new.told commands
-  pub steps : told_flash → (layout : Layout) → IsLayoutOf plan layout → ¬ Rose old.faults new.faults
-      → TakeSteps layout (opened_at layout old) commands (records_of layout old.told.image)
+  pub steps : told_flash → (layout : Layout) → IsLayoutOf plan layout
+      → TakeEach layout new.told (opened_at layout old) None commands (records_of layout old.told.image)
   pub ended : ended_last new.steps commands ≡ new.steps
-  pub opened : told_flash → (layout : Layout) → IsLayoutOf plan layout → ¬ Rose old.faults new.faults → ¬ ComesFirst status
+  pub opened : told_flash → (layout : Layout) → IsLayoutOf plan layout → ¬ ComesFirst status
       → ended_last (opened_at layout old) commands ≡ new.steps
   pub cause : HasHardware commands → Rose old.faults new.faults
   pub lines : told_source → EndsBy (longest_by plan) script rest commands status

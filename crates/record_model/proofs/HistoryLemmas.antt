@@ -6,7 +6,7 @@ use Rattle.flash_words.specs.Flash.{Told, IsLater, Leaves}
 use Rattle.flash_words.specs.Layout.{Layout}
 use Rattle.record_model.specs.Records.{Stored}
 use Rattle.record_model.specs.RecordMap.{after}
-use Rattle.record_model.specs.History.{Played, IsAnswered, cursor_after, cursor_left, left_by, left_by_all, AreAnswered, TakeSteps, ended_last, EndInOrder, Shows, ShowsEach, IsHistory}
+use Rattle.record_model.specs.History.{Played, IsAnswered, cursor_after, cursor_left, left_by, left_by_all, AreAnswered, EndInOrder, Shows, ShowsEach, IsHistory}
 use Rattle.flash_words.proofs.CrashLemmas.{IsLater-refl, IsLater-then, past_grows, image_at-later, image_at-now, CrashImage-earlier, CrashImage-now}
 
 on_true : (b : Bool) (P Q : Type 0) → b ≡ true → P → MatchBool b P Q
@@ -36,13 +36,6 @@ AreAnswered-append : (layout : Layout) (cursor : ℕ) (some more : List Played) 
 AreAnswered-append layout cursor [] more stored first second = second
 AreAnswered-append layout cursor (played ∷ rest) more stored first second =
     (first.0, AreAnswered-append layout (cursor_after played.command played.answer cursor) rest more (left_by layout played stored) first.1 second)
-
-pub TakeSteps-append : (layout : Layout) (from mid : ℕ) (some more : List Played) (stored : Stored) → ended_last from some ≡ mid
-    → TakeSteps layout from some stored → TakeSteps layout mid more (left_by_all layout some stored)
-    → TakeSteps layout from (some ++ more) stored
-TakeSteps-append layout from mid [] more stored last first second = subst (λ (n : ℕ). TakeSteps layout n more stored) (sym last) second
-TakeSteps-append layout from mid (played ∷ rest) more stored last first second =
-    (first.0, TakeSteps-append layout played.ended mid rest more (left_by layout played stored) last first.1 second)
 
 EndInOrder-earlier : (from start : ℕ) (played : List Played) (to : ℕ) → from ≤ start → EndInOrder start played to → EndInOrder from played to
 EndInOrder-earlier from start [] to h order = omega arith

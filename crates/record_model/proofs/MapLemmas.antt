@@ -1,10 +1,10 @@
 -- Laws of the record map.
 use Rattle.std.proofs.Common.{◌≡◌, ℕ, ◌+◌, ◌-◌, Bool, false, cond, List, length, Option, Some, None, ap, ◌∙◌, arith}
 use Rattle.std.specs.Prelude.{nat_lt, is_none}
-use Rattle.std.specs.FinMap.{get, insert}
+use Rattle.std.specs.FinMap.{get}
 use Rattle.flash_words.specs.Layout.{Layout, room_of}
 use Rattle.record_model.specs.Records.{Stored, is_reserved, parts_of, parts_in}
-use Rattle.record_model.specs.RecordMap.{free_by, Command, Write, Refusal, Failed, NoSpace, is_last_generation, slots_wanted, next_generation, refusal_of, made_by, after}
+use Rattle.record_model.specs.RecordMap.{free_by, Command, Write, Refusal, Failed, NoSpace, is_last_generation, slots_wanted, refusal_of, made_by, after}
 
 -- a new identifier is refused only for want of space
 pub refusal_of-new : (layout : Layout) (free id : ℕ) (bytes : List ℕ) (stored : Stored) → is_reserved id ≡ false → get stored id ≡ None → free + parts_in (room_of layout) stored ≡ layout.slots

@@ -1,12 +1,11 @@
 -- When the map refuses a command, by what it has under the identifier and by how many slots are free.
-use Rattle.std.proofs.Common.{◌≡◌, ◌≢◌, ℕ, suc, ◌+◌, ◌-◌, ◌*◌, ◌<◌, ◌≤◌, Bool, true, false, cond, nat_eq, List, length, Option, Some, None, refl, sym, ap, ◌∙◌, arith}
+use Rattle.std.proofs.Common.{◌≡◌, ◌≢◌, ℕ, ◌+◌, ◌-◌, ◌<◌, ◌≤◌, Bool, true, false, cond, nat_eq, List, length, Option, Some, None, sym, ap, ◌∙◌, arith}
 use Rattle.std.specs.Prelude.{nat_lt, is_none, is_some, ◌||◌}
-use Rattle.std.specs.FinMap.{get, insert, remove, len}
+use Rattle.std.specs.FinMap.{get, len}
 use Rattle.std.proofs.lemmas.Bool.{lt-ltb, le-ltb, eq-eqb, ne_eqb}
-use Rattle.std.proofs.Math.Nat.{add-mul}
 use Rattle.flash_words.specs.Layout.{Layout, room_of}
-use Rattle.record_model.specs.Records.{Stored, is_reserved, parts_of, part_len, parts_in}
-use Rattle.record_model.specs.RecordMap.{free_by, changes_of_parts, pieces_of_parts, Command, Write, Clear, Read, Refusal, Failed, NoSpace, NotFound, Empty, LAST_GENERATION, is_last_generation, slots_wanted, next_generation, pieces_of, changes_of_write, changes_made, changes_of, refusal_of, made_by}
+use Rattle.record_model.specs.Records.{Stored, is_reserved, parts_of, parts_in}
+use Rattle.record_model.specs.RecordMap.{free_by, changes_of_parts, Command, Write, Clear, Read, Refusal, Failed, NoSpace, NotFound, Empty, LAST_GENERATION, is_last_generation, slots_wanted, changes_of_write, changes_made, changes_of, refusal_of}
 use Rattle.record_model.proofs.MapLemmas.{refusal_of-new}
 
 -- no record has identifier 0

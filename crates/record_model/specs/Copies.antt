@@ -33,6 +33,7 @@ unfoldable pub is_behind : (ℕ → Option Entry) → ℕ → Entry → ℕ → 
 is_behind entry zero this k = false
 is_behind entry (suc n) this k = goes_before (entry n) n this k || is_behind entry n this k
 
+-- the record of slot k, if it has one, is that of its identifier: that of none of the first n slots goes before it
 abbrev pub leads : (ℕ → Option Entry) → ℕ → Option Entry → ℕ → Bool
 leads entry n None k = false
 leads entry n (Some this) k = not (is_behind entry n this k)

@@ -1,5 +1,5 @@
 -- What stands in a slot while a part of a record is written into it.
-use Rattle.std.specs.Prelude.{◌≡◌, ◌≢◌, ℕ, zero, suc, ◌+◌, ◌-◌, ◌*◌, ◌<◌, ◌≤◌, min, false, List, [], ◌∷◌, length, take, drop}
+use Rattle.std.specs.Prelude.{◌≡◌, ◌≢◌, ℕ, zero, suc, ◌+◌, ◌-◌, ◌*◌, ◌<◌, min, false, List, [], ◌∷◌, length, take, drop}
 use Rattle.base_model.specs.Bytes.{SameOutside, part}
 use Rattle.flash_words.specs.Flash.{IsErased}
 use Rattle.flash_words.specs.Layout.{Layout}

@@ -1,5 +1,5 @@
 -- The free slots: those that are no slot of any record.
-use Rattle.std.specs.Prelude.{ℕ, zero, suc, ◌+◌, Bool, true, false, ◌==◌, ◌||◌, not, if◌then◌else◌, Option, Some, None}
+use Rattle.std.specs.Prelude.{ℕ, zero, suc, ◌+◌, Bool, true, false, ◌==◌, ◌||◌, not, Option, Some, None}
 use Rattle.std.specs.List.{list_any}
 use Rattle.record_model.specs.Entries.{Entry}
 

@@ -1,11 +1,11 @@
 -- The history of a run: its commands with their answers and the flash steps at which they ended, the maps that they
 -- make one after another, and what power lost at any step shows.
-use Rattle.std.specs.Prelude.{◌≡◌, ◌≢◌, ℕ, ◌+◌, ◌≤◌, ◌⊎◌, Bool, true, false, nat_le, MatchBool, if◌then◌else◌, List, [], ◌∷◌, length, Option, Some, None}
+use Rattle.std.specs.Prelude.{◌≡◌, ◌≢◌, ℕ, ◌≤◌, ◌⊎◌, Bool, true, false, nat_le, MatchBool, if◌then◌else◌, List, [], ◌∷◌, length, Option, Some, None}
 use Rattle.std.specs.FinMap.{get, len}
 use Rattle.flash_words.specs.Flash.{Told, CrashImage, IsLater, image_at}
 use Rattle.flash_words.specs.Layout.{Layout}
 use Rattle.record_model.specs.Records.{Stored, is_reserved}
-use Rattle.record_model.specs.RecordMap.{Command, Write, WriteOversize, Clear, Read, Count, Next, Refusal, NotFound, IsNextAbove, refusal_of, after, changes_of}
+use Rattle.record_model.specs.RecordMap.{Command, Write, WriteOversize, Clear, Read, Count, Next, Refusal, NotFound, IsNextAbove, refusal_of, after}
 
 -- how a command was answered: a write or clear is done, a read shows the record of an identifier, a count is a number,
 -- and next is an identifier or the end; a command may be refused by the map, or failed by the flash
@@ -88,13 +88,6 @@ AreAnswered layout cursor (played ∷ rest) stored =
 abbrev pub ended_last : ℕ → List Played → ℕ
 ended_last from [] = from
 ended_last from (played ∷ rest) = ended_last played.ended rest
-
--- each command takes exactly the flash steps that the map gives it, from a step on
-abbrev pub TakeSteps : Layout → ℕ → List Played → Stored → Type 0
-TakeSteps layout from [] stored = Unit {0}
-TakeSteps layout from (played ∷ rest) stored =
-    (played.ended ≡ from + changes_of layout played.command stored)
-    × TakeSteps layout played.ended rest (left_by layout played stored)
 
 -- the commands end one after another, between these steps
 abbrev pub EndInOrder : ℕ → List Played → ℕ → Type 0

@@ -11,16 +11,17 @@ use Rattle.flash_words.specs.Flash.{Told, FlashState, Changed, MayChange, IsEras
 use Rattle.record_model.specs.Records.{Slot, head_at, tail_at, slot_at, is_up, Entry, entry_of, entry_at, stored_in, IsChosen, holds, is_taken, HasOnlyFirst, HasNearlyOnlyFirst, OnlyFirstUp, NearlyOnlyFirstUp, parts_of, second_copies}
 use Rattle.flash_words.proofs.CrashLemmas.{Leaves-none, Leaves-change, Leaves-weaker, Leaves-then, Leaves-exit}
 use Rattle.record_model.proofs.ChosenLemmas.{IsChosen-unique, IsChosen-without}
-use Rattle.record_model.proofs.LiveLemmas.{IsKilled, up_entry, killed_others, kill_only, down_entry}
+use Rattle.record_model.proofs.LiveLemmas.{IsKilled, killed_others, kill_only, down_entry}
 use Rattle.record_model.proofs.SlotLemmas.{slots_apart, upright_parts, kill_byte, down_by_kill}
 use Rattle.record_model.proofs.KillLemmas.{scan_kill, taken_from}
 use Rattle.record_model.proofs.CountLemmas.{taken_by}
 use Rattle.record_model.proofs.PartsLemmas.{entry_len}
 use Rattle.record_recovery.specs.declared.found.Found.{Found}
 use Rattle.record_recovery.specs.declared.found.SlotOf.{SlotOf}
-use Rattle.record_recovery.specs.Listed.{AreListed, HasFirst, takes, with_number, list_below, free_slots, AreSlots}
+use Rattle.record_recovery.specs.Listed.{AreListed, HasFirst, takes, with_number, list_below, free_slots, first_records, AreSlots}
 use Rattle.record_recovery.specs.Recovered.{KeepsRecords, StaysNearly, ChangesFew, IsRecovered}
 use Rattle.record_recovery.specs.Settling.{IsSettled, CountsCopies}
+use Rattle.record_recovery.proofs.FirstRecords.{only_chosen, first_single, first_listed, first_is}
 use Rattle.record_recovery.proofs.FreeLemmas.{list_below-same, list_below-are, list_below-rising}
 use Rattle.record_model.proofs.SpareLemmas.{second_copies-none, second_copies-some, second_copies-fewer}
 
@@ -185,44 +186,51 @@ takes_is room place e k len further counted =
     let count : parts_of room place.len - 1 ≡ length e.further = omega arith in
     ap (λ (n : ℕ). list_any (λ m. k == m) (place.slot ∷ take n place.next)) count ∙ ap (λ (xs : List ℕ). list_any (λ m. k == m) (place.slot ∷ xs)) (sym further)
 
--- so the slots that are none of a record that was found are the free ones
-pub taken_is : (size slots k : ℕ) (image : List ℕ) (ids : List ℕ) (places : List SlotOf) → 65 ≤ size → length image ≡ size * slots → length places ≡ length ids
-    → OnlyFirstUp size slots image → AreListed (entry_at size slots image) slots ids places
-    → is_taken (entry_at size slots image) slots k ≡ list_any (λ place. takes (size - 64) place k) places
-unfolding entry_at
-taken_is size slots k image ids places some sized paired only listed = elim (cases_Bool (list_any (λ place. takes (size - 64) place k) places)) [
+-- so the slots that are none of a record that was found are the free ones, where each record is that of its identifier
+pub taken_by_places : (room slots k : ℕ) (entry : ℕ → Option Entry) (ids : List ℕ) (places : List SlotOf) → length places ≡ length ids
+    → ((j : ℕ) (e : Entry) → j < slots → entry j ≡ Some e → IsChosen entry slots j e)
+    → ((j : ℕ) (e : Entry) → entry j ≡ Some e → 1 + length e.further ≡ parts_of room (length e.body))
+    → AreListed entry slots ids places → is_taken entry slots k ≡ list_any (λ place. takes room place k) places
+taken_by_places room slots k entry ids places paired single counted listed = elim (cases_Bool (list_any (λ place. takes room place k) places)) [
   | inl takes_it ↦
-      let at = any_at (λ place. takes (size - 64) place k) places takes_it in
+      let at = any_at (λ place. takes room place k) places takes_it in
       let low : at.0 < length places = at.1 in
       let d : SlotOf = record { slot = 0; generation = 0; len = 0; next = [] } in
       let place = listed.each at.0 d (omega arith) in
-      let here : entry_at size slots image (get_or places at.0 d).slot ≡ Some place.chosen = (place.is).here in
-      let counted = (entry_len size slots (get_or places at.0 d).slot image place.chosen some sized here).1 in
-      let held : holds (Some place.chosen) (get_or places at.0 d).slot k ≡ true = sym (takes_is (size - 64) (get_or places at.0 d) place.chosen k place.len place.further counted) ∙ at.2 d in
-      taken_from (entry_at size slots image) slots (get_or places at.0 d).slot k (place.is).within (ap (λ (o : Option Entry). holds o (get_or places at.0 d).slot k) here ∙ held) ∙ sym takes_it
-  | inr takes_none ↦ false_from_ne_true (is_taken (entry_at size slots image) slots k) (λ taken. both_ways (list_any (λ place. takes (size - 64) place k) places) takes_none (found_by taken)) ∙ sym takes_none
+      let here : entry (get_or places at.0 d).slot ≡ Some place.chosen = (place.is).here in
+      let held : holds (Some place.chosen) (get_or places at.0 d).slot k ≡ true =
+      sym (takes_is room (get_or places at.0 d) place.chosen k place.len place.further (counted (get_or places at.0 d).slot place.chosen here)) ∙ at.2 d in
+      taken_from entry slots (get_or places at.0 d).slot k (place.is).within (ap (λ (o : Option Entry). holds o (get_or places at.0 d).slot k) here ∙ held) ∙ sym takes_it
+  | inr takes_none ↦ false_from_ne_true (is_taken entry slots k) (λ taken. both_ways (list_any (λ place. takes room place k) places) takes_none (found_by taken)) ∙ sym takes_none
 ]
   where
-    by_record : (j : ℕ) → j < slots → (o : Option Entry) → entry_at size slots image j ≡ o → holds o j k ≡ true → list_any (λ place. takes (size - 64) place k) places ≡ true
+    by_record : (j : ℕ) → j < slots → (o : Option Entry) → entry j ≡ o → holds o j k ≡ true → list_any (λ place. takes room place k) places ≡ true
     by_record j h None is held = absurd (both_ways false refl held)
     by_record j h (Some e) is held =
         let d : SlotOf = record { slot = 0; generation = 0; len = 0; next = [] } in
-        let up = up_entry (size - 64) slots (slot_at size image) j e is in
-        let chosen = only.each j h up.1 in
+        let chosen = single j e h is in
         let index = listed.all j e h is in
         let low : index.0 < length ids = index.1 in
         let place = listed.each index.0 d low in
-        let mine : chosen.0 ≡ e = same_Some chosen.0 e (sym (chosen.1).here ∙ is) in
-        let at : (get_or places index.0 d).slot ≡ j =
-        IsChosen-unique (entry_at size slots image) slots (get_or places index.0 d).slot j place.chosen chosen.0 place.is chosen.1 (place.of_id ∙ index.2 ∙ ap (λ (x : Entry). x.id) (sym mine)) in
-        let same : place.chosen ≡ e = same_Some place.chosen e (sym (place.is).here ∙ ap (entry_at size slots image) at ∙ is) in
-        let counted = (entry_len size slots (get_or places index.0 d).slot image place.chosen some sized (place.is).here).1 in
-        at_any (λ p. takes (size - 64) p k) places index.0 d (omega arith)
-        (takes_is (size - 64) (get_or places index.0 d) place.chosen k place.len place.further counted
+        let at : (get_or places index.0 d).slot ≡ j = IsChosen-unique entry slots (get_or places index.0 d).slot j place.chosen e place.is chosen (place.of_id ∙ index.2) in
+        let same : place.chosen ≡ e = same_Some place.chosen e (sym (place.is).here ∙ ap entry at ∙ is) in
+        at_any (λ p. takes room p k) places index.0 d (omega arith)
+        (takes_is room (get_or places index.0 d) place.chosen k place.len place.further (counted (get_or places index.0 d).slot place.chosen (place.is).here)
         ∙ ap (λ (x : Entry). holds (Some x) (get_or places index.0 d).slot k) same ∙ ap (λ (m : ℕ). holds (Some e) m k) at ∙ held)
 
-    found_by : is_taken (entry_at size slots image) slots k ≡ true → list_any (λ place. takes (size - 64) place k) places ≡ true
-    found_by taken = let by = taken_by (entry_at size slots image) slots k taken in by_record by.0 by.1 (entry_at size slots image by.0) refl by.2
+    found_by : is_taken entry slots k ≡ true → list_any (λ place. takes room place k) places ≡ true
+    found_by taken = let by = taken_by entry slots k taken in by_record by.0 by.1 (entry by.0) refl by.2
+
+-- each record of an image has its parts
+pub parts_counted : (size slots : ℕ) (image : List ℕ) → 65 ≤ size → length image ≡ size * slots → (j : ℕ) (e : Entry) → entry_at size slots image j ≡ Some e
+    → 1 + length e.further ≡ parts_of (size - 64) (length e.body)
+parts_counted size slots image some sized j e here = (entry_len size slots j image e some sized here).1
+
+pub taken_is : (size slots k : ℕ) (image : List ℕ) (ids : List ℕ) (places : List SlotOf) → 65 ≤ size → length image ≡ size * slots → length places ≡ length ids
+    → OnlyFirstUp size slots image → AreListed (entry_at size slots image) slots ids places
+    → is_taken (entry_at size slots image) slots k ≡ list_any (λ place. takes (size - 64) place k) places
+taken_is size slots k image ids places some sized paired only listed =
+    taken_by_places (size - 64) slots k (entry_at size slots image) ids places paired (only_chosen size slots image only) (parts_counted size slots image some sized) listed
 
 -- at the end of the second pass
 pub settled_only : (size slots : ℕ) (old now : FlashState) (found : Found) → length found.places.items ≡ length found.ids.items → IsSettled size slots slots old now found → OnlyFirstUp size slots now.told.image
@@ -238,6 +246,17 @@ unfolding free_slots
 settled_free size slots old now found some sized paired had =
     list_below-same (λ k. not (is_taken (entry_at size slots now.told.image) slots k)) (λ k. not (list_any (λ place. takes (size - 64) place k) found.places.items)) slots
     (λ k h. ap not (sym (taken_is size slots k now.told.image found.ids.items found.places.items some sized paired (settled_only size slots old now found paired had) had.listed)))
+
+-- and those in which no first record stands
+pub free_first : (size slots : ℕ) (image : List ℕ) (ids : List ℕ) (places : List SlotOf) → 65 ≤ size → length image ≡ size * slots → length places ≡ length ids
+    → AreListed (entry_at size slots image) slots ids places
+    → list_below (λ k. not (list_any (λ place. takes (size - 64) place k) places)) slots ≡ free_slots (first_records (entry_at size slots image) slots) slots
+unfolding free_slots
+free_first size slots image ids places some sized paired listed =
+    let entry = first_records (entry_at size slots image) slots in
+    list_below-same (λ k. not (is_taken entry slots k)) (λ k. not (list_any (λ place. takes (size - 64) place k) places)) slots
+    (λ k h. ap not (sym (taken_by_places (size - 64) slots k entry ids places paired (first_single (entry_at size slots image) slots)
+    (λ j e here. parts_counted size slots image some sized j e (first_is (entry_at size slots image) slots j e here).1) (first_listed (entry_at size slots image) slots ids places listed))))
 
 -- no change, and one after another
 pub KeepsRecords-none : (size slots : ℕ) (told : Told) → KeepsRecords size slots told told
@@ -310,18 +329,19 @@ AreSlots-below test slots free is = subst (λ (xs : List ℕ). AreSlots slots xs
 })
 
 -- what both passes leave, from another word for the flash at the start
-pub IsRecovered-settled : (size slots : ℕ) (old mid new : FlashState) (listed found : Found) → 65 ≤ size → length new.told.image ≡ size * slots → mid.told ≡ old.told → mid.steps ≡ old.steps
+pub IsRecovered-settled : (size slots : ℕ) (old mid new : FlashState) (listed found : Found) → 65 ≤ size → length old.told.image ≡ size * slots → length new.told.image ≡ size * slots → mid.told ≡ old.told → mid.steps ≡ old.steps
     → found.ids ≡ listed.ids → found.places ≡ listed.places → length listed.places.items ≡ length listed.ids.items
     → found.free.items ≡ list_below (λ slot. not (list_any (λ place. takes (size - 64) place slot) listed.places.items)) slots
     → AreListed (entry_at size slots old.told.image) slots listed.ids.items listed.places.items
     → IsSettled size slots slots mid new listed → CountsCopies size slots mid new → IsRecovered size slots old new found
-IsRecovered-settled size slots old mid new listed found some sized told steps ids places paired free before settled counted = record {
+IsRecovered-settled size slots old mid new listed found some was_sized sized told steps ids places paired free before settled counted = record {
   before = subst (λ (xs : List ℕ). AreListed (entry_at size slots old.told.image) slots xs found.places.items) (sym (ap (λ v. v.items) ids))
       (subst (λ (ps : List SlotOf). AreListed (entry_at size slots old.told.image) slots listed.ids.items ps) (sym (ap (λ v. v.items) places)) before);
   after = subst (λ (xs : List ℕ). AreListed (entry_at size slots new.told.image) slots xs found.places.items) (sym (ap (λ v. v.items) ids))
       (subst (λ (ps : List SlotOf). AreListed (entry_at size slots new.told.image) slots listed.ids.items ps) (sym (ap (λ v. v.items) places)) settled.listed);
   only = only;
   free = free ∙ settled_free size slots mid new listed some sized paired settled;
+  free_before = free ∙ free_first size slots old.told.image listed.ids.items listed.places.items some was_sized paired before;
   steps =
       let none : second_copies size slots new.told.image ≡ 0 = second_copies-none size slots new.told.image only in
       let same : second_copies size slots mid.told.image ≡ second_copies size slots old.told.image = ap (λ (t : Told). second_copies size slots t.image) told in

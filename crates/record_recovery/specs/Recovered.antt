@@ -4,7 +4,7 @@ use Rattle.base_model.specs.Faults.{HasCause}
 use Rattle.flash_words.specs.Flash.{Told, FlashState, Leaves, LosesOnlyByChange, raised}
 use Rattle.record_model.specs.Records.{entry_at, stored_in, OnlyFirstUp, NearlyOnlyFirstUp, second_copies}
 use Rattle.record_recovery.specs.declared.found.Found.{Found}
-use Rattle.record_recovery.specs.Listed.{AreListed, free_slots}
+use Rattle.record_recovery.specs.Listed.{AreListed, free_slots, first_records}
 
 -- power lost on the way leaves the records of the image at the start
 abbrev pub KeepsRecords : ℕ → ℕ → Told → Told → Type 0
@@ -21,12 +21,14 @@ abbrev pub ChangesFew : ℕ → ℕ → FlashState → FlashState → Type 0
 ChangesFew slot_size slots old new = new.steps ≤ old.steps + second_copies slot_size slots old.told.image
 
 -- what was found are the records of the old image with their places, which are those of the new one too; there only first
--- slots of records are upright, and each slot that is not upright any more took one change
+-- slots of records are upright, and each slot that is not upright any more took one change. The free slots are those of the
+-- new image, and so those of the old one in which no first record stands
 pub record IsRecovered (slot_size slots : ℕ) (old new : FlashState) (found : Found) : Type 0 where
   pub before : AreListed (entry_at slot_size slots old.told.image) slots found.ids.items found.places.items
   pub after : AreListed (entry_at slot_size slots new.told.image) slots found.ids.items found.places.items
   pub only : OnlyFirstUp slot_size slots new.told.image
   pub free : found.free.items ≡ free_slots (entry_at slot_size slots new.told.image) slots
+  pub free_before : found.free.items ≡ free_slots (first_records (entry_at slot_size slots old.told.image) slots) slots
   pub steps : new.steps ≡ old.steps + second_copies slot_size slots old.told.image
 
 -- of a flash that was scanned the size and the size of its sectors stay, head and tail mark of each slot are read once,

@@ -17,7 +17,8 @@ use Rattle.record_draft.specs.declared.draft.Draft.{Draft}
 use Rattle.record_draft.specs.declared.draft.Stage.{Stage}
 use Rattle.record_recovery.specs.declared.found.Found.{Found}
 use Rattle.record_recovery.specs.declared.found.SlotOf.{SlotOf}
-use Rattle.record_recovery.specs.Listed.{free_slots}
+use Rattle.record_recovery.specs.Listed.{free_slots, first_records}
+use Rattle.record_recovery.proofs.FirstRecords.{free_slots-only}
 use Rattle.record_recovery.proofs.TakenLemmas.{least_free}
 use Rattle.record_store.specs.Index.{IsListing, IsPlaceFound}
 use Rattle.record_store.specs.Store.{StoreView, Pending, Idle, Writing, records_of, slots_for, IsReady}
@@ -143,7 +144,8 @@ module _ (tells : Type 0) (geometry : Geometry) (flash : FlashState) (found : Fo
       let free : slots_in draft ≡ take (parts_of (geometry.slot_size - 64) (length bytes)) (free_slots entry geometry.slots) =
       takes.taken ∙ ap (λ (n : ℕ). take n found.free.items) planned.parts ∙ ap (take (parts_of (geometry.slot_size - 64) (length bytes))) known.list.free in
       let here : slots_in draft ≡ slots_for (view_of geometry new doubt Idle) (length bytes) =
-      free ∙ ap (λ (t : Told). take (parts_of (geometry.slot_size - 64) (length bytes)) (free_slots (entry_at geometry.slot_size geometry.slots t.image) geometry.slots)) (sym (same told)) in
+      free ∙ ap (take (parts_of (geometry.slot_size - 64) (length bytes))) (sym (free_slots-only geometry.slot_size geometry.slots flash.told.image known.only))
+      ∙ ap (λ (t : Told). take (parts_of (geometry.slot_size - 64) (length bytes)) (free_slots (first_records (entry_at geometry.slot_size geometry.slots t.image) geometry.slots) geometry.slots)) (sym (same told)) in
       subst (λ (u : StoreView). StartsWrite u (view_of geometry new doubt (pending_of (layout_of geometry) written (works.Write draft stage replaced))) id bytes (Ok x)) is (
         planned_taken tells geometry found flash.told.image id bytes draft replaced planned store.listing known (sized told),
         begun_pending begins store.listing ∙ ap (λ (xs : List ℕ). Writing id bytes xs (is_some replaced) 0) here
@@ -178,7 +180,7 @@ same_view geometry flash new doubt pending v is ready same =
 starts_none : (tells : Type 0) (v : StoreView) → IsReady v → OnlyStarts tells v v (Err NotFound)
 starts_none tells v ready =
     let looks = looks_ready {T = Unit {0}} tells v tt ready in
-    record { kept = looks.kept; few = looks.few; ended = looks.ended; doubt = ready; alike = looks.alike; power = looks.power; cause = refl }
+    record { kept = looks.kept; few = looks.few; ended = looks.ended; at_most = looks.at_most; doubt = ready; alike = looks.alike; power = looks.power; cause = refl }
 
 pub refused_start : (tells : Type 0) (count : Unit {0} → ℕ) (reads : ℕ) (geometry : Geometry) (flash new : FlashState) (found : Found) (buffer : List ℕ) (doubt : Bool) (work : Work) (v : StoreView) (id : ℕ) (bytes : List ℕ)
     (error : StoreError) (T : Type 0) → IsStore tells geometry flash found buffer doubt work → view_of geometry flash doubt (pending_of (layout_of geometry) buffer work) ≡ v → IsReady v
@@ -195,7 +197,7 @@ refused_start tells count reads geometry flash new found buffer doubt work v id 
           let refused = refused_no_space geometry found flash.told.image id free bytes (by.1).0 by.0 (by.1).1 (by.1).2 (by.1).3 store.listing known (sized told) in
           (refused.0, refused.1, refl));
       still = refl;
-      leaves = record { kept = none.kept; few = none.few; ended = none.ended; doubt = ready; alike = none.alike; power = none.power; cause = refl };
+      leaves = record { kept = none.kept; few = none.few; ended = none.ended; at_most = none.at_most; doubt = ready; alike = none.alike; power = none.power; cause = refl };
     })
 refused_start tells count reads geometry flash new found buffer doubt work v id bytes (LastGeneration number) T store is ready sized by same =
     let view = same_view geometry flash new doubt (pending_of (layout_of geometry) buffer work) v is ready same in
@@ -208,7 +210,7 @@ refused_start tells count reads geometry flash new found buffer doubt work v id 
           let refused = refused_at_last geometry flash.told.image id bytes place.0 by.0 place.1 (place.2 (entry_at geometry.slot_size geometry.slots flash.told.image) known.list) in
           (refused.0, by.1, refused.1, refl));
       still = refl;
-      leaves = record { kept = none.kept; few = none.few; ended = none.ended; doubt = ready; alike = none.alike; power = none.power; cause = refl };
+      leaves = record { kept = none.kept; few = none.few; ended = none.ended; at_most = none.at_most; doubt = ready; alike = none.alike; power = none.power; cause = refl };
     })
 refused_start tells count reads geometry flash new found buffer doubt work v id bytes NotFound T store is ready sized by same = absurd by
 refused_start tells count reads geometry flash new found buffer doubt work v id bytes Empty T store is ready sized by same = absurd by

@@ -1,19 +1,17 @@
 -- The changes of a command, one after another.
-use Rattle.std.proofs.Common.{◌≡◌, ◌⊎◌, ℕ, ◌+◌, ◌-◌, ◌<◌, ◌≤◌, Bool, true, false, cond, nat_eq, List, length, take, Option, Some, None, Result, Ok, Err, refl, sym, ap, subst, ◌∙◌, arith, inl, inr}
+use Rattle.std.proofs.Common.{◌≡◌, ◌⊎◌, ℕ, ◌+◌, ◌-◌, ◌<◌, ◌≤◌, Bool, true, false, cond, nat_eq, List, length, Option, Some, None, Result, Ok, Err, refl, sym, ap, subst, ◌∙◌, arith, inl, inr}
 use Rattle.std.specs.Prelude.{nat_le, is_some, OnOk}
 use Rattle.std.specs.FinMap.{get}
 use Rattle.std.proofs.lemmas.Bool.{cases_eq, cases_lt, cond-true, cond-false, eq-eqb, ne_eqb, le-leb, lt-leb}
 use Rattle.std.proofs.lemmas.Result.{on_ok_weaker}
-use Rattle.flash_words.specs.Flash.{FlashState, Told}
-use Rattle.flash_words.specs.Layout.{Layout, room_of}
+use Rattle.flash_words.specs.Layout.{Layout}
 use Rattle.flash_words.proofs.CrashLemmas.{Leaves-none, Leaves-weaker, Leaves-then, Leaves-exit}
-use Rattle.record_model.specs.Records.{Stored, entry_at, parts_of}
+use Rattle.record_model.specs.Records.{Stored}
 use Rattle.record_model.specs.RecordMap.{Command, Write, Clear, Refusal, Failed, NoSpace as no_space, NotFound as not_found, refusal_of, after, changes_of, made_by}
 use Rattle.record_model.proofs.MapLemmas.{after-done}
 use Rattle.record_model.proofs.RefusalLemmas.{changes_of-refused, changes_of-new, changes_of-over, changes_of-clear}
-use Rattle.record_recovery.specs.Listed.{free_slots}
 use Rattle.record_store.specs.Store.{StoreView, Pending, Idle, Writing, Clearing, stored, records_of, map_after, pending_after, changes_before_gate, changes_in_all, StandsIn, slots_for, PlacedAfter, KeepsOrMakes, KeepsMap, DividesAlike}
-use Rattle.record_store.specs.Answers.{FailsByFlash, AnswersWrite, AnswersClear, RefusesWrite, RefusesClear, UnlessFlash, HasFaultsOf, HasDoubtOf, StartsWrite, StartsClear, ReadsExactly, StartsByItself}
+use Rattle.record_store.specs.Answers.{FailsByFlash, AnswersWrite, AnswersClear, RefusesWrite, RefusesClear, UnlessFlash, HasFaultsOf, HasDoubtOf, StartsWrite, StartsClear, TakesReads, copies_of}
 use Rattle.record_store.specs.Calls.{OnlyStarts, Changes}
 use Rattle.record_store.specs.declared.errors.StoreError.{StoreError}
 use Rattle.record_store.specs.declared.errors.StoreError.TheVariants.{NoSpace, LastGeneration, NotFound, Empty, Flash, Small}
@@ -168,6 +166,7 @@ IsOnWay-none tells v some = record {
   unfinished = some;
   left = refl;
   faults = refl;
+  reads = refl;
   alike = alike_refl v;
   places = λ image at_end. at_end;
   end = λ told. refl;
@@ -206,14 +205,15 @@ way_crash tells old mid new way told step =
 pub record HasGoneOn (tells : Type 0) (old new : StoreView) : Type 0 where
   pub left : new.flash.steps + changes_left new.layout new.pending ≡ old.flash.steps + changes_left old.layout old.pending
   pub faults : new.flash.faults ≡ old.flash.faults
+  pub reads : new.flash.reads ≡ old.flash.reads
   pub alike : DividesAlike old new
   pub end : tells → map_at_end new.layout new.pending (stored new) ≡ map_at_end old.layout old.pending (stored old)
   pub crash : tells → KeepsOrMakes old new (map_at_end old.layout old.pending (stored old))
 
 pub gone_on : (tells : Type 0) (old mid new : StoreView) → IsOnWay tells old mid → new.pending ≡ pending_after mid.layout mid.pending
     → (tells → stored new ≡ map_after mid.layout mid.pending (stored mid)) → (tells → KeepsOrMakes mid new (map_after mid.layout mid.pending (stored mid)))
-    → new.flash.steps ≡ mid.flash.steps + 1 → DividesAlike mid new → new.flash.faults ≡ mid.flash.faults → HasGoneOn tells old new
-gone_on tells old mid new way pending made crash step alike faults =
+    → new.flash.steps ≡ mid.flash.steps + 1 → DividesAlike mid new → new.flash.faults ≡ mid.flash.faults → new.flash.reads ≡ mid.flash.reads → HasGoneOn tells old new
+gone_on tells old mid new way pending made crash step alike faults reads =
     let layout : new.layout ≡ mid.layout = alike.layout in
     let at_new : changes_left new.layout new.pending ≡ changes_left mid.layout (pending_after mid.layout mid.pending) =
     ap (λ (l : Layout). changes_left l new.pending) layout ∙ ap (changes_left mid.layout) pending in
@@ -222,6 +222,7 @@ gone_on tells old mid new way pending made crash step alike faults =
     record {
       left = omega arith;
       faults = faults ∙ way.faults;
+      reads = reads ∙ way.reads;
       alike = alike_then old mid new way.alike alike;
       end = λ told.
           ap (λ (l : Layout). map_at_end l new.pending (stored new)) layout ∙ ap (λ (p : Pending). map_at_end mid.layout p (stored new)) pending
@@ -238,6 +239,7 @@ IsOnWay-more tells old mid new way pending goes_on layout gone = record {
       (subst (λ (p : Pending). IsUnfinished mid.layout p) (sym pending) (step_unfinished mid.layout mid.pending way.unfinished (λ idle. goes_on (pending ∙ idle))));
   left = gone.left;
   faults = gone.faults;
+  reads = gone.reads;
   alike = gone.alike;
   places = λ image at_end. way.places image
       (subst (λ (l : Layout). PlacedAtEnd l mid.pending image) way.alike.layout
@@ -322,9 +324,9 @@ unless_flash (Err Empty) P fails ok = absurd (cc)
 unless_flash (Err Flash) P fails ok = tt
 unless_flash (Err (Small need)) P fails ok = absurd (cc)
 
--- a command that is refused makes no change
-refused_steps : (old new : StoreView) (command : Command) (refusal : Refusal) → refusal_of old.layout command (stored old) ≡ Some refusal → new.flash.steps ≡ old.flash.steps
-    → new.flash.steps ≡ old.flash.steps + changes_of old.layout command (stored old)
+-- a command that is refused makes no change but those that end copies
+refused_steps : (old new : StoreView) (command : Command) (refusal : Refusal) → refusal_of old.layout command (stored old) ≡ Some refusal → new.flash.steps ≡ old.flash.steps + copies_of old
+    → new.flash.steps ≡ old.flash.steps + (copies_of old + changes_of old.layout command (stored old))
 refused_steps old new command refusal refused same =
     let none : changes_of old.layout command (stored old) ≡ 0 = changes_of-refused old.layout command (stored old) refusal refused in
     omega arith
@@ -353,6 +355,7 @@ pub record IsFinished (tells : Type 0) (old new : StoreView) (result : Result (U
   pub crash : tells → KeepsOrMakes old new (map_at_end old.layout old.pending (stored old))
   pub steps : OnOk result (new.flash.steps ≡ old.flash.steps + changes_left old.layout old.pending)
   pub at_most : new.flash.steps ≤ old.flash.steps + changes_left old.layout old.pending
+  pub reads : new.flash.reads ≡ old.flash.reads
   pub doubt : HasDoubtOf new result
   pub idle : new.pending ≡ Idle
   pub alike : DividesAlike old new
@@ -363,15 +366,18 @@ finish_cause : (before mid after : ℕ) (result : Result (Unit {0}) StoreError) 
 finish_cause before mid after result fails same cause = subst (λ (n : ℕ). HasFaultsOf n after result) same cause
 
 changes_begun : (tells : Type 0) (old mid new : StoreView) (command : Command) (x : Unit {0}) (result : Result (Unit {0}) StoreError) → OnlyStarts tells old mid (Ok x) → IsFinished tells mid new result
-    → (old.in_doubt ≡ false → mid.flash.steps ≡ old.flash.steps) → (tells → map_at_end mid.layout mid.pending (stored mid) ≡ after old.layout command (stored old))
+    → (tells → map_at_end mid.layout mid.pending (stored mid) ≡ after old.layout command (stored old))
     → (tells → changes_left mid.layout mid.pending ≡ changes_of old.layout command (stored old)) → Changes tells old new command result
-changes_begun tells old mid new command x result starts finished still end left = record {
+changes_begun tells old mid new command x result starts finished end left = record {
   crash = λ told.
       begun_then old mid new (after old.layout command (stored old)) (map_at_end mid.layout mid.pending (stored mid)) (starts.kept told) starts.alike (end told) (finished.crash told);
-  steps = λ told sure.
-      unless_flash result (new.flash.steps ≡ old.flash.steps + changes_of old.layout command (stored old)) finished.error
-      (on_ok_weaker result (λ took. took ∙ ap (λ (n : ℕ). n + changes_left mid.layout mid.pending) (still sure) ∙ ap (λ (n : ℕ). old.flash.steps + n) (left told)) finished.steps);
+  steps = λ told.
+      unless_flash result (new.flash.steps ≡ old.flash.steps + (copies_of old + changes_of old.layout command (stored old))) finished.error
+      (on_ok_weaker result (λ took. in_all mid.flash.steps new.flash.steps old.flash.steps (copies_of old) (changes_left mid.layout mid.pending) (changes_of old.layout command (stored old)) (starts.ended told) took (left told))
+      finished.steps);
   few = λ told. few_in_all mid.flash.steps new.flash.steps old.flash.steps (changes_left mid.layout mid.pending) (changes_of old.layout command (stored old)) (starts.few told) finished.at_most (left told);
+  at_most = λ told.
+      at_most_in_all mid.flash.steps new.flash.steps old.flash.steps (copies_of old) (changes_left mid.layout mid.pending) (changes_of old.layout command (stored old)) (starts.at_most told) finished.at_most (left told);
   doubt = finished.doubt;
   idle = finished.idle;
   alike = alike_then old mid new starts.alike finished.alike;
@@ -382,14 +388,21 @@ changes_begun tells old mid new command x result starts finished still end left 
     few_in_all : (m n o l all : ℕ) → m ≤ o + 1 → n ≤ m + l → l ≡ all → n ≤ o + 1 + all
     few_in_all m n o l all started made is = omega arith
 
+    in_all : (m n o c l all : ℕ) → m ≡ o + c → n ≡ m + l → l ≡ all → n ≡ o + (c + all)
+    in_all m n o c l all started made is = omega arith
+
+    at_most_in_all : (m n o c l all : ℕ) → m ≤ o + c → n ≤ m + l → l ≡ all → n ≤ o + (c + all)
+    at_most_in_all m n o c l all started made is = omega arith
+
 -- a start that was refused or failed
 changes_refused : (tells : Type 0) (old new : StoreView) (command : Command) (error : StoreError) → OnlyStarts tells old new (Err error)
-    → (tells → old.in_doubt ≡ false → UnlessFlash {T = Unit {0}} (Err error) (new.flash.steps ≡ old.flash.steps + changes_of old.layout command (stored old)))
+    → (tells → UnlessFlash {T = Unit {0}} (Err error) (new.flash.steps ≡ old.flash.steps + (copies_of old + changes_of old.layout command (stored old))))
     → HasDoubtOf {T = Unit {0}} new (Err error) → new.pending ≡ Idle → Changes tells old new command (Err error)
 changes_refused tells old new command error starts steps doubt idle = record {
   crash = λ told. kept_or_made old new (after old.layout command (stored old)) (starts.kept told);
   steps = steps;
   few = λ told. let few = starts.few told in omega arith;
+  at_most = λ told. let few = starts.at_most told in omega arith;
   doubt = doubt;
   idle = idle;
   alike = starts.alike;
@@ -405,52 +418,47 @@ idle_after new Empty doubt = doubt.idle
 idle_after new Flash doubt = doubt.idle
 idle_after new (Small need) doubt = doubt.idle
 
-pub write_refused : (tells : Type 0) (old new : StoreView) (id : ℕ) (bytes : List ℕ) (count : Unit {0} → ℕ) (error : StoreError) → OnlyStarts tells old new (Err error)
-    → (tells → RefusesWrite old new id bytes error) → (old.in_doubt ≡ false → ReadsExactly {T = Unit {0}} tells count old new (Err error)) → Changes tells old new (Write id bytes) (Err error)
-write_refused tells old new id bytes count (NoSpace free) starts answer still =
+pub write_refused : (tells : Type 0) (old new : StoreView) (id : ℕ) (bytes : List ℕ) (error : StoreError) → OnlyStarts tells old new (Err error)
+    → (tells → RefusesWrite old new id bytes error) → Changes tells old new (Write id bytes) (Err error)
+write_refused tells old new id bytes (NoSpace free) starts answer =
     changes_refused tells old new (Write id bytes) (NoSpace free) starts
-    (λ told sure. refused_steps old new (Write id bytes) no_space (answer told).0 (ap (λ (v : StoreView). v.flash.steps) (still sure))) starts.doubt starts.doubt.idle
-write_refused tells old new id bytes count (LastGeneration number) starts answer still =
+    (λ told. refused_steps old new (Write id bytes) no_space (answer told).0 (starts.ended told)) starts.doubt starts.doubt.idle
+write_refused tells old new id bytes (LastGeneration number) starts answer =
     changes_refused tells old new (Write id bytes) (LastGeneration number) starts
-    (λ told sure. refused_steps old new (Write id bytes) Failed (answer told).0 (ap (λ (v : StoreView). v.flash.steps) (still sure))) starts.doubt starts.doubt.idle
-write_refused tells old new id bytes count NotFound starts answer still = changes_refused tells old new (Write id bytes) NotFound starts (λ told sure. absurd (answer told)) starts.doubt starts.doubt.idle
-write_refused tells old new id bytes count Empty starts answer still = changes_refused tells old new (Write id bytes) Empty starts (λ told sure. absurd (answer told)) starts.doubt starts.doubt.idle
-write_refused tells old new id bytes count Flash starts answer still = changes_refused tells old new (Write id bytes) Flash starts (λ told sure. tt) starts.doubt starts.doubt.idle
-write_refused tells old new id bytes count (Small need) starts answer still = changes_refused tells old new (Write id bytes) (Small need) starts (λ told sure. absurd (answer told)) starts.doubt starts.doubt.idle
+    (λ told. refused_steps old new (Write id bytes) Failed (answer told).0 (starts.ended told)) starts.doubt starts.doubt.idle
+write_refused tells old new id bytes NotFound starts answer = changes_refused tells old new (Write id bytes) NotFound starts (λ told. absurd (answer told)) starts.doubt starts.doubt.idle
+write_refused tells old new id bytes Empty starts answer = changes_refused tells old new (Write id bytes) Empty starts (λ told. absurd (answer told)) starts.doubt starts.doubt.idle
+write_refused tells old new id bytes Flash starts answer = changes_refused tells old new (Write id bytes) Flash starts (λ told. tt) starts.doubt starts.doubt.idle
+write_refused tells old new id bytes (Small need) starts answer = changes_refused tells old new (Write id bytes) (Small need) starts (λ told. absurd (answer told)) starts.doubt starts.doubt.idle
 
 pub clear_refused : (tells : Type 0) (old new : StoreView) (id : ℕ) (error : StoreError) → OnlyStarts tells old new (Err error)
-    → (tells → RefusesClear old new id error) → (old.in_doubt ≡ false → StartsByItself {T = Unit {0}} old new (Err error)) → Changes tells old new (Clear id) (Err error)
-clear_refused tells old new id (NoSpace free) starts answer still = changes_refused tells old new (Clear id) (NoSpace free) starts (λ told sure. absurd (answer told)) starts.doubt starts.doubt.idle
-clear_refused tells old new id (LastGeneration number) starts answer still = changes_refused tells old new (Clear id) (LastGeneration number) starts (λ told sure. absurd (answer told)) starts.doubt starts.doubt.idle
-clear_refused tells old new id NotFound starts answer still =
+    → (tells → RefusesClear old new id error) → Changes tells old new (Clear id) (Err error)
+clear_refused tells old new id (NoSpace free) starts answer = changes_refused tells old new (Clear id) (NoSpace free) starts (λ told. absurd (answer told)) starts.doubt starts.doubt.idle
+clear_refused tells old new id (LastGeneration number) starts answer = changes_refused tells old new (Clear id) (LastGeneration number) starts (λ told. absurd (answer told)) starts.doubt starts.doubt.idle
+clear_refused tells old new id NotFound starts answer =
     changes_refused tells old new (Clear id) NotFound starts
-    (λ told sure. refused_steps old new (Clear id) not_found (answer told).0 (ap (λ (v : StoreView). v.flash.steps) (still sure))) starts.doubt starts.doubt.idle
-clear_refused tells old new id Empty starts answer still = changes_refused tells old new (Clear id) Empty starts (λ told sure. absurd (answer told)) starts.doubt starts.doubt.idle
-clear_refused tells old new id Flash starts answer still = changes_refused tells old new (Clear id) Flash starts (λ told sure. tt) starts.doubt starts.doubt.idle
-clear_refused tells old new id (Small need) starts answer still = changes_refused tells old new (Clear id) (Small need) starts (λ told sure. absurd (answer told)) starts.doubt starts.doubt.idle
+    (λ told. refused_steps old new (Clear id) not_found (answer told).0 (starts.ended told)) starts.doubt starts.doubt.idle
+clear_refused tells old new id Empty starts answer = changes_refused tells old new (Clear id) Empty starts (λ told. absurd (answer told)) starts.doubt starts.doubt.idle
+clear_refused tells old new id Flash starts answer = changes_refused tells old new (Clear id) Flash starts (λ told. tt) starts.doubt starts.doubt.idle
+clear_refused tells old new id (Small need) starts answer = changes_refused tells old new (Clear id) (Small need) starts (λ told. absurd (answer told)) starts.doubt starts.doubt.idle
 
 -- a whole write
 pub record WriteMade (tells : Type 0) (old new : StoreView) (id : ℕ) (bytes : List ℕ) (result : Result (Unit {0}) StoreError) : Type 0 where
   pub answer : tells → AnswersWrite old new id bytes result
-  pub placed : OnOk result (tells → old.in_doubt ≡ false → StandsIn old.layout new.flash.told.image id (slots_for old (length bytes)))
+  pub placed : OnOk result (tells → StandsIn old.layout new.flash.told.image id (slots_for old (length bytes)))
   pub leaves : Changes tells old new (Write id bytes) result
 
-same_slots_for : (old mid : StoreView) (len : ℕ) → mid.layout ≡ old.layout → mid.flash.told ≡ old.flash.told → slots_for mid len ≡ slots_for old len
-same_slots_for old mid len layout told =
-    ap (λ (l : Layout). take (parts_of (room_of l) len) (free_slots (entry_at l.slot_size l.slots mid.flash.told.image) l.slots)) layout
-    ∙ ap (λ (t : Told). take (parts_of (room_of old.layout) len) (free_slots (entry_at old.layout.slot_size old.layout.slots t.image) old.layout.slots)) told
-
-pub write_made : (tells : Type 0) (old mid new : StoreView) (id : ℕ) (bytes : List ℕ) (count : Unit {0} → ℕ) (x : Unit {0}) (result : Result (Unit {0}) StoreError) → OnlyStarts tells old mid (Ok x)
-    → (tells → StartsWrite old mid id bytes (Ok x)) → (old.in_doubt ≡ false → ReadsExactly {T = Unit {0}} tells count old mid (Ok x)) → IsFinished tells mid new result
+pub write_made : (tells : Type 0) (old mid new : StoreView) (id : ℕ) (bytes : List ℕ) (x : Unit {0}) (result : Result (Unit {0}) StoreError) → OnlyStarts tells old mid (Ok x)
+    → (tells → StartsWrite old mid id bytes (Ok x)) → (tells → slots_for mid (length bytes) ≡ slots_for old (length bytes)) → IsFinished tells mid new result
     → WriteMade tells old new id bytes result
-write_made tells old mid new id bytes count x result starts begun still finished = record {
+write_made tells old mid new id bytes x result starts begun slots finished = record {
   answer = λ told.
       write_answers old new id bytes result finished.error (begun told).0 (on_ok_weaker result (λ made. made told ∙ end told) finished.made);
-  placed = on_ok_weaker result (λ placed told sure.
+  placed = on_ok_weaker result (λ placed told.
       subst (λ (l : Layout). StandsIn l new.flash.told.image id (slots_for old (length bytes))) starts.alike.layout
-      (subst (λ (xs : List ℕ). StandsIn mid.layout new.flash.told.image id xs) (same_slots_for old mid (length bytes) starts.alike.layout ((still sure).only.told told))
+      (subst (λ (xs : List ℕ). StandsIn mid.layout new.flash.told.image id xs) (slots told)
       (subst (λ (p : Pending). PlacedAtEnd mid.layout p new.flash.told.image) (begun told).1 (placed told)))) finished.placed;
-  leaves = changes_begun tells old mid new (Write id bytes) x result starts finished (λ sure. (still sure).only.steps) end
+  leaves = changes_begun tells old mid new (Write id bytes) x result starts finished end
       (λ told. write_steps old mid id bytes (slots_for mid (length bytes)) (get (stored old) id) starts.alike.layout refl (begun told).1 (begun told).0);
 }
   where
@@ -464,14 +472,25 @@ pub record ClearMade (tells : Type 0) (old new : StoreView) (id : ℕ) (result :
   pub leaves : Changes tells old new (Clear id) result
 
 pub clear_made : (tells : Type 0) (old mid new : StoreView) (id : ℕ) (x : Unit {0}) (result : Result (Unit {0}) StoreError) → OnlyStarts tells old mid (Ok x)
-    → (tells → StartsClear old mid id (Ok x)) → (old.in_doubt ≡ false → StartsByItself {T = Unit {0}} old mid (Ok x)) → IsFinished tells mid new result
+    → (tells → StartsClear old mid id (Ok x)) → IsFinished tells mid new result
     → ClearMade tells old new id result
-clear_made tells old mid new id x result starts begun still finished = record {
+clear_made tells old mid new id x result starts begun finished = record {
   answer = λ told.
       clear_answers old new id result finished.error (begun told).0 (on_ok_weaker result (λ made. made told ∙ end told) finished.made);
-  leaves = changes_begun tells old mid new (Clear id) x result starts finished (λ sure. ap (λ (f : FlashState). f.steps) (still sure)) end
+  leaves = changes_begun tells old mid new (Clear id) x result starts finished end
       (λ told. clear_steps old mid id (begun told).1 (begun told).0);
 }
   where
     end : tells → map_at_end mid.layout mid.pending (stored mid) ≡ after old.layout (Clear id) (stored old)
     end told = clear_end old mid id (begun told).1 (kept_map old mid (starts.kept told) starts.alike) (begun told).0
+
+-- the reads of a whole command are those of its start
+pub finish_reads : (more : Unit {0} → ℕ → ℕ) (old mid new : StoreView) (x : Unit {0}) (result : Result (Unit {0}) StoreError) → TakesReads more old mid (Ok x) → FailsByFlash result
+    → new.flash.reads ≡ mid.flash.reads → TakesReads more old new result
+finish_reads more old mid new x (Ok done) started fails same = same ∙ started
+finish_reads more old mid new x (Err (NoSpace free)) started fails same = absurd (cc)
+finish_reads more old mid new x (Err (LastGeneration number)) started fails same = absurd (cc)
+finish_reads more old mid new x (Err NotFound) started fails same = absurd (cc)
+finish_reads more old mid new x (Err Empty) started fails same = absurd (cc)
+finish_reads more old mid new x (Err Flash) started fails same = tt
+finish_reads more old mid new x (Err (Small need)) started fails same = absurd (cc)

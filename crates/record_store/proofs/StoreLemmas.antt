@@ -1,23 +1,24 @@
 -- What a store knows, in terms of what is seen of it.
-use Rattle.std.proofs.Common.{◌≡◌, ◌⊎◌, ℕ, ◌+◌, ◌≤◌, Bool, true, false, cond, List, length, Option, Some, None, Result, Ok, Err, refl, sym, ap, subst, ◌∙◌, arith, inl, inr}
+use Rattle.std.proofs.Common.{◌≡◌, ◌⊎◌, ℕ, ◌+◌, ◌-◌, ◌*◌, ◌≤◌, Bool, true, false, cond, List, length, take, Option, Some, None, Result, Ok, Err, refl, sym, ap, subst, ◌∙◌, arith, inl, inr}
 use Rattle.std.specs.Prelude.{is_some}
 use Rattle.std.specs.FinMap.{get}
 use Rattle.flash_model.specs.declared.geometry.Geometry.{Geometry}
 use Rattle.flash_model.specs.Layouts.{layout_of}
-use Rattle.flash_words.specs.Flash.{Told, FlashState, Leaves, LosesOnlyByChange}
+use Rattle.flash_words.specs.Flash.{Told, FlashState, Leaves, LosesOnlyByChange, raised}
 use Rattle.flash_words.specs.Layout.{Layout, room_of}
 use Rattle.flash_words.proofs.CrashLemmas.{Leaves-none, Leaves-exit}
 use Rattle.base_model.specs.Faults.{Rose}
-use Rattle.record_model.specs.Records.{Entry, Stored, entry_at, selected, stored_in, parts_in, NearlyOnlyFirstUp, second_copies}
+use Rattle.record_model.specs.Records.{Entry, Stored, entry_at, selected, stored_in, parts_of, parts_in, NearlyOnlyFirstUp, second_copies}
 use Rattle.record_model.proofs.SpareLemmas.{second_copies-few}
 use Rattle.record_recovery.specs.declared.found.Found.{Found}
 use Rattle.record_recovery.specs.declared.found.SlotOf.{SlotOf}
-use Rattle.record_recovery.specs.Listed.{IsWithin}
+use Rattle.record_recovery.specs.Listed.{IsWithin, free_slots, first_records}
 use Rattle.record_recovery.specs.Recovered.{IsRecovered, KeepsRecords, StaysNearly, ChangesFew}
+use Rattle.record_recovery.proofs.FirstRecords.{free_slots-only}
 use Rattle.record_store.specs.Index.{IsListing, IsListOf, IsPlaceFound}
-use Rattle.record_store.specs.Store.{StoreView, Pending, Idle, Writing, stored, records_of, slots_for, map_after, IsReady, IsInDoubt, KeepsMap, DividesAlike, doubted, restarted}
+use Rattle.record_store.specs.Store.{StoreView, Pending, Idle, Writing, stored, records_of, free_in, slots_for, map_after, IsReady, IsInDoubt, KeepsMap, DividesAlike, doubted, restarted}
 use Rattle.record_model.specs.RecordMap.{Write, Failed, NoSpace as no_space, LAST_GENERATION, refusal_of}
-use Rattle.record_store.specs.Answers.{StartsWrite, copies_in, copies_of, HasDoubtOf, HasDoubtAtStart, HasFaultsOf, EndsCopies, UnlessFlash, ReadsExactly}
+use Rattle.record_store.specs.Answers.{StartsWrite, copies_in, copies_of, HasDoubtOf, HasDoubtAtStart, HasFaultsOf, EndsCopies, ReadsExactly, TakesReads, reads_to_know, ReadsFlash}
 use Rattle.record_store.specs.Calls.{OnlyLooks, OnlyStarts}
 use Rattle.record_store.specs.Start.{ReadsTimes}
 use Rattle.record_store.specs.Kept.{IsStore, IsWork, IsUnderWay, Knows, KnowsSlots, MayMake, view_of, pending_of}
@@ -120,6 +121,7 @@ looks_by tells old new x y ended doubt cause had = record {
   kept = had.kept;
   few = had.few;
   ended = ended;
+  at_most = had.at_most;
   doubt = doubt;
   idle = had.idle;
   alike = had.alike;
@@ -162,6 +164,7 @@ looks_ready tells v x ready = record {
   kept = λ told. KeepsMap-none v;
   few = λ told. omega arith;
   ended = λ told. none_ended v ready.certain;
+  at_most = λ told. let same = none_ended v ready.certain in omega arith;
   doubt = ready;
   idle = ready.idle;
   alike = alike_refl v;
@@ -185,12 +188,17 @@ pub record IsScanned (tells : Type 0) (geometry : Geometry) (old new : FlashStat
   pub power : LosesOnlyByChange old new
 
 looks_scanned : {T : Type 0} (tells : Type 0) (geometry : Geometry) (old new : FlashState) (doubt after : Bool) (pending : Pending) (y : Result T StoreError) → IsScanned tells geometry old new
-    → pending ≡ Idle → (tells → EndsCopies (view_of geometry old doubt pending) (view_of geometry new after pending) y) → HasDoubtOf (view_of geometry new after pending) y → HasFaultsOf old.faults new.faults y
+    → doubt ≡ true → pending ≡ Idle → (tells → EndsCopies (view_of geometry old doubt pending) (view_of geometry new after pending) y) → HasDoubtOf (view_of geometry new after pending) y → HasFaultsOf old.faults new.faults y
     → OnlyLooks {T = T} tells (view_of geometry old doubt pending) (view_of geometry new after pending) y
-looks_scanned tells geometry old new doubt after pending y scanned idle ended has_doubt cause = record {
+looks_scanned tells geometry old new doubt after pending y scanned unsure idle ended has_doubt cause = record {
   kept = scanned.crash;
   few = λ told. rescanned_few geometry old new (scanned.changes told) (scanned.nearly told);
   ended = ended;
+  at_most = λ told.
+      let all : cond {A = ℕ} doubt (second_copies geometry.slot_size geometry.slots old.told.image) 0 ≡ second_copies geometry.slot_size geometry.slots old.told.image =
+      ap (λ (b : Bool). cond {A = ℕ} b (second_copies geometry.slot_size geometry.slots old.told.image) 0) unsure in
+      let few : new.steps ≤ old.steps + second_copies geometry.slot_size geometry.slots old.told.image = scanned.changes told in
+      omega arith;
   doubt = has_doubt;
   idle = idle;
   alike = record { layout = refl; size = scanned.size; sector_size = scanned.sector_size };
@@ -203,7 +211,7 @@ pub looks_again : {T : Type 0} (tells : Type 0) (geometry : Geometry) (old new :
     → OnlyLooks {T = T} tells v (view_of geometry new false pending) (Ok x)
 looks_again {T} tells geometry old new found doubt pending v x is unsure idle scanned recovered same =
     subst (λ (u : StoreView). OnlyLooks {T = T} tells u (view_of geometry new false pending) (Ok x)) is
-    (looks_scanned {T = T} tells geometry old new doubt false pending (Ok x) scanned idle
+    (looks_scanned {T = T} tells geometry old new doubt false pending (Ok x) scanned unsure idle
     (λ told. (recovered told).steps ∙ ap (λ (n : ℕ). old.steps + n) (sym (ap (λ (b : Bool). cond {A = ℕ} b (second_copies geometry.slot_size geometry.slots old.told.image) 0) unsure)))
     (record { certain = refl; idle = idle }) same)
 
@@ -212,7 +220,7 @@ pub looks_failed : {T : Type 0} (tells : Type 0) (geometry : Geometry) (old new 
     → OnlyLooks {T = T} tells v (view_of geometry new doubt pending) (Err Flash)
 looks_failed {T} tells geometry old new doubt pending v is unsure idle scanned up rose =
     subst (λ (u : StoreView). OnlyLooks {T = T} tells u (view_of geometry new doubt pending) (Err Flash)) is
-    (looks_scanned {T = T} tells geometry old new doubt doubt pending (Err Flash) scanned idle (λ told. tt) (record { doubt = unsure; idle = idle }) (up, rose))
+    (looks_scanned {T = T} tells geometry old new doubt doubt pending (Err Flash) scanned unsure idle (λ told. tt) (record { doubt = unsure; idle = idle }) (up, rose))
 
 -- by a store that was put in doubt, and one whose flash got its power back
 pub looks_doubted : {T : Type 0} (tells : Type 0) (geometry : Geometry) (flash : FlashState) (doubt : Bool) (pending : Pending) (v new : StoreView) (y : Result T StoreError) → view_of geometry flash doubt pending ≡ v
@@ -224,6 +232,41 @@ pub looks_restarted : {T : Type 0} (tells : Type 0) (geometry : Geometry) (flash
 looks_restarted {T} tells geometry flash on doubt pending v new y is again had =
     subst (λ (u : StoreView). OnlyLooks {T = T} tells (restarted u) new y) is
     (subst (λ (f : FlashState). OnlyLooks {T = T} tells (doubted (view_of geometry f doubt pending)) new y) again had)
+
+-- The reads of a look
+
+pub ready_reads : {T : Type 0} (v : StoreView) (x : T) → v.in_doubt ≡ false → TakesReads {T = T} (λ done reads. reads) v v (Ok x)
+ready_reads v x sure = sym (ap (λ (b : Bool). cond {A = ℕ} b (raised (2 * v.layout.slots) v.flash.reads) v.flash.reads) sure)
+
+pub looked_reads : {T : Type 0} (geometry : Geometry) (old new : FlashState) (doubt after : Bool) (pending : Pending) (v : StoreView) (x : T) → view_of geometry old doubt pending ≡ v → doubt ≡ true
+    → new.reads ≡ raised (2 * geometry.slots) old.reads → TakesReads {T = T} (λ done reads. reads) v (view_of geometry new after pending) (Ok x)
+looked_reads {T} geometry old new doubt after pending v x is unsure counted =
+    subst (λ (u : StoreView). TakesReads {T = T} (λ done reads. reads) u (view_of geometry new after pending) (Ok x)) is
+    (counted ∙ sym (ap (λ (b : Bool). cond {A = ℕ} b (raised (2 * geometry.slots) old.reads) old.reads) unsure))
+
+-- those of a start come behind them
+pub start_reads : (tells : Type 0) (count : ℕ) (old mid new : StoreView) (x : Unit {0}) (y : Result (Unit {0}) StoreError) → TakesReads {T = Unit {0}} (λ done reads. reads) old mid (Ok x)
+    → ReadsExactly tells (λ done. count) mid new y → TakesReads (λ done. raised count) old new y
+start_reads tells count old mid new x (Ok done) had still = still.reads ∙ ap (raised count) had
+start_reads tells count old mid new x (Err (NoSpace free)) had still = ap (λ (v : StoreView). v.flash.reads) still ∙ had
+start_reads tells count old mid new x (Err (LastGeneration id)) had still = ap (λ (v : StoreView). v.flash.reads) still ∙ had
+start_reads tells count old mid new x (Err NotFound) had still = ap (λ (v : StoreView). v.flash.reads) still ∙ had
+start_reads tells count old mid new x (Err Empty) had still = ap (λ (v : StoreView). v.flash.reads) still ∙ had
+start_reads tells count old mid new x (Err Flash) had still = tt
+start_reads tells count old mid new x (Err (Small need)) had still = ap (λ (v : StoreView). v.flash.reads) still ∙ had
+
+-- and so do those of a record
+pub read_still : {U E : Type 0} (tells : Type 0) (geometry : Geometry) (flash new : FlashState) (doubt : Bool) (pending : Pending) (old : StoreView) (size : ℕ) (z : U) → view_of geometry flash doubt pending ≡ old
+    → ReadsTimes {T = U} {E = E} tells (parts_of (geometry.slot_size - 64) size) flash new (Ok z) → ReadsFlash tells (parts_of (room_of old.layout) size) old.flash new
+read_still tells geometry flash new doubt pending old size z is reads =
+    subst (λ (u : StoreView). ReadsFlash tells (parts_of (room_of u.layout) size) u.flash new) is
+    (record { only = record { told = reads.told; steps = reads.steps; power = reads.power }; reads = reads.counted })
+
+pub read_reads : (geometry : Geometry) (flash new : FlashState) (doubt : Bool) (pending : Pending) (old mid : StoreView) (size : ℕ) → view_of geometry flash doubt pending ≡ mid → mid.layout ≡ old.layout
+    → mid.flash.reads ≡ reads_to_know old → new.reads ≡ raised (parts_of (geometry.slot_size - 64) size) flash.reads → new.reads ≡ raised (parts_of (room_of old.layout) size) (reads_to_know old)
+read_reads geometry flash new doubt pending old mid size is layout known counted =
+    counted ∙ ap (λ (u : StoreView). raised (parts_of (room_of u.layout) size) u.flash.reads) is ∙ ap (λ (l : Layout). raised (parts_of (room_of l) size) mid.flash.reads) layout
+    ∙ ap (raised (parts_of (room_of old.layout) size)) known
 
 -- Reads after a look
 
@@ -242,6 +285,7 @@ looks_read tells old mid new count x z y had reads layout ready = record {
   kept = λ told. same_told (λ image. records_of old.layout image ≡ stored old) old.flash.told mid.flash.told new.flash.told (reads.told told) (had.kept told);
   few = λ told. let before = had.few told in let same = reads.steps in omega arith;
   ended = λ told. reads.steps ∙ had.ended told;
+  at_most = λ told. let before = had.at_most told in let same = reads.steps in omega arith;
   doubt = ready;
   idle = ready.idle;
   alike = record { layout = layout ∙ had.alike.layout; size = reads.size ∙ had.alike.size; sector_size = reads.sector_size ∙ had.alike.sector_size };
@@ -255,6 +299,7 @@ looks_read_failed tells old mid new count x e had reads layout doubt = record {
   kept = λ told. same_told (λ image. records_of old.layout image ≡ stored old) old.flash.told mid.flash.told new.flash.told (reads.told told) (had.kept told);
   few = λ told. let before = had.few told in let same = reads.steps in omega arith;
   ended = λ told. tt;
+  at_most = λ told. let before = had.at_most told in let same = reads.steps in omega arith;
   doubt = doubt;
   idle = doubt.idle;
   alike = record { layout = layout ∙ had.alike.layout; size = reads.size ∙ had.alike.size; sector_size = reads.sector_size ∙ had.alike.sector_size };
@@ -264,6 +309,22 @@ looks_read_failed tells old mid new count x e had reads layout doubt = record {
 
 -- A start
 
+-- the slots that are free for a write, after a look and before it
+pub same_free_in : (old new : StoreView) → new.layout ≡ old.layout → new.flash.told ≡ old.flash.told → free_in new ≡ free_in old
+same_free_in old new layout told =
+    ap (λ (l : Layout). free_slots (first_records (entry_at l.slot_size l.slots new.flash.told.image) l.slots) l.slots) layout
+    ∙ ap (λ (t : Told). free_slots (first_records (entry_at old.layout.slot_size old.layout.slots t.image) old.layout.slots) old.layout.slots) told
+
+pub free_rescanned : (geometry : Geometry) (old new : FlashState) (found : Found) (doubt after : Bool) (pending : Pending) (v : StoreView) → view_of geometry old doubt pending ≡ v
+    → IsRecovered geometry.slot_size geometry.slots old new found → free_in (view_of geometry new after pending) ≡ free_in v
+free_rescanned geometry old new found doubt after pending v is recovered =
+    subst (λ (u : StoreView). free_in (view_of geometry new after pending) ≡ free_in u) is
+    (free_slots-only geometry.slot_size geometry.slots new.told.image recovered.only ∙ sym recovered.free ∙ recovered.free_before)
+
+pub same_slots_for : (old new : StoreView) (len : ℕ) → new.layout ≡ old.layout → free_in new ≡ free_in old → slots_for new len ≡ slots_for old len
+same_slots_for old new len layout free =
+    ap (λ (l : Layout). take (parts_of (room_of l) len) (free_in new)) layout ∙ ap (take (parts_of (room_of old.layout) len)) free
+
 -- what a store that knows its records leaves of a start, whatever it answers
 pub starts_by : (tells : Type 0) (old mid new : StoreView) (x : Unit {0}) (y : Result (Unit {0}) StoreError) → OnlyLooks tells old mid (Ok x) → (tells → new.flash.told ≡ mid.flash.told) → new.flash.steps ≡ mid.flash.steps
     → new.flash.powered ≡ mid.flash.powered → DividesAlike mid new → HasDoubtAtStart new y → HasFaultsOf old.flash.faults new.flash.faults y → (tells → EndsCopies old new y) → OnlyStarts tells old new y
@@ -271,6 +332,7 @@ starts_by tells old mid new x y had told steps power alike doubt cause ended = r
   kept = λ t. same_told (λ image. records_of old.layout image ≡ stored old) old.flash.told mid.flash.told new.flash.told (told t) (had.kept t);
   few = λ t. let before = had.few t in omega arith;
   ended = ended;
+  at_most = λ t. let before = had.at_most t in omega arith;
   doubt = doubt;
   alike = alike_then old mid new had.alike alike;
   power = power_read old.flash mid.flash new.flash power steps had.power;
@@ -279,7 +341,7 @@ starts_by tells old mid new x y had told steps power alike doubt cause ended = r
 
 -- a look that failed
 pub starts_err : (tells : Type 0) (old new : StoreView) (error : StoreError) → OnlyLooks {T = Unit {0}} tells old new (Err error) → OnlyStarts tells old new (Err error)
-starts_err tells old new error had = record { kept = had.kept; few = had.few; ended = had.ended; doubt = had.doubt; alike = had.alike; power = had.power; cause = had.cause }
+starts_err tells old new error had = record { kept = had.kept; few = had.few; ended = had.ended; at_most = had.at_most; doubt = had.doubt; alike = had.alike; power = had.power; cause = had.cause }
 
 -- a start that follows a look
 pub starts_then : (count : Unit {0} → ℕ) (tells : Type 0) (old mid new : StoreView) (x : Unit {0}) (y : Result (Unit {0}) StoreError) → OnlyLooks tells old mid (Ok x) → ReadsExactly tells count mid new y
@@ -322,7 +384,7 @@ starts_clear tells old mid new x y had flash layout certain =
     (ap (λ (f : FlashState). f.faults) flash ∙ had.cause) (λ told. steps ∙ had.ended told)
 
 pub starts_refused : (tells : Type 0) (old mid : StoreView) (x : Unit {0}) → OnlyLooks {T = Unit {0}} tells old mid (Ok x) → OnlyStarts tells old mid (Err NotFound)
-starts_refused tells old mid x had = record { kept = had.kept; few = had.few; ended = had.ended; doubt = had.doubt; alike = had.alike; power = had.power; cause = had.cause }
+starts_refused tells old mid x had = record { kept = had.kept; few = had.few; ended = had.ended; at_most = had.at_most; doubt = had.doubt; alike = had.alike; power = had.power; cause = had.cause }
 
 -- what a start answered a store that knows its records is the answer to the store at first
 at_old : (old mid : StoreView) → mid.layout ≡ old.layout → stored mid ≡ stored old → (P : Layout → Stored → Type 0) → P mid.layout (stored mid) → P old.layout (stored old)

@@ -146,11 +146,6 @@ UnlessFlash (Err Empty) P = P
 UnlessFlash (Err Flash) P = Unit {0}
 UnlessFlash (Err (Small need)) P = P
 
--- a store that knows its records answered a command, and its flash took exactly the changes that the map gives it
-abbrev pub TakesExactly : {T : Type 0} → StoreView → StoreView → Command → Result T StoreError → Type 0
-TakesExactly old new command result = old.in_doubt ≡ false
-    → UnlessFlash result (new.flash.steps ≡ old.flash.steps + changes_of old.layout command (stored old))
-
 -- a flash was at most read
 pub record OnlyReadsFlash (tells : Type 0) (old new : FlashState) : Type 0 where
   pub told : tells → new.told ≡ old.told
@@ -208,6 +203,25 @@ copies_of store = if store.in_doubt then copies_in store else 0
 -- those were ended, by one change each, and no other change was made
 abbrev pub EndsCopies : {T : Type 0} → StoreView → StoreView → Result T StoreError → Type 0
 EndsCopies old new result = UnlessFlash result (new.flash.steps ≡ old.flash.steps + copies_of old)
+
+-- a command was answered, and beside those the flash took exactly the changes that the map gives it
+abbrev pub TakesExactly : {T : Type 0} → StoreView → StoreView → Command → Result T StoreError → Type 0
+TakesExactly old new command result =
+    UnlessFlash result (new.flash.steps ≡ old.flash.steps + (copies_of old + changes_of old.layout command (stored old)))
+
+-- the count of reads of a store's flash once the store knows its records: one in doubt reads head and tail mark of each slot
+abbrev pub reads_to_know : StoreView → ℕ
+reads_to_know store = if store.in_doubt then raised (2 * store.layout.slots) store.flash.reads else store.flash.reads
+
+-- the flash was read so often, and so many times more where the call is done
+abbrev pub TakesReads : {T : Type 0} → (T → ℕ → ℕ) → StoreView → StoreView → Result T StoreError → Type 0
+TakesReads more old new (Ok done) = new.flash.reads ≡ more done (reads_to_know old)
+TakesReads more old new (Err (NoSpace free)) = new.flash.reads ≡ reads_to_know old
+TakesReads more old new (Err (LastGeneration id)) = new.flash.reads ≡ reads_to_know old
+TakesReads more old new (Err NotFound) = new.flash.reads ≡ reads_to_know old
+TakesReads more old new (Err Empty) = new.flash.reads ≡ reads_to_know old
+TakesReads more old new (Err Flash) = Unit {0}
+TakesReads more old new (Err (Small need)) = new.flash.reads ≡ reads_to_know old
 
 -- those that stand while a write is pending: one, once its gate is open and the older record is not yet killed
 abbrev pub copies_pending : Layout → Pending → ℕ

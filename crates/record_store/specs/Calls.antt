@@ -3,7 +3,7 @@ use Rattle.std.specs.Prelude.{◌≡◌, ◌+◌, ◌≤◌, true, Result, OnOk}
 use Rattle.flash_words.specs.Flash.{LosesOnlyByChange}
 use Rattle.record_model.specs.RecordMap.{Command, changes_of}
 use Rattle.record_store.specs.Store.{StoreView, Idle, stored, KeepsMap, DividesAlike, IsBeforeOrAfter}
-use Rattle.record_store.specs.Answers.{HasFaultsOf, HasDoubtOf, HasDoubtAtStart, EndsCopies, TakesExactly}
+use Rattle.record_store.specs.Answers.{HasFaultsOf, HasDoubtOf, HasDoubtAtStart, EndsCopies, TakesExactly, copies_of}
 use Rattle.record_store.specs.declared.errors.StoreError.{StoreError}
 
 -- A call that only looks. A store in doubt first looks at its slots again, and ends a second copy by one change: power lost
@@ -12,6 +12,7 @@ pub record OnlyLooks {T : Type 0} (tells : Type 0) (old new : StoreView) (result
   pub kept : tells → KeepsMap old new
   pub few : tells → new.flash.steps ≤ old.flash.steps + 1
   pub ended : tells → EndsCopies old new result
+  pub at_most : tells → new.flash.steps ≤ old.flash.steps + copies_of old
   pub doubt : HasDoubtOf new result
   pub idle : new.pending ≡ Idle
   pub alike : DividesAlike old new
@@ -23,17 +24,19 @@ pub record OnlyStarts (tells : Type 0) (old new : StoreView) (result : Result (U
   pub kept : tells → KeepsMap old new
   pub few : tells → new.flash.steps ≤ old.flash.steps + 1
   pub ended : tells → EndsCopies old new result
+  pub at_most : tells → new.flash.steps ≤ old.flash.steps + copies_of old
   pub doubt : HasDoubtAtStart new result
   pub alike : DividesAlike old new
   pub power : LosesOnlyByChange old.flash new.flash
   pub cause : HasFaultsOf old.flash.faults new.flash.faults result
 
 -- A whole write or clear. Power lost at any step on the way leaves the records from before, or those that an Ok makes. A
--- store in doubt may first end a second copy, by one change
+-- store in doubt first ends a second copy, by one change. A fault ends the command: no change comes after one that failed
 pub record Changes (tells : Type 0) (old new : StoreView) (command : Command) (result : Result (Unit {0}) StoreError) : Type 0 where
   pub crash : tells → IsBeforeOrAfter old new command
   pub steps : tells → TakesExactly old new command result
   pub few : tells → new.flash.steps ≤ old.flash.steps + 1 + changes_of old.layout command (stored old)
+  pub at_most : tells → new.flash.steps ≤ old.flash.steps + (copies_of old + changes_of old.layout command (stored old))
   pub doubt : HasDoubtOf new result
   pub idle : new.pending ≡ Idle
   pub alike : DividesAlike old new

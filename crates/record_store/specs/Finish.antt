@@ -39,6 +39,7 @@ pub record IsOnWay (tells : Type 0) (old now : StoreView) : Type 0 where
   pub unfinished : IsUnfinished now.layout now.pending
   pub left : now.flash.steps + changes_left now.layout now.pending ≡ old.flash.steps + changes_left old.layout old.pending
   pub faults : now.flash.faults ≡ old.flash.faults
+  pub reads : now.flash.reads ≡ old.flash.reads
   pub alike : DividesAlike old now
   pub places : PlacesAlike old.layout old.pending now.pending
   pub end : tells → map_at_end now.layout now.pending (stored now) ≡ map_at_end old.layout old.pending (stored old)

@@ -7,7 +7,7 @@ use Rattle.flash_words.specs.Flash.{FlashState, Leaves}
 use Rattle.flash_words.specs.Layout.{Layout, room_of}
 use Rattle.record_model.specs.Records.{Stored, Entry, entry_at, stored_in, parts_of, IsChosen, OnlyFirstUp}
 use Rattle.record_model.specs.RecordMap.{Command, Write, Clear, changes_of_parts, made_by, after}
-use Rattle.record_recovery.specs.Listed.{free_slots}
+use Rattle.record_recovery.specs.Listed.{free_slots, first_records}
 
 -- what a store has begun: nothing, the write of a record into these slots, of whose flash changes so many are made and
 -- which takes the place of an older record or not, or the clearing of an identifier
@@ -35,11 +35,15 @@ stored store = records_of store.layout store.flash.told.image
 abbrev pub IsSettled : StoreView → Type 0
 IsSettled store = OnlyFirstUp store.layout.slot_size store.layout.slots store.flash.told.image
 
--- the slots that a record of so many bytes is written into: the free ones of least number, as many as it has parts
+-- the slots that are free for a write, the least first: those in which no first record stands. A store in doubt ends every
+-- other upright slot first, and one that knows its records has no other
+abbrev pub free_in : StoreView → List ℕ
+free_in store =
+    free_slots (first_records (entry_at store.layout.slot_size store.layout.slots store.flash.told.image) store.layout.slots) store.layout.slots
+
+-- the slots that a record of so many bytes is written into: of these those of least number, as many as it has parts
 abbrev pub slots_for : StoreView → ℕ → List ℕ
-slots_for store len =
-    take (parts_of (room_of store.layout) len)
-    (free_slots (entry_at store.layout.slot_size store.layout.slots store.flash.told.image) store.layout.slots)
+slots_for store len = take (parts_of (room_of store.layout) len) (free_in store)
 
 -- the record of an identifier stands in these slots of an image, the first one first and the further ones in their order
 pub record IsAt (layout : Layout) (image : List ℕ) (id first : ℕ) (further : List ℕ) : Type 0 where

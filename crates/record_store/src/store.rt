@@ -7,9 +7,9 @@ ghost use Rattle.flash_model.specs.Layouts.{layout_of};
 ghost use Rattle.record_model.specs.Records.{second_copies, parts_of};
 ghost use Rattle.record_model.specs.RecordMap.{Write, Clear, Read, IsNextAbove};
 ghost use Rattle.record_slots.specs.Slots.{Fits};
-ghost use Rattle.record_store.specs.Store.{Idle, Clearing, stored, slots_for, map_after, IsBusy, IsWriteOf, IsSettled, IsReady, IsOpened, IsFlashOf, StandsIn, PlacedAfter, DividesAlike, KeepsMap, KeepsOrMakes, KeepsRecordsOf, abandoned, doubted, restarted};
+ghost use Rattle.record_store.specs.Store.{Idle, Clearing, stored, free_in, slots_for, map_after, IsBusy, IsWriteOf, IsSettled, IsReady, IsOpened, IsFlashOf, StandsIn, PlacedAfter, DividesAlike, KeepsMap, KeepsOrMakes, KeepsRecordsOf, abandoned, doubted, restarted};
 ghost use Rattle.record_store.specs.Finish.{IsUnfinished, map_at_end, changes_left, PlacedAtEnd};
-ghost use Rattle.record_store.specs.Answers.{HasFaultsOf, HasDoubtOf, StartsWrite, StartsClear, IsStep, HasStepped, AnswersWrite, AnswersClear, AnswersRead, AnswersLength, FailsByFlash, RefusesFlash, ReadsExactly, StartsByItself, AnswersByItself, HasLooked, copies_in, copies_pending};
+ghost use Rattle.record_store.specs.Answers.{HasFaultsOf, HasDoubtOf, StartsWrite, StartsClear, IsStep, HasStepped, AnswersWrite, AnswersClear, AnswersRead, AnswersLength, FailsByFlash, RefusesFlash, ReadsExactly, StartsByItself, AnswersByItself, HasLooked, TakesReads, copies_in, copies_pending};
 ghost use Rattle.record_store.specs.Calls.{OnlyLooks, OnlyStarts, Changes};
 
 use crate::errors::{StoreError, StoreRefused};
@@ -113,9 +113,13 @@ impl<F: Flash> Store<F> {
         ensures answer { F.tells → StartsWrite self.old self.new id bytes.now result }
         ensures pending { OnOk result (IsWriteOf id bytes.now self.new.pending) }
 
+        // The slots are known before: those that are free once a store in doubt has looked at them.
+        ensures slots { OnOk result (F.tells → slots_for self.new (length bytes.now) ≡ slots_for self.old (length bytes.now)) }
+
         // It looks at each slot that the record will be written into.
         ensures still { self.old.in_doubt ≡ false
             → ReadsExactly F.tells (λ _. 2 * parts_of (room_of self.old.layout) (length bytes.now)) self.old self.new result }
+        ensures reads { TakesReads (λ _. raised (2 * parts_of (room_of self.old.layout) (length bytes.now))) self.old self.new result }
         ensures leaves { OnlyStarts F.tells self.old self.new result }
     {
         self.settle()?;
@@ -129,6 +133,7 @@ impl<F: Flash> Store<F> {
         ensures answer { F.tells → StartsClear self.old self.new id result }
         ensures pending { OnOk result (self.new.pending ≡ Clearing id) }
         ensures still { self.old.in_doubt ≡ false → StartsByItself self.old self.new result }
+        ensures reads { TakesReads (λ _ reads. reads) self.old self.new result }
         ensures leaves { OnlyStarts F.tells self.old self.new result }
     {
         self.settle()?;
@@ -188,8 +193,10 @@ impl<F: Flash> Store<F> {
         ensures answer { F.tells → AnswersWrite self.old self.new id bytes.now result }
 
         // The free slots of least number have the record.
-        ensures placed { OnOk result (F.tells → self.old.in_doubt ≡ false → StandsIn self.old.layout self.new.flash.told.image id (slots_for self.old (length bytes.now))) }
+        ensures placed { OnOk result (F.tells → StandsIn self.old.layout self.new.flash.told.image id (slots_for self.old (length bytes.now))) }
 
+        // No step reads: what is read is what the start reads.
+        ensures reads { TakesReads (λ _. raised (2 * parts_of (room_of self.old.layout) (length bytes.now))) self.old self.new result }
         ensures leaves { Changes F.tells self.old self.new (Write id bytes.now) result }
     {
         match self.start_write(id, bytes) {
@@ -202,6 +209,7 @@ impl<F: Flash> Store<F> {
     pub fn clear(&mut self, id: RecordId) -> Result<(), StoreError>
         requires idle { self.old.pending ≡ Idle }
         ensures answer { F.tells → AnswersClear self.old self.new id result }
+        ensures reads { TakesReads (λ _ reads. reads) self.old self.new result }
         ensures leaves { Changes F.tells self.old self.new (Clear id) result }
     {
         match self.start_clear(id) {
@@ -235,6 +243,7 @@ impl<F: Flash> Store<F> {
         // One read for each part of the record.
         ensures still { self.old.in_doubt ≡ false
             → ReadsExactly F.tells (λ size. parts_of (room_of self.old.layout) size) self.old self.new result }
+        ensures reads { TakesReads (λ size. raised (parts_of (room_of self.old.layout) size)) self.old self.new result }
         ensures leaves { OnlyLooks F.tells self.old self.new result }
     {
         self.settle()?;
@@ -271,6 +280,7 @@ impl<F: Flash> Store<F> {
         ensures answer { F.tells → IfOk result (λ n. n ≡ len (stored self.old)) }
         ensures error { FailsByFlash result }
         ensures still { self.old.in_doubt ≡ false → AnswersByItself self.old self.new result }
+        ensures reads { TakesReads (λ _ reads. reads) self.old self.new result }
         ensures leaves { OnlyLooks F.tells self.old self.new result }
     {
         self.settle()?;
@@ -283,6 +293,7 @@ impl<F: Flash> Store<F> {
         ensures answer { F.tells → IfOk result (IsNextAbove 0 (stored self.old)) }
         ensures error { FailsByFlash result }
         ensures still { self.old.in_doubt ≡ false → AnswersByItself self.old self.new result }
+        ensures reads { TakesReads (λ _ reads. reads) self.old self.new result }
         ensures leaves { OnlyLooks F.tells self.old self.new result }
     {
         self.next(0)
@@ -294,6 +305,7 @@ impl<F: Flash> Store<F> {
         ensures answer { F.tells → IfOk result (IsNextAbove cursor (stored self.old)) }
         ensures error { FailsByFlash result }
         ensures still { self.old.in_doubt ≡ false → AnswersByItself self.old self.new result }
+        ensures reads { TakesReads (λ _ reads. reads) self.old self.new result }
         ensures leaves { OnlyLooks F.tells self.old self.new result }
     {
         self.settle()?;
@@ -305,6 +317,7 @@ impl<F: Flash> Store<F> {
         requires idle { self.old.pending ≡ Idle }
         ensures answer { F.tells → AnswersLength self.old id result }
         ensures still { self.old.in_doubt ≡ false → AnswersByItself self.old self.new result }
+        ensures reads { TakesReads (λ _ reads. reads) self.old self.new result }
         ensures leaves { OnlyLooks F.tells self.old self.new result }
     {
         self.settle()?;
@@ -383,6 +396,8 @@ impl<F: Flash> Store<F> {
         ensures still { self.old.in_doubt ≡ false → AnswersByItself self.old self.new result }
         ensures settled { OnOk result (F.tells → IsSettled self.new) }
         ensures looked { self.old.in_doubt ≡ true → HasLooked self.old self.new result }
+        ensures reads { TakesReads (λ _ reads. reads) self.old self.new result }
+        ensures free { OnOk result (F.tells → free_in self.new ≡ free_in self.old) }
         ensures leaves { OnlyLooks F.tells self.old self.new result }
     {
         if !self.in_doubt {
@@ -404,6 +419,7 @@ impl<F: Flash> Store<F> {
         requires reach { length bytes.now ≤ reach_of (room_of self.old.layout) }
         ensures answer { F.tells → StartsWrite self.old self.new id bytes.now result }
         ensures pending { OnOk result (IsWriteOf id bytes.now self.new.pending) }
+        ensures free { OnOk result (F.tells → free_in self.new ≡ free_in self.old) }
         ensures still { ReadsExactly F.tells (λ _. 2 * parts_of (room_of self.old.layout) (length bytes.now)) self.old self.new result }
         ensures leaves { OnlyStarts F.tells self.old self.new result }
     {
@@ -441,6 +457,7 @@ impl<F: Flash> Store<F> {
         ensures crash { F.tells → KeepsOrMakes self.old self.new (map_at_end self.old.layout self.old.pending (stored self.old)) }
         ensures steps { OnOk result (self.new.flash.steps ≡ self.old.flash.steps + changes_left self.old.layout self.old.pending) }
         ensures at_most { self.new.flash.steps ≤ self.old.flash.steps + changes_left self.old.layout self.old.pending }
+        ensures reads { self.new.flash.reads ≡ self.old.flash.reads }
         ensures doubt { HasDoubtOf self.new result }
         ensures idle { self.new.pending ≡ Idle }
         ensures alike { DividesAlike self.old self.new }

@@ -1,7 +1,6 @@
 use Rattle.std.proofs.Common.{sym, ap, ◌∙◌}
 use Rattle.std.proofs.lemmas.Result.{err_from_is_err_and}
-use Rattle.flash_words.specs.Layout.{room_of}
-use Rattle.record_model.specs.Records.{is_reserved, parts_of}
+use Rattle.record_model.specs.Records.{is_reserved}
 use Rattle.apei_cli.proofs.LookLemmas.{read_answer, read_error, looks_ok, read_looks_err}
 use Rattle.apei_cli.proofs.player.read_record.Goals as goal
 
@@ -16,9 +15,9 @@ returns-in_err-len-clause-answer g c = λ told.
 
 pub returns-clause-looks : goal.returns-clause-looks
 returns-clause-looks g c =
-    looks_ok g.F.Flash.tells c.args.store.now c.read.new.self (parts_of (room_of c.args.store.now.layout)) c.in_ok-len.len (record { id = c.get.result; len = c.in_ok-len.len }) c.in_ok-len.ensures.leaves c.in_ok-len.ensures.still
+    looks_ok g.F.Flash.tells c.args.store.now c.read.new.self c.in_ok-len.len (record { id = c.get.result; len = c.in_ok-len.len }) c.in_ok-len.ensures.leaves
 
 pub returns-in_err-len-clause-looks : goal.returns-in_err-len-clause-looks
 returns-in_err-len-clause-looks g c =
     let p = err_from_is_err_and c.from_residual.result c.from_residual.ensures.1 in
-    rw (p.1, p.2) (read_looks_err g.F.Flash.tells c.args.store.now c.read.new.self (parts_of (room_of c.args.store.now.layout)) c.in_err-len.field-0.0 c.in_err-len.ensures.leaves c.in_err-len.ensures.still)
+    rw (p.1, p.2) (read_looks_err g.F.Flash.tells c.args.store.now c.read.new.self c.in_err-len.field-0.0 c.in_err-len.ensures.leaves)

@@ -1,11 +1,11 @@
-use Rattle.std.proofs.Common.{Err, Option, subst}
+use Rattle.std.proofs.Common.{Option, subst}
 use Rattle.std.proofs.lemmas.Result.{err_from_is_err_and}
 use Rattle.record_model.specs.RecordMap.{IsNextAbove}
 use Rattle.record_store.specs.Store.{stored}
 use Rattle.erst_ids.specs.declared.record_id.RecordId.{RecordId}
 use Rattle.record_store.proofs.StoredLemmas.{reserved_absent}
 use Rattle.apei_cli.specs.declared.player.HeldRecord.{HeldRecord}
-use Rattle.apei_cli.proofs.AnswerLemmas.{map_kept, itself_still}
+use Rattle.apei_cli.proofs.AnswerLemmas.{map_kept}
 use Rattle.apei_cli.proofs.RecordLemmas.{read_empty, read_absent, none_above, some_kept}
 use Rattle.apei_cli.proofs.LookLemmas.{least_answer, looks_then, looks_err}
 use Rattle.apei_cli.proofs.player.read_reserved.Goals as goal
@@ -20,8 +20,7 @@ returns-in_err-least-clause-looks g c =
     let p = err_from_is_err_and c.from_residual.result c.from_residual.ensures.1 in
     let store = c.args.store.now in
     rw (p.1, p.2)
-    (looks_err (Option RecordId) HeldRecord g.F.Flash.tells store c.first.new.self c.in_err-least.field-0.0 c.in_err-least.ensures.leaves
-    (λ certain. itself_still {T = Option RecordId} store c.first.new.self (Err c.in_err-least.field-0.0) (c.in_err-least.ensures.still certain)))
+    (looks_err (Option RecordId) HeldRecord g.F.Flash.tells store c.first.new.self c.in_err-least.field-0.0 c.in_err-least.ensures.leaves)
 
 pub returns-in_default-clause-answer : goal.returns-in_default-clause-answer
 returns-in_default-clause-answer g c = λ told.
@@ -48,4 +47,4 @@ pub returns-clause-looks : goal.returns-clause-looks
 returns-clause-looks g c =
     let leaves = c.in_ok-least.ensures.leaves in
     looks_then g.F.Flash.tells c.args.store.now c.first.new.self c.read_record.new.store c.read_record.result
-    leaves.kept c.in_ok-least.ensures.still leaves.doubt leaves.alike leaves.cause c.read_record.ensures.looks
+    leaves.kept leaves.ended leaves.doubt leaves.alike leaves.cause c.read_record.ensures.looks

@@ -1,4 +1,4 @@
-use Rattle.std.proofs.Common.{◌≡◌, length, refl, ap, subst, ◌∙◌}
+use Rattle.std.proofs.Common.{◌≡◌, not, length, refl, ap, subst, ◌∙◌}
 use Rattle.flash_words.specs.Flash.{FlashState}
 use Rattle.record_model.specs.RecordMap.{Clear, Failed}
 use Rattle.apei_cli.proofs.StillLemmas.{refused_still, clear_reserved}
@@ -9,5 +9,5 @@ returns-in-None-clause-replied g c =
     refused_still g.F.Flash.tells c.args.store.now c.args.self.now.cursor c.steps.result (Clear c.args.id) Failed c.refused.new.self
     (c.steps.ensures ∙ ap (λ (f : FlashState). f.steps) c.flash.ensures)
     (λ told. subst (λ (f : FlashState). length f.told.past ≡ f.steps) c.flash.ensures (g.met.F.Flash.counted c.flash.result.now told))
-    (clear_reserved c.args.store.now.layout c.args.id c.in-None.ensures)
+    (clear_reserved c.args.store.now.layout c.args.id c.in-None.ensures) (ap not c.in-None.ensures)
     c.refused.ensures refl

@@ -1,10 +1,9 @@
-use Rattle.std.proofs.Common.{◌≡◌, length, Err, refl, ap, subst, ◌∙◌, arith}
+use Rattle.std.proofs.Common.{◌≡◌, length, refl, ap, subst, ◌∙◌, arith}
 use Rattle.flash_words.specs.Flash.{FlashState}
 use Rattle.record_model.specs.RecordMap.{Count}
 use Rattle.record_model.specs.History.{Counted}
-use Rattle.record_store.specs.Store.{StoreView}
 use Rattle.apei_cli.specs.Refusals.{answer_of}
-use Rattle.apei_cli.proofs.AnswerLemmas.{IsLook-count, looked, itself_still, error_cause, count_taken, count_failed, count_stays}
+use Rattle.apei_cli.proofs.AnswerLemmas.{IsLook-count, looked, error_cause, error_ends, error_doubt, count_taken, count_failed, count_stays}
 use Rattle.apei_cli.proofs.player.Player.count.Goals as goal
 
 pub returns-in-Ok-clause-replied : goal.returns-in-Ok-clause-replied
@@ -12,7 +11,7 @@ returns-in-Ok-clause-replied g c =
     let store = c.args.store.now in
     let leaves = c.in-Ok.ensures.leaves in
     looked g.F.Flash.tells store c.count-count.new.self c.args.self.now.cursor c.args.self.now.cursor c.steps-steps.result Count (Counted c.in-Ok.count) c.count.new.self
-    (IsLook-count store.layout) leaves.kept (λ certain. ap (λ (s : StoreView). s.flash.steps) (c.in-Ok.ensures.still certain)) leaves.alike
+    (IsLook-count store.layout) leaves.kept leaves.ended leaves.doubt.certain leaves.alike
     (omega (arith, leaves.cause)) (λ h. absurd h)
     (c.steps-steps.ensures ∙ ap (λ (f : FlashState). f.steps) c.flash.ensures)
     (λ told. subst (λ (f : FlashState). length f.told.past ≡ f.steps) c.flash.ensures (g.met.F.Flash.counted c.flash.result.now told))
@@ -25,7 +24,7 @@ returns-in-Err-clause-replied g c =
     let leaves = c.in-Err.ensures.leaves in
     let cause = error_cause store.flash.faults c.count-count.new.self.flash.faults c.in-Err.error leaves.cause in
     looked g.F.Flash.tells store c.count-count.new.self c.args.self.now.cursor c.args.self.now.cursor c.steps-steps.result Count (answer_of c.in-Err.error) c.refuse.new.reply
-    (IsLook-count store.layout) leaves.kept (λ certain. itself_still {T = Unit {0}} store c.count-count.new.self (Err c.in-Err.error) (c.in-Err.ensures.still certain)) leaves.alike
+    (IsLook-count store.layout) leaves.kept (λ told. error_ends c.in-Err.error _ c.count-count.new.self.flash.steps (leaves.ended told) (leaves.at_most told)) (error_doubt c.count-count.new.self c.in-Err.error leaves.doubt) leaves.alike
     cause.0 cause.1
     (c.steps-steps.ensures ∙ ap (λ (f : FlashState). f.steps) c.flash.ensures)
     (λ told. subst (λ (f : FlashState). length f.told.past ≡ f.steps) c.flash.ensures (g.met.F.Flash.counted c.flash.result.now told))

@@ -5,7 +5,7 @@ use Rattle.record_model.specs.RecordMap.{Read}
 use Rattle.record_model.specs.History.{Shown}
 use Rattle.apei_cli.specs.Replies.{words_of_record, at_step}
 use Rattle.apei_cli.specs.Refusals.{answer_of}
-use Rattle.apei_cli.proofs.AnswerLemmas.{IsLook-read, looked, error_cause, named_says}
+use Rattle.apei_cli.proofs.AnswerLemmas.{IsLook-read, looked, error_cause, error_ends, error_doubt, named_says}
 use Rattle.apei_cli.proofs.LookLemmas.{read_says}
 use Rattle.apei_cli.proofs.player.Player.read.Goals as goal
 
@@ -15,7 +15,7 @@ returns-in-Ok-clause-replied g c =
     let looks = c.in-Ok.ensures.looks in
     let bytes = take c.in-Ok.held.len c.read_named-read.new.out in
     looked g.F.Flash.tells store c.read_named-read.new.store c.args.self.now.cursor c.in-Ok.held.id c.steps-steps.result (Read c.args.id) (Shown c.in-Ok.held.id bytes) c.record.new.self
-    (IsLook-read store.layout c.args.id) looks.kept looks.still looks.alike (omega (arith, looks.cause)) (λ h. absurd h)
+    (IsLook-read store.layout c.args.id) looks.kept looks.ended looks.doubt.certain looks.alike (omega (arith, looks.cause)) (λ h. absurd h)
     (c.steps-steps.ensures ∙ ap (λ (f : FlashState). f.steps) c.flash.ensures)
     (λ told. subst (λ (f : FlashState). length f.told.past ≡ f.steps) c.flash.ensures (g.met.F.Flash.counted c.flash.result.now told))
     (λ told. read_says store c.args.id c.args.self.now.cursor c.read_named-read.new.out c.in-Ok.held (c.in-Ok.ensures.answer told))
@@ -29,7 +29,7 @@ returns-in-Err-clause-replied g c =
     let looks = c.in-Err.ensures.looks in
     let cause = error_cause store.flash.faults c.read_named-read.new.store.flash.faults c.in-Err.error looks.cause in
     looked g.F.Flash.tells store c.read_named-read.new.store c.args.self.now.cursor c.refuse_read.new.self.cursor c.steps-steps.result (Read c.args.id) (answer_of c.in-Err.error) c.refuse_read.new.self.reply
-    (IsLook-read store.layout c.args.id) looks.kept looks.still looks.alike cause.0 cause.1
+    (IsLook-read store.layout c.args.id) looks.kept (λ told. error_ends c.in-Err.error _ c.read_named-read.new.store.flash.steps (looks.ended told) (looks.at_most told)) (error_doubt c.read_named-read.new.store c.in-Err.error looks.doubt) looks.alike cause.0 cause.1
     (c.steps-steps.ensures ∙ ap (λ (f : FlashState). f.steps) c.flash.ensures)
     (λ told. subst (λ (f : FlashState). length f.told.past ≡ f.steps) c.flash.ensures (g.met.F.Flash.counted c.flash.result.now told))
     (λ told. named_says store c.args.id c.args.self.now.cursor c.read_named-read.new.out c.in-Err.error (c.in-Err.ensures.answer told))

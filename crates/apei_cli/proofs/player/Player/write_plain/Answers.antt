@@ -20,7 +20,7 @@ returns-then-len-reach-clause-replied g c =
     (refused_still g.F.Flash.tells store c.args.self.now.cursor c.steps-steps.result (WriteOversize (length bytes) (longest_of store.layout)) TooLong c.too_long.new.self
     (c.steps-steps.ensures ∙ ap (λ (f : FlashState). f.steps) c.flash.ensures)
     (λ told. subst (λ (f : FlashState). length f.told.past ≡ f.steps) c.flash.ensures (g.met.F.Flash.counted c.flash.result.now told))
-    (write_oversize store.layout (length bytes) (longest_of store.layout))
+    (write_oversize store.layout (length bytes) (longest_of store.layout)) refl
     (c.too_long.ensures
     ∙ ap (λ (n : ℕ). codes "refused " ++ (codes "too-long " ++ (decimal n ++ codes " " ++ decimal c.reach-reach.result)) ++ at_step c.steps-steps.result) (sym len)
     ∙ ap (λ (n : ℕ). codes "refused " ++ (codes "too-long " ++ (decimal (length bytes) ++ codes " " ++ decimal n)) ++ at_step c.steps-steps.result) reach)

@@ -1,15 +1,16 @@
-use Rattle.std.proofs.Common.{◌≤◌, ◌*◌, ℕ, List, Option, length, drop, sym, ap, subst, ◌∙◌, Ok, arith}
+use Rattle.std.proofs.Common.{◌≡◌, ◌≤◌, ◌*◌, ℕ, List, Option, length, drop, refl, sym, ap, subst, ◌∙◌, Ok, arith}
 use Rattle.std.specs.Prelude.{is_some}
 use Rattle.flash_model.specs.Layouts.{layout_of}
 use Rattle.flash_words.specs.Layout.{room_of, reach_of}
 use Rattle.record_model.specs.Records.{parts_of}
-use Rattle.record_store.specs.Store.{StoreView}
+use Rattle.record_store.specs.Store.{StoreView, Idle, free_in}
 use Rattle.record_store.specs.Kept.{IsStore, pending_of, view_of, slots_in}
 use Rattle.record_draft.specs.declared.draft.Draft.{Draft}
 use Rattle.record_recovery.specs.declared.found.SlotOf.{SlotOf}
 use Rattle.record_store.specs.declared.work.Work.TheVariants.{Write}
 use Rattle.record_store.specs.Answers.{StartsWrite}
 use Rattle.record_store.proofs.BeginLemmas.{Begins, RefusedStart, written_back, new_length, front_is, begun_store, begun_pending, begun_answer, begun_starts, refused_start, refused_store}
+use Rattle.record_store.proofs.StoreLemmas.{same_free_in}
 use Rattle.record_store.proofs.PartLemmas.{reach_small}
 use Rattle.record_store.proofs.store.Store.begin_write.Goals as goal
 
@@ -119,3 +120,9 @@ invariant_of-self-in-Err g c =
     let i = c.self.inside in
     refused_store g.F.Flash.tells _ i.geometry (g.F.Flash.state i.flash) (g.F.Flash.state c.plan_write-planned.new.flash) i.found i.buffer.items i.in_doubt c.is_flash-self-inside.result i.work c.args.self.now
     c.in-Err.error (Draft × Option SlotOf) c.self.invariant c.self.view_is c.requires.ready c.in-Err.ensures.reads
+
+pub returns-in-Ok-clause-free : goal.returns-in-Ok-clause-free
+returns-in-Ok-clause-free g c tells =
+    let i = c.self.inside in
+    subst (λ (u : StoreView). free_in (view_of i.geometry (g.F.Flash.state c.plan_write-planned.new.flash) i.in_doubt Idle) ≡ free_in u) c.self.view_is
+    (same_free_in (view_of i.geometry (g.F.Flash.state i.flash) i.in_doubt Idle) (view_of i.geometry (g.F.Flash.state c.plan_write-planned.new.flash) i.in_doubt Idle) refl (c.in-Ok.ensures.reads.told tells))

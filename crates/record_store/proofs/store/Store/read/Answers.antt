@@ -8,12 +8,13 @@ use Rattle.record_model.specs.RecordMap.{Read, NotFound, Empty, refusal_of}
 use Rattle.record_model.proofs.RefusalLemmas.{read_empty, read_missing}
 use Rattle.record_store.specs.Index.{IsStoredAt}
 use Rattle.record_store.specs.Store.{StoreView}
-use Rattle.record_store.specs.Kept.{IsStore}
+use Rattle.flash_model.specs.Layouts.{layout_of}
+use Rattle.record_store.specs.Kept.{IsStore, pending_of}
 use Rattle.record_store.proofs.AnswerLemmas.{place_stored, no_place_stored, none_stored}
 use Rattle.record_store.proofs.BeginLemmas.{written_back}
 use Rattle.record_store.proofs.CountLemmas.{len_stored}
 use Rattle.record_store.proofs.PartLemmas.{bytes_are}
-use Rattle.record_store.proofs.StoreLemmas.{looked, of_old, read_store, read_leaves, read_failed_leaves}
+use Rattle.record_store.proofs.StoreLemmas.{looked, of_old, read_store, read_leaves, read_failed_leaves, read_still, read_reads}
 use Rattle.record_store.proofs.store.Store.read.Goals as goal
 
 pub returns-then-is_empty-clause-answer : goal.returns-then-is_empty-clause-answer
@@ -126,3 +127,15 @@ invariant_of-self-in-Err g c =
     (read_store g.F.Flash.tells i.geometry (g.F.Flash.state i.flash) (g.F.Flash.state c.read_record.new.flash) i.found i.buffer.items new i.in_doubt true i.work c.settle.new.self
     c.self.invariant c.self.view_is c.in_ok-settle.ensures.leaves.doubt long
     c.in-Err.ensures.stays.told c.in-Err.ensures.stays.size c.in-Err.ensures.stays.sector_size)
+
+pub returns-in-Ok-clause-still : goal.returns-in-Ok-clause-still
+returns-in-Ok-clause-still g c sure =
+    let i = c.self.inside in
+    read_still g.F.Flash.tells i.geometry (g.F.Flash.state i.flash) (g.F.Flash.state c.read_record.new.flash) i.in_doubt (pending_of (layout_of i.geometry) i.buffer.items i.work) c.args.self.now c.in-Some.place.len _
+    (c.self.view_is ∙ c.in_ok-settle.ensures.still sure) c.in-Ok.ensures.stays
+
+pub returns-in-Ok-clause-reads : goal.returns-in-Ok-clause-reads
+returns-in-Ok-clause-reads g c =
+    let i = c.self.inside in
+    read_reads i.geometry (g.F.Flash.state i.flash) (g.F.Flash.state c.read_record.new.flash) i.in_doubt (pending_of (layout_of i.geometry) i.buffer.items i.work) c.args.self.now c.settle.new.self c.in-Some.place.len
+    c.self.view_is c.in_ok-settle.ensures.leaves.alike.layout c.in_ok-settle.ensures.reads c.in-Ok.ensures.stays.counted

@@ -1,10 +1,10 @@
-use Rattle.std.proofs.Common.{refl, sym, ap, subst, ◌∙◌}
+use Rattle.std.proofs.Common.{false, refl, sym, ap, subst, ◌∙◌}
 use Rattle.flash_model.specs.Layouts.{layout_of}
 use Rattle.record_store.specs.Store.{StoreView}
 use Rattle.record_store.specs.Kept.{Knows, IsWork, pending_of}
 use Rattle.record_store.specs.declared.work.Work.{Work}
 use Rattle.record_store.proofs.ScanLemmas.{IsListing-rescanned, KnowsSlots-recovered}
-use Rattle.record_store.proofs.StoreLemmas.{IsScanned, idle_work, ready_knows, looks_ready, looks_again, looks_failed, rescanned_spare}
+use Rattle.record_store.proofs.StoreLemmas.{IsScanned, idle_work, ready_knows, looks_ready, looks_again, looks_failed, rescanned_spare, free_rescanned, ready_reads, looked_reads}
 use Rattle.record_store.proofs.store.Store.settle.Goals as goal
 
 pub returns-then-not-self-clause-leaves : goal.returns-then-not-self-clause-leaves
@@ -81,3 +81,17 @@ returns-in-Err-clause-leaves g c =
     } in
     looks_failed g.F.Flash.tells i.geometry (g.F.Flash.state i.flash) (g.F.Flash.state c.rescan.new.flash) i.in_doubt (pending_of (layout_of i.geometry) i.buffer.items i.work) c.args.self.now c.self.view_is
     c.if-not-self.false (ap (λ (u : StoreView). u.pending) c.self.view_is ∙ c.requires.idle) scanned shape.cause.never_falls c.in-Err.ensures.shape.cause.err
+
+pub returns-in-Ok-clause-free : goal.returns-in-Ok-clause-free
+returns-in-Ok-clause-free g c tells =
+    let i = c.self.inside in
+    free_rescanned i.geometry (g.F.Flash.state i.flash) (g.F.Flash.state c.rescan.new.flash) c.rescan.new.found i.in_doubt false (pending_of (layout_of i.geometry) i.buffer.items i.work) c.args.self.now c.self.view_is (c.in-Ok.ensures.recovered tells)
+
+pub returns-then-not-self-clause-reads : goal.returns-then-not-self-clause-reads
+returns-then-not-self-clause-reads g c = ready_reads {T = Unit {0}} c.args.self.now tt (sym (ap (λ (u : StoreView). u.in_doubt) c.self.view_is) ∙ c.if-not-self.true)
+
+pub returns-in-Ok-clause-reads : goal.returns-in-Ok-clause-reads
+returns-in-Ok-clause-reads g c =
+    let i = c.self.inside in
+    looked_reads {T = Unit {0}} i.geometry (g.F.Flash.state i.flash) (g.F.Flash.state c.rescan.new.flash) i.in_doubt false (pending_of (layout_of i.geometry) i.buffer.items i.work) c.args.self.now tt c.self.view_is
+    c.if-not-self.false c.in-Ok.ensures.shape.counted
