@@ -7,12 +7,12 @@ use Rattle.std.proofs.lemmas.List.{take_rest, drop_all, append-nil}
 use Rattle.base_model.specs.Bytes.{part}
 use Rattle.flash_words.specs.Layout.{Layout, room_of, reach_of}
 use Rattle.flash_words.proofs.CrashLemmas.{Leaves-exit}
-use Rattle.record_model.specs.Records.{Stored, is_reserved}
+use Rattle.record_model.specs.Records.{Stored, is_reserved, parts_of}
 use Rattle.record_model.specs.RecordMap.{NotFound, Empty}
 use Rattle.record_model.proofs.RefusalLemmas.{read_taken}
 use Rattle.record_model.proofs.SizeLemmas.{len_some}
 use Rattle.record_store.specs.Store.{StoreView, stored, records_of, IsBusy, DividesAlike, KeepsMap}
-use Rattle.record_store.specs.Answers.{AnswersRead, FailsByFlash}
+use Rattle.record_store.specs.Answers.{AnswersRead, FailsByFlash, ReadsExactly}
 use Rattle.record_store.specs.Calls.{OnlyLooks}
 use Rattle.record_store.specs.declared.errors.StoreError.{StoreError}
 use Rattle.record_store.specs.declared.errors.StoreError.TheVariants as errors
@@ -28,7 +28,7 @@ use Rattle.erst_device.specs.declared.status.CommandStatus.TheVariants.{Success,
 use Rattle.erst_device.specs.Statuses.{status_of}
 use Rattle.erst_device.specs.StoreCalls.{Stepped, ReadOut, FoundNext, Counted}
 use Rattle.erst_device.specs.DeviceState.{DeviceState, IsStill, IsRunning, Reads, Changes, given_up}
-use Rattle.erst_device.specs.Starts.{Starts, HasLength, LookFails, FindsNone, Misses, GoesBeyond, Finds, named}
+use Rattle.erst_device.specs.Starts.{Starts, HasLength, FindsNone, Misses, GoesBeyond, Finds, named}
 use Rattle.erst_device.specs.Actions.{Acts, Begins, Ends, Steps, Shows, FindsNext, Counts, begun_by, IsAllowed, found, counted, shown}
 use Rattle.erst_device.specs.Registers.{reading_of, is_nothing, seen, StandsWithin, IsReading, Runs, started}
 
@@ -115,9 +115,12 @@ kept_map old new kept alike =
     ap (λ (layout : Layout). records_of layout new.flash.told.image) alike.layout
     ∙ Leaves-exit old.flash.told new.flash.told (λ image. records_of old.layout image ≡ stored old) kept
 
-pub fails_from : (tells : Type 0) (old : DeviceState) (range : List ℕ) (store : StoreView) (error : StoreError) (status : CommandStatus) → old.operation ≡ Some operations.Read
-    → FoundNext tells old.store store 0 (Err error) → status ≡ status_of error → Starts tells old range (record old { status = status; store = store })
-fails_from tells old range store error status reads next is = subst (λ (s : CommandStatus). Starts tells old range (record old { status = s; store = store })) (sym is) (LookFails store error reads next)
+-- a start that the store refuses
+pub refused_by : (tells : Type 0) (old left : DeviceState) (range : List ℕ) (result : Result Running CommandStatus) (status : CommandStatus) (error : StoreError) → result ≡ Err status → status ≡ status_of error
+    → Starts tells old range (record left { status = status_of error }) → Starts tells old range (started result left)
+refused_by tells old left range result status error is status_is starts =
+    subst (λ (r : Result Running CommandStatus). Starts tells old range (started r left)) (sym is)
+    (subst (λ (s : CommandStatus). Starts tells old range (record left { status = s })) (sym status_is) starts)
 
 pub finds_nothing : (tells : Type 0) (old : DeviceState) (range : List ℕ) (store : StoreView) (found_id : Option ℕ) → old.operation ≡ Some operations.Read
     → FoundNext tells old.store store 0 (Ok found_id) → found_id ≡ None → Starts tells old range (record old { status = RecordStoreEmpty; store = store })
@@ -249,13 +252,15 @@ borrowed_len range offset reach long =
     ap length rest ∙ length-drop offset range ∙ ap (λ (n : ℕ). n - offset) long
 
 pub read_out : (tells : Type 0) (store new : StoreView) (record_id id offset : ℕ) (range after : List ℕ) (result : Result ℕ StoreError) → record_id ≡ id → IsReading tells id offset store
-    → length range ≡ reach_of (room_of store.layout) → (tells → AnswersRead store record_id (take (length range - offset) (drop offset range)) after result) → OnlyLooks tells store new result
+    → length range ≡ reach_of (room_of store.layout) → (tells → AnswersRead store record_id (take (length range - offset) (drop offset range)) after result)
+    → (store.in_doubt ≡ false → ReadsExactly tells (λ size. parts_of (room_of store.layout) size) store new result) → OnlyLooks tells store new result
     → ReadOut tells store new id (take (length range - offset) (drop offset range)) after result
-read_out tells store new record_id id offset range after result same reading long answer leaves =
+read_out tells store new record_id id offset range after result same reading long answer still leaves =
     let answered = λ (told : tells). subst (λ (n : ℕ). AnswersRead store n (take (length range - offset) (drop offset range)) after result) same (answer told) in
     record {
       ready = reading.ready;
       answer = answered;
       error = λ told. reads_or_fails store id offset (take (length range - offset) (drop offset range)) after result reading.usable (reading.held told) (borrowed_len range offset (reach_of (room_of store.layout)) long) (answered told);
+      still = still;
       leaves = leaves;
     }

@@ -74,14 +74,6 @@ impl<F: Flash> Device<F> {
 
         ensures copies { F.tells → gives_up (action_of code) ≡ true → KnowsCopies self.old.store }
     {
-        self.carry_out(code, range);
-    }
-
-    fn carry_out(&mut self, code: u32, range: &mut [u8])
-        requires { length range.old ≡ reach_of (room_of self.old.store.layout) }
-        ensures acts { Acts F.tells self.old range.old (action_of code) self.new range.new }
-        ensures copies { F.tells → gives_up (action_of code) ≡ true → KnowsCopies self.old.store }
-    {
         if let Some(action) = Action::of(u64::from(code)) {
             self.registers.act(&mut self.store, action, range);
         }

@@ -57,10 +57,8 @@ impl Registers {
             return Err(CommandStatus::Failed);
         };
         let at = self.offset as usize;
-        match store.start_write(id, &range[at..at + size as usize]) {
-            Ok(()) => Ok(Running::Changing),
-            Err(error) => Err(error.into()),
-        }
+        store.start_write(id, &range[at..at + size as usize])?;
+        Ok(Running::Changing)
     }
 
     fn start_read<F: Flash>(
@@ -77,10 +75,8 @@ impl Registers {
         ensures offset { self.new.offset ≡ self.old.offset }
         ensures nothing { self.new.running ≡ Running.Nothing }
     {
-        let least = match store.first() {
-            Ok(Some(least)) => least,
-            Ok(None) => return Err(CommandStatus::RecordStoreEmpty),
-            Err(error) => return Err(error.into()),
+        let Some(least) = store.first()? else {
+            return Err(CommandStatus::RecordStoreEmpty);
         };
         let Some((id, size)) = find_record(store, self.id, least) else {
             self.cursor = 0;
@@ -101,10 +97,8 @@ impl Registers {
         let Some(id) = RecordId::new(self.id) else {
             return Err(CommandStatus::Failed);
         };
-        match store.start_clear(id) {
-            Ok(()) => Ok(Running::Changing),
-            Err(error) => Err(error.into()),
-        }
+        store.start_clear(id)?;
+        Ok(Running::Changing)
     }
 }
 
