@@ -1,0 +1,3 @@
+pub mod ActionLemmas
+pub mod EffectLemmas
+pub mod TimingLemmas

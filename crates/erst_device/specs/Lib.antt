@@ -1,0 +1,9 @@
+pub mod Statuses
+pub mod DeviceState
+pub mod Drafts
+pub mod Timings
+pub mod StoreCalls
+pub mod Starts
+pub mod Actions
+pub mod Effects
+pub mod Registers

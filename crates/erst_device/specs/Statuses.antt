@@ -1,0 +1,24 @@
+-- Command statuses.
+use Rattle.std.specs.Prelude.{ℕ}
+use Rattle.record_store.specs.declared.errors.StoreError.{StoreError}
+use Rattle.record_store.specs.declared.errors.StoreError.TheVariants as errors
+use Rattle.erst_device.specs.declared.status.CommandStatus.{CommandStatus}
+use Rattle.erst_device.specs.declared.status.CommandStatus.TheVariants.{Success, NotEnoughSpace, HardwareNotAvailable, Failed, RecordStoreEmpty, RecordNotFound}
+
+-- the number of a status (ACPI 6.4, section 18.5.1)
+abbrev pub number_of : CommandStatus → ℕ
+number_of Success = 0
+number_of NotEnoughSpace = 1
+number_of HardwareNotAvailable = 2
+number_of Failed = 3
+number_of RecordStoreEmpty = 4
+number_of RecordNotFound = 5
+
+-- the status by which an error of the store is told
+abbrev pub status_of : StoreError → CommandStatus
+status_of (errors.NoSpace free) = NotEnoughSpace
+status_of errors.Flash = HardwareNotAvailable
+status_of (errors.LastGeneration id) = Failed
+status_of (errors.Small need) = Failed
+status_of errors.Empty = RecordStoreEmpty
+status_of errors.NotFound = RecordNotFound
