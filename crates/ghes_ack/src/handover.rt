@@ -115,6 +115,7 @@ impl Handover {
     }
 
     /// Any turn, for which both sides are taken out and put back.
+    #[inline(never)]
     fn changes_sides(&mut self, side: Side, ram: &mut Ram) -> Event
         requires { Stands self.old ram.old }
         ensures { (m : Machine) → StandsFor self.old ram.old m → Turns side result self.old ram.old self.new ram.new m }

@@ -45,7 +45,7 @@ pub fn piece_turn(side: Side, ends: &mut Ends, blocks: &mut Blocks, ram: &mut Ra
     }
 }
 
-/// Writes the next piece of the block at work; `false` where there is none.
+/// Writes the next piece of the block at work; `false` where there is none of 64 bytes.
 fn fill_more(firm: &mut FirmBlock, idle: &OsIdle, blocks: &mut Blocks, ram: &mut Ram) -> bool
     requires consistent { IsConsistent (OfFirm firm.old idle.now) blocks.old }
     requires stands { Stands (state_of (OfFirm firm.old idle.now) blocks.old) ram.old }
@@ -57,7 +57,7 @@ fn fill_more(firm: &mut FirmBlock, idle: &OsIdle, blocks: &mut Blocks, ram: &mut
     let Some(block) = &blocks.at_work else {
         return false;
     };
-    if PIECE * (blocks.filled as usize) >= block.len() {
+    if block.len() < PIECE * (blocks.filled as usize) + PIECE {
         return false;
     }
     firm.fill(ram, block, blocks.filled);

@@ -11,5 +11,5 @@ pub returns-clause-turns : goal.returns-clause-turns
 returns-clause-turns c =
     let l = c.len.ensures in
     let n : length c.in-Some.block.items ≡ vec_len c.in-Some.block = ap length (sym c.deref.ensures.value) ∙ c.deref.ensures.len in
-    let more = c.if-blocks-len.false in
+    let more = c.if-len-blocks.false in
     fills_more c.args.firm.now c.fill.new.self c.args.idle.now c.args.blocks.now c.in-Some.block c.deref.result.now c.args.ram.now c.fill.new.ram c.in-Some.is c.requires.consistent.sides.0 c.deref.ensures.value (omega (arith, n, more, l)) c.fill.ensures.memory
