@@ -61,12 +61,12 @@ wanted_of-same interest other (block ∷ blocks) same =
     let here = same (severity_of block) in
     ap (λ (b : Bool). cond b (1 + wanted_of interest blocks) (wanted_of interest blocks)) here ∙ ap (λ (n : ℕ). cond (other (severity_of block)) (1 + n) n) rest
 
-heard_of_all : {L : Type 0} (interest : L → ℕ → Bool) (hearings : L → ℕ) (blocks : List (List ℕ)) (old new : L) → hearings old ≤ 2 ^ 64 - 1 → IsToldOfAll interest hearings blocks old new →
+heard_of_all : {L : Type 0} (interest : L → ℕ → Bool) (hearings : L → ℕ) (heard_last : L → ℕ → List ℕ → Type 0) (blocks : List (List ℕ)) (old new : L) → hearings old ≤ 2 ^ 64 - 1 → IsToldOfAll interest hearings heard_last blocks old new →
     hearings new ≡ min (hearings old + wanted_of (interest old) blocks) (2 ^ 64 - 1)
 unfolding wanted_of
-heard_of_all interest hearings [] old new small is = let same : hearings new ≡ hearings old = ap hearings is in omega arith
-heard_of_all interest hearings (block ∷ blocks) old new small (between, told, later) =
-    test (interest old (severity_of block)) refl (λ few. heard_of_all interest hearings blocks between new few later) (wanted_of-same (interest between) (interest old) blocks told.steady) where
+heard_of_all interest hearings heard_last [] old new small is = let same : hearings new ≡ hearings old = ap hearings is in omega arith
+heard_of_all interest hearings heard_last (block ∷ blocks) old new small (between, told, later) =
+    test (interest old (severity_of block)) refl (λ few. heard_of_all interest hearings heard_last blocks between new few later) (wanted_of-same (interest between) (interest old) blocks told.steady) where
       test : (b : Bool) → interest old (severity_of block) ≡ b → (hearings between ≤ 2 ^ 64 - 1 → hearings new ≡ min (hearings between + wanted_of (interest between) blocks) (2 ^ 64 - 1)) →
           wanted_of (interest between) blocks ≡ wanted_of (interest old) blocks → hearings new ≡ min (hearings old + cond b (1 + wanted_of (interest old) blocks) (wanted_of (interest old) blocks)) (2 ^ 64 - 1)
       test true e rest same =
@@ -78,7 +78,7 @@ heard_of_all interest hearings (block ∷ blocks) old new small (between, told, 
           let all = rest (omega arith) in
           omega arith
 
-pub told_of_all : {L : Type 0} (interest : L → ℕ → Bool) (hearings : L → ℕ) (blocks : List (List ℕ)) (old new : L) → hearings old ≤ 2 ^ 64 - 1 → IsToldOfAll interest hearings blocks old new →
+pub told_of_all : {L : Type 0} (interest : L → ℕ → Bool) (hearings : L → ℕ) (heard_last : L → ℕ → List ℕ → Type 0) (blocks : List (List ℕ)) (old new : L) → hearings old ≤ 2 ^ 64 - 1 → IsToldOfAll interest hearings heard_last blocks old new →
     hearings new ≡ min (hearings old + wanted (interest old) blocks) (2 ^ 64 - 1)
-told_of_all interest hearings blocks old new small is =
-    heard_of_all interest hearings blocks old new small is ∙ ap (λ (n : ℕ). min (hearings old + n) (2 ^ 64 - 1)) (wanted_of-is (interest old) blocks)
+told_of_all interest hearings heard_last blocks old new small is =
+    heard_of_all interest hearings heard_last blocks old new small is ∙ ap (λ (n : ℕ). min (hearings old + n) (2 ^ 64 - 1)) (wanted_of-is (interest old) blocks)

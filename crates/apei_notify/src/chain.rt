@@ -38,7 +38,9 @@ impl Chain {
             (IsTold
             (λ b. (⟦<dyn Listener as Listener>⟧ b.vtable).interest b.value)
             (λ b. (⟦<dyn Listener as Listener>⟧ b.vtable).hearings b.value)
-            severity)
+            (λ b. (⟦<dyn Listener as Listener>⟧ b.vtable).heard_last b.value)
+            severity
+            block.now)
             (members_of self.old)
             (members_of self.new) }
     {
@@ -83,7 +85,9 @@ fn tell_member(member: &mut Box<dyn Listener>, severity: u32, block: &[u8])
     ensures { IsTold
         (λ b. (⟦<dyn Listener as Listener>⟧ b.vtable).interest b.value)
         (λ b. (⟦<dyn Listener as Listener>⟧ b.vtable).hearings b.value)
+        (λ b. (⟦<dyn Listener as Listener>⟧ b.vtable).heard_last b.value)
         severity
+        block.now
         member.old
         member.new }
 {

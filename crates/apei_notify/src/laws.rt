@@ -7,6 +7,6 @@ use crate::listener::Listener;
 /// A listener that was told of the errors of some status blocks has heard of exactly those that it wants, each once.
 pub fn heard_is_wanted<L: Listener>()
     ensures { (blocks : List (List ℕ)) (old new : L) → L.hearings old ≤ 2 ^ 64 - 1 →
-        IsToldOfAll L.interest L.hearings blocks old new →
+        IsToldOfAll L.interest L.hearings L.heard_last blocks old new →
         L.hearings new ≡ min (L.hearings old + wanted (L.interest old) blocks) (2 ^ 64 - 1) }
 {}

@@ -25,6 +25,8 @@ impl Listener for Tally {
 
     ghost hearings = { λ tally. tally.heard };
 
+    ghost heard_last = { λ tally severity block. Unit {0} };
+
     fn wants(&self, severity: u32) -> bool {
         severity < 4 && self.mask >> severity & 1 == 1
     }

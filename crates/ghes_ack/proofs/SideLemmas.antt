@@ -1,7 +1,8 @@
 -- The turns of the two sides with their blocks.
-use Rattle.std.proofs.Common.{◌≡◌, ◌∙◌, ℕ, ◌+◌, ◌-◌, ◌*◌, ◌<◌, ◌≤◌, min, List, ◌++◌, length, take, drop, map, Vec, Option, Some, None, refl, sym, ap, subst, arith, append_assoc}
+use Rattle.std.proofs.Common.{◌≡◌, ◌∙◌, ℕ, ◌+◌, ◌-◌, ◌*◌, ◌<◌, ◌≤◌, min, List, ◌∷◌, ◌++◌, length, take, drop, map, Vec, Option, Some, None, option_to_list, refl, sym, ap, subst, arith, append_assoc}
 use Rattle.std.specs.declared.alloc.Global.{Global}
-use Rattle.std.proofs.lemmas.List.{drop-drop}
+use Rattle.std.specs.Vec.{with_items}
+use Rattle.std.proofs.lemmas.List.{drop-drop, with_items_is}
 use Rattle.base_model.specs.Bytes.{part, spelled, put_at}
 use Rattle.apei_space.specs.RamState.{RamState}
 use Rattle.ghes_ack.specs.declared.maps.HandoverMap.{HandoverMap}
@@ -11,7 +12,7 @@ use Rattle.ghes_ack.specs.declared.ends.Ends.TheVariants.{FirmHolds, Shown, OsHo
 use Rattle.ghes_ack.specs.declared.blocks.Blocks.{Blocks}
 use Rattle.ghes_ack.specs.Machine.{Machine, Situation, Filling, Published, Reading, Cleared, Acknowledged, Fits, with_piece, with_status}
 use Rattle.ghes_ack.specs.Maps.{HasWindows, window, status_word, ack_read, with_window, with_ack, with_clear, acknowledged, IsSet, IsClear}
-use Rattle.ghes_ack.specs.Handovers.{HandoverState, StandsFor}
+use Rattle.ghes_ack.specs.Handovers.{HandoverState, kept, StandsFor}
 use Rattle.ghes_ack.specs.Sides.{Turns, Stands, state_of, in_work, TakesOut, IsCopiedSoFar}
 use Rattle.ghes_ack.proofs.TurnLemmas.{next_is, fills, publish_filled, publishes, frees, some_status, work_fits, copies_same, copies_more, copies_last, clears, acknowledges}
 
@@ -50,6 +51,26 @@ fills_in_hand firm next os b t block bytes ram new out same is more memory m st 
     ∙ ap (λ (at : HandoverMap). with_window at ram (with_piece (window at ram) block.items b.filled)) same in
     subst (λ (after : HandoverState). Turns Firmware Fill h ram after new m) (in_hand b t block Filling (b.filled + 1) (t.filled + 1) out (ap (λ (k : ℕ). k + 1) (sym f)))
     (fills h ram new m block.items (map (λ v. v.items) t.waiting.items) refl out.held (omega (arith, more, f)) memory_b st)
+
+-- the block at work, of which one piece more is filled in its place
+work_next : (firm os : HandoverMap) (b : Blocks) (block : Vec ℕ Global) → b.at_work ≡ Some block → kept (state_of (FirmHolds firm os) b) ≡ block.items ∷ map (λ v. v.items) b.waiting.items
+work_next firm os b block some = ap (λ (o : Option (Vec ℕ Global)). option_to_list (in_work Filling o b.last) ++ map (λ v. v.items) b.waiting.items) some
+
+pub fits_more : (firm os : HandoverMap) (b : Blocks) (block : Vec ℕ Global) (ram : RamState) → b.at_work ≡ Some block → firm ≡ b.map → Stands (state_of (FirmHolds firm os) b) ram → Fits firm.len block.items
+fits_more firm os b block ram some same (m, st) =
+    subst (λ (at : HandoverMap). Fits at.len block.items) (sym same) (next_is (state_of (FirmHolds firm os) b) ram m block.items (map (λ v. v.items) b.waiting.items) refl (work_next firm os b block some) st).good
+
+pub fills_more : (firm next os : HandoverMap) (b : Blocks) (block : Vec ℕ Global) (bytes : List ℕ) (ram new : RamState) → b.at_work ≡ Some block → firm ≡ b.map → bytes ≡ block.items → 64 * b.filled < length block.items →
+    new ≡ with_window firm ram (with_piece (window firm ram) bytes b.filled) → (m : Machine) → StandsFor (state_of (FirmHolds firm os) b) ram m →
+    Turns Firmware Fill (state_of (FirmHolds firm os) b) ram (state_of (FirmHolds next os) (record b { filled = b.filled + 1 })) new m
+fills_more firm next os b block bytes ram new some same is more memory m st =
+    let h = state_of (FirmHolds firm os) b in
+    let memory_b : new ≡ with_window b.map ram (with_piece (window b.map ram) block.items b.filled) =
+    memory ∙ ap (λ (x : List ℕ). with_window firm ram (with_piece (window firm ram) x b.filled)) is
+    ∙ ap (λ (at : HandoverMap). with_window at ram (with_piece (window at ram) block.items b.filled)) same in
+    let work : Some block.items ≡ h.at_work = sym (ap (λ (o : Option (Vec ℕ Global)). in_work Filling o b.last) some) in
+    subst (λ (o : Option (List ℕ)). Turns Firmware Fill h ram (record h { filled = b.filled + 1; at_work = o }) new m) work
+    (fills h ram new m block.items (map (λ v. v.items) b.waiting.items) refl (work_next firm os b block some) more memory_b st)
 
 pub filled_in_hand : (firm os : HandoverMap) (b t : Blocks) (block : Vec ℕ Global) (ram : RamState) → TakesOut b t block → firm ≡ b.map → length block.items ≤ 64 * t.filled → Stands (state_of (FirmHolds firm os) b) ram →
     drop 4 (take (length block.items) (window firm ram)) ≡ drop 4 block.items
@@ -118,6 +139,10 @@ same_bytes wait os b block bytes copied ram some same is far memory stands =
     ∙ ap (λ (x : List ℕ). put_at x (64 * b.copied) (part (window os ram) (64 * b.copied) (min 64 (length x - 64 * b.copied)))) is
     ∙ ap (λ (at : HandoverMap). put_at block.items (64 * b.copied) (part (window at ram) (64 * b.copied) (min 64 (length block.items - 64 * b.copied)))) same
     ∙ copies_same h ram block.items refl work (begins_at b block some far) stands
+
+pub same_items : (wait os : HandoverMap) (b : Blocks) (block : Vec ℕ Global) (bytes copied : List ℕ) (ram : RamState) → b.at_work ≡ Some block → os ≡ b.map → bytes ≡ block.items → IsCopiedSoFar b.copied b.at_work b.last →
+    copied ≡ put_at bytes (64 * b.copied) (part (window os ram) (64 * b.copied) (min 64 (length bytes - 64 * b.copied))) → Stands (state_of (OsHolds wait os) b) ram → length copied ≡ block.len → (with_items block copied).items ≡ block.items
+same_items wait os b block bytes copied ram some same is far memory stands long = with_items_is block copied long ∙ same_bytes wait os b block bytes copied ram some same is far memory stands
 
 pub copies_at : (wait os next : HandoverMap) (b : Blocks) (block after : Vec ℕ Global) (ram : RamState) → b.at_work ≡ Some block → after.items ≡ block.items → 64 * (b.copied + 1) < length block.items →
     (m : Machine) → StandsFor (state_of (OsHolds wait os) b) ram m →

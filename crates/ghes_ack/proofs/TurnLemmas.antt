@@ -95,19 +95,22 @@ rest_long h ram m block rest held st =
     let e : length (drop m.acknowledged m.blocks) ≡ suc (length rest) = ap length (sym st.blocks ∙ held) in
     omega (arith, n, e)
 
+-- what the firmware does with the next block, by a test: a piece of it is not filled yet
+abbrev filling_by : Machine → List ℕ → Bool → Turned
+filling_by m block more =
+    cond {A = Turned} more (Fill, record m { filled = m.filled + 1; window = with_piece m.window block m.filled })
+    (Publish, record m { published = m.published + 1; filled = 0; window = with_status m.window (take 4 block); situation = Published })
+
+fills_by : (m : Machine) (block : List ℕ) (rest : List (List ℕ)) (more : Bool) → m.situation ≡ Filling → drop m.published m.blocks ≡ block ∷ rest → nat_lt m.filled (pieces block) ≡ more → turned Firmware m ≡ filling_by m block more
+fills_by m block rest more now is a = ap (firmware_turn m) now ∙ ap (offered m) is ∙ ap (filling_by m block) a
+
 turned_fill : (m : Machine) (block : List ℕ) (rest : List (List ℕ)) → m.situation ≡ Filling → drop m.published m.blocks ≡ block ∷ rest → m.filled < pieces block →
     turned Firmware m ≡ (Fill, record m { filled = m.filled + 1; window = with_piece m.window block m.filled })
-turned_fill m block rest now is more =
-    let t : nat_lt m.filled (pieces block) ≡ true = grind (arith, nat_tests) in
-    ap (firmware_turn m) now ∙ ap (offered m) is
-    ∙ ap (λ (b : Bool). cond {A = Turned} b (Fill, record m { filled = m.filled + 1; window = with_piece m.window block m.filled }) (Publish, record m { published = m.published + 1; filled = 0; window = with_status m.window (take 4 block); situation = Published })) t
+turned_fill m block rest now is more = fills_by m block rest true now is (grind (arith, nat_tests))
 
 turned_publish : (m : Machine) (block : List ℕ) (rest : List (List ℕ)) → m.situation ≡ Filling → drop m.published m.blocks ≡ block ∷ rest → pieces block ≤ m.filled →
     turned Firmware m ≡ (Publish, record m { published = m.published + 1; filled = 0; window = with_status m.window (take 4 block); situation = Published })
-turned_publish m block rest now is none =
-    let t : nat_lt m.filled (pieces block) ≡ false = grind (arith, nat_tests) in
-    ap (firmware_turn m) now ∙ ap (offered m) is
-    ∙ ap (λ (b : Bool). cond {A = Turned} b (Fill, record m { filled = m.filled + 1; window = with_piece m.window block m.filled }) (Publish, record m { published = m.published + 1; filled = 0; window = with_status m.window (take 4 block); situation = Published })) t
+turned_publish m block rest now is none = fills_by m block rest false now is (grind (arith, nat_tests))
 
 pub idles : (h : HandoverState) (ram : RamState) (m : Machine) → h.situation ≡ Filling → kept h ≡ [] → StandsFor h ram m → Turns Firmware Idle h ram h ram m
 idles h ram m now none st =
@@ -306,19 +309,21 @@ copies_same h ram block now is more (m, st) =
     sym (is_put_at block block (64 * h.copied) (part (window h.map ram) (64 * h.copied) (min 64 (length block - 64 * h.copied)))
     (SameOutside-refl (64 * h.copied) (length (part (window h.map ram) (64 * h.copied) (min 64 (length block - 64 * h.copied)))) block) back)
 
+-- what the reader does with the block at work, by two tests: more pieces follow the next one, and there is a next one
+abbrev reading_by : Machine → Bool → Bool → Turned
+reading_by m more some =
+    cond {A = Turned} more (Copied, record m { copied = m.copied + 1 })
+    (cond {A = Turned} some (Took, record m { copied = m.copied + 1; taken = m.taken + 1 }) (Clear, record m { window = with_status m.window (spelled 4 0); situation = Cleared }))
+
+reads_by : (m : Machine) (more some : Bool) → m.situation ≡ Reading → nat_lt (m.copied + 1) (pieces (at_work m)) ≡ more → nat_lt m.copied (pieces (at_work m)) ≡ some → turned Reader m ≡ reading_by m more some
+reads_by m more some now a b =
+    ap (reader_turn m) now ∙ ap (λ (t : Bool). reading_by m t (nat_lt m.copied (pieces (at_work m)))) a ∙ ap (reading_by m more) b
+
 turned_copied : (m : Machine) → m.situation ≡ Reading → m.copied + 1 < pieces (at_work m) → turned Reader m ≡ (Copied, record m { copied = m.copied + 1 })
-turned_copied m now more =
-    let a : nat_lt (m.copied + 1) (pieces (at_work m)) ≡ true = grind (arith, nat_tests) in
-    ap (reader_turn m) now
-    ∙ ap (λ (t : Bool). cond {A = Turned} t (Copied, record m { copied = m.copied + 1 }) (cond {A = Turned} (nat_lt m.copied (pieces (at_work m))) (Took, record m { copied = m.copied + 1; taken = m.taken + 1 }) (Clear, record m { window = with_status m.window (spelled 4 0); situation = Cleared }))) a
+turned_copied m now more = reads_by m true (nat_lt m.copied (pieces (at_work m))) now (grind (arith, nat_tests)) refl
 
 turned_took : (m : Machine) → m.situation ≡ Reading → m.copied < pieces (at_work m) → pieces (at_work m) ≤ m.copied + 1 → turned Reader m ≡ (Took, record m { copied = m.copied + 1; taken = m.taken + 1 })
-turned_took m now more last =
-    let a : nat_lt (m.copied + 1) (pieces (at_work m)) ≡ false = grind (arith, nat_tests) in
-    let b : nat_lt m.copied (pieces (at_work m)) ≡ true = grind (arith, nat_tests) in
-    ap (reader_turn m) now
-    ∙ ap (λ (t : Bool). cond {A = Turned} t (Copied, record m { copied = m.copied + 1 }) (cond {A = Turned} (nat_lt m.copied (pieces (at_work m))) (Took, record m { copied = m.copied + 1; taken = m.taken + 1 }) (Clear, record m { window = with_status m.window (spelled 4 0); situation = Cleared }))) a
-    ∙ ap (λ (t : Bool). cond {A = Turned} t (Took, record m { copied = m.copied + 1; taken = m.taken + 1 }) (Clear, record m { window = with_status m.window (spelled 4 0); situation = Cleared })) b
+turned_took m now more last = reads_by m false true now (grind (arith, nat_tests)) (grind (arith, nat_tests))
 
 pub copies_more : (h : HandoverState) (ram : RamState) (m : Machine) (block : List ℕ) → h.situation ≡ Reading → h.at_work ≡ Some block → 64 * (h.copied + 1) < length block → StandsFor h ram m →
     Turns Reader Copied h ram (record h { copied = h.copied + 1 }) ram m
@@ -363,12 +368,7 @@ copies_last h ram m block now is more all st =
     })
 
 turned_clear : (m : Machine) → m.situation ≡ Reading → pieces (at_work m) ≤ m.copied → turned Reader m ≡ (Clear, record m { window = with_status m.window (spelled 4 0); situation = Cleared })
-turned_clear m now all =
-    let a : nat_lt (m.copied + 1) (pieces (at_work m)) ≡ false = grind (arith, nat_tests) in
-    let b : nat_lt m.copied (pieces (at_work m)) ≡ false = grind (arith, nat_tests) in
-    ap (reader_turn m) now
-    ∙ ap (λ (t : Bool). cond {A = Turned} t (Copied, record m { copied = m.copied + 1 }) (cond {A = Turned} (nat_lt m.copied (pieces (at_work m))) (Took, record m { copied = m.copied + 1; taken = m.taken + 1 }) (Clear, record m { window = with_status m.window (spelled 4 0); situation = Cleared }))) a
-    ∙ ap (λ (t : Bool). cond {A = Turned} t (Took, record m { copied = m.copied + 1; taken = m.taken + 1 }) (Clear, record m { window = with_status m.window (spelled 4 0); situation = Cleared })) b
+turned_clear m now all = reads_by m false false now (grind (arith, nat_tests)) (grind (arith, nat_tests))
 
 pub clears : (h : HandoverState) (ram new : RamState) (m : Machine) (block : List ℕ) → h.situation ≡ Reading → h.at_work ≡ Some block → length block ≤ 64 * h.copied →
     new ≡ with_window h.map ram (with_status (window h.map ram) (spelled 4 0)) → StandsFor h ram m → Turns Reader Clear h ram (record h { situation = Cleared }) new m

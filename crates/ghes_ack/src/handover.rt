@@ -1,10 +1,11 @@
 // A handover of blocks, turn by turn.
-ghost use Rattle.std.specs.Prelude.{◌≡◌, ◌∷◌, ◌++◌, [], length, IfOk, OnOk, OnErr, MatchResult, Some, None};
+ghost use Rattle.std.specs.Prelude.{◌≡◌, ◌∷◌, ◌++◌, [], length, IfOk, OnOk, OnErr, MatchOption, MatchResult, Some, None};
 ghost use Rattle.apei_space.specs.RamState.{RamState};
 ghost use Rattle.ghes_ack.specs.Machine.{Machine, started, submitted, waiting_in, is_idle};
 ghost use Rattle.ghes_ack.specs.Maps.{HasAckBits, HasWindows, window, memory_started, memory_after};
 ghost use Rattle.ghes_ack.specs.Elsewhere.{SameWhere, IsOffMap, IsOffBlock};
 ghost use Rattle.ghes_ack.specs.Handovers.{StandsFor, IsTurned, fresh, refusal};
+ghost use Rattle.ghes_ack.specs.Sides.{Stands, Turns};
 
 use crate::blocks::{Blocks, WAITING};
 use crate::ends::Ends;
@@ -12,7 +13,7 @@ use crate::events::{Event, Side};
 use crate::maps::HandoverMap;
 use crate::states::start;
 use crate::submission::SubmitError;
-use crate::turns::turn_of;
+use crate::turns::{piece_turn, turn_of};
 use apei_bytes::Memory;
 use apei_space::Ram;
 use ghes_block::Block;
@@ -93,6 +94,31 @@ impl Handover {
         ensures memory { ram.new ≡ memory_after self.old.map result ram.old (window self.old.map ram.new) }
         ensures elsewhere { SameWhere (IsOffBlock self.old.map) ram.old ram.new }
         ensures map { self.new.map ≡ self.old.map }
+    {
+        match self.moves_piece(side, ram) {
+            Some(event) => event,
+            None => self.changes_sides(side, ram),
+        }
+    }
+
+    /// A turn that moves one piece, made in place; `None` where the turn is another one, and nothing is done then.
+    fn moves_piece(&mut self, side: Side, ram: &mut Ram) -> Option<Event>
+        requires { Stands self.old ram.old }
+        ensures { MatchOption result
+            ((self.new ≡ self.old) × (ram.new ≡ ram.old))
+            (λ event. (m : Machine) → StandsFor self.old ram.old m → Turns side event self.old ram.old self.new ram.new m) }
+    {
+        match &mut self.ends {
+            Some(ends) => piece_turn(side, ends, &mut self.blocks, ram),
+            None => None,
+        }
+    }
+
+    /// Any turn, for which both sides are taken out and put back.
+    #[inline(never)]
+    fn changes_sides(&mut self, side: Side, ram: &mut Ram) -> Event
+        requires { Stands self.old ram.old }
+        ensures { (m : Machine) → StandsFor self.old ram.old m → Turns side result self.old ram.old self.new ram.new m }
     {
         let Some(ends) = self.ends.take() else {
             unreachable!();

@@ -97,6 +97,7 @@ pub fn stop(firm: FirmBlock, os: OsIdle) {
 
 impl FirmBlock {
     /// Writes the piece of 64 bytes with this number, the last one shorter, with a block status of 0.
+    #[inline(always)]
     pub fn fill(&mut self, ram: &mut Ram, block: &[u8], piece: u32)
         requires windows { HasWindows self.old ram.old }
         requires fits { length block.now ≤ self.old.len }

@@ -1,11 +1,12 @@
 // The turns of both sides.
-ghost use Rattle.std.specs.Prelude.{◌≡◌, ◌+◌, ◌-◌, ◌*◌, ◌<◌, ◌≤◌, min, length};
+ghost use Rattle.std.specs.Prelude.{◌≡◌, ◌+◌, ◌-◌, ◌*◌, ◌<◌, ◌≤◌, min, length, MatchBool, MatchOption};
 ghost use Rattle.base_model.specs.Bytes.{part, put_at};
 ghost use Rattle.ghes_ack.specs.declared.events.Side.TheVariants.{Firmware as OfFirmware, Reader as OfReader};
 ghost use Rattle.ghes_ack.specs.declared.ends.Ends.TheVariants.{FirmHolds as OfFirm, OsHolds as OfOs};
 ghost use Rattle.ghes_ack.specs.Machine.{Machine};
 ghost use Rattle.ghes_ack.specs.Maps.{HasWindows, window};
 ghost use Rattle.ghes_ack.specs.Handovers.{StandsFor};
+ghost use Rattle.ghes_ack.specs.declared.events.Event.TheVariants.{Fill as OfFill, Copied as OfCopied};
 ghost use Rattle.ghes_ack.specs.Sides.{Stands, Turns, IsConsistent, state_of};
 
 use crate::blocks::Blocks;
@@ -14,6 +15,75 @@ use crate::events::{Event, Side};
 use crate::pieces::PIECE;
 use crate::states::{AwaitAck, FirmBlock, OsBlock, OsIdle};
 use apei_space::Ram;
+
+/// A turn of a side that moves one piece and leaves both sides where they are: the firmware fills a piece of the block at work,
+/// or the reader copies one that is not the last. `None` where the turn is another one; nothing is done then.
+pub fn piece_turn(side: Side, ends: &mut Ends, blocks: &mut Blocks, ram: &mut Ram) -> Option<Event>
+    requires consistent { IsConsistent ends.old blocks.old }
+    requires stands { Stands (state_of ends.old blocks.old) ram.old }
+    ensures consistent { IsConsistent ends.new blocks.new }
+    ensures turns { MatchOption result
+        ((state_of ends.new blocks.new ≡ state_of ends.old blocks.old) × (ram.new ≡ ram.old))
+        (λ event. (m : Machine) → StandsFor (state_of ends.old blocks.old) ram.old m → Turns side event (state_of ends.old blocks.old) ram.old (state_of ends.new blocks.new) ram.new m) }
+{
+    match (side, ends) {
+        (Side::Firmware, Ends::FirmHolds(firm, idle)) => {
+            if fill_more(firm, idle, blocks, ram) {
+                Some(Event::Fill)
+            } else {
+                None
+            }
+        }
+        (Side::Reader, Ends::OsHolds(wait, block)) => {
+            if copy_more(wait, block, blocks, ram) {
+                Some(Event::Copied)
+            } else {
+                None
+            }
+        }
+        _ => None,
+    }
+}
+
+/// Writes the next piece of the block at work; `false` where there is none of 64 bytes.
+fn fill_more(firm: &mut FirmBlock, idle: &OsIdle, blocks: &mut Blocks, ram: &mut Ram) -> bool
+    requires consistent { IsConsistent (OfFirm firm.old idle.now) blocks.old }
+    requires stands { Stands (state_of (OfFirm firm.old idle.now) blocks.old) ram.old }
+    ensures consistent { IsConsistent (OfFirm firm.new idle.now) blocks.new }
+    ensures turns { MatchBool result
+        ((m : Machine) → StandsFor (state_of (OfFirm firm.old idle.now) blocks.old) ram.old m → Turns OfFirmware OfFill (state_of (OfFirm firm.old idle.now) blocks.old) ram.old (state_of (OfFirm firm.new idle.now) blocks.new) ram.new m)
+        ((blocks.new ≡ blocks.old) × (ram.new ≡ ram.old)) }
+{
+    let Some(block) = &blocks.at_work else {
+        return false;
+    };
+    if block.len() < PIECE * (blocks.filled as usize) + PIECE {
+        return false;
+    }
+    firm.fill(ram, block, blocks.filled);
+    blocks.filled += 1;
+    true
+}
+
+/// Copies the next piece of the block at work; `false` where none follows it.
+fn copy_more(wait: &AwaitAck, block: &mut OsBlock, blocks: &mut Blocks, ram: &Ram) -> bool
+    requires consistent { IsConsistent (OfOs wait.now block.old) blocks.old }
+    requires stands { Stands (state_of (OfOs wait.now block.old) blocks.old) ram.now }
+    ensures consistent { IsConsistent (OfOs wait.now block.new) blocks.new }
+    ensures turns { MatchBool result
+        ((m : Machine) → StandsFor (state_of (OfOs wait.now block.old) blocks.old) ram.now m → Turns OfReader OfCopied (state_of (OfOs wait.now block.old) blocks.old) ram.now (state_of (OfOs wait.now block.new) blocks.new) ram.now m)
+        (blocks.new ≡ blocks.old) }
+{
+    let Some(bytes) = &mut blocks.at_work else {
+        return false;
+    };
+    if PIECE * (blocks.copied as usize) + PIECE >= bytes.len() {
+        return false;
+    }
+    copy_piece(block, ram, blocks.copied, bytes);
+    blocks.copied += 1;
+    true
+}
 
 /// A turn of a side.
 pub fn turn_of(side: Side, ends: Ends, blocks: &mut Blocks, ram: &mut Ram) -> (Ends, Event)

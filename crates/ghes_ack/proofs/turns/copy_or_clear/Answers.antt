@@ -1,25 +1,13 @@
-use Rattle.std.proofs.Common.{◌≡◌, ◌∙◌, ℕ, ◌+◌, ◌-◌, ◌*◌, min, List, length, Vec, Option, Some, sym, ap, subst, arith}
+use Rattle.std.proofs.Common.{◌≡◌, ◌∙◌, ℕ, ◌+◌, length, Vec, Option, Some, sym, ap, subst, arith}
 use Rattle.std.specs.declared.alloc.Global.{Global}
 use Rattle.std.specs.Vec.{with_items}
-use Rattle.std.proofs.lemmas.List.{with_items_is}
-use Rattle.base_model.specs.Bytes.{part, put_at}
-use Rattle.apei_space.specs.RamState.{RamState}
-use Rattle.ghes_ack.specs.declared.maps.HandoverMap.{HandoverMap}
-use Rattle.ghes_ack.specs.declared.blocks.Blocks.{Blocks}
-use Rattle.ghes_ack.specs.declared.ends.Ends.TheVariants.{OsHolds}
-use Rattle.ghes_ack.specs.Maps.{window}
-use Rattle.ghes_ack.specs.Sides.{Stands, state_of, count_of, IsWideIfSome, IsCopiedSoFar}
-use Rattle.ghes_ack.proofs.SideLemmas.{clears_at, copies_at, takes_at, same_bytes}
+use Rattle.ghes_ack.specs.Sides.{count_of, IsWideIfSome}
+use Rattle.ghes_ack.proofs.SideLemmas.{clears_at, copies_at, takes_at, same_items}
 use Rattle.ghes_ack.proofs.turns.copy_or_clear.Goals as goal
 
 pub returns-in_default-clause-turns : goal.returns-in_default-clause-turns
 returns-in_default-clause-turns c =
     clears_at c.args.wait c.args.block c.clear.result c.args.blocks.now c.take.new.self c.args.ram.now c.clear.new.ram (sym c.in_default.ensures.value) c.take.ensures.after c.requires.consistent.sides.1 c.requires.consistent.under_way c.clear.ensures.memory
-
--- the copy left the bytes as they were
-same_items : (wait os : HandoverMap) (b : Blocks) (block : Vec ℕ Global) (bytes copied : List ℕ) (ram : RamState) → b.at_work ≡ Some block → os ≡ b.map → bytes ≡ block.items → IsCopiedSoFar b.copied b.at_work b.last →
-    copied ≡ put_at bytes (64 * b.copied) (part (window os ram) (64 * b.copied) (min 64 (length bytes - 64 * b.copied))) → Stands (state_of (OsHolds wait os) b) ram → length copied ≡ block.len → (with_items block copied).items ≡ block.items
-same_items wait os b block bytes copied ram some same is far memory stands long = with_items_is block copied long ∙ same_bytes wait os b block bytes copied ram some same is far memory stands
 
 pub returns-then-blocks-len-clause-consistent : goal.returns-then-blocks-len-clause-consistent
 returns-then-blocks-len-clause-consistent c =

@@ -1,30 +1,35 @@
-use Rattle.std.proofs.Common.{◌≡◌, ◌∙◌, Option, Some, sym, ap, subst}
+use Rattle.std.proofs.Common.{◌≡◌, sym, subst}
+use Rattle.apei_space.specs.RamState.{RamState}
 use Rattle.ghes_ack.specs.declared.maps.HandoverMap.{HandoverMap}
-use Rattle.ghes_ack.specs.declared.ends.Ends.{Ends}
-use Rattle.ghes_ack.specs.declared.blocks.Blocks.{Blocks}
-use Rattle.ghes_ack.specs.Maps.{HasWindows, window, memory_after}
-use Rattle.ghes_ack.specs.Handovers.{HandoverState, StandsFor, IsTurned}
-use Rattle.ghes_ack.specs.Sides.{whole_of, state_of}
+use Rattle.ghes_ack.specs.declared.events.Side.{Side}
+use Rattle.ghes_ack.specs.declared.events.Event.{Event}
+use Rattle.ghes_ack.specs.Machine.{Machine}
+use Rattle.ghes_ack.specs.Maps.{HasWindows}
+use Rattle.ghes_ack.specs.Elsewhere.{SameWhere, IsOffBlock}
+use Rattle.ghes_ack.specs.Handovers.{HandoverState, StandsFor}
+use Rattle.ghes_ack.specs.Sides.{Turns}
 use Rattle.ghes_ack.proofs.ElsewhereLemmas.{elsewhere_left}
 use Rattle.ghes_ack.proofs.handover.Handover.turn.Goals as goal
 
--- the sides and the blocks that were taken out are those of the handover
-taken_out : (o : Option Ends) (ends : Ends) (b : Blocks) (h : HandoverState) → Some ends ≡ o → whole_of o b ≡ h → state_of ends b ≡ h
-taken_out o ends b h some is = ap (λ (x : Option Ends). whole_of x b) some ∙ is
+-- what a turn leaves elsewhere
+elsewhere : (side : Side) (event : Event) (old : HandoverState) (ram : RamState) (new : HandoverState) (memory : RamState) (m : Machine) → StandsFor old ram m → Turns side event old ram new memory m → SameWhere (IsOffBlock old.map) ram memory
+elsewhere side event old ram new memory m st t =
+    let after : HasWindows old.map memory = subst (λ (at : HandoverMap). HasWindows at memory) t.map t.turned.stands.windows in
+    elsewhere_left old.map event ram memory st.windows after t.memory_is
 
-pub returns-clause-turned : goal.returns-clause-turned
-returns-clause-turned c =
-    let same = taken_out c.self.inside.ends c.in-Some.ends c.self.inside.blocks c.args.self.now c.in-Some.ensures.value c.self.view_is in
-    λ m st. subst (λ (o : Option Ends). IsTurned c.args.side c.turn_of-next.result.1 (whole_of o c.turn_of-next.new.blocks) c.turn_of-next.new.ram m) (sym c.put_back.ensures)
-    (c.turn_of-next.ensures.turns m (subst (λ (h : HandoverState). StandsFor h c.args.ram.now m) (sym same) st)).turned
+-- the same after nothing was done
+elsewhere_then : (side : Side) (event : Event) (old : HandoverState) (ram : RamState) (first : HandoverState) (between : RamState) (new : HandoverState) (memory : RamState) (m : Machine) → (first ≡ old) × (between ≡ ram) →
+    StandsFor old ram m → (StandsFor first between m → Turns side event first between new memory m) → SameWhere (IsOffBlock old.map) ram memory
+elsewhere_then side event old ram first between new memory m same st turns =
+    let here = turns (subst (λ (h : HandoverState). StandsFor h between m) (sym same.0) (subst (λ (r : RamState). StandsFor old r m) (sym same.1) st)) in
+    elsewhere side event old ram new memory m st
+    (subst (λ (h : HandoverState). Turns side event h ram new memory m) same.0 (subst (λ (r : RamState). Turns side event first r new memory m) same.1 here))
 
-pub returns-clause-elsewhere : goal.returns-clause-elsewhere
-returns-clause-elsewhere c =
-    let same = taken_out c.self.inside.ends c.in-Some.ends c.self.inside.blocks c.args.self.now c.in-Some.ensures.value c.self.view_is in
-    let m = c.requires.0 in
-    let st = c.requires.1 in
-    let t = c.turn_of-next.ensures.turns m (subst (λ (h : HandoverState). StandsFor h c.args.ram.now m) (sym same) st) in
-    let map_is = ap (λ (h : HandoverState). h.map) same in
-    let after : HasWindows c.args.self.now.map c.turn_of-next.new.ram = subst (λ (at : HandoverMap). HasWindows at c.turn_of-next.new.ram) (t.map ∙ map_is) t.turned.stands.windows in
-    let memory = subst (λ (at : HandoverMap). c.turn_of-next.new.ram ≡ memory_after at c.turn_of-next.result.1 c.args.ram.now (window at c.turn_of-next.new.ram)) map_is t.memory_is in
-    elsewhere_left c.args.self.now.map c.turn_of-next.result.1 c.args.ram.now c.turn_of-next.new.ram st.windows after memory
+pub returns-in-Some-clause-elsewhere : goal.returns-in-Some-clause-elsewhere
+returns-in-Some-clause-elsewhere c =
+    elsewhere c.args.side c.in-Some.event c.args.self.now c.args.ram.now c.moves_piece.new.self c.moves_piece.new.ram c.requires.0 c.requires.1 (c.in-Some.ensures c.requires.0 c.requires.1)
+
+pub returns-in-None-clause-elsewhere : goal.returns-in-None-clause-elsewhere
+returns-in-None-clause-elsewhere c =
+    elsewhere_then c.args.side c.changes_sides.result c.args.self.now c.args.ram.now c.moves_piece.new.self c.moves_piece.new.ram c.changes_sides.new.self c.changes_sides.new.ram c.requires.0 c.in-None.ensures c.requires.1
+    (c.changes_sides.ensures c.requires.0)
