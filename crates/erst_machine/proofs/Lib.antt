@@ -1,0 +1,7 @@
+pub mod AreaLemmas
+pub mod KeptLemmas
+pub mod BootLemmas
+pub mod CountLemmas
+pub mod CrashTrail
+pub mod SealLemmas
+pub mod TableLemmas

@@ -1,0 +1,133 @@
+-- What each access of the machine does. `tells` says whether the flash tells its content.
+use Rattle.std.specs.Prelude.{◌≡◌, ℕ, ◌+◌, ◌-◌, ◌/◌, ◌%◌, ◌^◌, min, true, if◌then◌else◌, List, [], length, Result, Ok, Err, Option, Some, None}
+use Rattle.base_model.specs.Bytes.{part, number_at, spelled, put_at}
+use Rattle.apei_gas.specs.declared.widths.Width.{Width}
+use Rattle.apei_gas.specs.declared.widths.Width.TheVariants.{B8}
+use Rattle.apei_gas.specs.Access.{bits}
+use Rattle.apei_space.specs.declared.faults.SpaceFault.{SpaceFault}
+use Rattle.apei_space.specs.declared.faults.SpaceFault.TheVariants.{Unmapped, BadAccess, NotMemory}
+use Rattle.apei_space.specs.Calls.{Call, Read, Write, Wait, Copy, ReadBytes, WriteBytes}
+use Rattle.apei_space.specs.Windows.{address_of}
+use Rattle.erst_entries.specs.Actions.{action_of}
+use Rattle.erst_device.specs.Actions.{Acts, gives_up}
+use Rattle.erst_device.specs.DeviceState.{KnowsCopies}
+use Rattle.erst_device.specs.Effects.{Effect}
+use Rattle.erst_machine.specs.declared.areas.Area.{Area}
+use Rattle.erst_machine.specs.declared.areas.Area.TheVariants.{Device, Handover, BootErrors}
+use Rattle.erst_machine.specs.declared.areas.Spot.{Spot}
+use Rattle.erst_machine.specs.declared.areas.Spot.TheVariants.{Inside, Beyond, Nowhere}
+use Rattle.erst_machine.specs.declared.areas.Register.{Register}
+use Rattle.erst_machine.specs.declared.areas.Register.TheVariants.{Action, Value, NoRegister}
+use Rattle.erst_machine.specs.Areas.{is_plain, register_at}
+use Rattle.erst_machine.specs.Memories.{bytes_in, with_bytes}
+use Rattle.erst_machine.specs.MachineState.{MachineState, spot_of, spot_at}
+
+-- a read of a register: ACTION reads as 0
+abbrev pub register_read : Register → MachineState → ℕ → Width → Result ℕ SpaceFault
+register_read Action state at width = Ok 0
+register_read Value state at width = Ok state.device.value
+register_read NoRegister state at width = Err (BadAccess at width)
+
+-- a read of a number
+abbrev pub area_read : Area → ℕ → MachineState → ℕ → Width → Result ℕ SpaceFault
+area_read Device start state at width = register_read (register_at start width) state at width
+area_read area start state at width = Ok (number_at (bytes_in area state.memory) start (bits width / 8))
+
+abbrev pub number_read : Spot → MachineState → ℕ → Width → Result ℕ SpaceFault
+number_read (Inside area start) state at width = area_read area start state at width
+number_read (Beyond area address) state at width = Err (Unmapped address)
+number_read (Nowhere address) state at width = Err (Unmapped address)
+
+-- a code written to ACTION: what the device does, what power lost in it leaves of the records, and all else stays
+pub record ActsOn (tells : Type 0) (old : MachineState) (code : ℕ) (new : MachineState) : Type 0 where
+  pub acts : Acts tells old.device old.memory.range (action_of code) new.device new.memory.range
+  pub effect : Effect tells old.device old.memory.range (action_of code) new.device
+  pub copies : tells → gives_up (action_of code) ≡ true → KnowsCopies old.device.store
+  pub range : length new.memory.range ≡ length old.memory.range
+  pub memory : new.memory ≡ record old.memory { range = new.memory.range }
+  pub handover : new.handover ≡ old.handover
+  pub waited : new.waited ≡ old.waited
+
+abbrev pub RegisterWritten : Type 0 → Register → MachineState → ℕ → Width → ℕ → Result (Unit {0}) SpaceFault → MachineState → Type 0
+RegisterWritten tells Action old at width value answer new = (answer ≡ Ok tt) × ActsOn tells old (value % 2 ^ 32) new
+RegisterWritten tells Value old at width value answer new = (answer ≡ Ok tt) × (new ≡ record old { device = record old.device { value = value } })
+RegisterWritten tells NoRegister old at width value answer new = (answer ≡ Err (BadAccess at width)) × (new ≡ old)
+
+-- other bytes at a place of an area
+abbrev pub put_in : Area → ℕ → MachineState → List ℕ → MachineState
+put_in area start state bytes = record state { memory = with_bytes area state.memory (put_at (bytes_in area state.memory) start bytes) }
+
+-- a write of a number
+abbrev pub AreaWritten : Type 0 → Area → ℕ → MachineState → ℕ → Width → ℕ → Result (Unit {0}) SpaceFault → MachineState → Type 0
+AreaWritten tells Device start old at width value answer new = RegisterWritten tells (register_at start width) old at width value answer new
+AreaWritten tells Handover start old at width value answer new = (answer ≡ Err (BadAccess at width)) × (new ≡ old)
+AreaWritten tells BootErrors start old at width value answer new = (answer ≡ Err (BadAccess at width)) × (new ≡ old)
+AreaWritten tells area start old at width value answer new = (answer ≡ Ok tt) × (new ≡ put_in area start old (spelled (bits width / 8) value))
+
+abbrev pub NumberWritten : Type 0 → Spot → MachineState → ℕ → Width → ℕ → Result (Unit {0}) SpaceFault → MachineState → Type 0
+NumberWritten tells (Inside area start) old at width value answer new = AreaWritten tells area start old at width value answer new
+NumberWritten tells (Beyond area address) old at width value answer new = (answer ≡ Err (Unmapped address)) × (new ≡ old)
+NumberWritten tells (Nowhere address) old at width value answer new = (answer ≡ Err (Unmapped address)) × (new ≡ old)
+
+-- what a reader's buffer holds after a read of bytes, and the answer
+abbrev pub area_bytes : Area → ℕ → MachineState → ℕ → List ℕ → Result (Unit {0}) SpaceFault × List ℕ
+area_bytes Device start state at before = (Err (BadAccess at B8), before)
+area_bytes area start state at before = (Ok tt, part (bytes_in area state.memory) start (length before))
+
+abbrev pub bytes_read : Spot → MachineState → ℕ → List ℕ → Result (Unit {0}) SpaceFault × List ℕ
+bytes_read (Inside area start) state at before = area_bytes area start state at before
+bytes_read (Beyond area address) state at before = (Err (Unmapped address), before)
+bytes_read (Nowhere address) state at before = (Err (Unmapped address), before)
+
+-- the answer to a write of bytes, and the state after it
+abbrev pub area_stored : Area → ℕ → MachineState → ℕ → List ℕ → Result (Unit {0}) SpaceFault × MachineState
+area_stored Device start old at bytes = (Err (BadAccess at B8), old)
+area_stored Handover start old at bytes = (Err (BadAccess at B8), old)
+area_stored BootErrors start old at bytes = (Err (BadAccess at B8), old)
+area_stored area start old at bytes = (Ok tt, put_in area start old bytes)
+
+abbrev pub bytes_stored : Spot → MachineState → ℕ → List ℕ → Result (Unit {0}) SpaceFault × MachineState
+bytes_stored (Inside area start) old at bytes = area_stored area start old at bytes
+bytes_stored (Beyond area address) old at bytes = (Err (Unmapped address), old)
+bytes_stored (Nowhere address) old at bytes = (Err (Unmapped address), old)
+
+-- the first byte of a copy's source or target that fails: one that is mapped and no plain memory fails before one that is not mapped
+-- behind it
+abbrev pub copy_fault : Spot → ℕ → Option SpaceFault
+copy_fault (Inside area start) at = if is_plain area then None else Some (NotMemory at)
+copy_fault (Beyond area address) at = if is_plain area then Some (Unmapped address) else Some (NotMemory at)
+copy_fault (Nowhere address) at = Some (Unmapped address)
+
+abbrev pub copied_from : Spot → MachineState → ℕ → List ℕ
+copied_from (Inside area start) state n = part (bytes_in area state.memory) start n
+copied_from (Beyond area address) state n = []
+copied_from (Nowhere address) state n = []
+
+abbrev pub copied_to : Spot → MachineState → List ℕ → MachineState
+copied_to (Inside area start) state bytes = put_in area start state bytes
+copied_to (Beyond area address) state bytes = state
+copied_to (Nowhere address) state bytes = state
+
+-- the answer to a copy of n bytes, and the state after it: the source is checked first
+abbrev pub copied : Option SpaceFault → Option SpaceFault → Spot → Spot → MachineState → ℕ → Result (Unit {0}) SpaceFault × MachineState
+copied (Some fault) second source target old n = (Err fault, old)
+copied None (Some fault) source target old n = (Err fault, old)
+copied None None source target old n = (Ok tt, copied_to target old (copied_from source old n))
+
+abbrev pub copy_of : Spot → Spot → MachineState → ℕ → ℕ → ℕ → Result (Unit {0}) SpaceFault × MachineState
+copy_of source target old from to n = copied (copy_fault source from) (copy_fault target to) source target old n
+
+-- before, a call with its answer, after
+abbrev pub Allows : Type 0 → MachineState → Call → MachineState → Type 0
+Allows tells old (Read at width answer) new = (answer ≡ number_read (spot_of old at (bits width / 8)) old (address_of at) width) × (new ≡ old)
+Allows tells old (Write at width value answer) new = NumberWritten tells (spot_of old at (bits width / 8)) old (address_of at) width value answer new
+Allows tells old (Wait micros) new = new ≡ record old { waited = min (old.waited + micros) (2 ^ 64 - 1) }
+Allows tells old (Copy from to n answer) new =
+    let outcome = copy_of (spot_at old from n) (spot_at old to n) old from to n in
+    (answer ≡ outcome.0) × (new ≡ outcome.1)
+Allows tells old (ReadBytes at before after answer) new =
+    let outcome = bytes_read (spot_at old at (length before)) old at before in
+    (answer ≡ outcome.0) × (after ≡ outcome.1) × (new ≡ old)
+Allows tells old (WriteBytes at bytes answer) new =
+    let outcome = bytes_stored (spot_at old at (length bytes)) old at bytes in
+    (answer ≡ outcome.0) × (new ≡ outcome.1)

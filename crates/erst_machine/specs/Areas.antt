@@ -1,0 +1,81 @@
+-- The machine's memory map, and where an access of it stands.
+use Rattle.std.specs.Prelude.{ℕ, ◌+◌, ◌-◌, ◌≤◌, ◌==◌, ◌&&◌, nat_le, nat_lt, if◌then◌else◌, Bool, true, false, List, [], ◌∷◌, Option, Some, None, unwrap_or}
+use Rattle.apei_gas.specs.declared.registers.Place.{Place}
+use Rattle.apei_gas.specs.declared.registers.Place.TheVariants.{Memory, Io}
+use Rattle.apei_gas.specs.declared.widths.Width.{Width}
+use Rattle.apei_gas.specs.declared.widths.Width.TheVariants.{B8, B16, B32, B64}
+use Rattle.erst_machine.specs.declared.areas.Area.{Area}
+use Rattle.erst_machine.specs.declared.areas.Area.TheVariants.{Device, Scratch, LogRange, Handover, BootErrors, Ports}
+use Rattle.erst_machine.specs.declared.areas.Spot.{Spot}
+use Rattle.erst_machine.specs.declared.areas.Spot.TheVariants.{Inside, Beyond, Nowhere}
+use Rattle.erst_machine.specs.declared.areas.Register.{Register}
+use Rattle.erst_machine.specs.declared.areas.Register.TheVariants.{Action, Value, NoRegister}
+
+-- where each area begins
+abbrev pub base_of : Area → ℕ
+base_of Device = 0x200000
+base_of Scratch = 0x1000
+base_of LogRange = 0x100000
+base_of Handover = 0x300000
+base_of BootErrors = 0x400000
+base_of Ports = 0x500
+
+-- how many bytes it has; the log range has as many as the longest record
+abbrev pub size_of : ℕ → Area → ℕ
+size_of reach Device = 16
+size_of reach Scratch = 4096
+size_of reach LogRange = reach
+size_of reach Handover = 8192
+size_of reach BootErrors = 16384
+size_of reach Ports = 16
+
+-- of n bytes from an address on, all are in the area, or the first that is not has this address
+abbrev pub within : Area → ℕ → ℕ → ℕ → ℕ → Spot
+within area base size at n = if nat_le (at + n) (base + size) then Inside area (at - base) else Beyond area (base + size)
+
+abbrev pub holds : ℕ → ℕ → ℕ → Bool
+holds base size at = nat_le base at && nat_lt at (base + size)
+
+-- n bytes whose first one is in an area
+abbrev pub area_spot : ℕ → Area → ℕ → ℕ → Option Spot
+area_spot reach area at n =
+    if holds (base_of area) (size_of reach area) at then Some (within area (base_of area) (size_of reach area) at n) else None
+
+-- the areas of memory; the device stands first, so that its registers are found by numbers alone
+abbrev pub memory_areas : List Area
+memory_areas = Device ∷ Scratch ∷ Handover ∷ BootErrors ∷ LogRange ∷ []
+
+abbrev pub first_spot : ℕ → List Area → ℕ → ℕ → Spot
+first_spot reach [] at n = Nowhere at
+first_spot reach (area ∷ areas) at n = unwrap_or (area_spot reach area at n) (first_spot reach areas at n)
+
+-- n bytes of memory; an access of no bytes touches nothing
+abbrev pub memory_spot : ℕ → ℕ → ℕ → Spot
+memory_spot reach at n = if n == 0 then Inside Scratch 0 else first_spot reach memory_areas at n
+
+-- n bytes of ports
+abbrev pub port_spot : ℕ → ℕ → ℕ → Spot
+port_spot reach at n = first_spot reach (Ports ∷ []) at n
+
+abbrev pub place_spot : ℕ → Place → ℕ → Spot
+place_spot reach (Memory at) n = memory_spot reach at n
+place_spot reach (Io at) n = port_spot reach at n
+
+-- n bytes from there on are in the area
+abbrev pub IsPlaced : ℕ → ℕ → Spot → Type 0
+IsPlaced reach n (Inside area start) = start + n ≤ size_of reach area
+IsPlaced reach n (Beyond area address) = Unit {0}
+IsPlaced reach n (Nowhere address) = Unit {0}
+
+-- the device's registers: ACTION, 4 bytes at 0, and VALUE, 8 bytes at 8
+abbrev pub register_at : ℕ → Width → Register
+register_at start B8 = NoRegister
+register_at start B16 = NoRegister
+register_at start B32 = if start == 0 then Action else NoRegister
+register_at start B64 = if start == 8 then Value else NoRegister
+
+-- plain memory, between which a copy may copy
+abbrev pub is_plain : Area → Bool
+is_plain Scratch = true
+is_plain LogRange = true
+is_plain area = false

@@ -1,0 +1,10 @@
+pub mod Areas
+pub mod Memories
+pub mod MachineState
+pub mod Allowed
+pub mod Reasons
+pub mod Stations
+pub mod Boots
+pub mod Events
+pub mod Shown
+pub mod OwnTables

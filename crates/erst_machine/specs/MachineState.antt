@@ -1,0 +1,63 @@
+-- What is seen of the machine.
+use Rattle.std.specs.Prelude.{◌≡◌, ℕ, ◌-◌, ◌^◌, length}
+use Rattle.flash_words.specs.Flash.{Told}
+use Rattle.flash_words.specs.Layout.{room_of, reach_of}
+use Rattle.record_model.specs.Records.{Stored}
+use Rattle.apei_gas.specs.declared.registers.Place.{Place}
+use Rattle.apei_gas.specs.declared.registers.Place.TheVariants.{Memory}
+use Rattle.apei_gas.specs.declared.widths.Width.TheVariants.{B64}
+use Rattle.ghes_ack.specs.declared.maps.HandoverMap.{HandoverMap}
+use Rattle.ghes_ack.specs.Handovers.{HandoverState}
+use Rattle.ghes_ack.specs.Sides.{Stands}
+use Rattle.erst_device.specs.DeviceState.{DeviceState, records}
+use Rattle.erst_machine.specs.declared.areas.Spot.{Spot}
+use Rattle.erst_machine.specs.declared.contents.Contents.{Contents}
+use Rattle.erst_machine.specs.Areas.{place_spot}
+use Rattle.erst_machine.specs.Memories.{MemoryState, memory_of, HasSizes, IsLaid}
+
+-- the device over its store, the bytes of memory, the handover, and the sum of all waits in microseconds
+pub record MachineState : Type 0 where
+  pub device : DeviceState
+  pub memory : MemoryState
+  pub handover : HandoverState
+  pub waited : ℕ
+
+abbrev pub state_of : DeviceState → Contents → HandoverState → ℕ → MachineState
+state_of device contents handover waited = record { device = device; memory = memory_of contents; handover = handover; waited = waited }
+
+-- where n bytes stand
+abbrev pub spot_of : MachineState → Place → ℕ → Spot
+spot_of state at n = place_spot (length state.memory.range) at n
+
+abbrev pub spot_at : MachineState → ℕ → ℕ → Spot
+spot_at state at n = spot_of state (Memory at) n
+
+-- where the two sides of the handover meet: the machine's one error source
+abbrev pub own_map : HandoverMap
+own_map = record {
+  status = 0x300000;
+  ack = record { place = Memory 0x300008; access = B64; offset = 0 };
+  preserve = 2 ^ 64 - 2;
+  write = 1;
+  block = 0x301000;
+  len = 4096;
+}
+
+-- the bytes of the longest record
+abbrev pub reach_in : DeviceState → ℕ
+reach_in device = reach_of (room_of device.store.layout)
+
+-- a state of a machine: its log range takes the longest record, its boot error region holds whole blocks and then zeros, and its
+-- handover stands for a state of the handover machine, over this memory
+pub record IsMachine (state : MachineState) : Type 0 where
+  pub sizes : HasSizes (reach_in state.device) state.memory
+  pub laid : IsLaid state.memory.region
+  pub map : state.handover.map ≡ own_map
+  pub stands : Stands state.handover state.memory.shared
+
+-- the records of the machine's flash, and what the flash tells
+abbrev pub records_of : MachineState → Stored
+records_of state = records state.device
+
+abbrev pub told_of : MachineState → Told
+told_of state = state.device.store.flash.told

@@ -1,0 +1,97 @@
+-- Accesses of the machine leave the handover as it is.
+use Rattle.std.proofs.Common.{◌≡◌, ℕ, ◌/◌, List, length, Result, Option, Some, None, refl, sym, ap, subst}
+use Rattle.apei_gas.specs.declared.widths.Width.{Width}
+use Rattle.apei_gas.specs.Access.{bits}
+use Rattle.apei_space.specs.declared.faults.SpaceFault.{SpaceFault}
+use Rattle.apei_space.specs.Calls.{Call, Read, Write, Wait, Copy, ReadBytes, WriteBytes}
+use Rattle.apei_space.specs.RamState.{RamState}
+use Rattle.apei_space.specs.Windows.{address_of}
+use Rattle.ghes_ack.specs.Machine.{Machine as HandoverMachine}
+use Rattle.ghes_ack.specs.Handovers.{HandoverState, StandsFor}
+use Rattle.erst_machine.specs.declared.areas.Area.{Area}
+use Rattle.erst_machine.specs.declared.areas.Area.TheVariants.{Device, Scratch, LogRange, Handover, BootErrors, Ports}
+use Rattle.erst_machine.specs.declared.areas.Spot.{Spot}
+use Rattle.erst_machine.specs.declared.areas.Spot.TheVariants.{Inside, Beyond, Nowhere}
+use Rattle.erst_machine.specs.declared.areas.Register.{Register}
+use Rattle.erst_machine.specs.declared.areas.Register.TheVariants.{Action, Value, NoRegister}
+use Rattle.erst_machine.specs.Areas.{register_at}
+use Rattle.erst_machine.specs.Memories.{MemoryState}
+use Rattle.erst_machine.specs.MachineState.{MachineState, spot_of, spot_at}
+use Rattle.erst_machine.specs.Allowed.{RegisterWritten, AreaWritten, NumberWritten, put_in, area_stored, bytes_stored, copied_from, copied_to, copied, Allows}
+
+-- the handover and its memory are as before
+pub record SameHandover (old new : MachineState) : Type 0 where
+  pub handover : new.handover ≡ old.handover
+  pub shared : new.memory.shared ≡ old.memory.shared
+
+same_by : (old other new : MachineState) → new ≡ other → SameHandover old other → SameHandover old new
+same_by old other new is same = subst (λ (s : MachineState). SameHandover old s) (sym is) same
+
+same_itself : (old new : MachineState) → new ≡ old → SameHandover old new
+same_itself old new is = same_by old old new is (record { handover = refl; shared = refl })
+
+same_put : (area : Area) (start : ℕ) (old : MachineState) (bytes : List ℕ) → SameHandover old (put_in area start old bytes)
+same_put Device start old bytes = record { handover = refl; shared = refl }
+same_put Scratch start old bytes = record { handover = refl; shared = refl }
+same_put LogRange start old bytes = record { handover = refl; shared = refl }
+same_put Handover start old bytes = record { handover = refl; shared = refl }
+same_put BootErrors start old bytes = record { handover = refl; shared = refl }
+same_put Ports start old bytes = record { handover = refl; shared = refl }
+
+same_register : (tells : Type 0) (register : Register) (old new : MachineState) (at : ℕ) (width : Width) (value : ℕ) (answer : Result (Unit {0}) SpaceFault) →
+    RegisterWritten tells register old at width value answer new → SameHandover old new
+same_register tells Action old new at width value answer h = record { handover = h.1.handover; shared = ap (λ (m : MemoryState). m.shared) h.1.memory }
+same_register tells Value old new at width value answer h = same_by old _ new h.1 (record { handover = refl; shared = refl })
+same_register tells NoRegister old new at width value answer h = same_itself old new h.1
+
+same_area : (tells : Type 0) (area : Area) (start : ℕ) (old new : MachineState) (at : ℕ) (width : Width) (value : ℕ) (answer : Result (Unit {0}) SpaceFault) →
+    AreaWritten tells area start old at width value answer new → SameHandover old new
+same_area tells Device start old new at width value answer h = same_register tells (register_at start width) old new at width value answer h
+same_area tells Scratch start old new at width value answer h = same_by old _ new h.1 (same_put Scratch start old _)
+same_area tells LogRange start old new at width value answer h = same_by old _ new h.1 (same_put LogRange start old _)
+same_area tells Handover start old new at width value answer h = same_itself old new h.1
+same_area tells BootErrors start old new at width value answer h = same_itself old new h.1
+same_area tells Ports start old new at width value answer h = same_by old _ new h.1 (same_put Ports start old _)
+
+same_written : (tells : Type 0) (spot : Spot) (old new : MachineState) (at : ℕ) (width : Width) (value : ℕ) (answer : Result (Unit {0}) SpaceFault) →
+    NumberWritten tells spot old at width value answer new → SameHandover old new
+same_written tells (Inside area start) old new at width value answer h = same_area tells area start old new at width value answer h
+same_written tells (Beyond area address) old new at width value answer h = same_itself old new h.1
+same_written tells (Nowhere address) old new at width value answer h = same_itself old new h.1
+
+same_area_stored : (area : Area) (start : ℕ) (old : MachineState) (at : ℕ) (bytes : List ℕ) → SameHandover old (area_stored area start old at bytes).1
+same_area_stored Device start old at bytes = record { handover = refl; shared = refl }
+same_area_stored Scratch start old at bytes = record { handover = refl; shared = refl }
+same_area_stored LogRange start old at bytes = record { handover = refl; shared = refl }
+same_area_stored Handover start old at bytes = record { handover = refl; shared = refl }
+same_area_stored BootErrors start old at bytes = record { handover = refl; shared = refl }
+same_area_stored Ports start old at bytes = record { handover = refl; shared = refl }
+
+same_stored : (spot : Spot) (old : MachineState) (at : ℕ) (bytes : List ℕ) → SameHandover old (bytes_stored spot old at bytes).1
+same_stored (Inside area start) old at bytes = same_area_stored area start old at bytes
+same_stored (Beyond area address) old at bytes = record { handover = refl; shared = refl }
+same_stored (Nowhere address) old at bytes = record { handover = refl; shared = refl }
+
+same_copied_to : (target : Spot) (old : MachineState) (bytes : List ℕ) → SameHandover old (copied_to target old bytes)
+same_copied_to (Inside area start) old bytes = same_put area start old bytes
+same_copied_to (Beyond area address) old bytes = record { handover = refl; shared = refl }
+same_copied_to (Nowhere address) old bytes = record { handover = refl; shared = refl }
+
+same_copied : (first second : Option SpaceFault) (source target : Spot) (old : MachineState) (n : ℕ) → SameHandover old (copied first second source target old n).1
+same_copied (Some fault) second source target old n = record { handover = refl; shared = refl }
+same_copied None (Some fault) source target old n = record { handover = refl; shared = refl }
+same_copied None None source target old n = same_copied_to target old (copied_from source old n)
+
+pub same_handover : (tells : Type 0) (old new : MachineState) (call : Call) → Allows tells old call new → SameHandover old new
+same_handover tells old new (Read at width answer) h = same_itself old new h.1
+same_handover tells old new (Write at width value answer) h = same_written tells (spot_of old at (bits width / 8)) old new (address_of at) width value answer h
+same_handover tells old new (Wait micros) h = same_by old _ new h (record { handover = refl; shared = refl })
+same_handover tells old new (Copy from to n answer) h = same_by old _ new h.1 (same_copied _ _ (spot_at old from n) (spot_at old to n) old n)
+same_handover tells old new (ReadBytes at before after answer) h = same_itself old new h.2
+same_handover tells old new (WriteBytes at bytes answer) h = same_by old _ new h.1 (same_stored (spot_at old at (length bytes)) old at bytes)
+
+pub apart : (tells : Type 0) (old new : MachineState) (call : Call) (m : HandoverMachine) → Allows tells old call new → StandsFor old.handover old.memory.shared m →
+    StandsFor new.handover new.memory.shared m
+apart tells old new call m allowed stands =
+    let same = same_handover tells old new call allowed in
+    subst (λ (h : HandoverState). StandsFor h new.memory.shared m) (sym same.handover) (subst (λ (r : RamState). StandsFor old.handover r m) (sym same.shared) stands)

@@ -1,0 +1,172 @@
+// The machine's memory map, and where an access of it stands.
+ghost use Rattle.std.specs.Prelude.{◌≡◌, ◌+◌, ◌<◌, ◌≤◌, ◌^◌, IfSome};
+ghost use Rattle.erst_machine.specs.Areas.{base_of, size_of, area_spot, memory_spot, port_spot, place_spot, IsPlaced, is_plain, register_at};
+
+use apei_gas::{Place, Width};
+
+/// An area of the machine's map: the ports are I/O, all others memory.
+#[derive(Clone, Copy, Debug, PartialEq, Eq)]
+pub enum Area {
+    /// The device's registers, 16 bytes.
+    Device,
+    /// Plain memory, 4,096 bytes.
+    Scratch,
+    /// The error log address range, plain memory with as many bytes as the longest record.
+    LogRange,
+    /// Where the two sides of the handover meet, 8,192 bytes. Accesses only read it.
+    Handover,
+    /// The boot error region, 16,384 bytes. Accesses only read it.
+    BootErrors,
+    /// 16 plain bytes.
+    Ports,
+}
+
+/// Where the bytes of an access stand.
+#[derive(Clone, Copy, Debug, PartialEq, Eq)]
+pub enum Spot {
+    /// All of them in an area, from this byte of it on.
+    Inside(Area, usize),
+    /// The first in an area, and the first behind it at this address, where nothing is mapped.
+    Beyond(Area, u64),
+    /// The first at this address, where nothing is mapped.
+    Nowhere(u64),
+}
+
+/// A register of the device.
+#[derive(Clone, Copy, Debug, PartialEq, Eq)]
+pub enum Register {
+    Action,
+    Value,
+    NoRegister,
+}
+
+/// The areas of memory.
+const MEMORY: [Area; 5] = [
+    Area::Device,
+    Area::Scratch,
+    Area::Handover,
+    Area::BootErrors,
+    Area::LogRange,
+];
+
+impl Area {
+    /// The address of its first byte.
+    pub fn base(self) -> u64
+        ensures value { result ≡ base_of self }
+        ensures small { result < 2 ^ 32 }
+    {
+        match self {
+            Area::Device => 0x20_0000,
+            Area::Scratch => 0x1000,
+            Area::LogRange => 0x10_0000,
+            Area::Handover => 0x30_0000,
+            Area::BootErrors => 0x40_0000,
+            Area::Ports => 0x500,
+        }
+    }
+
+    /// How many bytes it has, on a machine whose longest record has so many.
+    pub fn size(self, reach: usize) -> usize
+        requires { reach < 2 ^ 32 }
+        ensures value { result ≡ size_of reach self }
+        ensures small { result < 2 ^ 32 }
+    {
+        match self {
+            Area::Device => 16,
+            Area::Scratch => 4096,
+            Area::LogRange => reach,
+            Area::Handover => 8192,
+            Area::BootErrors => 16384,
+            Area::Ports => 16,
+        }
+    }
+
+    /// Whether copies may read and write it.
+    pub fn is_plain(self) -> bool
+        ensures { result ≡ is_plain self }
+    {
+        matches!(self, Area::Scratch | Area::LogRange)
+    }
+
+    /// Where `n` bytes stand whose first one is in the area.
+    #[tactic(auto, using(std::proofs::lemmas::Bool::Decides::nat_tests))]
+    fn spot(self, reach: usize, at: u64, n: usize) -> Option<Spot>
+        requires reach { reach < 2 ^ 32 }
+        requires n { n < 2 ^ 63 }
+        ensures value { result ≡ area_spot reach self at n }
+        ensures placed { IfSome result (IsPlaced reach n) }
+    {
+        let base = self.base();
+        let end = base + self.size(reach) as u64;
+        if at < base || at >= end {
+            return None;
+        }
+        if at + n as u64 > end {
+            return Some(Spot::Beyond(self, end));
+        }
+        Some(Spot::Inside(self, (at - base) as usize))
+    }
+}
+
+/// Where `n` bytes of memory stand.
+pub fn memory_spot(reach: usize, at: u64, n: usize) -> Spot
+    requires reach { reach < 2 ^ 32 }
+    requires n { n < 2 ^ 63 }
+    ensures value { result ≡ memory_spot reach at n }
+    ensures placed { IsPlaced reach n result }
+{
+    if n == 0 {
+        return Spot::Inside(Area::Scratch, 0);
+    }
+    for area in MEMORY {
+        if let Some(spot) = area.spot(reach, at, n) {
+            return spot;
+        }
+    }
+    Spot::Nowhere(at)
+}
+
+/// Where `n` bytes of ports stand.
+pub fn port_spot(reach: usize, at: u64, n: usize) -> Spot
+    requires reach { reach < 2 ^ 32 }
+    requires n { n < 2 ^ 63 }
+    ensures value { result ≡ port_spot reach at n }
+    ensures placed { IsPlaced reach n result }
+{
+    match Area::Ports.spot(reach, at, n) {
+        Some(spot) => spot,
+        None => Spot::Nowhere(at),
+    }
+}
+
+/// Where `n` bytes stand.
+pub fn place_spot(reach: usize, at: Place, n: usize) -> Spot
+    requires reach { reach < 2 ^ 32 }
+    requires n { n < 2 ^ 63 }
+    ensures value { result ≡ place_spot reach at n }
+    ensures placed { IsPlaced reach n result }
+{
+    match at {
+        Place::Memory(address) => memory_spot(reach, address, n),
+        Place::Io(address) => port_spot(reach, address, n),
+    }
+}
+
+/// The register that an access of the device moves.
+pub fn register_at(start: usize, width: Width) -> Register
+    ensures { result ≡ register_at start width }
+{
+    match width {
+        Width::B32 => if start == 0 {
+            Register::Action
+        } else {
+            Register::NoRegister
+        },
+        Width::B64 => if start == 8 {
+            Register::Value
+        } else {
+            Register::NoRegister
+        },
+        Width::B8 | Width::B16 => Register::NoRegister,
+    }
+}

@@ -1,0 +1,30 @@
+// Laws on whatever happens to a machine: the functions do nothing, and their clauses are the laws.
+ghost use Rattle.std.specs.Prelude.{List};
+ghost use Rattle.apei_space.specs.Calls.{Call};
+ghost use Rattle.apei_space.specs.Accesses.{Reaches, Move, Trail};
+ghost use Rattle.erst_machine.specs.MachineState.{MachineState, IsMachine};
+ghost use Rattle.erst_machine.specs.Allowed.{Allows};
+ghost use Rattle.erst_machine.specs.Events.{Event, Happens};
+ghost use Rattle.erst_machine.specs.Shown.{IsShown, made_by_call, made_by_event};
+
+use flash_model::Flash;
+
+/// Whatever accesses a program, or several, make, in any order: power lost at any flash step shows the records after those
+/// that had ended by then, or as the next one leaves them. Each makes at most one change of the flash.
+pub fn any_accesses_are_shown<F: Flash>()
+    ensures trail { F.tells → (first last : MachineState) (trail : List (Move Call MachineState))
+        → Trail (Allows F.tells) first trail last → IsShown made_by_call first trail last }
+    ensures reached { F.tells → (first last : MachineState) → Reaches (Allows F.tells) first last
+        → (trail : List (Move Call MachineState)) × Trail (Allows F.tells) first trail last × IsShown made_by_call first trail last }
+{}
+
+/// The same of accesses, restarts, calls of the handover and fatal blocks, in any order.
+pub fn any_events_are_shown<F: Flash>()
+    ensures { F.tells → (first last : MachineState) (trail : List (Move Event MachineState))
+        → Trail (Happens F.tells) first trail last → IsShown made_by_event first trail last }
+{}
+
+/// Accesses lead from a machine's state to a machine's state.
+pub fn accesses_keep_a_machine<F: Flash>()
+    ensures { (first last : MachineState) → Reaches (Allows F.tells) first last → IsMachine first → IsMachine last }
+{}

@@ -1,0 +1,17 @@
+//! The machine: the device over a record store, its log range, the handover, and the memory between them.
+#![tactic(auto)]
+
+mod accesses;
+mod areas;
+mod boot;
+mod contents;
+mod entries;
+mod errors;
+mod laws;
+mod machine;
+mod tables;
+
+pub use areas::{Area, Register, Spot};
+pub use errors::{BootError, BootRefused, FatalError};
+pub use laws::{accesses_keep_a_machine, any_accesses_are_shown, any_events_are_shown};
+pub use machine::Machine;
