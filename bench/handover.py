@@ -1,10 +1,11 @@
 #!/usr/bin/env python3
-"""Times a handover of a block of 4,096 bytes, all turns of both sides, beside two copies of its bytes.
+"""Times a handover of a block of 4,096 bytes, all turns of both sides, beside two copies of its bytes, and beside copies into
+memory and out of it by accesses of 64 bytes each.
 
     bench/handover.py [PROGRAM]
 
 PROGRAM is the built program, by default crates/apei_bench/out/apei_bench; build it by `rt run` in crates/apei_bench. It
-prints the least time of five runs for each, and their ratio.
+prints the least time of five runs for each, and their ratios.
 """
 
 import os
@@ -29,4 +30,8 @@ def nanoseconds(job, times):
 
 handover = nanoseconds("handover", 100_000)
 copies = nanoseconds("copies", 1_000_000)
-print(f"handover: {handover:.0f} ns a block; two copies: {copies:.0f} ns; ratio {handover / copies:.1f}")
+pieces = nanoseconds("pieces", 500_000)
+print(
+    f"handover: {handover:.0f} ns a block; two copies: {copies:.0f} ns, ratio {handover / copies:.1f}; "
+    f"by pieces: {pieces:.0f} ns, ratio {handover / pieces:.1f}"
+)

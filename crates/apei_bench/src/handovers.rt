@@ -5,7 +5,7 @@ ghost use Rattle.ghes_ack.specs.Sides.{Stands};
 
 use apei_bytes::put_u32;
 use apei_gas::{Place, Register, Width};
-use apei_space::{Ram, Window};
+use apei_space::{Ram, Space, Window};
 use ghes_ack::{Event, Handover, HandoverMap, Side, SubmitError};
 use std::alloc::Global;
 
@@ -120,6 +120,29 @@ pub fn copy_twice(times: u64) -> Option<u64> {
         other[(k % 4096) as usize] = (k % 256) as u8;
         one.copy_from_slice(&other);
         sum = sum.wrapping_add(u64::from(one[(k / 7 % 4096) as usize]));
+    }
+    Some(sum)
+}
+
+/// Copies a block of 4,096 bytes into memory and out of it, so many times, as a handover does: 64 bytes at a time, each by an
+/// access of the space. It answers the sum of one byte of each.
+pub fn copy_by_pieces(alloc: Global, times: u64) -> Option<u64> {
+    let mut ram = memory(alloc)?;
+    let mut one = block();
+    let mut other = [0; BLOCK];
+    let mut sum = 0u64;
+    for k in 0..times {
+        one[(k % 4096) as usize] = (k % 256) as u8;
+        for piece in 0..64usize {
+            let at = MAP.block + 64 * piece as u64;
+            ram.write_bytes(at, &one[64 * piece..64 * piece + 64]).ok()?;
+        }
+        for piece in 0..64usize {
+            let at = MAP.block + 64 * piece as u64;
+            ram.look_bytes(at, &mut other[64 * piece..64 * piece + 64])
+                .ok()?;
+        }
+        sum = sum.wrapping_add(u64::from(other[(k / 7 % 4096) as usize]));
     }
     Some(sum)
 }

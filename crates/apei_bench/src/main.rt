@@ -39,6 +39,7 @@ fn done(alloc: Global, job: &str, times: u64) -> Option<u64> {
         "blocks" => frames::walk_blocks(times),
         "handover" => handovers::hand_over(alloc, times),
         "copies" => handovers::copy_twice(times),
+        "pieces" => handovers::copy_by_pieces(alloc, times),
         "lines" => lines::parse_lines(times),
         "readings" => lines::read_lines(times),
         _ => None,

@@ -172,11 +172,13 @@ impl Handover {
     }
 }
 
-/// Puts the sides to their place.
+/// Puts the sides to their empty place.
 fn put_back(place: &mut Option<Ends>, ends: Ends)
+    requires { place.old ≡ None }
     ensures { place.new ≡ Some ends }
 {
-    if let Some(old) = place.replace(ends) {
-        old.spend();
+    match place.replace(ends) {
+        None => {}
+        Some(_old) => unreachable!(),
     }
 }
