@@ -5,6 +5,7 @@ mod clients;
 mod frames;
 mod handovers;
 mod lines;
+mod machines;
 mod programs;
 
 use std::alloc::Global;
@@ -40,6 +41,11 @@ fn done(alloc: Global, job: &str, times: u64) -> Option<u64> {
         "handover" => handovers::hand_over(alloc, times),
         "copies" => handovers::copy_twice(times),
         "pieces" => handovers::copy_by_pieces(alloc, times),
+        "writes" => machines::write_by_programs(alloc, times),
+        "calls" => machines::write_by_calls(alloc, times),
+        "accesses" => machines::read_memory(alloc, times),
+        "boots" => machines::boot(alloc, times),
+        "openings" => machines::open(alloc, times),
         "lines" => lines::parse_lines(times),
         "readings" => lines::read_lines(times),
         _ => None,

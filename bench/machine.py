@@ -1,0 +1,37 @@
+#!/usr/bin/env python3
+"""Times the machine beside its store: a record of 128 bytes written by a client with the machine's own table and by a call of the
+store, a read of plain memory, and a boot and an opening over a flash of 64 MiB.
+
+    bench/machine.py [PROGRAM]
+
+PROGRAM is the built program, by default crates/apei_bench/out/apei_bench; build it by `rt run` in crates/apei_bench. It
+prints the least time of five runs for each, and the ratios.
+"""
+
+import os
+import subprocess
+import sys
+import time
+
+TOP = os.path.dirname(os.path.dirname(os.path.abspath(__file__)))
+program = sys.argv[1] if len(sys.argv) > 1 else os.path.join(TOP, "crates/apei_bench/out/apei_bench")
+
+
+def seconds(job, times):
+    start = time.perf_counter()
+    subprocess.run([program, job, str(times)], check=True, stdout=subprocess.DEVNULL)
+    return time.perf_counter() - start
+
+
+def each(job, times):
+    """Seconds for one."""
+    rest = min(seconds(job, 0) for _ in range(5))
+    return max(min(seconds(job, times) for _ in range(5)) - rest, 1e-9) / times
+
+
+writes, calls = each("writes", 10_000), each("calls", 10_000)
+boots, openings = each("boots", 20), each("openings", 20)
+access = each("accesses", 10_000_000)
+print(f"a write by programs: {writes * 1e9:.0f} ns, by a call: {calls * 1e9:.0f} ns, ratio {writes / calls:.2f}")
+print(f"a read of plain memory: {access * 1e9:.1f} ns")
+print(f"a boot over 64 MiB: {boots * 1e3:.2f} ms, an opening: {openings * 1e3:.2f} ms, ratio {boots / openings:.2f}")
