@@ -1,9 +1,10 @@
 -- The machine's memory map, and where an access of it stands.
-use Rattle.std.specs.Prelude.{ℕ, ◌+◌, ◌-◌, ◌≤◌, ◌==◌, ◌&&◌, nat_le, nat_lt, if◌then◌else◌, Bool, true, false, List, [], ◌∷◌, Option, Some, None, unwrap_or}
+use Rattle.std.specs.Prelude.{ℕ, ◌+◌, ◌-◌, ◌≤◌, ◌==◌, ◌&&◌, nat_le, nat_lt, if◌then◌else◌, Bool, true, false, List, [], ◌∷◌, Option, Some, None, unwrap_or, Result, Ok, Err}
 use Rattle.apei_gas.specs.declared.registers.Place.{Place}
 use Rattle.apei_gas.specs.declared.registers.Place.TheVariants.{Memory, Io}
 use Rattle.apei_gas.specs.declared.widths.Width.{Width}
 use Rattle.apei_gas.specs.declared.widths.Width.TheVariants.{B8, B16, B32, B64}
+use Rattle.apei_space.specs.declared.windows.Window.{Window}
 use Rattle.erst_machine.specs.declared.areas.Area.{Area}
 use Rattle.erst_machine.specs.declared.areas.Area.TheVariants.{Device, Scratch, LogRange, Handover, BootErrors, Ports}
 use Rattle.erst_machine.specs.declared.areas.Spot.{Spot}
@@ -79,3 +80,25 @@ abbrev pub is_plain : Area → Bool
 is_plain Scratch = true
 is_plain LogRange = true
 is_plain area = false
+
+-- the whole map as windows
+abbrev pub place_of : Area → Place
+place_of Device = Memory (base_of Device)
+place_of Scratch = Memory (base_of Scratch)
+place_of LogRange = Memory (base_of LogRange)
+place_of Handover = Memory (base_of Handover)
+place_of BootErrors = Memory (base_of BootErrors)
+place_of Ports = Io (base_of Ports)
+
+abbrev pub window_of : ℕ → Area → Window
+window_of reach area = record { place = place_of area; len = size_of reach area }
+
+abbrev pub all_windows : ℕ → List Window
+all_windows reach =
+    window_of reach Device ∷ window_of reach Scratch ∷ window_of reach LogRange ∷ window_of reach Handover ∷ window_of reach BootErrors ∷ window_of reach Ports ∷ []
+
+-- what an access finds: all its bytes, or the address of the first that is not mapped
+abbrev pub finds : Spot → Result ℕ ℕ
+finds (Inside area start) = Ok start
+finds (Beyond area address) = Err address
+finds (Nowhere address) = Err address

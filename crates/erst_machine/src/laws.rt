@@ -1,5 +1,8 @@
 // Laws on whatever happens to a machine: the functions do nothing, and their clauses are the laws.
-ghost use Rattle.std.specs.Prelude.{List};
+ghost use Rattle.std.specs.Prelude.{ℕ, ◌<◌, ◌≤◌, List};
+ghost use Rattle.apei_gas.specs.declared.registers.Place.{Place as AnyPlace};
+ghost use Rattle.apei_space.specs.Mapped.{FindsBytes};
+ghost use Rattle.erst_machine.specs.Areas.{place_spot, all_windows, finds};
 ghost use Rattle.apei_space.specs.Calls.{Call};
 ghost use Rattle.apei_space.specs.Accesses.{Reaches, Move, Trail};
 ghost use Rattle.erst_machine.specs.MachineState.{MachineState, IsMachine};
@@ -8,6 +11,11 @@ ghost use Rattle.erst_machine.specs.Events.{Event, Happens};
 ghost use Rattle.erst_machine.specs.Shown.{IsShown, made_by_call, made_by_event};
 
 use flash_model::Flash;
+
+/// An access finds its bytes exactly where the areas of the map hold all of them, and else the address of the first that none holds.
+pub fn every_access_finds_its_bytes()
+    ensures { (reach : ℕ) (at : AnyPlace) (n : ℕ) → reach ≤ 65536 → 0 < n → FindsBytes (all_windows reach) at n (finds (place_spot reach at n)) }
+{}
 
 /// Whatever accesses a program, or several, make, in any order: power lost at any flash step shows the records after those
 /// that had ended by then, or as the next one leaves them. Each makes at most one change of the flash.

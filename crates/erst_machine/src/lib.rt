@@ -13,5 +13,11 @@ mod tables;
 
 pub use areas::{Area, Register, Spot};
 pub use errors::{BootError, BootRefused, FatalError};
-pub use laws::{accesses_keep_a_machine, any_accesses_are_shown, any_events_are_shown};
+pub use laws::{
+    accesses_keep_a_machine, any_accesses_are_shown, any_events_are_shown,
+    every_access_finds_its_bytes,
+};
 pub use machine::Machine;
+
+#[cfg(test)]
+mod tests;
