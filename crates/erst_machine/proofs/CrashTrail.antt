@@ -1,5 +1,5 @@
 -- The one induction: moves of a machine one after another.
-use Rattle.std.proofs.Common.{◌≡◌, ℕ, ◌+◌, ◌≤◌, ◌/◌, ◌%◌, ◌^◌, Bool, true, false, List, [], ◌∷◌, length, Option, Some, None, Result, Ok, Err, refl, sym, ap, subst, ◌∙◌, arith, inl, inr}
+use Rattle.std.proofs.Common.{◌≡◌, ℕ, ◌+◌, ◌≤◌, ◌/◌, ◌%◌, ◌^◌, Bool, true, false, List, [], ◌∷◌, ◌++◌, length, Option, Some, None, Result, Ok, Err, refl, sym, ap, subst, ◌∙◌, arith, inl, inr}
 use Rattle.std.specs.Prelude.{nat_le, MatchBool}
 use Rattle.std.proofs.lemmas.Bool.{cases_lt, le-leb, lt-leb}
 use Rattle.flash_words.specs.Flash.{Told, CrashImage, Leaves, image_at}
@@ -16,7 +16,7 @@ use Rattle.apei_space.specs.declared.faults.SpaceFault.{SpaceFault}
 use Rattle.apei_space.specs.Calls.{Call, Read, Write, Wait, Copy, ReadBytes, WriteBytes}
 use Rattle.apei_space.specs.Accesses.{Reaches, Stays, Goes, Move, Trail}
 use Rattle.apei_space.specs.Windows.{address_of}
-use Rattle.apei_space.proofs.AccessLemmas.{trail_of}
+use Rattle.apei_space.proofs.AccessLemmas.{trail_of, Trail-push}
 use Rattle.ghes_ack.specs.declared.submission.SubmitError.{SubmitError}
 use Rattle.erst_device.specs.DeviceState.{DeviceState}
 use Rattle.erst_machine.specs.declared.errors.BootError.{BootError}
@@ -258,3 +258,15 @@ one_event tells told old (Laid block result) new h = by_state old new _ h.others
 pub events_are_shown : (tells : Type 0) (told : tells) (first last : MachineState) (trail : List (Move Event MachineState)) → Trail (Happens tells) first trail last →
     IsShown made_by_event first trail last
 events_are_shown tells told first last trail is = trail_is_shown (Happens tells) made_by_event (one_event tells told) first last trail is
+
+-- what happens, and then what happens
+pub happens_then : (tells : Type 0) (first mid last : MachineState) (one two : List (Move Event MachineState)) → Trail (Happens tells) first one mid → Trail (Happens tells) mid two last →
+    Trail (Happens tells) first (one ++ two) last
+happens_then tells first mid last [] two is more = subst (λ (s : MachineState). Trail (Happens tells) s two last) is more
+happens_then tells first mid last (move ∷ rest) two is more = (is.0, happens_then tells move.left mid last rest two is.1 more)
+
+pub reached_happens : (tells : Type 0) (first last : MachineState) → Reaches (Allows tells) first last → (trail : List (Move Event MachineState)) × Trail (Happens tells) first trail last
+reached_happens tells first last Stays = ([], refl)
+reached_happens tells first last (Goes mid call end more allowed) =
+    let before = reached_happens tells first mid more in
+    (before.0 ++ (record { event = Accessed call; left = end }) ∷ [], Trail-push (Happens tells) first mid before.0 (Accessed call) end before.1 allowed)

@@ -1,5 +1,5 @@
 // Laws on whatever happens to a machine: the functions do nothing, and their clauses are the laws.
-ghost use Rattle.std.specs.Prelude.{ℕ, ◌<◌, ◌≤◌, List};
+ghost use Rattle.std.specs.Prelude.{ℕ, ◌<◌, ◌≤◌, List, [], ◌∷◌, ◌++◌};
 ghost use Rattle.apei_gas.specs.declared.registers.Place.{Place as AnyPlace};
 ghost use Rattle.apei_space.specs.Mapped.{FindsBytes};
 ghost use Rattle.erst_machine.specs.Areas.{place_spot, all_windows, finds};
@@ -30,6 +30,17 @@ pub fn any_accesses_are_shown<F: Flash>()
 pub fn any_events_are_shown<F: Flash>()
     ensures { F.tells → (first last : MachineState) (trail : List (Move Event MachineState))
         → Trail (Happens F.tells) first trail last → IsShown made_by_event first trail last }
+{}
+
+/// Accesses are among what happens, and what happens and then what happens is what happens: so whatever a program, a client or a
+/// script does to a machine is one list.
+pub fn whatever_happens_is_one_list<F: Flash>()
+    ensures accesses { (first last : MachineState) → Reaches (Allows F.tells) first last
+        → (trail : List (Move Event MachineState)) × Trail (Happens F.tells) first trail last }
+    ensures one { (first last : MachineState) (event : Event) → Happens F.tells first event last
+        → Trail (Happens F.tells) first ((record { event = event; left = last }) ∷ []) last }
+    ensures more { (first mid last : MachineState) (one two : List (Move Event MachineState))
+        → Trail (Happens F.tells) first one mid → Trail (Happens F.tells) mid two last → Trail (Happens F.tells) first (one ++ two) last }
 {}
 
 /// Accesses lead from a machine's state to a machine's state.

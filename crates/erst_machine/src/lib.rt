@@ -15,7 +15,7 @@ pub use areas::{Area, Register, Spot};
 pub use errors::{BootError, BootRefused, FatalError};
 pub use laws::{
     accesses_keep_a_machine, any_accesses_are_shown, any_events_are_shown,
-    every_access_finds_its_bytes,
+    every_access_finds_its_bytes, whatever_happens_is_one_list,
 };
 pub use machine::Machine;
 

@@ -2,7 +2,7 @@ ghost use Rattle.std.specs.Prelude.{◌≤◌};
 
 use crate::{
     BootError, FatalError, Machine, accesses_keep_a_machine, any_accesses_are_shown,
-    any_events_are_shown, every_access_finds_its_bytes,
+    any_events_are_shown, every_access_finds_its_bytes, whatever_happens_is_one_list,
 };
 use apei_gas::{Place, Width};
 use apei_space::{Space, SpaceFault};
@@ -441,6 +441,7 @@ fn what_is_refused_at_a_boot(rt: HostRuntime) -> Result<(), Fail> {
     any_accesses_are_shown::<SimFlash>();
     any_events_are_shown::<SimFlash>();
     accesses_keep_a_machine::<SimFlash>();
+    whatever_happens_is_one_list::<SimFlash>();
     let alloc = rt.alloc();
     let geometry = Geometry::new(4096, 2, 32)?;
     let small = SimFlash::new(
