@@ -4,5 +4,6 @@ pub mod BootLemmas
 pub mod CountLemmas
 pub mod CrashTrail
 pub mod FindLemmas
+pub mod PlaceLemmas
 pub mod SealLemmas
 pub mod TableLemmas

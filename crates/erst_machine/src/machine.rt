@@ -33,6 +33,7 @@ use apei_bytes::Memory;
 use apei_gas::{Place, Width};
 use apei_space::{Space, SpaceFault};
 use erst_device::Device;
+use erst_entries::Action;
 use flash_model::{Flash, Geometry};
 use ghes_ack::{Event, Handover, Side, Station, SubmitError};
 use ghes_block::{Block, BlockError};
@@ -103,7 +104,7 @@ impl<F: Flash> Machine<F> {
         }
     }
 
-    /// The Error Record Serialization Table: 880 bytes, 26 entries, checksum 0x83.
+    /// The Error Record Serialization Table (ACPI 6.4, section 18.5.1): 880 bytes, 26 entries, checksum 0x83.
     pub fn erst_table(&self, alloc: Global) -> Result<Vec<u8>, Memory>
         ensures bytes { IfOk result (λ bytes. bytes.items ≡ spelling own_erst) }
         ensures size { IfOk result (λ bytes. length bytes.items ≡ 880) }
@@ -113,7 +114,7 @@ impl<F: Flash> Machine<F> {
         tables::erst(alloc)
     }
 
-    /// The Hardware Error Source Table: 132 bytes, one source, which is of type 10, checksum 0x1E.
+    /// The Hardware Error Source Table (18.3.2): 132 bytes, one source, which is of type 10, checksum 0x1E.
     pub fn hest_table(&self, alloc: Global) -> Result<Vec<u8>, Memory>
         ensures bytes { IfOk result (λ bytes. bytes.items ≡ own_hest) }
         ensures size { IfOk result (λ bytes. length bytes.items ≡ 132) }
@@ -122,7 +123,7 @@ impl<F: Flash> Machine<F> {
         tables::hest(alloc)
     }
 
-    /// The Boot Error Record Table: 48 bytes, checksum 0x18.
+    /// The Boot Error Record Table (18.3.1): 48 bytes, checksum 0x18.
     pub fn bert_table(&self, alloc: Global) -> Result<Vec<u8>, Memory>
         ensures bytes { IfOk result (λ bytes. bytes.items ≡ own_bert_bytes) }
         ensures size { IfOk result (λ bytes. length bytes.items ≡ 48) }
@@ -286,9 +287,6 @@ fn lay_block(region: &mut [u8], block: &[u8]) -> Result<u32, FatalError>
     }
 }
 
-/// The code of GET_RECORD_COUNT.
-const GET_RECORD_COUNT: u32 = 0xa;
-
 /// How many records there are, while nothing is begun. All registers stay.
 #[tactic(auto, using(crate::proofs::CountLemmas::few_records))]
 fn count_records<F: Flash>(device: &mut Device<F>, range: &mut [u8]) -> u32
@@ -299,7 +297,7 @@ fn count_records<F: Flash>(device: &mut Device<F>, range: &mut [u8]) -> u32
     ensures same { device.new ≡ device.old }
     ensures range { range.new ≡ range.old }
 {
-    device.action(GET_RECORD_COUNT, range);
+    device.action(u32::from(Action::GetRecordCount.code()), range);
     let count = device.value();
     device.set_value(0);
     count.min(u64::from(u32::MAX)) as u32
