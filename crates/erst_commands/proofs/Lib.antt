@@ -1,0 +1,2 @@
+pub mod OwnProgramLemmas
+pub mod ActionCases
