@@ -1,5 +1,5 @@
 -- The programs of the machine's own table run straight through.
-use Rattle.std.proofs.Common.{◌≡◌, ℕ, zero, suc, ◌+◌, ◌-◌, ◌*◌, ◌/◌, ◌%◌, ◌^◌, ◌<◌, Bool, true, false, List, [], ◌∷◌, length, Option, Some, None, Result, Ok, Err, refl, sym, ap, subst, ◌∙◌, arith}
+use Rattle.std.proofs.Common.{◌≡◌, ℕ, zero, suc, ◌+◌, ◌-◌, ◌*◌, ◌/◌, ◌%◌, ◌^◌, ◌<◌, ◌≤◌, Bool, true, false, List, [], ◌∷◌, length, Option, Some, None, Result, Ok, Err, refl, sym, ap, subst, ◌∙◌, arith}
 use Rattle.std.specs.Prelude.{bit_and, unwrap_or, ◌==◌, if◌then◌else◌}
 use Rattle.std.proofs.lemmas.Nat.{and_mask}
 use Rattle.apei_gas.specs.declared.registers.Register.{Register}
@@ -311,3 +311,69 @@ own_programs_run tells law GetErrorLogAddressRange given budget first result lef
 own_programs_run tells law GetErrorLogAddressRangeLength given budget first result left last run = runs_length tells law given budget first result left last run
 own_programs_run tells law GetErrorLogAddressRangeAttributes given budget first result left last run = runs_attributes tells law given budget first result left last run
 own_programs_run tells law GetExecuteOperationTimings given budget first result left last run = runs_timings tells law given budget first result left last run
+
+-- How many steps each takes
+
+pub steps-begin_write : steps_of own_entries BeginWriteOperation ≡ 1
+unfolding own_entries entries_of
+steps-begin_write = refl
+
+pub steps-begin_read : steps_of own_entries BeginReadOperation ≡ 1
+unfolding own_entries entries_of
+steps-begin_read = refl
+
+pub steps-begin_clear : steps_of own_entries BeginClearOperation ≡ 1
+unfolding own_entries entries_of
+steps-begin_clear = refl
+
+pub steps-begin_dummy : steps_of own_entries BeginDummyWriteOperation ≡ 1
+unfolding own_entries entries_of
+steps-begin_dummy = refl
+
+pub steps-end : steps_of own_entries EndOperation ≡ 1
+unfolding own_entries entries_of
+steps-end = refl
+
+pub steps-offset : steps_of own_entries SetRecordOffset ≡ 2
+unfolding own_entries entries_of
+steps-offset = refl
+
+pub steps-identifier : steps_of own_entries SetRecordIdentifier ≡ 2
+unfolding own_entries entries_of
+steps-identifier = refl
+
+pub steps-execute : steps_of own_entries ExecuteOperation ≡ 1
+unfolding own_entries entries_of
+steps-execute = refl
+
+pub steps-check : steps_of own_entries CheckBusyStatus ≡ 2
+unfolding own_entries entries_of
+steps-check = refl
+
+pub steps-status : steps_of own_entries GetCommandStatus ≡ 2
+unfolding own_entries entries_of
+steps-status = refl
+
+pub steps-next : steps_of own_entries GetRecordIdentifier ≡ 2
+unfolding own_entries entries_of
+steps-next = refl
+
+pub steps-count : steps_of own_entries GetRecordCount ≡ 2
+unfolding own_entries entries_of
+steps-count = refl
+
+-- A run that has enough steps
+
+pub record IsRun (tells : Type 0) (action : Action) (given budget : ℕ) (first : MachineState) (result : Result ℕ RunStop) (left : ℕ) (last : MachineState) : Type 0 where
+  pub answer : result ≡ Ok (answer_of action given last.device.value)
+  pub acted : ActsOn tells (given_to action given first) (code_of action) last
+  pub spent : left + steps_of own_entries action ≡ budget
+
+pub has_steps : (tells : Type 0) (action : Action) (given budget : ℕ) (first : MachineState) (result : Result ℕ RunStop) (left : ℕ) (last : MachineState) → 2 ≤ budget
+    → OwnRun tells action given budget first result left last → IsRun tells action given budget first result left last
+has_steps tells action given budget first result left last enough run = elim run as (λ result left last run. IsRun tells action given budget first result left last) [
+  | IsMade left last acted spent ↦ record { answer = refl; acted = acted; spent = spent }
+  | StopsAtOnce none ↦ absurd (omega (arith, none, enough))
+  | StopsBefore one takes ↦ absurd (omega (arith, one, enough))
+  | StopsBehind last one shows acted ↦ absurd (omega (arith, one, enough))
+]

@@ -1,1 +1,3 @@
 pub mod OwnPrograms
+pub mod Attached
+pub mod Looks

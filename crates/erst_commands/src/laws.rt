@@ -1,5 +1,15 @@
 // Laws on the machine's own table: the functions do nothing, and their clauses are the laws.
+ghost use Rattle.std.specs.Prelude.{◌≡◌, ℕ, ◌≤◌, Option, Result};
+ghost use Rattle.erst_client.specs.declared.errors.AttachError.{AttachError};
+ghost use Rattle.erst_client.specs.declared.errors.ClientError.{ClientError};
+ghost use Rattle.erst_client.specs.Commands.{ClientState, Counts, Names};
+ghost use Rattle.erst_client.specs.Attaching.{Attaches};
+ghost use Rattle.erst_machine.specs.MachineState.{MachineState, records_of};
+ghost use Rattle.erst_machine.specs.Allowed.{Allows};
+ghost use Rattle.erst_machine.specs.OwnTables.{own_entries, own_erst};
 ghost use Rattle.erst_commands.specs.OwnPrograms.{OwnProgramsRun};
+ghost use Rattle.erst_commands.specs.Attached.{AttachesOwn};
+ghost use Rattle.erst_commands.specs.Looks.{HaveIds, CountMade, NextMade, AsksOnce};
 
 use erst_interp::a_straight_program_runs_through;
 use erst_machine::Machine;
@@ -11,4 +21,29 @@ pub fn own_programs_run_through<F: Flash>()
     ensures { OwnProgramsRun F.tells }
 {
     a_straight_program_runs_through::<Machine<F>>();
+}
+
+/// Attaching to the machine's own table finds the machine's log range and timings, with any budget of eight steps or more.
+pub fn attaching_never_fails<F: Flash>()
+    ensures { (budget : ℕ) (first : MachineState) (result : Result ClientState AttachError) (left : ℕ) (last : MachineState) → 8 ≤ budget
+        → Attaches (Allows F.tells) own_erst budget first result left last → AttachesOwn budget first result left last }
+{
+    own_programs_run_through::<F>();
+}
+
+/// A count answers how many records the machine's flash holds; `Hardware` only where its count of faults rose, and a stop only where
+/// fewer than two steps were given.
+pub fn a_count_is_the_maps<F: Flash>()
+    ensures { F.tells → (budget : ℕ) (first : MachineState) (result : Result ℕ ClientError) (left : ℕ) (last : MachineState)
+        → Counts (Allows F.tells) own_entries budget first result left last → AsksOnce (CountMade first last) budget first last result left }
+{
+    own_programs_run_through::<F>();
+}
+
+/// Next answers the least stored identifier above the cursor, or the end; the rest as of a count.
+pub fn a_next_is_the_maps<F: Flash>()
+    ensures { F.tells → (budget : ℕ) (first : MachineState) (result : Result (Option ℕ) ClientError) (left : ℕ) (last : MachineState) → HaveIds (records_of first)
+        → Names (Allows F.tells) own_entries budget first result left last → AsksOnce (NextMade first last) budget first last result left }
+{
+    own_programs_run_through::<F>();
 }

@@ -3,4 +3,6 @@
 
 mod laws;
 
-pub use laws::own_programs_run_through;
+pub use laws::{
+    a_count_is_the_maps, a_next_is_the_maps, attaching_never_fails, own_programs_run_through,
+};

@@ -1,4 +1,3 @@
-use Rattle.erst_commands.proofs.ActionCases.{Becomes}
 use Rattle.erst_commands.proofs.OwnProgramLemmas.{own_programs_run}
 use Rattle.erst_commands.proofs.laws.own_programs_run_through.Goals as goal
 
