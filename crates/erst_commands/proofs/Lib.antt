@@ -5,3 +5,7 @@ pub mod AskLemmas
 pub mod LimitLemmas
 pub mod LookLemmas
 pub mod AttachLemmas
+pub mod SequenceLemmas
+pub mod WayLemmas
+pub mod ChangeLemmas
+pub mod StartLemmas

@@ -4,5 +4,6 @@
 mod laws;
 
 pub use laws::{
-    a_count_is_the_maps, a_next_is_the_maps, attaching_never_fails, own_programs_run_through,
+    a_clear_is_the_maps, a_count_is_the_maps, a_next_is_the_maps, a_write_is_the_maps,
+    attaching_never_fails, own_programs_run_through,
 };
