@@ -1,0 +1,11 @@
+pub mod OwnProgramLemmas
+pub mod ActionCases
+pub mod MachineSteps
+pub mod AskLemmas
+pub mod LimitLemmas
+pub mod LookLemmas
+pub mod AttachLemmas
+pub mod SequenceLemmas
+pub mod WayLemmas
+pub mod ChangeLemmas
+pub mod StartLemmas

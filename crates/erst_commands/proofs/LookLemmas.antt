@@ -1,0 +1,182 @@
+-- Count and next by the machine's own table are the map's.
+use Rattle.std.proofs.Common.{◌≡◌, ◌≢◌, ℕ, ◌+◌, ◌-◌, ◌%◌, ◌^◌, ◌<◌, ◌≤◌, Bool, true, false, cond, List, Option, Some, None, Result, Ok, Err, refl, sym, ap, subst, ◌∙◌, arith, inl, inr}
+use Rattle.std.specs.Prelude.{◌==◌, if◌then◌else◌, nat_eq, IsSome}
+use Rattle.std.specs.FinMap.{get, len}
+use Rattle.std.proofs.lemmas.Bool.{ne_eqb}
+use Rattle.base_model.specs.Faults.{Rose}
+use Rattle.flash_words.specs.Layout.{Layout}
+use Rattle.record_model.specs.Records.{Stored, is_reserved, entry_at, stored_in}
+use Rattle.record_model.specs.RecordMap.{IsNextAbove}
+use Rattle.record_model.proofs.RefusalLemmas.{allowed_not_zero}
+use Rattle.record_model.proofs.SizeLemmas.{empty_among-len_at_most}
+use Rattle.record_store.specs.Store.{StoreView, Idle, stored, records_of as records_in, KeepsMap, DividesAlike, abandoned}
+use Rattle.record_store.specs.Answers.{HasFaultsOf, HasDoubtOf, EndsCopies, FailsByFlash, copies_of}
+use Rattle.record_store.specs.Calls.{OnlyLooks}
+use Rattle.record_store.specs.declared.errors.StoreError.{StoreError}
+use Rattle.record_store.specs.declared.errors.StoreError.TheVariants as errors
+use Rattle.erst_entries.specs.declared.actions.Action.TheVariants.{GetRecordIdentifier, GetRecordCount}
+use Rattle.erst_interp.specs.declared.stops.RunStop.{RunStop}
+use Rattle.erst_interp.specs.declared.stops.RunStop.TheVariants.{Budget}
+use Rattle.erst_client.specs.declared.errors.ClientError.{ClientError}
+use Rattle.erst_client.specs.declared.errors.ClientError.TheVariants.{Hardware, Stopped}
+use Rattle.erst_client.specs.Commands.{Counts, Names, counted as count_answer, named as next_answer}
+use Rattle.erst_device.specs.StoreCalls.{FoundNext, Counted}
+use Rattle.erst_device.specs.DeviceState.{DeviceState, given_up}
+use Rattle.erst_device.specs.Actions.{IsAllowed, found, counted}
+use Rattle.erst_machine.specs.MachineState.{MachineState, records_of}
+use Rattle.erst_machine.specs.Allowed.{Allows, ActsOn}
+use Rattle.erst_machine.specs.OwnTables.{own_entries}
+use Rattle.erst_commands.specs.OwnPrograms.{OwnRun, IsMade, StopsAtOnce as none_made, StopsBefore, StopsBehind as one_made, OwnProgramsRun}
+use Rattle.erst_commands.specs.Looks.{HaveIds, OnlyLooked, HasAsked, HasFailed, CountMade, IsCounted, IsNotCounted, NextMade, IsFound, IsAtEnd, IsNotFound, AsksOnce, Answers, StopsBehind, StopsAtOnce}
+use Rattle.erst_commands.proofs.ActionCases.{finds_next, counts}
+use Rattle.erst_commands.proofs.OwnProgramLemmas.{steps-count, steps-next}
+use Rattle.erst_commands.proofs.MachineSteps.{acted_is}
+
+-- what the store says of a call that only looks, from the store with its execution given up
+never_falls : {T : Type 0} (before after : ℕ) (result : Result T StoreError) → HasFaultsOf before after result → before ≤ after
+never_falls before after (Ok done) h = omega (arith, h)
+never_falls before after (Err (errors.NoSpace free)) h = omega (arith, h)
+never_falls before after (Err (errors.LastGeneration id)) h = omega (arith, h)
+never_falls before after (Err errors.NotFound) h = omega (arith, h)
+never_falls before after (Err errors.Empty) h = omega (arith, h)
+never_falls before after (Err errors.Flash) h = h.0
+never_falls before after (Err (errors.Small need)) h = omega (arith, h)
+
+alike_from : (old new : StoreView) → DividesAlike (abandoned old) new → DividesAlike old new
+alike_from old new alike = record { layout = alike.layout; size = alike.size; sector_size = alike.sector_size }
+
+pub only_looked : {T : Type 0} (tells : Type 0) (told : tells) (first last : MachineState) (store : StoreView) (result : Result T StoreError) → OnlyLooks tells (abandoned first.device.store) store result
+    → last.device.store ≡ store → last ≡ record first { device = last.device } → OnlyLooked first last
+only_looked tells told first last store result leaves there elsewhere = subst (λ (s : StoreView). OnlyLooked first (record last { device = record last.device { store = s } })) (sym there)
+    (record {
+      kept = leaves.kept told;
+      few = leaves.few told;
+      idle = leaves.idle;
+      alike = alike_from first.device.store store leaves.alike;
+      never_falls = never_falls first.device.store.flash.faults store.flash.faults result leaves.cause;
+      elsewhere = ap (λ (m : MachineState). record m { device = record last.device { store = store } }) elsewhere;
+    })
+
+pub has_asked : {T : Type 0} (tells : Type 0) (told : tells) (first last : MachineState) (store : StoreView) (answer : T) → OnlyLooks tells (abandoned first.device.store) store (Ok answer)
+    → last.device.store ≡ store → last ≡ record first { device = last.device } → HasAsked first last
+has_asked {T = T} tells told first last store answer leaves there elsewhere =
+    let looked = only_looked tells told first last store (Ok answer) leaves there elsewhere in
+    record {
+      looked = looked;
+      steps = ap (λ (s : StoreView). s.flash.steps) there ∙ leaves.ended told;
+      certain = ap (λ (s : StoreView). s.in_doubt) there ∙ leaves.doubt.certain;
+      faults = ap (λ (s : StoreView). s.flash.faults) there ∙ leaves.cause;
+    }
+
+pub has_failed : {T : Type 0} (tells : Type 0) (told : tells) (first last : MachineState) (store : StoreView) (error : StoreError) → OnlyLooks {T = T} tells (abandoned first.device.store) store (Err error)
+    → error ≡ errors.Flash → last.device.store ≡ store → last ≡ record first { device = last.device } → last.device.cursor ≡ first.device.cursor → HasFailed first last
+has_failed {T = T} tells told first last store error leaves flash there elsewhere cursor =
+    let cause = subst (λ (e : StoreError). HasFaultsOf {T = T} first.device.store.flash.faults store.flash.faults (Err e)) flash leaves.cause in
+    record {
+      looked = only_looked tells told first last store (Err error) leaves there elsewhere;
+      rose = subst (λ (s : StoreView). Rose first.device.store.flash.faults s.flash.faults) (sym there) cause.1;
+      cursor = cursor;
+    }
+
+-- Count
+
+few_records : (layout : Layout) (image : List ℕ) → len (records_in layout image) ≤ 1024
+unfolding stored_in
+few_records layout image =
+    let few = empty_among-len_at_most (entry_at layout.slot_size layout.slots image) layout.slots in
+    let most = layout.many_slots in
+    omega arith
+
+count_says : (n : ℕ) → n ≤ 1024 → count_answer (Ok (n % 2 ^ 32)) ≡ Ok n
+count_says n few =
+    let small : n % 2 ^ 32 ≡ n = omega arith in
+    ap (λ (k : ℕ). count_answer (Ok k)) small ∙ ap (λ (b : Bool). cond {A = Result ℕ ClientError} b (Err Hardware) (Ok n)) (ne_eqb n (2 ^ 32 - 1) (λ e. absurd (omega arith)))
+
+module _ (tells : Type 0) (told : tells) (first last : MachineState) where
+  count_by : (store : StoreView) (result : Result ℕ StoreError) → Counted tells (given_up first.device).store store result → last.device ≡ counted result store (given_up first.device)
+      → last ≡ record first { device = last.device } → CountMade first last (count_answer (Ok (last.device.value % 2 ^ 32)))
+  count_by store (Ok n) count is elsewhere =
+      let there : last.device.store ≡ store = ap (λ (d : DeviceState). d.store) is in
+      let n_is : n ≡ len (records_of first) = count.answer told in
+      let few = few_records first.device.store.layout first.device.store.flash.told.image in
+      let value : last.device.value ≡ len (records_of first) = ap (λ (d : DeviceState). d.value) is ∙ n_is in
+      subst (λ (r : Result ℕ ClientError). CountMade first last r) (sym (ap (λ (k : ℕ). count_answer (Ok (k % 2 ^ 32))) value ∙ count_says (len (records_of first)) few))
+      (IsCounted (has_asked tells told first last store n count.leaves there elsewhere) (ap (λ (d : DeviceState). d.cursor) is))
+  count_by store (Err error) count is elsewhere =
+      let there : last.device.store ≡ store = ap (λ (d : DeviceState). d.store) is in
+      let value : last.device.value ≡ 2 ^ 32 - 1 = ap (λ (d : DeviceState). d.value) is in
+      subst (λ (k : ℕ). CountMade first last (count_answer (Ok (k % 2 ^ 32)))) (sym value)
+      (IsNotCounted (has_failed {T = ℕ} tells told first last store error count.leaves count.error there elsewhere (ap (λ (d : DeviceState). d.cursor) is)))
+
+  count_made : ActsOn tells first 0xA last → CountMade first last (count_answer (Ok (last.device.value % 2 ^ 32)))
+  count_made acted =
+      let made = counts tells first.device first.memory.range last.device last.memory.range acted.acts in
+      count_by made.store made.result made.count made.new_is (acted_is tells first 0xA last last.device acted refl made.range_is)
+
+pub count_command : (tells : Type 0) → OwnProgramsRun tells → tells → (budget : ℕ) (first : MachineState) (result : Result ℕ ClientError) (left : ℕ) (last : MachineState)
+    → Counts (Allows tells) own_entries budget first result left last → AsksOnce (CountMade first last) budget first last result left
+count_command tells own told budget first result left last asked =
+    subst (λ (r : Result ℕ ClientError). AsksOnce (CountMade first last) budget first last r left) (sym asked.result_is) (by_run asked.answer left last (own GetRecordCount 0 budget first asked.answer left last asked.asks))
+  where
+    by_run : (answer : Result ℕ RunStop) (left : ℕ) (last : MachineState) → OwnRun tells GetRecordCount 0 budget first answer left last → AsksOnce (CountMade first last) budget first last (count_answer answer) left
+    by_run answer left last run = elim run as (λ answer left last run. AsksOnce (CountMade first last) budget first last (count_answer answer) left) [
+      | IsMade left last acted spent ↦ Answers _ left (count_made tells told first last acted) (ap (λ (n : ℕ). left + n) (sym steps-count) ∙ spent)
+      | none_made none ↦ StopsAtOnce none refl
+      | StopsBefore one takes ↦ absurd (cc)
+      | one_made last one shows acted ↦ StopsBehind _ (count_made tells told first last acted) one
+    ]
+
+-- Next
+
+allowed_not_last : (id : ℕ) → is_reserved id ≡ false → id ≢ 2 ^ 64 - 1
+unfolding is_reserved
+allowed_not_last id allowed last = differ (sym (ap (λ (n : ℕ). if n == 0 then true else (n == 2 ^ 64 - 1)) last) ∙ allowed)
+  where
+    differ : true ≡ false → ⊥
+    differ e = cc
+
+next_says : (id : ℕ) → id < 2 ^ 64 → is_reserved id ≡ false → next_answer (Ok (id % 2 ^ 64)) ≡ Ok (Some id)
+next_says id small allowed =
+    let same : id % 2 ^ 64 ≡ id = omega arith in
+    ap (λ (k : ℕ). next_answer (Ok k)) same
+    ∙ ap (λ (b : Bool). cond {A = Result (Option ℕ) ClientError} b (Err Hardware) (if id == 2 ^ 64 - 1 then Ok None else Ok (Some id))) (ne_eqb id 0 (allowed_not_zero id allowed))
+    ∙ ap (λ (b : Bool). cond {A = Result (Option ℕ) ClientError} b (Ok None) (Ok (Some id))) (ne_eqb id (2 ^ 64 - 1) (allowed_not_last id allowed))
+
+module _ (tells : Type 0) (told : tells) (first last : MachineState) (ids : HaveIds (records_of first)) where
+  next_by : (store : StoreView) (result : Result (Option ℕ) StoreError) → FoundNext tells (given_up first.device).store store first.device.cursor result → IsAllowed result
+      → last.device ≡ found result store (given_up first.device) → last ≡ record first { device = last.device } → NextMade first last (next_answer (Ok (last.device.value % 2 ^ 64)))
+  next_by store (Ok (Some id)) next allowed is elsewhere =
+      let there : last.device.store ≡ store = ap (λ (d : DeviceState). d.store) is in
+      let least = next.answer told in
+      let value : last.device.value ≡ id = ap (λ (d : DeviceState). d.value) is in
+      subst (λ (r : Result (Option ℕ) ClientError). NextMade first last r) (sym (ap (λ (k : ℕ). next_answer (Ok (k % 2 ^ 64))) value ∙ next_says id (ids id least.here) allowed))
+      (IsFound id (has_asked tells told first last store (Some id) next.leaves there elsewhere) least (ap (λ (d : DeviceState). d.cursor) is))
+  next_by store (Ok None) next allowed is elsewhere =
+      let there : last.device.store ≡ store = ap (λ (d : DeviceState). d.store) is in
+      let value : last.device.value ≡ 2 ^ 64 - 1 = ap (λ (d : DeviceState). d.value) is in
+      subst (λ (k : ℕ). NextMade first last (next_answer (Ok (k % 2 ^ 64)))) (sym value)
+      (IsAtEnd (has_asked tells told first last store None next.leaves there elsewhere) (next.answer told) (ap (λ (d : DeviceState). d.cursor) is))
+  next_by store (Err error) next allowed is elsewhere =
+      let there : last.device.store ≡ store = ap (λ (d : DeviceState). d.store) is in
+      let value : last.device.value ≡ 0 = ap (λ (d : DeviceState). d.value) is in
+      subst (λ (k : ℕ). NextMade first last (next_answer (Ok (k % 2 ^ 64)))) (sym value)
+      (IsNotFound (has_failed {T = Option ℕ} tells told first last store error next.leaves next.error there elsewhere (ap (λ (d : DeviceState). d.cursor) is)))
+
+  next_made : ActsOn tells first 0x8 last → NextMade first last (next_answer (Ok (last.device.value % 2 ^ 64)))
+  next_made acted =
+      let made = finds_next tells first.device first.memory.range last.device last.memory.range acted.acts in
+      next_by made.store made.result made.next made.allowed made.new_is (acted_is tells first 0x8 last last.device acted refl made.range_is)
+
+pub next_command : (tells : Type 0) → OwnProgramsRun tells → tells → (budget : ℕ) (first : MachineState) (result : Result (Option ℕ) ClientError) (left : ℕ) (last : MachineState) → HaveIds (records_of first)
+    → Names (Allows tells) own_entries budget first result left last → AsksOnce (NextMade first last) budget first last result left
+next_command tells own told budget first result left last ids asked =
+    subst (λ (r : Result (Option ℕ) ClientError). AsksOnce (NextMade first last) budget first last r left) (sym asked.result_is)
+    (by_run asked.answer left last (own GetRecordIdentifier 0 budget first asked.answer left last asked.asks))
+  where
+    by_run : (answer : Result ℕ RunStop) (left : ℕ) (last : MachineState) → OwnRun tells GetRecordIdentifier 0 budget first answer left last → AsksOnce (NextMade first last) budget first last (next_answer answer) left
+    by_run answer left last run = elim run as (λ answer left last run. AsksOnce (NextMade first last) budget first last (next_answer answer) left) [
+      | IsMade left last acted spent ↦ Answers _ left (next_made tells told first last ids acted) (ap (λ (n : ℕ). left + n) (sym steps-next) ∙ spent)
+      | none_made none ↦ StopsAtOnce none refl
+      | StopsBefore one takes ↦ absurd (cc)
+      | one_made last one shows acted ↦ StopsBehind _ (next_made tells told first last ids acted) one
+    ]

@@ -1,0 +1,440 @@
+-- The starts of a write and of a clear by the machine's own table.
+use Rattle.std.proofs.Common.{◌≡◌, ◌⊎◌, ℕ, zero, suc, ◌+◌, ◌-◌, ◌*◌, ◌^◌, ◌<◌, ◌≤◌, Bool, true, false, cond, List, [], ◌∷◌, length, Option, Some, None, Result, Ok, Err, refl, sym, ap, subst, ◌∙◌, arith, inl, inr}
+use Rattle.std.specs.Prelude.{nat_lt, is_some}
+use Rattle.std.specs.FinMap.{get}
+use Rattle.std.proofs.lemmas.Bool.{le-ltb}
+use Rattle.std.proofs.lemmas.Option.{none-some, same_Some}
+use Rattle.base_model.specs.Bytes.{part, number_at}
+use Rattle.base_model.proofs.BytesLemmas.{number_at-part}
+use Rattle.base_model.specs.Faults.{Rose}
+use Rattle.flash_words.specs.Layout.{Layout, room_of, reach_of}
+use Rattle.flash_words.proofs.CrashLemmas.{Leaves-none}
+use Rattle.record_model.specs.Records.{Stored, is_reserved}
+use Rattle.record_model.specs.RecordMap.{Command, Write, Clear, Refusal, Failed as refused_for_good, NoSpace as no_space, NotFound as not_found, refusal_of, after, changes_of, made_by}
+use Rattle.record_model.proofs.MapLemmas.{after-done}
+use Rattle.record_model.proofs.RefusalLemmas.{changes_of-clear, changes_of-refused}
+use Rattle.record_store.specs.Store.{StoreView, Pending, Idle, Writing, Clearing, stored, slots_for, KeepsMap, DividesAlike, abandoned}
+use Rattle.record_store.specs.Answers.{HasFaultsOf, HasDoubtAtStart, RefusesWrite, RefusesClear, EndsCopies, copies_of}
+use Rattle.record_store.specs.Calls.{OnlyStarts}
+use Rattle.record_store.specs.declared.errors.StoreError.{StoreError}
+use Rattle.record_store.specs.declared.errors.StoreError.TheVariants as errors
+use Rattle.erst_entries.specs.declared.actions.Action.TheVariants.{BeginWriteOperation, BeginClearOperation, BeginDummyWriteOperation, SetRecordOffset, SetRecordIdentifier, ExecuteOperation, CheckBusyStatus, GetCommandStatus}
+use Rattle.erst_entries.specs.Programs.{entries_of}
+use Rattle.erst_interp.specs.declared.stops.RunStop.{RunStop}
+use Rattle.erst_client.specs.declared.errors.ClientError.{ClientError}
+use Rattle.erst_client.specs.declared.errors.ClientError.TheVariants.{NoSpace, Failed, NotFound}
+use Rattle.erst_client.specs.declared.requests.Request.{Request}
+use Rattle.erst_client.specs.Requests.{Performs, Asks}
+use Rattle.erst_client.specs.Sequences.{judged, write_requests, clear_requests, dummy_requests, Sequence}
+use Rattle.erst_client.specs.Steps.{steps_needed}
+use Rattle.erst_device.specs.declared.registers.Operation.{Operation}
+use Rattle.erst_device.specs.declared.registers.Operation.TheVariants as operations
+use Rattle.erst_device.specs.declared.status.CommandStatus.{CommandStatus}
+use Rattle.erst_device.specs.declared.status.CommandStatus.TheVariants as statuses
+use Rattle.erst_device.specs.Statuses.{status_of, number_of}
+use Rattle.erst_device.specs.Drafts.{draft_at}
+use Rattle.erst_device.specs.Timings.{most_changes}
+use Rattle.erst_device.specs.StoreCalls.{StartedWrite, StartedClear}
+use Rattle.erst_device.specs.DeviceState.{DeviceState, IsStill}
+use Rattle.erst_device.specs.Starts.{Starts, NoneBegun, WritesDummy, NoDraft, Writes, LookFails, FindsNone, Misses, GoesBeyond, Finds, NoneToClear, Clears, status_after}
+use Rattle.erst_machine.specs.MachineState.{MachineState, records_of}
+use Rattle.erst_machine.specs.Allowed.{Allows}
+use Rattle.erst_machine.specs.OwnTables.{own_entries}
+use Rattle.erst_commands.specs.OwnPrograms.{OwnProgramsRun}
+use Rattle.erst_commands.specs.Attached.{own_client}
+use Rattle.erst_commands.specs.Changes.{OfFailed, OfNoSpace, OfNotFound, copies_first, HoldsRecord, ChangeCommand}
+use Rattle.erst_commands.proofs.MachineSteps.{on_device}
+use Rattle.erst_commands.proofs.LimitLemmas.{changes-most, reach-least}
+use Rattle.erst_commands.proofs.OwnProgramLemmas.{steps-begin_write, steps-begin_clear}
+use Rattle.erst_commands.proofs.SequenceLemmas.{Untouched, RunTo, Reaches, Falls, Opened, ask_none, ask_more, begun_device, begin_run, offset_run, identifier_run, execute_run}
+use Rattle.erst_commands.proofs.WayLemmas.{Leads, write_leads, some_changes}
+use Rattle.erst_commands.proofs.ChangeLemmas.{Base, StartedChange, UnstartedChange, UnstartedAnswer, RefusedBy, FailedBy, IsStarted, kept_map, change_command}
+
+-- the steps of a sequence of three requests, with one that gives a value
+needs-write : (checks : ℕ) → steps_needed own_entries write_requests checks ≡ 6 + 2 * checks
+unfolding own_entries entries_of
+needs-write checks = omega arith
+
+needs-clear : (id checks : ℕ) → steps_needed own_entries (clear_requests id) checks ≡ 6 + 2 * checks
+unfolding own_entries entries_of
+needs-clear id checks = omega arith
+
+abbrev judged_number : CommandStatus → Result (Unit {0}) ClientError
+judged_number status = judged (number_of status)
+
+pub run_weaker : (first : MachineState) (P Q : MachineState → Type 0) (cost budget : ℕ) (result : Result ℕ RunStop) (left : ℕ) (last : MachineState) → ((w : MachineState) → P w → Q w) → RunTo first P cost budget result left last
+    → RunTo first Q cost budget result left last
+run_weaker first P Q cost budget result left last weaker run = elim run as (λ result left last run. RunTo first Q cost budget result left last) [
+  | Reaches answer left w holds spent ↦ Reaches answer left w (weaker w holds) spent
+  | Falls w untouched short ↦ Falls w untouched short
+]
+
+-- What the store's start leaves
+
+never_falls : (before after : ℕ) (result : Result (Unit {0}) StoreError) → HasFaultsOf before after result → before ≤ after
+never_falls before after (Ok done) h = omega (arith, h)
+never_falls before after (Err (errors.NoSpace free)) h = omega (arith, h)
+never_falls before after (Err (errors.LastGeneration id)) h = omega (arith, h)
+never_falls before after (Err errors.NotFound) h = omega (arith, h)
+never_falls before after (Err errors.Empty) h = omega (arith, h)
+never_falls before after (Err errors.Flash) h = h.0
+never_falls before after (Err (errors.Small need)) h = omega (arith, h)
+
+base_started : (tells : Type 0) (told : tells) (first start : MachineState) (store : StoreView) (result : Result (Unit {0}) StoreError) → OnlyStarts tells (abandoned first.device.store) store result → start.device.store ≡ store
+    → start.device.cursor ≡ first.device.cursor → start ≡ on_device first start.device → Base first start
+base_started tells told first start store result starts there cursor elsewhere = record {
+  kept = subst (λ (s : StoreView). KeepsMap first.device.store s) (sym there) (starts.kept told);
+  alike = subst (λ (s : StoreView). DividesAlike first.device.store s) (sym there) (record { layout = starts.alike.layout; size = starts.alike.size; sector_size = starts.alike.sector_size });
+  few = subst (λ (s : StoreView). s.flash.steps ≤ first.device.store.flash.steps + 1) (sym there) (starts.few told);
+  never_falls = subst (λ (s : StoreView). first.device.store.flash.faults ≤ s.flash.faults) (sym there) (never_falls first.device.store.flash.faults store.flash.faults result starts.cause);
+  cursor = cursor;
+  elsewhere = elsewhere;
+}
+
+base_unasked : (first start : MachineState) → start.device.store ≡ abandoned first.device.store → start.device.cursor ≡ first.device.cursor → start ≡ on_device first start.device → Base first start
+base_unasked first start there cursor elsewhere = record {
+  kept = subst (λ (s : StoreView). KeepsMap first.device.store s) (sym there) (Leaves-none first.device.store.flash.told _ refl);
+  alike = subst (λ (s : StoreView). DividesAlike first.device.store s) (sym there) (record { layout = refl; size = refl; sector_size = refl });
+  few = subst (λ (s : StoreView). s.flash.steps ≤ first.device.store.flash.steps + 1) (sym there) (omega arith);
+  never_falls = subst (λ (s : StoreView). first.device.store.flash.faults ≤ s.flash.faults) (sym there) (omega arith);
+  cursor = cursor;
+  elsewhere = elsewhere;
+}
+
+idle_after : (new : StoreView) (error : StoreError) → HasDoubtAtStart new (Err error) → new.pending ≡ Idle
+idle_after new (errors.NoSpace free) doubt = doubt.idle
+idle_after new (errors.LastGeneration id) doubt = doubt.idle
+idle_after new errors.NotFound doubt = doubt.idle
+idle_after new errors.Empty doubt = doubt.idle
+idle_after new errors.Flash doubt = doubt.idle
+idle_after new (errors.Small need) doubt = doubt.idle
+
+copies_usable : (id : ℕ) (store : StoreView) → is_reserved id ≡ false → copies_of (abandoned store) ≡ copies_first id store
+copies_usable id store usable = rw usable refl
+
+copies_reserved : (id : ℕ) (store : StoreView) → is_reserved id ≡ true → copies_first id store ≡ 0
+copies_reserved id store reserved = rw reserved refl
+
+differ : {P : Type 0} → true ≡ false → P
+differ e = absurd (cc)
+
+-- a start that answered an error that the map gives
+refused_start : (first start : MachineState) (store : StoreView) (id : ℕ) → is_reserved id ≡ false → start.device.store ≡ store → store.in_doubt ≡ false → store.flash.faults ≡ first.device.store.flash.faults
+    → store.flash.steps ≡ first.device.store.flash.steps + copies_of (abandoned first.device.store)
+    → (start.device.store.flash.steps ≡ first.device.store.flash.steps + copies_first id first.device.store) × (start.device.store.flash.faults ≡ first.device.store.flash.faults)
+    × (is_reserved id ≡ false → start.device.store.in_doubt ≡ false) × (is_reserved id ≡ true → start.device.store ≡ abandoned first.device.store)
+refused_start first start store id usable there certain faults steps = (
+  ap (λ (s : StoreView). s.flash.steps) there ∙ steps ∙ ap (λ (n : ℕ). first.device.store.flash.steps + n) (copies_usable id first.device.store usable),
+  ap (λ (s : StoreView). s.flash.faults) there ∙ faults,
+  λ also. ap (λ (s : StoreView). s.in_doubt) there ∙ certain,
+  λ reserved. differ (sym reserved ∙ usable),
+)
+
+-- one of a reserved identifier, of which the store is not asked
+reserved_start : (first start : MachineState) (id : ℕ) → is_reserved id ≡ true → start.device.store ≡ abandoned first.device.store
+    → (start.device.store.flash.steps ≡ first.device.store.flash.steps + copies_first id first.device.store) × (start.device.store.flash.faults ≡ first.device.store.flash.faults)
+    × (is_reserved id ≡ false → start.device.store.in_doubt ≡ false) × (is_reserved id ≡ true → start.device.store ≡ abandoned first.device.store)
+reserved_start first start id reserved there =
+    let none = copies_reserved id first.device.store reserved in
+    let steps : start.device.store.flash.steps ≡ first.device.store.flash.steps = ap (λ (s : StoreView). s.flash.steps) there in
+    (omega (arith, none, steps), ap (λ (s : StoreView). s.flash.faults) there, λ usable. differ (sym reserved ∙ usable), λ also. there)
+
+-- A write
+
+draft : (range bytes : List ℕ) (id : ℕ) → HoldsRecord range id bytes
+    → draft_at 0 range ≡ cond {A = Option (ℕ × ℕ)} (is_reserved id) None (Some (length bytes, id))
+draft range bytes id holds =
+    let size : number_at range 20 4 ≡ length bytes =
+    sym (number_at-part range 0 (length bytes) 20 4 (omega (arith, holds.least))) ∙ ap (λ (xs : List ℕ). number_at xs 20 4) holds.stands ∙ holds.size in
+    let name : number_at range 96 8 ≡ id =
+    sym (number_at-part range 0 (length bytes) 96 8 (omega (arith, holds.least))) ∙ ap (λ (xs : List ℕ). number_at xs 96 8) holds.stands ∙ holds.name in
+    ap (λ (b : Bool). cond {A = Option (ℕ × ℕ)} b None (cond (nat_lt (number_at range 20 4) 128) None (cond (nat_lt (length range) (0 + number_at range 20 4)) None
+    (cond (is_reserved (number_at range 96 8)) None (Some (number_at range 20 4, number_at range 96 8)))))) (le-ltb (length range) 128 (omega (arith, holds.least, holds.within)))
+    ∙ ap (λ (n : ℕ). cond {A = Option (ℕ × ℕ)} (nat_lt n 128) None (cond (nat_lt (length range) (0 + n)) None (cond (is_reserved (number_at range 96 8)) None (Some (n, number_at range 96 8))))) size
+    ∙ ap (λ (b : Bool). cond {A = Option (ℕ × ℕ)} b None (cond (nat_lt (length range) (0 + length bytes)) None (cond (is_reserved (number_at range 96 8)) None (Some (length bytes, number_at range 96 8)))))
+    (le-ltb (length bytes) 128 holds.least)
+    ∙ ap (λ (b : Bool). cond {A = Option (ℕ × ℕ)} b None (cond (is_reserved (number_at range 96 8)) None (Some (length bytes, number_at range 96 8)))) (le-ltb (length range) (0 + length bytes) (omega (arith, holds.within)))
+    ∙ ap (λ (n : ℕ). cond {A = Option (ℕ × ℕ)} (is_reserved n) None (Some (length bytes, n))) name
+
+draft_usable : (range bytes : List ℕ) (id : ℕ) → HoldsRecord range id bytes → is_reserved id ≡ false → draft_at 0 range ≡ Some (length bytes, id)
+draft_usable range bytes id holds usable = draft range bytes id holds ∙ ap (λ (b : Bool). cond {A = Option (ℕ × ℕ)} b None (Some (length bytes, id))) usable
+
+draft_reserved : (range bytes : List ℕ) (id : ℕ) → HoldsRecord range id bytes → is_reserved id ≡ true → draft_at 0 range ≡ None
+draft_reserved range bytes id holds reserved = draft range bytes id holds ∙ ap (λ (b : Bool). cond {A = Option (ℕ × ℕ)} b None (Some (length bytes, id))) reserved
+
+write_reserved : (layout : Layout) (id : ℕ) (bytes : List ℕ) (map : Stored) → is_reserved id ≡ true → refusal_of layout (Write id bytes) map ≡ Some refused_for_good
+unfolding refusal_of
+write_reserved layout id bytes map reserved = rw reserved refl
+
+clear_reserved : (layout : Layout) (id : ℕ) (map : Stored) → is_reserved id ≡ true → refusal_of layout (Clear id) map ≡ Some refused_for_good
+unfolding refusal_of
+clear_reserved layout id map reserved = rw reserved refl
+
+abbrev writing_device : DeviceState → DeviceState
+writing_device old = record (begun_device operations.Write old) { value = 0; offset = 0 }
+
+module _ (tells : Type 0) (told : tells) (first start : MachineState) (id : ℕ) (bytes : List ℕ) (elsewhere : start ≡ on_device first start.device) where
+  write_ok : (store : StoreView) → is_reserved id ≡ false → StartedWrite tells (abandoned first.device.store) store id bytes (Ok tt) → start.device ≡ record (writing_device first.device) { status = statuses.Success; store = store }
+      → StartedChange first start id (Write id bytes)
+  write_ok store usable begun is =
+      let there : start.device.store ≡ store = ap (λ (d : DeviceState). d.store) is in
+      let answer = begun.answer told in
+      let leaves = begun.leaves in
+      let taken : refusal_of first.device.store.layout (Write id bytes) (records_of first) ≡ None = answer.0 in
+      let base = base_started tells told first start store (Ok tt) leaves there (ap (λ (d : DeviceState). d.cursor) is) elsewhere in
+      let same = kept_map first.device.store start.device.store base.kept base.alike in
+      let some = some_changes first.device.store.layout id bytes (records_of first) taken in
+      let all : changes_of first.device.store.layout (Write id bytes) (records_of first) ≡ suc (changes_of first.device.store.layout (Write id bytes) (records_of first) - 1) = omega (arith, some.0) in
+      let slots = answer.1 in
+      record {
+        base = base;
+        usable = usable;
+        taken = taken;
+        steps = ap (λ (s : StoreView). s.flash.steps) there ∙ leaves.ended told;
+        faults = ap (λ (s : StoreView). s.flash.faults) there ∙ leaves.cause;
+        certain = ap (λ (s : StoreView). s.in_doubt) there ∙ leaves.doubt;
+        no_read = ap (λ (d : DeviceState). d.reading) is;
+        status = ap (λ (d : DeviceState). d.status) is;
+        more = changes_of first.device.store.layout (Write id bytes) (records_of first) - 1;
+        all = all;
+        leads = subst (λ (n : ℕ). Leads n start.device.store.layout start.device.store.pending (stored start.device.store) (after first.device.store.layout (Write id bytes) (records_of first))) all
+            (subst (λ (m : Stored). Leads (changes_of first.device.store.layout (Write id bytes) (records_of first)) start.device.store.layout start.device.store.pending (stored start.device.store) m)
+            (sym (after-done first.device.store.layout (Write id bytes) (records_of first) taken))
+            (subst (λ (m : Stored). Leads (changes_of first.device.store.layout (Write id bytes) (records_of first)) start.device.store.layout start.device.store.pending m (made_by (Write id bytes) (records_of first))) (sym same)
+            (subst (λ (p : Pending). Leads (changes_of first.device.store.layout (Write id bytes) (records_of first)) start.device.store.layout p (records_of first) (made_by (Write id bytes) (records_of first)))
+            (sym (ap (λ (s : StoreView). s.pending) there ∙ slots))
+            (subst (λ (l : Layout). Leads (changes_of first.device.store.layout (Write id bytes) (records_of first)) l (Writing id bytes (slots_for store (length bytes)) (is_some (get (records_of first) id)) 0) (records_of first) (made_by (Write id bytes) (records_of first))) (sym base.alike.layout)
+            (write_leads first.device.store.layout id bytes (slots_for store (length bytes)) (records_of first) taken)))));
+      }
+
+  write_error : (store : StoreView) (error : StoreError) → is_reserved id ≡ false → RefusesWrite (abandoned first.device.store) store id bytes error → HasFaultsOf {T = Unit {0}} first.device.store.flash.faults store.flash.faults (Err error)
+      → HasDoubtAtStart store (Err error) → EndsCopies {T = Unit {0}} (abandoned first.device.store) store (Err error) → start.device.store ≡ store → start.device.status ≡ status_of error
+      → UnstartedAnswer first start id (Write id bytes)
+  write_error store (errors.NoSpace free) usable refuses cause doubt ended there status =
+      let facts = refused_start first start store id usable there doubt.certain cause ended in
+      RefusedBy no_space NoSpace refuses.0 OfNoSpace (answered status) facts.0 facts.1 facts.2 facts.3
+    where
+      answered : start.device.status ≡ statuses.NotEnoughSpace → judged_number start.device.status ≡ Err NoSpace
+      answered is = ap (λ (s : CommandStatus). judged_number s) is
+  write_error store (errors.LastGeneration number) usable refuses cause doubt ended there status =
+      let facts = refused_start first start store id usable there doubt.certain cause ended in
+      RefusedBy refused_for_good Failed refuses.0 OfFailed (answered status) facts.0 facts.1 facts.2 facts.3
+    where
+      answered : start.device.status ≡ statuses.Failed → judged_number start.device.status ≡ Err Failed
+      answered is = ap (λ (s : CommandStatus). judged_number s) is
+  write_error store errors.NotFound usable refuses cause doubt ended there status = absurd refuses
+  write_error store errors.Empty usable refuses cause doubt ended there status = absurd refuses
+  write_error store errors.Flash usable refuses cause doubt ended there status =
+      FailedBy usable (subst (λ (s : StoreView). Rose first.device.store.flash.faults s.flash.faults) (sym there) cause.1) status
+  write_error store (errors.Small need) usable refuses cause doubt ended there status = absurd refuses
+
+  write_by : (store : StoreView) (result : Result (Unit {0}) StoreError) → is_reserved id ≡ false → StartedWrite tells (abandoned first.device.store) store id bytes result
+      → start.device ≡ record (writing_device first.device) { status = status_after result; store = store } → (StartedChange first start id (Write id bytes)) ⊎ (UnstartedChange first start id (Write id bytes))
+  write_by store (Ok done) usable begun is = inl (write_ok store usable begun is)
+  write_by store (Err error) usable begun is =
+      let there : start.device.store ≡ store = ap (λ (d : DeviceState). d.store) is in
+      let leaves = begun.leaves in
+      inr (record {
+        base = base_started tells told first start store (Err error) leaves there (ap (λ (d : DeviceState). d.cursor) is) elsewhere;
+        still = record { no_read = ap (λ (d : DeviceState). d.reading) is; no_change = ap (λ (s : StoreView). s.pending) there ∙ idle_after store error leaves.doubt };
+        answer = write_error store error usable (begun.answer told) leaves.cause leaves.doubt (leaves.ended told) there (ap (λ (d : DeviceState). d.status) is);
+      })
+
+  -- no record can have the identifier
+  write_refused : is_reserved id ≡ true → start.device ≡ record (writing_device first.device) { status = statuses.Failed } → UnstartedChange first start id (Write id bytes)
+  write_refused reserved is =
+      let there : start.device.store ≡ abandoned first.device.store = ap (λ (d : DeviceState). d.store) is in
+      let facts = reserved_start first start id reserved there in
+      record {
+        base = base_unasked first start there (ap (λ (d : DeviceState). d.cursor) is) elsewhere;
+        still = record { no_read = ap (λ (d : DeviceState). d.reading) is; no_change = ap (λ (s : StoreView). s.pending) there };
+        answer = RefusedBy refused_for_good Failed (write_reserved first.device.store.layout id bytes (records_of first) reserved) OfFailed (ap (λ (d : DeviceState). judged_number d.status) is) facts.0 facts.1 facts.2 facts.3;
+      }
+
+  write_started : HoldsRecord first.memory.range id bytes → Starts tells (writing_device first.device) first.memory.range start.device
+      → (StartedChange first start id (Write id bytes)) ⊎ (UnstartedChange first start id (Write id bytes))
+  write_started holds starts = by_case start.device starts refl
+    where
+      by_reserved : (size number : ℕ) (store : StoreView) (result : Result (Unit {0}) StoreError) (b : Bool) → is_reserved id ≡ b → draft_at 0 first.memory.range ≡ Some (size, number)
+          → StartedWrite tells (abandoned first.device.store) store number (part first.memory.range 0 size) result
+          → start.device ≡ record (writing_device first.device) { status = status_after result; store = store } → (StartedChange first start id (Write id bytes)) ⊎ (UnstartedChange first start id (Write id bytes))
+      by_reserved size number store result true reserved found begun is = absurd (none-some (size, number) (sym (draft_reserved first.memory.range bytes id holds reserved) ∙ found))
+      by_reserved size number store result false usable found begun is =
+          let same : (size, number) ≡ (length bytes, id) = same_Some _ _ (sym found ∙ draft_usable first.memory.range bytes id holds usable) in
+          let exact = subst (λ (p : ℕ × ℕ). StartedWrite tells (abandoned first.device.store) store p.1 (part first.memory.range 0 p.0) result) same begun in
+          write_by store result usable (subst (λ (xs : List ℕ). StartedWrite tells (abandoned first.device.store) store id xs result) holds.stands exact) is
+
+      none_by : (b : Bool) → is_reserved id ≡ b → draft_at 0 first.memory.range ≡ None → start.device ≡ record (writing_device first.device) { status = statuses.Failed }
+          → (StartedChange first start id (Write id bytes)) ⊎ (UnstartedChange first start id (Write id bytes))
+      none_by true reserved none is = inr (write_refused reserved is)
+      none_by false usable none is = absurd (none-some (length bytes, id) (sym none ∙ draft_usable first.memory.range bytes id holds usable))
+
+      by_case : (device : DeviceState) → Starts tells (writing_device first.device) first.memory.range device → start.device ≡ device
+          → (StartedChange first start id (Write id bytes)) ⊎ (UnstartedChange first start id (Write id bytes))
+      by_case device starts = elim starts as (λ device starts. start.device ≡ device → (StartedChange first start id (Write id bytes)) ⊎ (UnstartedChange first start id (Write id bytes))) [
+        | NoneBegun none ↦ λ is. absurd (cc none)
+        | WritesDummy none ↦ λ is. absurd (cc none)
+        | NoDraft begun none ↦ λ is. none_by (is_reserved id) refl none is
+        | Writes size number store result begun found call ↦ λ is. by_reserved size number store result (is_reserved id) refl found call is
+        | LookFails store error begun looks ↦ λ is. absurd (cc begun)
+        | FindsNone store begun looks ↦ λ is. absurd (cc begun)
+        | Misses store least begun looks none ↦ λ is. absurd (cc begun)
+        | GoesBeyond store least size begun looks long beyond ↦ λ is. absurd (cc begun)
+        | Finds store least size begun looks long fits ↦ λ is. absurd (cc begun)
+        | NoneToClear begun reserved ↦ λ is. absurd (cc begun)
+        | Clears store result begun usable call ↦ λ is. absurd (cc begun)
+      ]
+
+module _ (tells : Type 0) (own : OwnProgramsRun tells) (told : tells) (first : MachineState) (id : ℕ) (bytes : List ℕ) (holds : HoldsRecord first.memory.range id bytes) where
+  abbrev IsWriting : MachineState → Type 0
+  IsWriting w = (StartedChange first w id (Write id bytes)) ⊎ (UnstartedChange first w id (Write id bytes))
+
+  write_opens : (budget : ℕ) (result : Result (List ℕ) RunStop) (left : ℕ) (last : MachineState) → Asks (Allows tells) own_entries write_requests budget first result left last → Opened first IsWriting 4 budget result left last
+  write_opens budget result left last asks =
+      ask_more tells first (λ w. w ≡ on_device first (begun_device operations.Write first.device)) IsWriting 1 3 _ _ budget first result left last
+      (λ result left last run. begin_run tells own first BeginWriteOperation operations.Write refl refl refl (λ m. refl) steps-begin_write refl budget result left last run)
+      (λ budget mid result left last mid_is asks.
+      ask_more tells first (λ w. w ≡ on_device first (writing_device first.device)) IsWriting 2 1 _ _ budget mid result left last
+      (λ result left last run. offset_run tells own first (begun_device operations.Write first.device) (record { no_read = refl; no_change = refl })
+      (record { flash = refl; layout = refl; cursor = refl; elsewhere = refl }) budget mid result left last mid_is run)
+      (λ budget mid result left last mid_is asks.
+      ask_more tells first IsWriting IsWriting 1 0 _ _ budget mid result left last
+      (λ result left last run. run_weaker first (λ w. Starts tells (writing_device first.device) first.memory.range w.device × (w ≡ on_device first w.device)) IsWriting 1 budget result left last
+      (λ w reached. write_started tells told first w id bytes reached.1 holds reached.0)
+      (execute_run tells own first (writing_device first.device) (record { no_read = refl; no_change = refl }) (record { flash = refl; layout = refl; cursor = refl; elsewhere = refl }) budget mid result left last mid_is run))
+      (λ budget mid result left last mid_is asks. ask_none tells first IsWriting budget mid result left last mid_is asks)
+      asks)
+      asks)
+      asks
+
+  changes-write : (b : Option Refusal) → refusal_of first.device.store.layout (Write id bytes) (records_of first) ≡ b → length bytes ≤ reach_of (room_of first.device.store.layout)
+      → changes_of first.device.store.layout (Write id bytes) (records_of first) ≤ most_changes first.device.store.layout
+  changes-write None taken fits =
+      let some = some_changes first.device.store.layout id bytes (records_of first) taken in
+      let most = changes-most first.device.store.layout (length bytes) fits in
+      omega (arith, some.1, most)
+  changes-write (Some refusal) refused fits = omega (arith, changes_of-refused first.device.store.layout (Write id bytes) (records_of first) refusal refused)
+
+  pub write_command : length bytes ≤ reach_of (room_of first.device.store.layout) → (budget : ℕ) (result : Result (Unit {0}) ClientError) (left : ℕ) (last : MachineState)
+      → Sequence (Allows tells) own_entries (own_client first).timings write_requests budget first result left last → ChangeCommand first last id (Write id bytes) write_requests budget result left
+  write_command fits budget result left last sequence =
+      change_command tells own told first id (Write id bytes) write_requests budget needs-write (changes-write (refusal_of first.device.store.layout (Write id bytes) (records_of first)) refl fits)
+      (λ result left last asks. write_opens budget result left last asks) result left last sequence
+
+-- A clear
+
+abbrev clearing_device : DeviceState → ℕ → DeviceState
+clearing_device old number = record (begun_device operations.Clear old) { value = number; id = number }
+
+module _ (tells : Type 0) (told : tells) (first start : MachineState) (id : ℕ) (elsewhere : start ≡ on_device first start.device) where
+  clear_ok : (store : StoreView) → is_reserved id ≡ false → StartedClear tells (abandoned first.device.store) store id (Ok tt) → start.device ≡ record (clearing_device first.device id) { status = statuses.Success; store = store }
+      → StartedChange first start id (Clear id)
+  clear_ok store usable begun is =
+      let there : start.device.store ≡ store = ap (λ (d : DeviceState). d.store) is in
+      let answer = begun.answer told in
+      let leaves = begun.leaves in
+      let taken : refusal_of first.device.store.layout (Clear id) (records_of first) ≡ None = answer.0 in
+      let base = base_started tells told first start store (Ok tt) leaves there (ap (λ (d : DeviceState). d.cursor) is) elsewhere in
+      let same = kept_map first.device.store start.device.store base.kept base.alike in
+      record {
+        base = base;
+        usable = usable;
+        taken = taken;
+        steps = ap (λ (s : StoreView). s.flash.steps) there ∙ leaves.ended told;
+        faults = ap (λ (s : StoreView). s.flash.faults) there ∙ leaves.cause;
+        certain = ap (λ (s : StoreView). s.in_doubt) there ∙ leaves.doubt;
+        no_read = ap (λ (d : DeviceState). d.reading) is;
+        status = ap (λ (d : DeviceState). d.status) is;
+        more = 0;
+        all = changes_of-clear first.device.store.layout id (records_of first) taken;
+        leads = subst (λ (m : Stored). Leads 1 start.device.store.layout start.device.store.pending (stored start.device.store) m) (sym (after-done first.device.store.layout (Clear id) (records_of first) taken))
+            (subst (λ (m : Stored). Leads 1 start.device.store.layout start.device.store.pending m (made_by (Clear id) (records_of first))) (sym same)
+            (subst (λ (p : Pending). Leads 1 start.device.store.layout p (records_of first) (made_by (Clear id) (records_of first))) (sym (ap (λ (s : StoreView). s.pending) there ∙ answer.1))
+            (tt, inr refl, (refl, refl))));
+      }
+
+  clear_error : (store : StoreView) (error : StoreError) → is_reserved id ≡ false → RefusesClear (abandoned first.device.store) store id error → HasFaultsOf {T = Unit {0}} first.device.store.flash.faults store.flash.faults (Err error)
+      → HasDoubtAtStart store (Err error) → EndsCopies {T = Unit {0}} (abandoned first.device.store) store (Err error) → start.device.store ≡ store → start.device.status ≡ status_of error
+      → UnstartedAnswer first start id (Clear id)
+  clear_error store (errors.NoSpace free) usable refuses cause doubt ended there status = absurd refuses
+  clear_error store (errors.LastGeneration number) usable refuses cause doubt ended there status = absurd refuses
+  clear_error store errors.NotFound usable refuses cause doubt ended there status =
+      let facts = refused_start first start store id usable there doubt.certain cause ended in
+      RefusedBy not_found NotFound refuses.0 OfNotFound (ap (λ (s : CommandStatus). judged_number s) status) facts.0 facts.1 facts.2 facts.3
+  clear_error store errors.Empty usable refuses cause doubt ended there status = absurd refuses
+  clear_error store errors.Flash usable refuses cause doubt ended there status =
+      FailedBy usable (subst (λ (s : StoreView). Rose first.device.store.flash.faults s.flash.faults) (sym there) cause.1) status
+  clear_error store (errors.Small need) usable refuses cause doubt ended there status = absurd refuses
+
+  clear_by : (store : StoreView) (result : Result (Unit {0}) StoreError) → is_reserved id ≡ false → StartedClear tells (abandoned first.device.store) store id result
+      → start.device ≡ record (clearing_device first.device id) { status = status_after result; store = store } → (StartedChange first start id (Clear id)) ⊎ (UnstartedChange first start id (Clear id))
+  clear_by store (Ok done) usable begun is = inl (clear_ok store usable begun is)
+  clear_by store (Err error) usable begun is =
+      let there : start.device.store ≡ store = ap (λ (d : DeviceState). d.store) is in
+      let leaves = begun.leaves in
+      inr (record {
+        base = base_started tells told first start store (Err error) leaves there (ap (λ (d : DeviceState). d.cursor) is) elsewhere;
+        still = record { no_read = ap (λ (d : DeviceState). d.reading) is; no_change = ap (λ (s : StoreView). s.pending) there ∙ idle_after store error leaves.doubt };
+        answer = clear_error store error usable (begun.answer told) leaves.cause leaves.doubt (leaves.ended told) there (ap (λ (d : DeviceState). d.status) is);
+      })
+
+  clear_refused : is_reserved id ≡ true → start.device ≡ record (clearing_device first.device id) { status = statuses.Failed } → UnstartedChange first start id (Clear id)
+  clear_refused reserved is =
+      let there : start.device.store ≡ abandoned first.device.store = ap (λ (d : DeviceState). d.store) is in
+      let facts = reserved_start first start id reserved there in
+      record {
+        base = base_unasked first start there (ap (λ (d : DeviceState). d.cursor) is) elsewhere;
+        still = record { no_read = ap (λ (d : DeviceState). d.reading) is; no_change = ap (λ (s : StoreView). s.pending) there };
+        answer = RefusedBy refused_for_good Failed (clear_reserved first.device.store.layout id (records_of first) reserved) OfFailed (ap (λ (d : DeviceState). judged_number d.status) is) facts.0 facts.1 facts.2 facts.3;
+      }
+
+  clear_started : Starts tells (clearing_device first.device id) first.memory.range start.device → (StartedChange first start id (Clear id)) ⊎ (UnstartedChange first start id (Clear id))
+  clear_started starts = by_case start.device starts refl
+    where
+      by_case : (device : DeviceState) → Starts tells (clearing_device first.device id) first.memory.range device → start.device ≡ device
+          → (StartedChange first start id (Clear id)) ⊎ (UnstartedChange first start id (Clear id))
+      by_case device starts = elim starts as (λ device starts. start.device ≡ device → (StartedChange first start id (Clear id)) ⊎ (UnstartedChange first start id (Clear id))) [
+        | NoneBegun none ↦ λ is. absurd (cc none)
+        | WritesDummy none ↦ λ is. absurd (cc none)
+        | NoDraft begun none ↦ λ is. absurd (cc begun)
+        | Writes size number store result begun found call ↦ λ is. absurd (cc begun)
+        | LookFails store error begun looks ↦ λ is. absurd (cc begun)
+        | FindsNone store begun looks ↦ λ is. absurd (cc begun)
+        | Misses store least begun looks none ↦ λ is. absurd (cc begun)
+        | GoesBeyond store least size begun looks long beyond ↦ λ is. absurd (cc begun)
+        | Finds store least size begun looks long fits ↦ λ is. absurd (cc begun)
+        | NoneToClear begun reserved ↦ λ is. inr (clear_refused reserved is)
+        | Clears store result begun usable call ↦ λ is. clear_by store result usable call is
+      ]
+
+module _ (tells : Type 0) (own : OwnProgramsRun tells) (told : tells) (first : MachineState) (id : ℕ) (small : id < 2 ^ 64) where
+  abbrev IsClearing : MachineState → Type 0
+  IsClearing w = (StartedChange first w id (Clear id)) ⊎ (UnstartedChange first w id (Clear id))
+
+  clear_opens : (budget : ℕ) (result : Result (List ℕ) RunStop) (left : ℕ) (last : MachineState) → Asks (Allows tells) own_entries (clear_requests id) budget first result left last → Opened first IsClearing 4 budget result left last
+  clear_opens budget result left last asks =
+      ask_more tells first (λ w. w ≡ on_device first (begun_device operations.Clear first.device)) IsClearing 1 3 _ _ budget first result left last
+      (λ result left last run. begin_run tells own first BeginClearOperation operations.Clear refl refl refl (λ m. refl) steps-begin_clear refl budget result left last run)
+      (λ budget mid result left last mid_is asks.
+      ask_more tells first (λ w. w ≡ on_device first (clearing_device first.device id)) IsClearing 2 1 _ _ budget mid result left last
+      (λ result left last run. identifier_run tells own first id small (begun_device operations.Clear first.device) (record { no_read = refl; no_change = refl })
+      (record { flash = refl; layout = refl; cursor = refl; elsewhere = refl }) budget mid result left last mid_is run)
+      (λ budget mid result left last mid_is asks.
+      ask_more tells first IsClearing IsClearing 1 0 _ _ budget mid result left last
+      (λ result left last run. run_weaker first (λ w. Starts tells (clearing_device first.device id) first.memory.range w.device × (w ≡ on_device first w.device)) IsClearing 1 budget result left last
+      (λ w reached. clear_started tells told first w id reached.1 reached.0)
+      (execute_run tells own first (clearing_device first.device id) (record { no_read = refl; no_change = refl }) (record { flash = refl; layout = refl; cursor = refl; elsewhere = refl }) budget mid result left last mid_is run))
+      (λ budget mid result left last mid_is asks. ask_none tells first IsClearing budget mid result left last mid_is asks)
+      asks)
+      asks)
+      asks
+
+  changes-clear : (b : Option Refusal) → refusal_of first.device.store.layout (Clear id) (records_of first) ≡ b → changes_of first.device.store.layout (Clear id) (records_of first) ≤ most_changes first.device.store.layout
+  changes-clear None taken = omega (arith, changes_of-clear first.device.store.layout id (records_of first) taken)
+  changes-clear (Some refusal) refused = omega (arith, changes_of-refused first.device.store.layout (Clear id) (records_of first) refusal refused)
+
+  pub clear_command : (budget : ℕ) (result : Result (Unit {0}) ClientError) (left : ℕ) (last : MachineState)
+      → Sequence (Allows tells) own_entries (own_client first).timings (clear_requests id) budget first result left last → ChangeCommand first last id (Clear id) (clear_requests id) budget result left
+  clear_command budget result left last sequence =
+      change_command tells own told first id (Clear id) (clear_requests id) budget (needs-clear id) (changes-clear (refusal_of first.device.store.layout (Clear id) (records_of first)) refl)
+      (λ result left last asks. clear_opens budget result left last asks) result left last sequence

@@ -1,0 +1,5 @@
+use Rattle.erst_commands.proofs.AttachLemmas.{attach_own}
+use Rattle.erst_commands.proofs.laws.attaching_never_fails.Goals as goal
+
+pub returns : goal.returns
+returns g c = attach_own g.F.Flash.tells c.own_programs_run_through.ensures

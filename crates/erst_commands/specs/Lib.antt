@@ -1,0 +1,4 @@
+pub mod OwnPrograms
+pub mod Attached
+pub mod Looks
+pub mod Changes

@@ -1,0 +1,72 @@
+// Laws on the machine's own table: the functions do nothing, and their clauses are the laws.
+ghost use Rattle.std.specs.Prelude.{◌≡◌, ℕ, ◌+◌, ◌≤◌, ◌<◌, ◌^◌, List, length, Option, Result};
+ghost use Rattle.record_model.specs.RecordMap.{Write, Clear};
+ghost use Rattle.erst_client.specs.declared.errors.AttachError.{AttachError};
+ghost use Rattle.erst_client.specs.declared.errors.ClientError.{ClientError};
+ghost use Rattle.erst_client.specs.Commands.{ClientState, Counts, Names};
+ghost use Rattle.erst_client.specs.Attaching.{Attaches};
+ghost use Rattle.erst_client.specs.Sequences.{Sequence, write_requests, clear_requests};
+ghost use Rattle.erst_machine.specs.MachineState.{MachineState, reach_in, records_of};
+ghost use Rattle.erst_machine.specs.Allowed.{Allows};
+ghost use Rattle.erst_machine.specs.OwnTables.{own_entries, own_erst};
+ghost use Rattle.erst_commands.specs.OwnPrograms.{OwnProgramsRun};
+ghost use Rattle.erst_commands.specs.Attached.{own_client, AttachesOwn};
+ghost use Rattle.erst_commands.specs.Looks.{HaveIds, CountMade, NextMade, AsksOnce};
+ghost use Rattle.erst_commands.specs.Changes.{HoldsRecord, ChangeCommand};
+
+use erst_interp::a_straight_program_runs_through;
+use erst_machine::Machine;
+use flash_model::Flash;
+
+/// A run of a program of the machine's own table makes its action, with the value given before it or VALUE read behind it, by one
+/// step an entry, or its budget ran out on the way.
+pub fn own_programs_run_through<F: Flash>()
+    ensures { OwnProgramsRun F.tells }
+{
+    a_straight_program_runs_through::<Machine<F>>();
+}
+
+/// Attaching to the machine's own table finds the machine's log range and timings, with any budget of eight steps or more.
+pub fn attaching_never_fails<F: Flash>()
+    ensures { (budget : ℕ) (first : MachineState) (result : Result ClientState AttachError) (left : ℕ) (last : MachineState) → 8 ≤ budget
+        → Attaches (Allows F.tells) own_erst budget first result left last → AttachesOwn budget first result left last }
+{
+    own_programs_run_through::<F>();
+}
+
+/// A count answers how many records the machine's flash holds; `Hardware` only where its count of faults rose, and a stop only where
+/// fewer than two steps were given.
+pub fn a_count_is_the_maps<F: Flash>()
+    ensures { F.tells → (budget : ℕ) (first : MachineState) (result : Result ℕ ClientError) (left : ℕ) (last : MachineState)
+        → Counts (Allows F.tells) own_entries budget first result left last → AsksOnce (CountMade first last) budget first last result left }
+{
+    own_programs_run_through::<F>();
+}
+
+/// Next answers the least stored identifier above the cursor, or the end; the rest as of a count.
+pub fn a_next_is_the_maps<F: Flash>()
+    ensures { F.tells → (budget : ℕ) (first : MachineState) (result : Result (Option ℕ) ClientError) (left : ℕ) (last : MachineState) → HaveIds (records_of first)
+        → Names (Allows F.tells) own_entries budget first result left last → AsksOnce (NextMade first last) budget first last result left }
+{
+    own_programs_run_through::<F>();
+}
+
+/// A write's sequence, from a log range that begins with the record: it is answered as the map's write, power lost at any flash step
+/// on the way leaves the records from before it or after it, and it is stopped only where its steps are too few.
+pub fn a_write_is_the_maps<F: Flash>()
+    ensures { F.tells → (first : MachineState) (id : ℕ) (bytes : List ℕ) → HoldsRecord first.memory.range id bytes → length bytes ≤ reach_in first.device
+        → (budget : ℕ) (result : Result (Unit {0}) ClientError) (left : ℕ) (last : MachineState)
+        → Sequence (Allows F.tells) own_entries (own_client first).timings write_requests budget first result left last
+        → ChangeCommand first last id (Write id bytes) write_requests budget result left }
+{
+    own_programs_run_through::<F>();
+}
+
+/// A clear's sequence; the same as of a write.
+pub fn a_clear_is_the_maps<F: Flash>()
+    ensures { F.tells → (first : MachineState) (id : ℕ) → id < 2 ^ 64 → (budget : ℕ) (result : Result (Unit {0}) ClientError) (left : ℕ) (last : MachineState)
+        → Sequence (Allows F.tells) own_entries (own_client first).timings (clear_requests id) budget first result left last
+        → ChangeCommand first last id (Clear id) (clear_requests id) budget result left }
+{
+    own_programs_run_through::<F>();
+}

@@ -1,0 +1,9 @@
+//! A client's commands by the machine's own table, as the record map's.
+#![tactic(auto)]
+
+mod laws;
+
+pub use laws::{
+    a_clear_is_the_maps, a_count_is_the_maps, a_next_is_the_maps, a_write_is_the_maps,
+    attaching_never_fails, own_programs_run_through,
+};
