@@ -9,3 +9,5 @@ pub mod SequenceLemmas
 pub mod WayLemmas
 pub mod ChangeLemmas
 pub mod StartLemmas
+pub mod RangeLemmas
+pub mod WriteLemmas

@@ -2,3 +2,4 @@ pub mod OwnPrograms
 pub mod Attached
 pub mod Looks
 pub mod Changes
+pub mod Writes

@@ -3,16 +3,17 @@ ghost use Rattle.std.specs.Prelude.{◌≡◌, ℕ, ◌+◌, ◌≤◌, ◌<◌,
 ghost use Rattle.record_model.specs.RecordMap.{Write, Clear};
 ghost use Rattle.erst_client.specs.declared.errors.AttachError.{AttachError};
 ghost use Rattle.erst_client.specs.declared.errors.ClientError.{ClientError};
-ghost use Rattle.erst_client.specs.Commands.{ClientState, Counts, Names};
+ghost use Rattle.erst_client.specs.Commands.{ClientState, Writes, Counts, Names};
 ghost use Rattle.erst_client.specs.Attaching.{Attaches};
 ghost use Rattle.erst_client.specs.Sequences.{Sequence, write_requests, clear_requests};
-ghost use Rattle.erst_machine.specs.MachineState.{MachineState, reach_in, records_of};
+ghost use Rattle.erst_machine.specs.MachineState.{MachineState, IsMachine, reach_in, records_of};
 ghost use Rattle.erst_machine.specs.Allowed.{Allows};
 ghost use Rattle.erst_machine.specs.OwnTables.{own_entries, own_erst};
 ghost use Rattle.erst_commands.specs.OwnPrograms.{OwnProgramsRun};
 ghost use Rattle.erst_commands.specs.Attached.{own_client, AttachesOwn};
 ghost use Rattle.erst_commands.specs.Looks.{HaveIds, CountMade, NextMade, AsksOnce};
 ghost use Rattle.erst_commands.specs.Changes.{HoldsRecord, ChangeCommand};
+ghost use Rattle.erst_commands.specs.Writes.{WriteAnswered};
 
 use erst_interp::a_straight_program_runs_through;
 use erst_machine::Machine;
@@ -67,6 +68,15 @@ pub fn a_clear_is_the_maps<F: Flash>()
     ensures { F.tells → (first : MachineState) (id : ℕ) → id < 2 ^ 64 → (budget : ℕ) (result : Result (Unit {0}) ClientError) (left : ℕ) (last : MachineState)
         → Sequence (Allows F.tells) own_entries (own_client first).timings (clear_requests id) budget first result left last
         → ChangeCommand first last id (Clear id) (clear_requests id) budget result left }
+{
+    own_programs_run_through::<F>();
+}
+
+/// A client's write over the machine: bytes that are no one record, or too long, are refused and change nothing; a record is put into
+/// the log range, marked, and written as the map does.
+pub fn a_client_writes_as_the_map<F: Flash>()
+    ensures { F.tells → (bytes : List ℕ) (budget : ℕ) (first : MachineState) (result : Result (Unit {0}) ClientError) (left : ℕ) (last : MachineState) → IsMachine first
+        → Writes (Allows F.tells) (own_client first) bytes budget first result left last → WriteAnswered bytes budget first result left last }
 {
     own_programs_run_through::<F>();
 }
