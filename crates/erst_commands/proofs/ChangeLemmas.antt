@@ -91,7 +91,7 @@ begun_then old mid new made kept alike makes =
     by_layout : (image : List ℕ) → records_in old.layout image ≡ records_in mid.layout image
     by_layout image = ap (λ (l : Layout). records_in l image) (sym alike.layout)
 
-abandoned_idle : (store : StoreView) → store.pending ≡ Idle → abandoned store ≡ store
+pub abandoned_idle : (store : StoreView) → store.pending ≡ Idle → abandoned store ≡ store
 abandoned_idle store idle =
     ap (λ (p : Pending). record store { in_doubt = doubt_after p store.in_doubt; pending = Idle }) idle ∙ ap (λ (p : Pending). record store { pending = p }) (sym idle)
 

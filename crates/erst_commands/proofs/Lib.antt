@@ -11,3 +11,4 @@ pub mod ChangeLemmas
 pub mod StartLemmas
 pub mod RangeLemmas
 pub mod WriteLemmas
+pub mod ReadLemmas

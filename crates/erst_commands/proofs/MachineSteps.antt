@@ -18,3 +18,11 @@ acted_is tells old code new device acted is range =
     ∙ ap (λ (m : MemoryState). record new { device = device; memory = m }) memory
     ∙ ap (λ (h : HandoverState). record new { device = device; memory = old.memory; handover = h }) acted.handover
     ∙ ap (λ (n : ℕ). record old { device = device; waited = n }) acted.waited
+
+-- one that may change the log range too
+pub acted_range : (tells : Type 0) (old : MachineState) (code : ℕ) (new : MachineState) → ActsOn tells old code new
+    → new ≡ record old { device = new.device; memory = record old.memory { range = new.memory.range } }
+acted_range tells old code new acted =
+    ap (λ (m : MemoryState). record new { memory = m }) acted.memory
+    ∙ ap (λ (h : HandoverState). record new { memory = record old.memory { range = new.memory.range }; handover = h }) acted.handover
+    ∙ ap (λ (n : ℕ). record old { device = new.device; memory = record old.memory { range = new.memory.range }; waited = n }) acted.waited

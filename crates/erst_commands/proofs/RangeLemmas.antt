@@ -95,7 +95,7 @@ marked-in bytes rest least =
     ∙ ap (λ (xs : List ℕ). take 108 bytes ++ codes "ER" ++ xs) (drop-append-le 110 bytes rest least)
     ∙ sym (append_assoc (take 108 bytes ++ codes "ER") (drop 110 bytes) rest)
 
-at-start : (range bytes : List ℕ) → put_at range 0 bytes ≡ bytes ++ drop (length bytes) range
+pub at-start : (range bytes : List ℕ) → put_at range 0 bytes ≡ bytes ++ drop (length bytes) range
 unfolding put_at
 at-start range bytes = ap (λ (n : ℕ). bytes ++ drop n range) (omega arith)
 

@@ -32,18 +32,19 @@ use Rattle.erst_commands.proofs.MachineSteps.{on_device, acted_is}
 use Rattle.erst_commands.proofs.AskLemmas.{with_answer, FirstAsked, Went, Halted, first_asked, none_asked}
 use Rattle.erst_commands.proofs.OwnProgramLemmas.{IsRun, has_steps, steps-end, steps-offset, steps-identifier, steps-execute, steps-check, steps-status}
 
--- The flash, the layout and the cursor are as at first, and beside the device all is
+-- The flash, the layout and the cursor are as at first, and beside the device all is; at most an execution was given up
 pub record Untouched (first : MachineState) (w : MachineState) : Type 0 where
   pub flash : w.device.store.flash ≡ first.device.store.flash
   pub layout : w.device.store.layout ≡ first.device.store.layout
   pub cursor : w.device.cursor ≡ first.device.cursor
+  pub given_up : abandoned w.device.store ≡ abandoned first.device.store
   pub elsewhere : w ≡ on_device first w.device
 
 pub untouched_itself : (first : MachineState) → Untouched first first
-untouched_itself first = record { flash = refl; layout = refl; cursor = refl; elsewhere = refl }
+untouched_itself first = record { flash = refl; layout = refl; cursor = refl; given_up = refl; elsewhere = refl }
 
 pub untouched_value : (first : MachineState) (device : DeviceState) (value : ℕ) → Untouched first (on_device first device) → Untouched first (on_device first (record device { value = value }))
-untouched_value first device value is = record { flash = is.flash; layout = is.layout; cursor = is.cursor; elsewhere = refl }
+untouched_value first device value is = record { flash = is.flash; layout = is.layout; cursor = is.cursor; given_up = is.given_up; elsewhere = refl }
 
 pub untouched_same : (first w other : MachineState) → other ≡ w → Untouched first w → Untouched first other
 untouched_same first w other same is = subst (λ (m : MachineState). Untouched first m) (sym same) is
@@ -58,13 +59,13 @@ pub data Opened (first : MachineState) (P : MachineState → Type 0) (cost budge
   Opens : (answers : List ℕ) (left : ℕ) (w : MachineState) → P w → left + cost ≡ budget → Opened first P cost budget (Ok answers) left w
   Halts : (w : MachineState) → Untouched first w → budget < cost → Opened first P cost budget (Err Budget) 0 w
 
-no_answer : (answer : ℕ) (stop : RunStop) → Ok answer ≡ Err stop → ⊥
+pub no_answer : (answer : ℕ) (stop : RunStop) → Ok answer ≡ Err stop → ⊥
 no_answer answer stop e = absurd (cc)
 
-no_stop : (answer : ℕ) (stop : RunStop) → Err stop ≡ Ok answer → ⊥
+pub no_stop : (answer : ℕ) (stop : RunStop) → Err stop ≡ Ok answer → ⊥
 no_stop answer stop e = absurd (cc)
 
-same_stop : (x y : RunStop) → ◌≡◌ {A = Result ℕ RunStop} (Err x) (Err y) → x ≡ y
+pub same_stop : (x y : RunStop) → ◌≡◌ {A = Result ℕ RunStop} (Err x) (Err y) → x ≡ y
 same_stop x y e = cc
 
 record ReachedTo (P : MachineState → Type 0) (cost budget left : ℕ) (w : MachineState) : Type 0 where
@@ -219,7 +220,7 @@ record NotBusy (w : MachineState) (budget busy left : ℕ) (mid : MachineState) 
   left_is : left ≡ budget
   mid_is : mid ≡ w
 
-same_number : (x y : ℕ) → ◌≡◌ {A = Result ℕ RunStop} (Ok x) (Ok y) → x ≡ y
+pub same_number : (x y : ℕ) → ◌≡◌ {A = Result ℕ RunStop} (Ok x) (Ok y) → x ≡ y
 same_number x y e = cc
 
 zero_answered : (w : MachineState) (budget : ℕ) (result : Result ℕ RunStop) (left : ℕ) (last : MachineState) (answer : ℕ) → result ≡ Ok answer → StillChecked w budget result left last

@@ -21,8 +21,9 @@ use Rattle.record_store.specs.declared.errors.StoreError.TheVariants as errors
 use Rattle.erst_entries.specs.declared.actions.Action.TheVariants.{BeginWriteOperation, BeginClearOperation, BeginDummyWriteOperation, SetRecordOffset, SetRecordIdentifier, ExecuteOperation, CheckBusyStatus, GetCommandStatus}
 use Rattle.erst_entries.specs.Programs.{entries_of}
 use Rattle.erst_interp.specs.declared.stops.RunStop.{RunStop}
+use Rattle.erst_interp.specs.declared.stops.RunStop.TheVariants.{Budget}
 use Rattle.erst_client.specs.declared.errors.ClientError.{ClientError}
-use Rattle.erst_client.specs.declared.errors.ClientError.TheVariants.{NoSpace, Failed, NotFound}
+use Rattle.erst_client.specs.declared.errors.ClientError.TheVariants.{NoSpace, Failed, NotFound, Stopped}
 use Rattle.erst_client.specs.declared.requests.Request.{Request}
 use Rattle.erst_client.specs.Requests.{Performs, Asks}
 use Rattle.erst_client.specs.Sequences.{judged, write_requests, clear_requests, dummy_requests, Sequence}
@@ -40,13 +41,13 @@ use Rattle.erst_device.specs.Starts.{Starts, NoneBegun, WritesDummy, NoDraft, Wr
 use Rattle.erst_machine.specs.MachineState.{MachineState, records_of}
 use Rattle.erst_machine.specs.Allowed.{Allows}
 use Rattle.erst_machine.specs.OwnTables.{own_entries}
-use Rattle.erst_commands.specs.OwnPrograms.{OwnProgramsRun}
+use Rattle.erst_commands.specs.OwnPrograms.{with_value, OwnProgramsRun}
 use Rattle.erst_commands.specs.Attached.{own_client}
-use Rattle.erst_commands.specs.Changes.{OfFailed, OfNoSpace, OfNotFound, copies_first, HoldsRecord, ChangeCommand}
+use Rattle.erst_commands.specs.Changes.{OfFailed, OfNoSpace, OfNotFound, copies_first, HoldsRecord, ChangeCommand, DummyLeaves, DummyCommand, IsPlayed, IsCut}
 use Rattle.erst_commands.proofs.MachineSteps.{on_device}
 use Rattle.erst_commands.proofs.LimitLemmas.{changes-most, reach-least}
-use Rattle.erst_commands.proofs.OwnProgramLemmas.{steps-begin_write, steps-begin_clear}
-use Rattle.erst_commands.proofs.SequenceLemmas.{Untouched, RunTo, Reaches, Falls, Opened, ask_none, ask_more, begun_device, begin_run, offset_run, identifier_run, execute_run}
+use Rattle.erst_commands.proofs.OwnProgramLemmas.{steps-begin_write, steps-begin_clear, steps-begin_dummy}
+use Rattle.erst_commands.proofs.SequenceLemmas.{Untouched, RunTo, Reaches, Falls, Opened, Opens, Halts, StillWaited, IsAtOnce, IsShort, wait_still, ended_from, status_in, SequenceEnds, HasTold, HasNotTold, HasNotWaited, HasNotAsked, sequence_ends, ask_none, ask_more, begun_device, begin_run, offset_run, identifier_run, execute_run}
 use Rattle.erst_commands.proofs.WayLemmas.{Leads, write_leads, some_changes}
 use Rattle.erst_commands.proofs.ChangeLemmas.{Base, StartedChange, UnstartedChange, UnstartedAnswer, RefusedBy, FailedBy, IsStarted, kept_map, change_command}
 
@@ -296,12 +297,12 @@ module _ (tells : Type 0) (own : OwnProgramsRun tells) (told : tells) (first : M
       (λ budget mid result left last mid_is asks.
       ask_more tells first (λ w. w ≡ on_device first (writing_device first.device)) IsWriting 2 1 _ _ budget mid result left last
       (λ result left last run. offset_run tells own first (begun_device operations.Write first.device) (record { no_read = refl; no_change = refl })
-      (record { flash = refl; layout = refl; cursor = refl; elsewhere = refl }) budget mid result left last mid_is run)
+      (record { flash = refl; layout = refl; cursor = refl; given_up = refl; elsewhere = refl }) budget mid result left last mid_is run)
       (λ budget mid result left last mid_is asks.
       ask_more tells first IsWriting IsWriting 1 0 _ _ budget mid result left last
       (λ result left last run. run_weaker first (λ w. Starts tells (writing_device first.device) first.memory.range w.device × (w ≡ on_device first w.device)) IsWriting 1 budget result left last
       (λ w reached. write_started tells told first w id bytes reached.1 holds reached.0)
-      (execute_run tells own first (writing_device first.device) (record { no_read = refl; no_change = refl }) (record { flash = refl; layout = refl; cursor = refl; elsewhere = refl }) budget mid result left last mid_is run))
+      (execute_run tells own first (writing_device first.device) (record { no_read = refl; no_change = refl }) (record { flash = refl; layout = refl; cursor = refl; given_up = refl; elsewhere = refl }) budget mid result left last mid_is run))
       (λ budget mid result left last mid_is asks. ask_none tells first IsWriting budget mid result left last mid_is asks)
       asks)
       asks)
@@ -418,12 +419,12 @@ module _ (tells : Type 0) (own : OwnProgramsRun tells) (told : tells) (first : M
       (λ budget mid result left last mid_is asks.
       ask_more tells first (λ w. w ≡ on_device first (clearing_device first.device id)) IsClearing 2 1 _ _ budget mid result left last
       (λ result left last run. identifier_run tells own first id small (begun_device operations.Clear first.device) (record { no_read = refl; no_change = refl })
-      (record { flash = refl; layout = refl; cursor = refl; elsewhere = refl }) budget mid result left last mid_is run)
+      (record { flash = refl; layout = refl; cursor = refl; given_up = refl; elsewhere = refl }) budget mid result left last mid_is run)
       (λ budget mid result left last mid_is asks.
       ask_more tells first IsClearing IsClearing 1 0 _ _ budget mid result left last
       (λ result left last run. run_weaker first (λ w. Starts tells (clearing_device first.device id) first.memory.range w.device × (w ≡ on_device first w.device)) IsClearing 1 budget result left last
       (λ w reached. clear_started tells told first w id reached.1 reached.0)
-      (execute_run tells own first (clearing_device first.device id) (record { no_read = refl; no_change = refl }) (record { flash = refl; layout = refl; cursor = refl; elsewhere = refl }) budget mid result left last mid_is run))
+      (execute_run tells own first (clearing_device first.device id) (record { no_read = refl; no_change = refl }) (record { flash = refl; layout = refl; cursor = refl; given_up = refl; elsewhere = refl }) budget mid result left last mid_is run))
       (λ budget mid result left last mid_is asks. ask_none tells first IsClearing budget mid result left last mid_is asks)
       asks)
       asks)
@@ -438,3 +439,131 @@ module _ (tells : Type 0) (own : OwnProgramsRun tells) (told : tells) (first : M
   clear_command budget result left last sequence =
       change_command tells own told first id (Clear id) (clear_requests id) budget (needs-clear id) (changes-clear (refusal_of first.device.store.layout (Clear id) (records_of first)) refl)
       (λ result left last asks. clear_opens budget result left last asks) result left last sequence
+
+-- A dummy write
+
+abbrev dummy_device : DeviceState → DeviceState
+dummy_device old = record (begun_device operations.Dummy old) { value = 0; offset = 0 }
+
+needs-dummy : steps_needed own_entries dummy_requests 1 ≡ 8
+unfolding own_entries entries_of
+needs-dummy = refl
+
+module _ (tells : Type 0) (own : OwnProgramsRun tells) (first : MachineState) where
+  abbrev IsDummy : MachineState → Type 0
+  IsDummy w = w ≡ on_device first (record (dummy_device first.device) { status = statuses.Success })
+
+  dummy_started : (w : MachineState) → Starts tells (dummy_device first.device) first.memory.range w.device → w ≡ on_device first w.device → IsDummy w
+  dummy_started w starts elsewhere = elsewhere ∙ ap (λ (d : DeviceState). on_device first d) (by_case w.device starts)
+    where
+      by_case : (device : DeviceState) → Starts tells (dummy_device first.device) first.memory.range device → device ≡ record (dummy_device first.device) { status = statuses.Success }
+      by_case device starts = elim starts as (λ device starts. device ≡ record (dummy_device first.device) { status = statuses.Success }) [
+        | NoneBegun none ↦ absurd (cc none)
+        | WritesDummy begun ↦ refl
+        | NoDraft begun none ↦ absurd (cc begun)
+        | Writes size number store result begun found call ↦ absurd (cc begun)
+        | LookFails store error begun looks ↦ absurd (cc begun)
+        | FindsNone store begun looks ↦ absurd (cc begun)
+        | Misses store least begun looks none ↦ absurd (cc begun)
+        | GoesBeyond store least size begun looks long beyond ↦ absurd (cc begun)
+        | Finds store least size begun looks long fits ↦ absurd (cc begun)
+        | NoneToClear begun reserved ↦ absurd (cc begun)
+        | Clears store result begun usable call ↦ absurd (cc begun)
+      ]
+
+  dummy_opens : (budget : ℕ) (result : Result (List ℕ) RunStop) (left : ℕ) (last : MachineState) → Asks (Allows tells) own_entries dummy_requests budget first result left last → Opened first IsDummy 4 budget result left last
+  dummy_opens budget result left last asks =
+      ask_more tells first (λ w. w ≡ on_device first (begun_device operations.Dummy first.device)) IsDummy 1 3 _ _ budget first result left last
+      (λ result left last run. begin_run tells own first BeginDummyWriteOperation operations.Dummy refl refl refl (λ m. refl) steps-begin_dummy refl budget result left last run)
+      (λ budget mid result left last mid_is asks.
+      ask_more tells first (λ w. w ≡ on_device first (dummy_device first.device)) IsDummy 2 1 _ _ budget mid result left last
+      (λ result left last run. offset_run tells own first (begun_device operations.Dummy first.device) (record { no_read = refl; no_change = refl })
+      (record { flash = refl; layout = refl; cursor = refl; given_up = refl; elsewhere = refl }) budget mid result left last mid_is run)
+      (λ budget mid result left last mid_is asks.
+      ask_more tells first IsDummy IsDummy 1 0 _ _ budget mid result left last
+      (λ result left last run. run_weaker first (λ w. Starts tells (dummy_device first.device) first.memory.range w.device × (w ≡ on_device first w.device)) IsDummy 1 budget result left last
+      (λ w reached. dummy_started w reached.0 reached.1)
+      (execute_run tells own first (dummy_device first.device) (record { no_read = refl; no_change = refl }) (record { flash = refl; layout = refl; cursor = refl; given_up = refl; elsewhere = refl }) budget mid result left last mid_is run))
+      (λ budget mid result left last mid_is asks. ask_none tells first IsDummy budget mid result left last mid_is asks)
+      asks)
+      asks)
+      asks
+
+  dummy_end : (value : ℕ) (w : MachineState) → IsDummy w → DummyLeaves first (ended_from (with_value value w))
+  dummy_end value w is = subst (λ (m : MachineState). DummyLeaves first (ended_from (with_value value m))) (sym is) (record { store = refl; cursor = refl; elsewhere = refl })
+
+  dummy_still : (w : MachineState) → IsDummy w → IsStill w.device
+  dummy_still w is = subst (λ (m : MachineState). IsStill m.device) (sym is) (record { no_read = refl; no_change = refl })
+
+  dummy_of : (w other : MachineState) (value : ℕ) → IsDummy w → (other ≡ w) ⊎ (other ≡ with_value value w) → DummyLeaves first (ended_from other)
+  dummy_of w other value is either = elim either [
+    | inl same ↦ subst (λ (m : MachineState). DummyLeaves first (ended_from m)) (sym same) (dummy_end w.device.value w is)
+    | inr same ↦ subst (λ (m : MachineState). DummyLeaves first (ended_from m)) (sym same) (dummy_end value w is)
+  ]
+
+  dummy_ok : (budget : ℕ) (answers : List ℕ) (result : Result (List ℕ) RunStop) (left : ℕ) (w : MachineState) → result ≡ Ok answers → Opened first IsDummy 4 budget result left w → IsDummy w × (left + 4 ≡ budget)
+  dummy_ok budget answers result left w is opened = (elim opened as (λ result left w opened. result ≡ Ok answers → IsDummy w × (left + 4 ≡ budget)) [
+    | Opens others left w holds sum ↦ λ e. (holds, sum)
+    | Halts w untouched short ↦ λ e. absurd (cc e)
+  ]) is
+
+  dummy_halts : (budget : ℕ) (stop : RunStop) (result : Result (List ℕ) RunStop) (left : ℕ) (w : MachineState) → result ≡ Err stop → Opened first IsDummy 4 budget result left w
+      → DummyCommand first (ended_from w) dummy_requests budget (Err (Stopped stop)) left
+  dummy_halts budget stop result left w is opened = (elim opened as (λ result left w opened. result ≡ Err stop → DummyCommand first (ended_from w) dummy_requests budget (Err (Stopped stop)) left) [
+    | Opens others left w holds sum ↦ λ e. absurd (cc e)
+    | Halts w untouched short ↦ λ e.
+        subst (λ (s : RunStop). DummyCommand first (ended_from w) dummy_requests budget (Err (Stopped s)) 0) (same_end Budget stop e)
+        (IsCut
+        (record {
+          store = untouched.given_up;
+          cursor = untouched.cursor;
+          elsewhere = let device : DeviceState = (ended_from w).device in ap (λ (m : MachineState). record m { device = device }) untouched.elsewhere;
+        })
+        (omega (arith, short, needs-dummy)))
+  ]) is
+    where
+      same_end : (x y : RunStop) → ◌≡◌ {A = Result (List ℕ) RunStop} (Err x) (Err y) → x ≡ y
+      same_end x y e = cc
+
+  dummy_waited : (start : MachineState) (asked budget : ℕ) (result : Result (Unit {0}) ClientError) (waited : ℕ) (idle : MachineState) → result ≡ Ok tt → StillWaited start asked result waited idle
+      → (idle ≡ with_value 0 start) × (waited + 2 ≡ asked)
+  dummy_waited start asked budget result waited idle is ends = (elim ends as (λ result waited idle ends. result ≡ Ok tt → (idle ≡ with_value 0 start) × (waited + 2 ≡ asked)) [
+    | IsAtOnce waited idle at sum ↦ λ e. (at, sum)
+    | IsShort idle which few ↦ λ e. absurd (cc e)
+  ]) is
+
+  dummy_short : (start : MachineState) (is_dummy : IsDummy start) (asked budget : ℕ) (error : ClientError) (result : Result (Unit {0}) ClientError) (left : ℕ) (last : MachineState) → asked + 4 ≡ budget → result ≡ Err error
+      → StillWaited start asked result left last → DummyCommand first (ended_from last) dummy_requests budget (Err error) left
+  dummy_short start is_dummy asked budget error result left last opened is ends = (elim ends as (λ result left last ends. result ≡ Err error → DummyCommand first (ended_from last) dummy_requests budget (Err error) left) [
+    | IsAtOnce left last at sum ↦ λ e. absurd (cc e)
+    | IsShort last which few ↦ λ e.
+        subst (λ (r : Result (Unit {0}) ClientError). DummyCommand first (ended_from last) dummy_requests budget r 0) e (IsCut (dummy_of start last 0 is_dummy which) (omega (arith, opened, few, needs-dummy)))
+  ]) is
+
+  pub dummy_command : (budget : ℕ) (result : Result (Unit {0}) ClientError) (left : ℕ) (last : MachineState) → Sequence (Allows tells) own_entries (own_client first).timings dummy_requests budget first result left last
+      → DummyCommand first last dummy_requests budget result left
+  dummy_command budget result left last sequence =
+      elim (sequence_ends tells own (own_client first).timings dummy_requests budget first result left last sequence) as (λ result left last ends. DummyCommand first last dummy_requests budget result left) [
+        | HasTold answers asked mid waited idle left asks waits spent ↦
+            let opened = dummy_ok budget answers (Ok answers) asked mid refl (dummy_opens budget (Ok answers) asked mid asks) in
+            let at = dummy_waited mid asked budget (Ok tt) waited idle refl (wait_still tells own (own_client first).timings mid (dummy_still mid opened.0) asked (Ok tt) waited idle waits) in
+            told mid idle asked waited left opened.0 opened.1 at.0 at.1 spent
+        | HasNotTold answers asked mid waited idle other asks waits short either ↦
+            let opened = dummy_ok budget answers (Ok answers) asked mid refl (dummy_opens budget (Ok answers) asked mid asks) in
+            let at = dummy_waited mid asked budget (Ok tt) waited idle refl (wait_still tells own (own_client first).timings mid (dummy_still mid opened.0) asked (Ok tt) waited idle waits) in
+            IsCut (not_told mid idle other opened.0 at.0 either) (omega (arith, opened.1, at.1, short, needs-dummy))
+        | HasNotWaited answers asked mid error left other asks waits ↦
+            let opened = dummy_ok budget answers (Ok answers) asked mid refl (dummy_opens budget (Ok answers) asked mid asks) in
+            dummy_short mid opened.0 asked budget error (Err error) left other opened.1 refl (wait_still tells own (own_client first).timings mid (dummy_still mid opened.0) asked (Err error) left other waits)
+        | HasNotAsked stop left other asks ↦ dummy_halts budget stop (Err stop) left other refl (dummy_opens budget (Err stop) left other asks)
+      ]
+    where
+      told : (mid idle : MachineState) (asked waited left : ℕ) → IsDummy mid → asked + 4 ≡ budget → idle ≡ with_value 0 mid → waited + 2 ≡ asked → left + 2 ≡ waited
+          → DummyCommand first (ended_from (with_value (status_in idle) idle)) dummy_requests budget (judged (status_in idle)) left
+      told mid idle asked waited left is opened at sum spent =
+          let exact : idle ≡ on_device first (record (dummy_device first.device) { status = statuses.Success }) = at ∙ ap (with_value 0) is in
+          subst (λ (m : MachineState). DummyCommand first (ended_from (with_value (status_in m) m)) dummy_requests budget (judged (status_in m)) left) (sym exact)
+          (IsPlayed left (record { store = refl; cursor = refl; elsewhere = refl }) (omega (arith, opened, sum, spent, needs-dummy)))
+
+      not_told : (mid idle other : MachineState) → IsDummy mid → idle ≡ with_value 0 mid → (other ≡ idle) ⊎ (other ≡ with_value (status_in idle) idle) → DummyLeaves first (ended_from other)
+      not_told mid idle other is at either = dummy_of idle other (status_in idle) (at ∙ ap (with_value 0) is) either

@@ -41,10 +41,11 @@ module _ (tells : Type 0) (first : MachineState) (machine : IsMachine first) (by
   mark_spot mid answer new mid_is allowed_at =
       let allowed = subst (λ (m : MachineState). Allows tells m (WriteBytes 0x10006C (codes "ER") answer) new) mid_is allowed_at in
       let same = length-put_at first.memory.range 0 bytes (omega (arith, is.fits, machine.sizes.range)) in
-      let spot = spot-mark (length (put_at first.memory.range 0 bytes)) (omega (arith, same, is.least, is.fits, machine.sizes.range)) in
-      (allowed.0 ∙ ap (λ (s : Spot). (bytes_stored s (with_record bytes first) 0x10006C (codes "ER")).0) spot,
-      allowed.1 ∙ ap (λ (s : Spot). (bytes_stored s (with_record bytes first) 0x10006C (codes "ER")).1) spot
-      ∙ ap (λ (range : List ℕ). record first { memory = record first.memory { range = range } }) (marked-put first.memory.range bytes (omega (arith, is.least))))
+      let spot = spot-mark (length (put_at first.memory.range 0 bytes)) (omega (arith, same, is.least, is.fits, machine.sizes.range)) in (
+        allowed.0 ∙ ap (λ (s : Spot). (bytes_stored s (with_record bytes first) 0x10006C (codes "ER")).0) spot,
+        allowed.1 ∙ ap (λ (s : Spot). (bytes_stored s (with_record bytes first) 0x10006C (codes "ER")).1) spot
+            ∙ ap (λ (range : List ℕ). record first { memory = record first.memory { range = range } }) (marked-put first.memory.range bytes (omega (arith, is.least))),
+      )
 
   put_ok : (result : Result (Unit {0}) ClientError) (mid : MachineState) → Puts (Allows tells) 0x100000 bytes first result mid → (result ≡ Ok tt) × (mid ≡ with_record (marked bytes) first)
   put_ok result mid puts = elim puts as (λ result mid puts. (result ≡ Ok tt) × (mid ≡ with_record (marked bytes) first)) [

@@ -3,3 +3,4 @@ pub mod Attached
 pub mod Looks
 pub mod Changes
 pub mod Writes
+pub mod Reads

@@ -5,15 +5,16 @@ ghost use Rattle.erst_client.specs.declared.errors.AttachError.{AttachError};
 ghost use Rattle.erst_client.specs.declared.errors.ClientError.{ClientError};
 ghost use Rattle.erst_client.specs.Commands.{ClientState, Writes, Counts, Names};
 ghost use Rattle.erst_client.specs.Attaching.{Attaches};
-ghost use Rattle.erst_client.specs.Sequences.{Sequence, write_requests, clear_requests};
+ghost use Rattle.erst_client.specs.Sequences.{Sequence, write_requests, read_requests, clear_requests, dummy_requests};
 ghost use Rattle.erst_machine.specs.MachineState.{MachineState, IsMachine, reach_in, records_of};
 ghost use Rattle.erst_machine.specs.Allowed.{Allows};
 ghost use Rattle.erst_machine.specs.OwnTables.{own_entries, own_erst};
 ghost use Rattle.erst_commands.specs.OwnPrograms.{OwnProgramsRun};
 ghost use Rattle.erst_commands.specs.Attached.{own_client, AttachesOwn};
 ghost use Rattle.erst_commands.specs.Looks.{HaveIds, CountMade, NextMade, AsksOnce};
-ghost use Rattle.erst_commands.specs.Changes.{HoldsRecord, ChangeCommand};
+ghost use Rattle.erst_commands.specs.Changes.{HoldsRecord, ChangeCommand, DummyCommand};
 ghost use Rattle.erst_commands.specs.Writes.{WriteAnswered};
+ghost use Rattle.erst_commands.specs.Reads.{ReadCommand};
 
 use erst_interp::a_straight_program_runs_through;
 use erst_machine::Machine;
@@ -77,6 +78,22 @@ pub fn a_clear_is_the_maps<F: Flash>()
 pub fn a_client_writes_as_the_map<F: Flash>()
     ensures { F.tells → (bytes : List ℕ) (budget : ℕ) (first : MachineState) (result : Result (Unit {0}) ClientError) (left : ℕ) (last : MachineState) → IsMachine first
         → Writes (Allows F.tells) (own_client first) bytes budget first result left last → WriteAnswered bytes budget first result left last }
+{
+    own_programs_run_through::<F>();
+}
+
+/// A dummy write's sequence goes through and leaves the store with its execution given up.
+pub fn a_dummy_write_changes_nothing<F: Flash>()
+    ensures { (first : MachineState) (budget : ℕ) (result : Result (Unit {0}) ClientError) (left : ℕ) (last : MachineState)
+        → Sequence (Allows F.tells) own_entries (own_client first).timings dummy_requests budget first result left last → DummyCommand first last dummy_requests budget result left }
+{
+    own_programs_run_through::<F>();
+}
+
+/// A read's sequence: the log range then begins with the record, and the cursor is at its identifier; or it is refused as by the map.
+pub fn a_read_is_the_maps<F: Flash>()
+    ensures { F.tells → (first : MachineState) → IsMachine first → (id : ℕ) → id < 2 ^ 64 → (timings : Option (ℕ × ℕ)) (budget : ℕ) (result : Result (Unit {0}) ClientError) (left : ℕ) (last : MachineState)
+        → Sequence (Allows F.tells) own_entries timings (read_requests id) budget first result left last → ReadCommand first last id budget result left }
 {
     own_programs_run_through::<F>();
 }

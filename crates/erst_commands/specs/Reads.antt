@@ -1,0 +1,50 @@
+-- A read by the machine's own table, on the records of its flash.
+use Rattle.std.specs.Prelude.{◌≡◌, ℕ, ◌+◌, ◌≤◌, ◌<◌, false, List, length, Some, Result, Ok, Err}
+use Rattle.std.specs.FinMap.{get}
+use Rattle.base_model.specs.Bytes.{put_at}
+use Rattle.base_model.specs.Faults.{Rose}
+use Rattle.record_model.specs.RecordMap.{Read, Refusal, refusal_of}
+use Rattle.record_model.specs.History.{Refused, IsNamed, cursor_after}
+use Rattle.record_store.specs.Store.{Idle, KeepsMap, DividesAlike, abandoned}
+use Rattle.record_store.specs.Answers.{copies_of}
+use Rattle.erst_interp.specs.declared.stops.RunStop.TheVariants.{Budget}
+use Rattle.erst_client.specs.declared.errors.ClientError.{ClientError}
+use Rattle.erst_client.specs.declared.errors.ClientError.TheVariants.{Hardware, Stopped}
+use Rattle.erst_client.specs.Sequences.{read_requests}
+use Rattle.erst_client.specs.Steps.{steps_needed}
+use Rattle.erst_machine.specs.MachineState.{MachineState, records_of}
+use Rattle.erst_machine.specs.OwnTables.{own_entries}
+use Rattle.erst_commands.specs.Changes.{IsErrorOf}
+
+-- whatever is answered: power lost on the way leaves the records, there is at most one change, nothing is pending, and beside the device
+-- and the log range all is as it was
+pub record ReadLeaves (first last : MachineState) : Type 0 where
+  pub kept : KeepsMap first.device.store last.device.store
+  pub few : last.device.store.flash.steps ≤ first.device.store.flash.steps + 1
+  pub idle : last.device.store.pending ≡ Idle
+  pub alike : DividesAlike first.device.store last.device.store
+  pub never_falls : first.device.store.flash.faults ≤ last.device.store.flash.faults
+  pub elsewhere : last ≡ record first { device = last.device; memory = record first.memory { range = last.memory.range } }
+
+-- the flash failed nothing: the changes that end second copies, and no other; the store knows its records
+pub record ReadAsked (first last : MachineState) : Type 0 where
+  pub leaves : ReadLeaves first last
+  pub steps : last.device.store.flash.steps ≡ first.device.store.flash.steps + copies_of (abandoned first.device.store)
+  pub certain : last.device.store.in_doubt ≡ false
+  pub faults : last.device.store.flash.faults ≡ first.device.store.flash.faults
+
+-- what a read does, with its command status: the log range then begins with the record, and the cursor is at its identifier; or the map
+-- refuses it; or the flash failed, and so the count of its faults rose
+pub data ReadMade (first last : MachineState) (id : ℕ) : Result (Unit {0}) ClientError → Type 0 where
+  IsRead : (found : ℕ) (body : List ℕ) (generation : ℕ) → ReadAsked first last → IsNamed id found (records_of first) → get (records_of first) found ≡ Some (body, generation)
+      → length body ≤ length first.memory.range → last.memory.range ≡ put_at first.memory.range 0 body → last.device.cursor ≡ found → ReadMade first last id (Ok tt)
+  IsRefused : (refusal : Refusal) (error : ClientError) → ReadAsked first last → refusal_of first.device.store.layout (Read id) (records_of first) ≡ Some refusal → IsErrorOf refusal error
+      → last.memory.range ≡ first.memory.range → last.device.cursor ≡ cursor_after (Read id) (Refused refusal) first.device.cursor → ReadMade first last id (Err error)
+  IsFailed : ReadLeaves first last → Rose first.device.store.flash.faults last.device.store.flash.faults → last.memory.range ≡ first.memory.range → last.device.cursor ≡ first.device.cursor
+      → ReadMade first last id (Err Hardware)
+
+-- answered, or stopped behind what it does or before it, where there are fewer steps than it needs
+pub data ReadCommand (first last : MachineState) (id budget : ℕ) : Result (Unit {0}) ClientError → ℕ → Type 0 where
+  Answers : (result : Result (Unit {0}) ClientError) (left : ℕ) → ReadMade first last id result → left + steps_needed own_entries (read_requests id) 1 ≡ budget → ReadCommand first last id budget result left
+  StopsBehind : (result : Result (Unit {0}) ClientError) → ReadMade first last id result → budget < steps_needed own_entries (read_requests id) 1 → ReadCommand first last id budget (Err (Stopped Budget)) 0
+  StopsBefore : ReadLeaves first last → last.memory.range ≡ first.memory.range → last.device.cursor ≡ first.device.cursor → budget < 7 → ReadCommand first last id budget (Err (Stopped Budget)) 0
