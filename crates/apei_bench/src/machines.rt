@@ -1,4 +1,7 @@
 // A machine that is reached by its table, and a store that is called.
+ghost use Rattle.std.specs.Prelude.{◌≡◌, IfSome};
+ghost use Rattle.record_store.specs.Store.{Idle};
+
 use apei_bytes::{put_u32, put_u64};
 use apei_gas::{Place, Width};
 use apei_space::Space;
@@ -42,6 +45,18 @@ fn machine(alloc: Global) -> Option<Machine<SimFlash>> {
     Machine::boot(alloc, flash, geometry).ok()
 }
 
+// A store over an erased flash.
+fn store(alloc: Global) -> Option<Store<SimFlash>>
+    ensures { IfSome result (λ store. store.pending ≡ Idle) }
+{
+    let geometry = small()?;
+    let flash = flash(alloc, &geometry)?;
+    match Store::attach(alloc, flash, geometry) {
+        Ok(store) => Some(store),
+        Err(_) => None,
+    }
+}
+
 // A record of 128 bytes: a header without sections.
 fn record() -> [u8; 128] {
     let mut bytes = [0; 128];
@@ -76,10 +91,9 @@ fn written(alloc: Global, machine: &mut Machine<SimFlash>, times: u64) -> Option
 }
 
 /// Writes the same record as often by calls of a store.
+#[tactic(auto, unfolding(flash_words::specs::Layout::reach_of, flash_words::specs::Layout::room_of))]
 pub fn write_by_calls(alloc: Global, times: u64) -> Option<u64> {
-    let geometry = small()?;
-    let flash = flash(alloc, &geometry)?;
-    let mut store = Store::attach(alloc, flash, geometry).ok()?;
+    let mut store = store(alloc)?;
     let id = RecordId::new(ID)?;
     let record = record();
     let mut done = 0u64;
