@@ -6,8 +6,8 @@ use Rattle.apei_space.specs.Mapped.{further}
 use Rattle.erst_machine.specs.declared.areas.Area.{Area}
 use Rattle.erst_machine.specs.declared.areas.Area.TheVariants.{Device, Scratch, LogRange, Handover, BootErrors, Ports}
 use Rattle.erst_machine.specs.declared.areas.Spot.{Spot}
-use Rattle.erst_machine.specs.declared.areas.Spot.TheVariants.{Inside, Beyond, Nowhere}
-use Rattle.erst_machine.specs.Areas.{base_of, size_of, within, holds, area_spot, first_spot, memory_areas, place_spot, place_of}
+use Rattle.erst_machine.specs.declared.areas.Spot.TheVariants.{Inside, Beyond}
+use Rattle.erst_machine.specs.Areas.{base_of, size_of, within, holds, area_spot, place_spot, place_of}
 
 ends_in : (area : Area) (base size k n : ℕ) (ends : Bool) → nat_le (base + k + n) (base + size) ≡ ends → k + n ≤ size →
     (if ends then Inside area (base + k - base) else Beyond area (base + size)) ≡ Inside area k

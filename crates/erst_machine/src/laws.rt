@@ -54,3 +54,8 @@ pub fn whatever_happens_is_one_list<F: Flash>()
 pub fn accesses_keep_a_machine<F: Flash>()
     ensures { (first last : MachineState) → Reaches (Allows F.tells) first last → IsMachine first → IsMachine last }
 {}
+
+/// And so does whatever happens.
+pub fn events_keep_a_machine<F: Flash>()
+    ensures { (first last : MachineState) (trail : List (Move Event MachineState)) → Trail (Happens F.tells) first trail last → IsMachine first → IsMachine last }
+{}
