@@ -1,12 +1,11 @@
 -- What each action of the table does to a device, from its one case.
-use Rattle.std.proofs.Common.{◌≡◌, ℕ, ◌+◌, ◌-◌, ◌^◌, Bool, true, false, List, ◌++◌, take, drop, Option, Some, None, Result, Ok, Err, refl, sym, ap, subst, ◌∙◌}
+use Rattle.std.proofs.Common.{◌≡◌, ℕ, Bool, true, false, List, ◌++◌, take, drop, Option, Some, None, Result, refl, sym, ap, subst, ◌∙◌}
 use Rattle.std.proofs.lemmas.Option.{none-some, same_Some}
 use Rattle.flash_words.specs.Layout.{room_of, reach_of}
 use Rattle.record_store.specs.Store.{StoreView, Pending, Idle, IsBusy}
 use Rattle.record_store.specs.declared.errors.StoreError.{StoreError}
 use Rattle.erst_entries.specs.declared.actions.Action.{Action}
 use Rattle.erst_entries.specs.declared.actions.Action.TheVariants.{EndOperation, SetRecordOffset, ExecuteOperation, CheckBusyStatus, GetCommandStatus, GetRecordIdentifier, SetRecordIdentifier, GetRecordCount, GetErrorLogAddressRange, GetErrorLogAddressRangeLength, GetErrorLogAddressRangeAttributes, GetExecuteOperationTimings}
-use Rattle.erst_entries.specs.Actions.{code_of, action_of}
 use Rattle.erst_device.specs.declared.device.TheConstants.{LOG_RANGE}
 use Rattle.erst_device.specs.declared.registers.Operation.{Operation}
 use Rattle.erst_device.specs.declared.status.CommandStatus.TheVariants.{Success}

@@ -1,8 +1,7 @@
 -- Attaching to the machine's own table never fails.
-use Rattle.std.proofs.Common.{◌≡◌, ℕ, ◌+◌, ◌*◌, ◌/◌, ◌%◌, ◌^◌, ◌<◌, ◌≤◌, Bool, List, [], ◌∷◌, Option, Some, Result, Ok, Err, refl, sym, ap, subst, ◌∙◌, arith, cond}
+use Rattle.std.proofs.Common.{◌≡◌, ℕ, ◌+◌, ◌*◌, ◌/◌, ◌%◌, ◌^◌, ◌≤◌, Bool, List, [], ◌∷◌, Some, Result, Ok, Err, refl, sym, ap, subst, ◌∙◌, arith, cond}
 use Rattle.std.proofs.lemmas.Bool.{le-ltb}
-use Rattle.std.specs.Prelude.{nat_lt}
-use Rattle.flash_words.specs.Layout.{Layout, room_of, reach_of}
+use Rattle.flash_words.specs.Layout.{room_of, reach_of}
 use Rattle.erst_entries.specs.declared.actions.Action.{Action}
 use Rattle.erst_entries.specs.declared.actions.Action.TheVariants.{GetErrorLogAddressRange, GetErrorLogAddressRangeLength, GetErrorLogAddressRangeAttributes, GetExecuteOperationTimings}
 use Rattle.erst_entries.specs.Actions.{code_of}
@@ -21,12 +20,12 @@ use Rattle.erst_device.specs.DeviceState.{DeviceState}
 use Rattle.erst_machine.specs.MachineState.{MachineState}
 use Rattle.erst_machine.specs.Allowed.{Allows, ActsOn}
 use Rattle.erst_machine.specs.OwnTables.{own_entries, own_erst}
-use Rattle.erst_commands.specs.OwnPrograms.{with_value, takes_value, given_to, answer_of, OwnProgramsRun}
+use Rattle.erst_commands.specs.OwnPrograms.{with_value, given_to, answer_of, OwnProgramsRun}
 use Rattle.erst_commands.specs.Attached.{own_client, AttachesOwn}
 use Rattle.erst_commands.proofs.ActionCases.{Becomes, tells_address, tells_length, tells_attributes, tells_timings}
 use Rattle.erst_commands.proofs.MachineSteps.{acted_is}
-use Rattle.erst_commands.proofs.OwnProgramLemmas.{IsRun, has_steps}
-use Rattle.erst_commands.proofs.AskLemmas.{with_answer, FirstAsked, Went, Halted, first_asked, NoneAsked, none_asked}
+use Rattle.erst_commands.proofs.OwnProgramLemmas.{has_steps}
+use Rattle.erst_commands.proofs.AskLemmas.{with_answer, FirstAsked, Went, Halted, first_asked, none_asked}
 use Rattle.erst_commands.proofs.LimitLemmas.{reach-few, reach-least, timings-halves}
 
 steps_two : (steps_of own_entries GetErrorLogAddressRange ≡ 2) × (steps_of own_entries GetErrorLogAddressRangeLength ≡ 2) × (steps_of own_entries GetErrorLogAddressRangeAttributes ≡ 2)

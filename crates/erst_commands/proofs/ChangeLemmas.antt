@@ -1,5 +1,5 @@
 -- A write or clear from its start to END_OPERATION.
-use Rattle.std.proofs.Common.{◌≡◌, ◌⊎◌, ℕ, zero, suc, ◌+◌, ◌-◌, ◌*◌, ◌<◌, ◌≤◌, max, Bool, true, false, List, Option, Some, None, Result, Ok, Err, refl, sym, ap, subst, ◌∙◌, arith, inl, inr}
+use Rattle.std.proofs.Common.{◌≡◌, ◌⊎◌, ℕ, suc, ◌+◌, ◌*◌, ◌<◌, ◌≤◌, max, true, false, List, Some, None, Result, Ok, Err, refl, sym, ap, subst, ◌∙◌, arith, inl, inr}
 use Rattle.base_model.specs.Faults.{Rose}
 use Rattle.flash_words.specs.Flash.{FlashState}
 use Rattle.flash_words.specs.Layout.{Layout}
@@ -7,7 +7,7 @@ use Rattle.flash_words.proofs.CrashLemmas.{Leaves-none, Leaves-weaker, Leaves-th
 use Rattle.record_model.specs.Records.{Stored, is_reserved}
 use Rattle.record_model.specs.RecordMap.{Command, Refusal, refusal_of, after, changes_of}
 use Rattle.record_model.proofs.RefusalLemmas.{changes_of-refused}
-use Rattle.record_store.specs.Store.{StoreView, Pending, Idle, stored, records_of as records_in, doubt_after, KeepsMap, KeepsOrMakes, IsBeforeOrAfter, DividesAlike, abandoned}
+use Rattle.record_store.specs.Store.{StoreView, Pending, Idle, stored, records_of as records_in, doubt_after, KeepsMap, KeepsOrMakes, DividesAlike, abandoned}
 use Rattle.record_store.specs.Answers.{copies_of}
 use Rattle.erst_interp.specs.declared.stops.RunStop.{RunStop}
 use Rattle.erst_interp.specs.declared.stops.RunStop.TheVariants.{Budget}
@@ -21,15 +21,15 @@ use Rattle.erst_device.specs.declared.status.CommandStatus.{CommandStatus}
 use Rattle.erst_device.specs.declared.status.CommandStatus.TheVariants.{Success, HardwareNotAvailable}
 use Rattle.erst_device.specs.Statuses.{number_of}
 use Rattle.erst_device.specs.Timings.{most_changes}
-use Rattle.erst_device.specs.DeviceState.{DeviceState, IsStill, given_up}
+use Rattle.erst_device.specs.DeviceState.{DeviceState, IsStill}
 use Rattle.erst_machine.specs.MachineState.{MachineState, records_of}
 use Rattle.erst_machine.specs.Allowed.{Allows}
 use Rattle.erst_machine.specs.OwnTables.{own_entries}
 use Rattle.erst_commands.specs.OwnPrograms.{with_value, OwnProgramsRun}
 use Rattle.erst_commands.specs.Attached.{own_client}
-use Rattle.erst_commands.specs.Changes.{IsErrorOf, copies_first, waits_after, ChangeLeaves, ChangeMade, ChangeCommand, IsTaken, IsRefused, IsFailed, IsStopped}
+use Rattle.erst_commands.specs.Changes.{IsErrorOf, copies_first, waits_after, ChangeLeaves, ChangeCommand, IsTaken, IsRefused, IsFailed, IsStopped}
 use Rattle.erst_commands.proofs.MachineSteps.{on_device}
-use Rattle.erst_commands.proofs.SequenceLemmas.{Untouched, Opened, Opens, Halts, StillWaited, IsAtOnce, IsShort, wait_still, ended_from, status_in, SequenceEnds, HasTold, HasNotTold, HasNotWaited, HasNotAsked, sequence_ends}
+use Rattle.erst_commands.proofs.SequenceLemmas.{Untouched, Opened, Opens, Halts, StillWaited, IsAtOnce, IsShort, wait_still, ended_from, status_in, HasTold, HasNotTold, HasNotWaited, HasNotAsked, sequence_ends}
 use Rattle.erst_commands.proofs.WayLemmas.{Leads, OnWay, Broken, Midway, of_way, of_broken, WayWaited, WayEnds, WayBreaks, WayStops, wait_way}
 
 -- what a start leaves, whatever it answers

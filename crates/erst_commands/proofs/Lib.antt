@@ -12,3 +12,5 @@ pub mod StartLemmas
 pub mod RangeLemmas
 pub mod WriteLemmas
 pub mod ReadLemmas
+pub mod CopyLemmas
+pub mod EnoughLemmas

@@ -1,5 +1,5 @@
 -- The changes of a write, and the timings, of a layout.
-use Rattle.std.proofs.Common.{◌≡◌, ℕ, zero, suc, ◌+◌, ◌-◌, ◌*◌, ◌/◌, ◌%◌, ◌^◌, ◌<◌, ◌≤◌, min, refl, ap, ◌∙◌, arith}
+use Rattle.std.proofs.Common.{◌≡◌, ℕ, zero, suc, ◌+◌, ◌-◌, ◌*◌, ◌/◌, ◌%◌, ◌^◌, ◌<◌, ◌≤◌, ap, ◌∙◌, arith}
 use Rattle.std.proofs.Math.Nat.{mul_comm, mul-le-mul_left}
 use Rattle.std.proofs.lemmas.Nat.{le-div, div-add-mod'}
 use Rattle.flash_words.specs.Layout.{Layout, room_of, reach_of}
@@ -86,7 +86,7 @@ changes-most layout size fits =
         let other = mul_comm (layout.per_slot + 2) m in
         omega (arith, longer, further, whole, slots, one, other)
 
-most-small : (layout : Layout) → most_changes layout ≤ 2058
+pub most-small : (layout : Layout) → most_changes layout ≤ 2058
 most-small layout =
     let least = layout.least_slot in
     let most = layout.greatest_slot in

@@ -1,24 +1,22 @@
 -- Count and next by the machine's own table are the map's.
-use Rattle.std.proofs.Common.{◌≡◌, ◌≢◌, ℕ, ◌+◌, ◌-◌, ◌%◌, ◌^◌, ◌<◌, ◌≤◌, Bool, true, false, cond, List, Option, Some, None, Result, Ok, Err, refl, sym, ap, subst, ◌∙◌, arith, inl, inr}
-use Rattle.std.specs.Prelude.{◌==◌, if◌then◌else◌, nat_eq, IsSome}
-use Rattle.std.specs.FinMap.{get, len}
+use Rattle.std.proofs.Common.{◌≡◌, ◌≢◌, ℕ, ◌+◌, ◌-◌, ◌%◌, ◌^◌, ◌<◌, ◌≤◌, Bool, true, false, cond, List, Option, Some, None, Result, Ok, Err, refl, sym, ap, subst, ◌∙◌, arith}
+use Rattle.std.specs.Prelude.{◌==◌, if◌then◌else◌}
+use Rattle.std.specs.FinMap.{len}
 use Rattle.std.proofs.lemmas.Bool.{ne_eqb}
 use Rattle.base_model.specs.Faults.{Rose}
 use Rattle.flash_words.specs.Layout.{Layout}
-use Rattle.record_model.specs.Records.{Stored, is_reserved, entry_at, stored_in}
-use Rattle.record_model.specs.RecordMap.{IsNextAbove}
+use Rattle.record_model.specs.Records.{is_reserved, entry_at, stored_in}
 use Rattle.record_model.proofs.RefusalLemmas.{allowed_not_zero}
 use Rattle.record_model.proofs.SizeLemmas.{empty_among-len_at_most}
-use Rattle.record_store.specs.Store.{StoreView, Idle, stored, records_of as records_in, KeepsMap, DividesAlike, abandoned}
-use Rattle.record_store.specs.Answers.{HasFaultsOf, HasDoubtOf, EndsCopies, FailsByFlash, copies_of}
+use Rattle.record_store.specs.Store.{StoreView, records_of as records_in, DividesAlike, abandoned}
+use Rattle.record_store.specs.Answers.{HasFaultsOf}
 use Rattle.record_store.specs.Calls.{OnlyLooks}
 use Rattle.record_store.specs.declared.errors.StoreError.{StoreError}
 use Rattle.record_store.specs.declared.errors.StoreError.TheVariants as errors
 use Rattle.erst_entries.specs.declared.actions.Action.TheVariants.{GetRecordIdentifier, GetRecordCount}
 use Rattle.erst_interp.specs.declared.stops.RunStop.{RunStop}
-use Rattle.erst_interp.specs.declared.stops.RunStop.TheVariants.{Budget}
 use Rattle.erst_client.specs.declared.errors.ClientError.{ClientError}
-use Rattle.erst_client.specs.declared.errors.ClientError.TheVariants.{Hardware, Stopped}
+use Rattle.erst_client.specs.declared.errors.ClientError.TheVariants.{Hardware}
 use Rattle.erst_client.specs.Commands.{Counts, Names, counted as count_answer, named as next_answer}
 use Rattle.erst_device.specs.StoreCalls.{FoundNext, Counted}
 use Rattle.erst_device.specs.DeviceState.{DeviceState, given_up}

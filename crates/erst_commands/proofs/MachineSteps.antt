@@ -1,5 +1,5 @@
 -- A machine of which an action changes the device alone.
-use Rattle.std.proofs.Common.{◌≡◌, ℕ, List, sym, ap, ◌∙◌}
+use Rattle.std.proofs.Common.{◌≡◌, ℕ, List, ap, ◌∙◌}
 use Rattle.erst_device.specs.DeviceState.{DeviceState}
 use Rattle.ghes_ack.specs.Handovers.{HandoverState}
 use Rattle.erst_machine.specs.Memories.{MemoryState}

@@ -1,5 +1,5 @@
 -- The programs of the machine's own table run straight through.
-use Rattle.std.proofs.Common.{◌≡◌, ℕ, zero, suc, ◌+◌, ◌-◌, ◌*◌, ◌/◌, ◌%◌, ◌^◌, ◌<◌, ◌≤◌, Bool, true, false, List, [], ◌∷◌, length, Option, Some, None, Result, Ok, Err, refl, sym, ap, subst, ◌∙◌, arith}
+use Rattle.std.proofs.Common.{◌≡◌, ℕ, zero, suc, ◌+◌, ◌-◌, ◌*◌, ◌/◌, ◌%◌, ◌^◌, ◌<◌, ◌≤◌, true, [], ◌∷◌, length, Some, Result, Ok, Err, refl, sym, ap, subst, ◌∙◌, arith}
 use Rattle.std.specs.Prelude.{bit_and, unwrap_or, ◌==◌, if◌then◌else◌}
 use Rattle.std.proofs.lemmas.Nat.{and_mask}
 use Rattle.apei_gas.specs.declared.registers.Register.{Register}
@@ -14,7 +14,6 @@ use Rattle.erst_entries.specs.declared.instructions.Instruction.TheVariants.{Rea
 use Rattle.erst_entries.specs.Actions.{code_of}
 use Rattle.erst_entries.specs.Programs.{Listed, entries_of, program_of}
 use Rattle.erst_interp.specs.declared.configurations.Configuration.{Configuration}
-use Rattle.erst_interp.specs.declared.configurations.Task.{Task}
 use Rattle.erst_interp.specs.declared.stops.RunStop.{RunStop}
 use Rattle.erst_interp.specs.declared.stops.RunStop.TheVariants.{Budget}
 use Rattle.erst_interp.specs.Configurations.{begin, next}

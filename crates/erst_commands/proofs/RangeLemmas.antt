@@ -1,8 +1,8 @@
 -- Accesses of the log range of a machine.
-use Rattle.std.proofs.Common.{◌≡◌, ℕ, ◌+◌, ◌-◌, ◌^◌, ◌<◌, ◌≤◌, Bool, true, false, cond, eqb, List, ◌++◌, length, take, drop, Option, Some, None, Result, Ok, Err, refl, sym, ap, subst, ◌∙◌, arith, append_assoc, length-append}
+use Rattle.std.proofs.Common.{◌≡◌, ℕ, ◌+◌, ◌-◌, ◌^◌, ◌<◌, ◌≤◌, Bool, true, false, cond, eqb, List, ◌++◌, length, take, drop, Option, Some, None, Result, Ok, Err, refl, sym, ap, ◌∙◌, arith, append_assoc}
 use Rattle.std.specs.Prelude.{codes, nat_lt, ◌==◌, unwrap_or}
 use Rattle.std.proofs.lemmas.Bool.{le-leb, lt-ltb, ltb-false, ne_eqb}
-use Rattle.std.proofs.lemmas.List.{take_at, take-append-le, drop-append-le, length-take}
+use Rattle.std.proofs.lemmas.List.{take_at, take-append-le, drop-append-le}
 use Rattle.base_model.specs.Bytes.{part, little, number_at, put_at}
 use Rattle.base_model.proofs.BytesLemmas.{length-put_at, part-before, SameOutside-put_at}
 use Rattle.cper_frame.specs.declared.error.FrameError.{FrameError}

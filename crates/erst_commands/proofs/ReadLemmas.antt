@@ -1,27 +1,26 @@
 -- A read by the machine's own table is the map's.
-use Rattle.std.proofs.Common.{◌≡◌, ◌≢◌, ◌⊎◌, ℕ, zero, suc, ◌+◌, ◌-◌, ◌*◌, ◌^◌, ◌<◌, ◌≤◌, Bool, true, false, cond, eqb, List, [], ◌∷◌, ◌++◌, length, take, drop, Option, Some, None, Result, Ok, Err, refl, sym, ap, subst, ◌∙◌, arith, inl, inr}
+use Rattle.std.proofs.Common.{◌≡◌, ◌≢◌, ◌⊎◌, ℕ, zero, suc, ◌+◌, ◌^◌, ◌<◌, ◌≤◌, Bool, false, cond, eqb, List, ◌++◌, length, take, drop, Option, Some, None, Result, Ok, Err, refl, sym, ap, subst, ◌∙◌, arith, inl, inr}
 use Rattle.std.specs.Prelude.{◌||◌, is_some, IsSome}
 use Rattle.std.specs.Ordering.{nat_cmp}
 use Rattle.std.specs.FinMap.{empty, get, len, get-empty, len-empty, same_map, nat_cmp-IsAntisymmetric}
 use Rattle.std.specs.Cmp.{nat_cmp_total}
 use Rattle.std.proofs.lemmas.Bool.{cases_eq, eq-eqb, ne_eqb}
 use Rattle.std.proofs.lemmas.Option.{none-some, same_Some}
-use Rattle.base_model.specs.Bytes.{put_at}
 use Rattle.base_model.specs.Faults.{Rose}
 use Rattle.flash_words.specs.Flash.{FlashState}
-use Rattle.flash_words.specs.Layout.{Layout, room_of, reach_of}
+use Rattle.flash_words.specs.Layout.{Layout}
 use Rattle.flash_words.proofs.CrashLemmas.{Leaves-none, Leaves-weaker, Leaves-then}
 use Rattle.record_model.specs.Records.{Stored, is_reserved}
 use Rattle.record_model.specs.RecordMap.{Read, Refusal, NotFound as not_found, Empty as empty_map, IsNextAbove, refusal_of}
 use Rattle.record_model.specs.History.{IsNamed}
 use Rattle.record_model.proofs.RefusalLemmas.{read_empty}
 use Rattle.record_model.proofs.SizeLemmas.{len_some}
-use Rattle.record_store.specs.Store.{StoreView, Idle, stored, records_of as records_in, KeepsMap, DividesAlike, abandoned}
+use Rattle.record_store.specs.Store.{StoreView, stored, records_of as records_in, KeepsMap, DividesAlike, abandoned}
 use Rattle.record_store.specs.Answers.{AnswersRead, HasFaultsOf, copies_of}
 use Rattle.record_store.specs.declared.errors.StoreError.{StoreError}
 use Rattle.record_store.specs.declared.errors.StoreError.TheVariants as errors
 use Rattle.record_store.proofs.StoredLemmas.{stored_says, reserved_absent}
-use Rattle.erst_entries.specs.declared.actions.Action.TheVariants.{BeginReadOperation, SetRecordOffset, SetRecordIdentifier, ExecuteOperation, CheckBusyStatus, GetCommandStatus}
+use Rattle.erst_entries.specs.declared.actions.Action.TheVariants.{BeginReadOperation, CheckBusyStatus}
 use Rattle.erst_entries.specs.Programs.{entries_of}
 use Rattle.erst_interp.specs.declared.stops.RunStop.{RunStop}
 use Rattle.erst_interp.specs.declared.stops.RunStop.TheVariants.{Budget}
@@ -35,25 +34,25 @@ use Rattle.erst_device.specs.declared.status.CommandStatus.{CommandStatus}
 use Rattle.erst_device.specs.declared.status.CommandStatus.TheVariants as statuses
 use Rattle.erst_device.specs.Statuses.{number_of, status_of}
 use Rattle.erst_device.specs.StoreCalls.{FoundNext, ReadOut}
-use Rattle.erst_device.specs.DeviceState.{DeviceState, IsStill, records}
+use Rattle.erst_device.specs.DeviceState.{DeviceState, IsStill}
 use Rattle.erst_device.specs.Starts.{Starts, NoneBegun, WritesDummy, NoDraft, Writes, LookFails, FindsNone, Misses, GoesBeyond, Finds, NoneToClear, Clears, HasLength, named}
 use Rattle.erst_device.specs.Actions.{shown}
 use Rattle.erst_machine.specs.MachineState.{MachineState, IsMachine, records_of}
 use Rattle.erst_machine.specs.Allowed.{Allows, ActsOn}
 use Rattle.erst_machine.specs.OwnTables.{own_entries}
-use Rattle.erst_commands.specs.OwnPrograms.{with_value, answer_of, OwnRun, IsMade, StopsAtOnce, StopsBefore as stops_before, StopsBehind as stops_behind, OwnProgramsRun}
-use Rattle.erst_commands.specs.Looks.{OnlyLooked, HasAsked, HasFailed}
+use Rattle.erst_commands.specs.OwnPrograms.{with_value, answer_of, IsMade, StopsAtOnce, StopsBefore as stops_before, StopsBehind as stops_behind, OwnProgramsRun}
+use Rattle.erst_commands.specs.Looks.{OnlyLooked, HasAsked}
 use Rattle.erst_commands.specs.Changes.{OfEmpty, OfNotFound}
 use Rattle.erst_commands.specs.Reads.{ReadLeaves, ReadAsked, ReadMade, IsRead, IsRefused, IsFailed, ReadCommand, Answers, StopsBehind, StopsBefore}
-use Rattle.erst_commands.proofs.ActionCases.{checks_reading, ReadShown}
-use Rattle.erst_commands.proofs.MachineSteps.{on_device, acted_is, acted_range}
+use Rattle.erst_commands.proofs.ActionCases.{checks_reading}
+use Rattle.erst_commands.proofs.MachineSteps.{on_device, acted_range}
 use Rattle.erst_commands.proofs.OwnProgramLemmas.{steps-begin_read, steps-check}
 use Rattle.erst_commands.proofs.LookLemmas.{has_asked, has_failed}
 use Rattle.erst_commands.proofs.RangeLemmas.{at-start}
 use Rattle.erst_commands.proofs.ChangeLemmas.{kept_map, abandoned_idle}
-use Rattle.erst_commands.proofs.SequenceLemmas.{no_answer, no_stop, same_stop, same_number, Untouched, Opened, Opens, Halts, ask_none, ask_more, begun_device, begin_run, offset_run, identifier_run, execute_run, StillWaited, IsAtOnce, IsShort, wait_still, ended_from, status_in, SequenceEnds, HasTold, HasNotTold, HasNotWaited, HasNotAsked, sequence_ends}
+use Rattle.erst_commands.proofs.SequenceLemmas.{no_answer, no_stop, same_stop, same_number, Untouched, Opened, Opens, Halts, ask_none, ask_more, begun_device, begin_run, offset_run, identifier_run, execute_run, StillWaited, IsAtOnce, IsShort, wait_still, ended_from, status_in, HasTold, HasNotTold, HasNotWaited, HasNotAsked, sequence_ends}
 
-needs-read : (id : ℕ) → steps_needed own_entries (read_requests id) 1 ≡ 10
+pub needs-read : (id : ℕ) → steps_needed own_entries (read_requests id) 1 ≡ 10
 unfolding own_entries entries_of
 needs-read id = refl
 
@@ -276,6 +275,9 @@ module _ (tells : Type 0) (told : tells) (first start : MachineState) (id found 
         elsewhere = elsewhere ∙ ap (λ (m : MachineState). record m { device = new.device; memory = record m.memory { range = new.memory.range } }) looked.elsewhere;
       }
 
+  added : (a b c d e : ℕ) → a ≡ b + c → c ≡ 0 → b ≡ d + e → a ≡ d + e
+  added a b c d e sum none is = omega arith
+
   range_from : (new : MachineState) (out : List ℕ) → new.memory.range ≡ take start.device.offset start.memory.range ++ out → new.memory.range ≡ out
   range_from new out is = is ∙ ap (λ (n : ℕ). take n start.memory.range ++ out) offset
 
@@ -288,7 +290,7 @@ module _ (tells : Type 0) (told : tells) (first start : MachineState) (id found 
   shown_by new store (Ok size) out read is range elsewhere =
       let there : new.device.store ≡ store = ap (λ (d : DeviceState). d.store) is in
       let leaves = read.leaves in
-      let got = read.answer told in
+      let got : AnswersRead start.device.store found (drop start.device.offset start.memory.range) out (Ok size) = read.answer told in
       let map_same : stored start.device.store ≡ records_of first = kept_map first.device.store start.device.store asked.looked.kept asked.looked.alike in
       let same : (got.0, got.1.0) ≡ (body, generation) = same_Some _ _ (sym got.1.1 ∙ ap (λ (m : Stored). get m found) map_same ∙ here) in
       let body_is : got.0 ≡ body = ap (λ (p : List ℕ × ℕ). p.0) same in
@@ -302,7 +304,7 @@ module _ (tells : Type 0) (told : tells) (first start : MachineState) (id found 
       (IsRead found body generation
       (record {
         leaves = shown_leaves new store (Ok size) out read there elsewhere;
-        steps = ap (λ (s : StoreView). s.flash.steps) there ∙ (omega (arith, steps, none, asked.steps));
+        steps = ap (λ (s : StoreView). s.flash.steps) there ∙ added store.flash.steps start.device.store.flash.steps (copies_of start.device.store) _ _ steps none asked.steps;
         certain = ap (λ (s : StoreView). s.in_doubt) there ∙ leaves.doubt.certain;
         faults = ap (λ (s : StoreView). s.flash.faults) there ∙ leaves.cause ∙ asked.faults;
       })

@@ -1,12 +1,9 @@
 -- The sequence of a command over the machine and its own table: its requests up to EXECUTE_OPERATION, the checks of a device in which
 -- nothing runs, the status, and END_OPERATION.
-use Rattle.std.proofs.Common.{◌≡◌, ◌⊎◌, ℕ, zero, suc, ◌+◌, ◌*◌, ◌%◌, ◌^◌, ◌<◌, ◌≤◌, Bool, true, false, List, [], ◌∷◌, Option, Some, None, Result, Ok, Err, refl, sym, ap, subst, ◌∙◌, arith, inl, inr}
-use Rattle.flash_words.specs.Flash.{FlashState}
-use Rattle.flash_words.specs.Layout.{Layout}
-use Rattle.record_store.specs.Store.{StoreView, Idle, abandoned}
+use Rattle.std.proofs.Common.{◌≡◌, ◌⊎◌, ℕ, ◌+◌, ◌%◌, ◌^◌, ◌<◌, true, false, List, [], ◌∷◌, Option, Some, None, Result, Ok, Err, refl, sym, ap, subst, ◌∙◌, arith, inl, inr}
+use Rattle.record_store.specs.Store.{abandoned}
 use Rattle.erst_entries.specs.declared.actions.Action.{Action}
 use Rattle.erst_entries.specs.declared.actions.Action.TheVariants.{EndOperation, SetRecordOffset, SetRecordIdentifier, ExecuteOperation, CheckBusyStatus, GetCommandStatus}
-use Rattle.erst_entries.specs.declared.entries.Entry.{Entry}
 use Rattle.erst_entries.specs.Actions.{code_of, action_of}
 use Rattle.erst_interp.specs.declared.stops.RunStop.{RunStop}
 use Rattle.erst_interp.specs.declared.stops.RunStop.TheVariants.{Budget}
@@ -14,7 +11,7 @@ use Rattle.erst_client.specs.declared.errors.ClientError.{ClientError}
 use Rattle.erst_client.specs.declared.errors.ClientError.TheVariants.{Stopped}
 use Rattle.erst_client.specs.declared.requests.Request.{Request}
 use Rattle.erst_client.specs.Requests.{Performs, Asks}
-use Rattle.erst_client.specs.Sequences.{Pauses, Busy, NotYet, Again, Waits, IsIdle, IsStopped, IsLate, judged, UntilStatus, NotAsked, NotWaited, NotTold, IsTold, closed, Sequence, end_steps}
+use Rattle.erst_client.specs.Sequences.{Busy, NotYet, Again, Waits, IsIdle, IsStopped, IsLate, judged, UntilStatus, NotAsked, NotWaited, NotTold, IsTold, closed, Sequence, end_steps}
 use Rattle.erst_client.specs.Steps.{steps_of}
 use Rattle.erst_device.specs.declared.registers.Operation.{Operation}
 use Rattle.erst_device.specs.declared.status.CommandStatus.{CommandStatus}
@@ -26,11 +23,11 @@ use Rattle.erst_device.specs.Actions.{begun_by, Acts}
 use Rattle.erst_machine.specs.MachineState.{MachineState}
 use Rattle.erst_machine.specs.Allowed.{Allows, ActsOn}
 use Rattle.erst_machine.specs.OwnTables.{own_entries}
-use Rattle.erst_commands.specs.OwnPrograms.{with_value, takes_value, tells_value, given_to, answer_of, OwnRun, IsMade, StopsAtOnce, StopsBefore, StopsBehind, OwnProgramsRun}
-use Rattle.erst_commands.proofs.ActionCases.{Becomes, begins, ends, sets_offset, sets_id, StartsWith, executes, checks_still, tells_status}
+use Rattle.erst_commands.specs.OwnPrograms.{with_value, takes_value, tells_value, given_to, answer_of, IsMade, StopsAtOnce, StopsBefore, StopsBehind, OwnProgramsRun}
+use Rattle.erst_commands.proofs.ActionCases.{begins, ends, sets_offset, sets_id, executes, checks_still, tells_status}
 use Rattle.erst_commands.proofs.MachineSteps.{on_device, acted_is}
-use Rattle.erst_commands.proofs.AskLemmas.{with_answer, FirstAsked, Went, Halted, first_asked, none_asked}
-use Rattle.erst_commands.proofs.OwnProgramLemmas.{IsRun, has_steps, steps-end, steps-offset, steps-identifier, steps-execute, steps-check, steps-status}
+use Rattle.erst_commands.proofs.AskLemmas.{with_answer, Went, Halted, first_asked, none_asked}
+use Rattle.erst_commands.proofs.OwnProgramLemmas.{has_steps, steps-offset, steps-identifier, steps-execute, steps-check, steps-status}
 
 -- The flash, the layout and the cursor are as at first, and beside the device all is; at most an execution was given up
 pub record Untouched (first : MachineState) (w : MachineState) : Type 0 where

@@ -1,5 +1,5 @@
 -- The starts of a write and of a clear by the machine's own table.
-use Rattle.std.proofs.Common.{◌≡◌, ◌⊎◌, ℕ, zero, suc, ◌+◌, ◌-◌, ◌*◌, ◌^◌, ◌<◌, ◌≤◌, Bool, true, false, cond, List, [], ◌∷◌, length, Option, Some, None, Result, Ok, Err, refl, sym, ap, subst, ◌∙◌, arith, inl, inr}
+use Rattle.std.proofs.Common.{◌≡◌, ◌⊎◌, ℕ, suc, ◌+◌, ◌-◌, ◌*◌, ◌^◌, ◌<◌, ◌≤◌, Bool, true, false, cond, List, length, Option, Some, None, Result, Ok, Err, refl, sym, ap, subst, ◌∙◌, arith, inl, inr}
 use Rattle.std.specs.Prelude.{nat_lt, is_some}
 use Rattle.std.specs.FinMap.{get}
 use Rattle.std.proofs.lemmas.Bool.{le-ltb}
@@ -10,25 +10,23 @@ use Rattle.base_model.specs.Faults.{Rose}
 use Rattle.flash_words.specs.Layout.{Layout, room_of, reach_of}
 use Rattle.flash_words.proofs.CrashLemmas.{Leaves-none}
 use Rattle.record_model.specs.Records.{Stored, is_reserved}
-use Rattle.record_model.specs.RecordMap.{Command, Write, Clear, Refusal, Failed as refused_for_good, NoSpace as no_space, NotFound as not_found, refusal_of, after, changes_of, made_by}
+use Rattle.record_model.specs.RecordMap.{Write, Clear, Refusal, Failed as refused_for_good, NoSpace as no_space, NotFound as not_found, refusal_of, after, changes_of, made_by}
 use Rattle.record_model.proofs.MapLemmas.{after-done}
 use Rattle.record_model.proofs.RefusalLemmas.{changes_of-clear, changes_of-refused}
-use Rattle.record_store.specs.Store.{StoreView, Pending, Idle, Writing, Clearing, stored, slots_for, KeepsMap, DividesAlike, abandoned}
+use Rattle.record_store.specs.Store.{StoreView, Pending, Idle, Writing, stored, slots_for, KeepsMap, DividesAlike, abandoned}
 use Rattle.record_store.specs.Answers.{HasFaultsOf, HasDoubtAtStart, RefusesWrite, RefusesClear, EndsCopies, copies_of}
 use Rattle.record_store.specs.Calls.{OnlyStarts}
 use Rattle.record_store.specs.declared.errors.StoreError.{StoreError}
 use Rattle.record_store.specs.declared.errors.StoreError.TheVariants as errors
-use Rattle.erst_entries.specs.declared.actions.Action.TheVariants.{BeginWriteOperation, BeginClearOperation, BeginDummyWriteOperation, SetRecordOffset, SetRecordIdentifier, ExecuteOperation, CheckBusyStatus, GetCommandStatus}
+use Rattle.erst_entries.specs.declared.actions.Action.TheVariants.{BeginWriteOperation, BeginClearOperation, BeginDummyWriteOperation}
 use Rattle.erst_entries.specs.Programs.{entries_of}
 use Rattle.erst_interp.specs.declared.stops.RunStop.{RunStop}
 use Rattle.erst_interp.specs.declared.stops.RunStop.TheVariants.{Budget}
 use Rattle.erst_client.specs.declared.errors.ClientError.{ClientError}
 use Rattle.erst_client.specs.declared.errors.ClientError.TheVariants.{NoSpace, Failed, NotFound, Stopped}
-use Rattle.erst_client.specs.declared.requests.Request.{Request}
-use Rattle.erst_client.specs.Requests.{Performs, Asks}
+use Rattle.erst_client.specs.Requests.{Asks}
 use Rattle.erst_client.specs.Sequences.{judged, write_requests, clear_requests, dummy_requests, Sequence}
 use Rattle.erst_client.specs.Steps.{steps_needed}
-use Rattle.erst_device.specs.declared.registers.Operation.{Operation}
 use Rattle.erst_device.specs.declared.registers.Operation.TheVariants as operations
 use Rattle.erst_device.specs.declared.status.CommandStatus.{CommandStatus}
 use Rattle.erst_device.specs.declared.status.CommandStatus.TheVariants as statuses
@@ -45,18 +43,18 @@ use Rattle.erst_commands.specs.OwnPrograms.{with_value, OwnProgramsRun}
 use Rattle.erst_commands.specs.Attached.{own_client}
 use Rattle.erst_commands.specs.Changes.{OfFailed, OfNoSpace, OfNotFound, copies_first, HoldsRecord, ChangeCommand, DummyLeaves, DummyCommand, IsPlayed, IsCut}
 use Rattle.erst_commands.proofs.MachineSteps.{on_device}
-use Rattle.erst_commands.proofs.LimitLemmas.{changes-most, reach-least}
+use Rattle.erst_commands.proofs.LimitLemmas.{changes-most}
 use Rattle.erst_commands.proofs.OwnProgramLemmas.{steps-begin_write, steps-begin_clear, steps-begin_dummy}
-use Rattle.erst_commands.proofs.SequenceLemmas.{Untouched, RunTo, Reaches, Falls, Opened, Opens, Halts, StillWaited, IsAtOnce, IsShort, wait_still, ended_from, status_in, SequenceEnds, HasTold, HasNotTold, HasNotWaited, HasNotAsked, sequence_ends, ask_none, ask_more, begun_device, begin_run, offset_run, identifier_run, execute_run}
+use Rattle.erst_commands.proofs.SequenceLemmas.{RunTo, Reaches, Falls, Opened, Opens, Halts, StillWaited, IsAtOnce, IsShort, wait_still, ended_from, status_in, HasTold, HasNotTold, HasNotWaited, HasNotAsked, sequence_ends, ask_none, ask_more, begun_device, begin_run, offset_run, identifier_run, execute_run}
 use Rattle.erst_commands.proofs.WayLemmas.{Leads, write_leads, some_changes}
-use Rattle.erst_commands.proofs.ChangeLemmas.{Base, StartedChange, UnstartedChange, UnstartedAnswer, RefusedBy, FailedBy, IsStarted, kept_map, change_command}
+use Rattle.erst_commands.proofs.ChangeLemmas.{Base, StartedChange, UnstartedChange, UnstartedAnswer, RefusedBy, FailedBy, kept_map, change_command}
 
 -- the steps of a sequence of three requests, with one that gives a value
-needs-write : (checks : ℕ) → steps_needed own_entries write_requests checks ≡ 6 + 2 * checks
+pub needs-write : (checks : ℕ) → steps_needed own_entries write_requests checks ≡ 6 + 2 * checks
 unfolding own_entries entries_of
 needs-write checks = omega arith
 
-needs-clear : (id checks : ℕ) → steps_needed own_entries (clear_requests id) checks ≡ 6 + 2 * checks
+pub needs-clear : (id checks : ℕ) → steps_needed own_entries (clear_requests id) checks ≡ 6 + 2 * checks
 unfolding own_entries entries_of
 needs-clear id checks = omega arith
 
@@ -139,6 +137,27 @@ reserved_start first start id reserved there =
     let none = copies_reserved id first.device.store reserved in
     let steps : start.device.store.flash.steps ≡ first.device.store.flash.steps = ap (λ (s : StoreView). s.flash.steps) there in
     (omega (arith, none, steps), ap (λ (s : StoreView). s.flash.faults) there, λ usable. differ (sym reserved ∙ usable), λ also. there)
+
+-- no command makes more changes than the timings say
+pub write-few : (state : MachineState) (id : ℕ) (bytes : List ℕ) → length bytes ≤ reach_of (room_of state.device.store.layout)
+    → changes_of state.device.store.layout (Write id bytes) (records_of state) ≤ most_changes state.device.store.layout
+write-few state id bytes fits = by_refusal (refusal_of state.device.store.layout (Write id bytes) (records_of state)) refl
+  where
+    by_refusal : (refusal : Option Refusal) → refusal_of state.device.store.layout (Write id bytes) (records_of state) ≡ refusal
+        → changes_of state.device.store.layout (Write id bytes) (records_of state) ≤ most_changes state.device.store.layout
+    by_refusal None taken =
+        let some = some_changes state.device.store.layout id bytes (records_of state) taken in
+        let most = changes-most state.device.store.layout (length bytes) fits in
+        omega (arith, some.1, most)
+    by_refusal (Some refusal) refused = omega (arith, changes_of-refused state.device.store.layout (Write id bytes) (records_of state) refusal refused)
+
+pub clear-few : (state : MachineState) (id : ℕ) → changes_of state.device.store.layout (Clear id) (records_of state) ≤ most_changes state.device.store.layout
+clear-few state id = by_refusal (refusal_of state.device.store.layout (Clear id) (records_of state)) refl
+  where
+    by_refusal : (refusal : Option Refusal) → refusal_of state.device.store.layout (Clear id) (records_of state) ≡ refusal
+        → changes_of state.device.store.layout (Clear id) (records_of state) ≤ most_changes state.device.store.layout
+    by_refusal None taken = omega (arith, changes_of-clear state.device.store.layout id (records_of state) taken)
+    by_refusal (Some refusal) refused = omega (arith, changes_of-refused state.device.store.layout (Clear id) (records_of state) refusal refused)
 
 -- A write
 
@@ -308,18 +327,10 @@ module _ (tells : Type 0) (own : OwnProgramsRun tells) (told : tells) (first : M
       asks)
       asks
 
-  changes-write : (b : Option Refusal) → refusal_of first.device.store.layout (Write id bytes) (records_of first) ≡ b → length bytes ≤ reach_of (room_of first.device.store.layout)
-      → changes_of first.device.store.layout (Write id bytes) (records_of first) ≤ most_changes first.device.store.layout
-  changes-write None taken fits =
-      let some = some_changes first.device.store.layout id bytes (records_of first) taken in
-      let most = changes-most first.device.store.layout (length bytes) fits in
-      omega (arith, some.1, most)
-  changes-write (Some refusal) refused fits = omega (arith, changes_of-refused first.device.store.layout (Write id bytes) (records_of first) refusal refused)
-
   pub write_command : length bytes ≤ reach_of (room_of first.device.store.layout) → (budget : ℕ) (result : Result (Unit {0}) ClientError) (left : ℕ) (last : MachineState)
       → Sequence (Allows tells) own_entries (own_client first).timings write_requests budget first result left last → ChangeCommand first last id (Write id bytes) write_requests budget result left
   write_command fits budget result left last sequence =
-      change_command tells own told first id (Write id bytes) write_requests budget needs-write (changes-write (refusal_of first.device.store.layout (Write id bytes) (records_of first)) refl fits)
+      change_command tells own told first id (Write id bytes) write_requests budget needs-write (write-few first id bytes fits)
       (λ result left last asks. write_opens budget result left last asks) result left last sequence
 
 -- A clear
@@ -430,14 +441,10 @@ module _ (tells : Type 0) (own : OwnProgramsRun tells) (told : tells) (first : M
       asks)
       asks
 
-  changes-clear : (b : Option Refusal) → refusal_of first.device.store.layout (Clear id) (records_of first) ≡ b → changes_of first.device.store.layout (Clear id) (records_of first) ≤ most_changes first.device.store.layout
-  changes-clear None taken = omega (arith, changes_of-clear first.device.store.layout id (records_of first) taken)
-  changes-clear (Some refusal) refused = omega (arith, changes_of-refused first.device.store.layout (Clear id) (records_of first) refusal refused)
-
   pub clear_command : (budget : ℕ) (result : Result (Unit {0}) ClientError) (left : ℕ) (last : MachineState)
       → Sequence (Allows tells) own_entries (own_client first).timings (clear_requests id) budget first result left last → ChangeCommand first last id (Clear id) (clear_requests id) budget result left
   clear_command budget result left last sequence =
-      change_command tells own told first id (Clear id) (clear_requests id) budget (needs-clear id) (changes-clear (refusal_of first.device.store.layout (Clear id) (records_of first)) refl)
+      change_command tells own told first id (Clear id) (clear_requests id) budget (needs-clear id) (clear-few first id)
       (λ result left last asks. clear_opens budget result left last asks) result left last sequence
 
 -- A dummy write
@@ -445,7 +452,7 @@ module _ (tells : Type 0) (own : OwnProgramsRun tells) (told : tells) (first : M
 abbrev dummy_device : DeviceState → DeviceState
 dummy_device old = record (begun_device operations.Dummy old) { value = 0; offset = 0 }
 
-needs-dummy : steps_needed own_entries dummy_requests 1 ≡ 8
+pub needs-dummy : steps_needed own_entries dummy_requests 1 ≡ 8
 unfolding own_entries entries_of
 needs-dummy = refl
 

@@ -1,19 +1,18 @@
 -- The changes of a write or clear that runs, one a check.
 use Rattle.std.proofs.Common.{◌≡◌, ◌≢◌, ◌⊎◌, ℕ, zero, suc, ◌+◌, ◌-◌, ◌*◌, ◌^◌, ◌<◌, ◌≤◌, Bool, true, false, cond, List, length, Option, Some, None, Result, Ok, Err, refl, sym, ap, subst, ◌∙◌, arith, inl, inr}
-use Rattle.std.specs.Prelude.{nat_eq, is_some, min, OnOk}
+use Rattle.std.specs.Prelude.{nat_eq, is_some, min}
 use Rattle.std.specs.FinMap.{get}
 use Rattle.std.proofs.lemmas.Bool.{cases_eq, cond-true, cond-false, eq-eqb, ne_eqb}
 use Rattle.base_model.specs.Faults.{Rose}
 use Rattle.flash_words.specs.Layout.{Layout, room_of}
-use Rattle.flash_words.proofs.CrashLemmas.{Leaves-none, Leaves-weaker, Leaves-then, Leaves-exit}
+use Rattle.flash_words.proofs.CrashLemmas.{Leaves-weaker, Leaves-then, Leaves-exit}
 use Rattle.record_model.specs.Records.{Stored, parts_of}
-use Rattle.record_model.specs.RecordMap.{Write, Clear, made_by, refusal_of, changes_of, changes_of_parts}
+use Rattle.record_model.specs.RecordMap.{Write, made_by, refusal_of, changes_of, changes_of_parts}
 use Rattle.record_model.proofs.RefusalLemmas.{changes_of-new, changes_of-over}
-use Rattle.record_store.specs.Store.{StoreView, Pending, Idle, Writing, Clearing, stored, records_of as records_in, map_after, pending_after, changes_before_gate, changes_in_all, IsBusy, KeepsOrMakes, DividesAlike}
+use Rattle.record_store.specs.Store.{StoreView, Pending, Idle, Writing, stored, records_of as records_in, map_after, pending_after, changes_before_gate, changes_in_all, IsBusy, KeepsOrMakes, DividesAlike}
 use Rattle.record_store.specs.Answers.{HasFaultsOf}
 use Rattle.record_store.specs.declared.errors.StoreError.{StoreError}
 use Rattle.record_store.specs.declared.errors.StoreError.TheVariants.{Flash}
-use Rattle.apei_space.specs.Calls.{Wait}
 use Rattle.erst_entries.specs.declared.actions.Action.TheVariants.{CheckBusyStatus}
 use Rattle.erst_interp.specs.declared.stops.RunStop.{RunStop}
 use Rattle.erst_interp.specs.declared.stops.RunStop.TheVariants.{Budget}
@@ -29,9 +28,9 @@ use Rattle.erst_device.specs.Actions.{stepped}
 use Rattle.erst_machine.specs.MachineState.{MachineState}
 use Rattle.erst_machine.specs.Allowed.{Allows, ActsOn}
 use Rattle.erst_machine.specs.OwnTables.{own_entries}
-use Rattle.erst_commands.specs.OwnPrograms.{answer_of, OwnRun, IsMade, StopsAtOnce, StopsBefore, StopsBehind, OwnProgramsRun}
+use Rattle.erst_commands.specs.OwnPrograms.{answer_of, IsMade, StopsAtOnce, StopsBefore, StopsBehind, OwnProgramsRun}
 use Rattle.erst_commands.specs.Changes.{waits_after}
-use Rattle.erst_commands.proofs.ActionCases.{StepMade, checks_busy}
+use Rattle.erst_commands.proofs.ActionCases.{checks_busy}
 use Rattle.erst_commands.proofs.MachineSteps.{on_device, acted_is}
 use Rattle.erst_commands.proofs.OwnProgramLemmas.{steps-check}
 

@@ -1,24 +1,19 @@
 -- A client's write over the machine.
-use Rattle.std.proofs.Common.{◌≡◌, ℕ, ◌+◌, ◌<◌, ◌≤◌, List, length, Option, Some, None, Result, Ok, Err, refl, sym, ap, subst, ◌∙◌, arith}
+use Rattle.std.proofs.Common.{◌≡◌, ℕ, List, length, Result, Ok, Err, refl, sym, ap, subst, ◌∙◌, arith}
 use Rattle.std.specs.Prelude.{codes}
 use Rattle.base_model.specs.Bytes.{put_at}
 use Rattle.base_model.proofs.BytesLemmas.{length-put_at}
-use Rattle.flash_words.specs.Layout.{room_of, reach_of}
-use Rattle.record_model.specs.RecordMap.{Write}
 use Rattle.apei_space.specs.Calls.{WriteBytes}
 use Rattle.apei_space.specs.declared.faults.SpaceFault.{SpaceFault}
 use Rattle.erst_client.specs.declared.errors.ClientError.{ClientError}
-use Rattle.erst_client.specs.Commands.{write_refusal, Puts, NotPut, NotMarked, IsPut, Writes, IsNoRecord as refused, IsNotPut, IsAsked}
+use Rattle.erst_client.specs.Commands.{Puts, NotPut, NotMarked, IsPut, Writes, IsNoRecord as refused, IsNotPut, IsAsked}
 use Rattle.erst_client.specs.Sequences.{write_requests, Sequence}
-use Rattle.erst_machine.specs.declared.areas.Area.TheVariants.{LogRange}
 use Rattle.erst_machine.specs.declared.areas.Spot.{Spot}
-use Rattle.erst_machine.specs.declared.areas.Spot.TheVariants.{Inside}
 use Rattle.erst_machine.specs.MachineState.{MachineState, IsMachine, reach_in}
 use Rattle.erst_machine.specs.Allowed.{Allows, bytes_stored}
 use Rattle.erst_machine.specs.OwnTables.{own_entries}
 use Rattle.erst_commands.specs.OwnPrograms.{OwnProgramsRun}
 use Rattle.erst_commands.specs.Attached.{own_client}
-use Rattle.erst_commands.specs.Changes.{ChangeCommand}
 use Rattle.erst_commands.specs.Writes.{marked, id_of, with_record, WriteAnswered, IsNoRecord, IsWritten}
 use Rattle.erst_commands.proofs.RangeLemmas.{spot-start, spot-mark, IsRecord, not_refused, marked-put, holds-marked}
 use Rattle.erst_commands.proofs.StartLemmas.{write_command}

@@ -1,5 +1,5 @@
 -- The client that attaching to the machine's own table finds.
-use Rattle.std.specs.Prelude.{◌≡◌, ℕ, ◌+◌, ◌*◌, ◌≤◌, Some, Result, Ok, Err}
+use Rattle.std.specs.Prelude.{◌≡◌, ℕ, ◌+◌, ◌*◌, Some, Result, Ok}
 use Rattle.erst_client.specs.declared.errors.AttachError.{AttachError}
 use Rattle.erst_client.specs.Commands.{ClientState}
 use Rattle.erst_device.specs.declared.device.TheConstants.{LOG_RANGE}

@@ -1,7 +1,7 @@
 -- A read by the machine's own table, on the records of its flash.
-use Rattle.std.specs.Prelude.{◌≡◌, ℕ, ◌+◌, ◌≤◌, ◌<◌, false, List, length, Some, Result, Ok, Err}
+use Rattle.std.specs.Prelude.{◌≡◌, ℕ, ◌+◌, ◌≤◌, ◌<◌, false, List, ◌++◌, length, drop, Some, None, Result, Ok, Err}
 use Rattle.std.specs.FinMap.{get}
-use Rattle.base_model.specs.Bytes.{put_at}
+use Rattle.base_model.specs.Bytes.{part, number_at, put_at}
 use Rattle.base_model.specs.Faults.{Rose}
 use Rattle.record_model.specs.RecordMap.{Read, Refusal, refusal_of}
 use Rattle.record_model.specs.History.{Refused, IsNamed, cursor_after}
@@ -10,9 +10,10 @@ use Rattle.record_store.specs.Answers.{copies_of}
 use Rattle.erst_interp.specs.declared.stops.RunStop.TheVariants.{Budget}
 use Rattle.erst_client.specs.declared.errors.ClientError.{ClientError}
 use Rattle.erst_client.specs.declared.errors.ClientError.TheVariants.{Hardware, Stopped}
+use Rattle.erst_client.specs.Commands.{copy_refusal}
 use Rattle.erst_client.specs.Sequences.{read_requests}
 use Rattle.erst_client.specs.Steps.{steps_needed}
-use Rattle.erst_machine.specs.MachineState.{MachineState, records_of}
+use Rattle.erst_machine.specs.MachineState.{MachineState, reach_in, records_of}
 use Rattle.erst_machine.specs.OwnTables.{own_entries}
 use Rattle.erst_commands.specs.Changes.{IsErrorOf}
 
@@ -48,3 +49,11 @@ pub data ReadCommand (first last : MachineState) (id budget : ℕ) : Result (Uni
   Answers : (result : Result (Unit {0}) ClientError) (left : ℕ) → ReadMade first last id result → left + steps_needed own_entries (read_requests id) 1 ≡ budget → ReadCommand first last id budget result left
   StopsBehind : (result : Result (Unit {0}) ClientError) → ReadMade first last id result → budget < steps_needed own_entries (read_requests id) 1 → ReadCommand first last id budget (Err (Stopped Budget)) 0
   StopsBefore : ReadLeaves first last → last.memory.range ≡ first.memory.range → last.device.cursor ≡ first.device.cursor → budget < 7 → ReadCommand first last id budget (Err (Stopped Budget)) 0
+
+-- a client's read: the record's length is read from the log range, and so many bytes of the range are copied out
+pub data ReadAnswered (id : ℕ) (out : List ℕ) (budget : ℕ) (first : MachineState) : Result ℕ ClientError → List ℕ → ℕ → MachineState → Type 0 where
+  IsNotRead : (error : ClientError) (left : ℕ) (last : MachineState) → ReadCommand first last id budget (Err error) left → ReadAnswered id out budget first (Err error) out left last
+  IsNotCopied : (error : ClientError) (left : ℕ) (last : MachineState) → ReadCommand first last id budget (Ok tt) left
+      → copy_refusal (number_at last.memory.range 20 4) (reach_in first.device) (length out) ≡ Some error → ReadAnswered id out budget first (Err error) out left last
+  IsCopied : (left : ℕ) (last : MachineState) → ReadCommand first last id budget (Ok tt) left → copy_refusal (number_at last.memory.range 20 4) (reach_in first.device) (length out) ≡ None
+      → ReadAnswered id out budget first (Ok (number_at last.memory.range 20 4)) (part last.memory.range 0 (number_at last.memory.range 20 4) ++ drop (number_at last.memory.range 20 4) out) left last

@@ -1,5 +1,5 @@
 -- A client's write over the machine: the record is put into the log range, marked, and then written.
-use Rattle.std.specs.Prelude.{◌≡◌, ℕ, List, codes, Some, None, Result, Ok, Err}
+use Rattle.std.specs.Prelude.{◌≡◌, ℕ, List, codes, Some, None, Result, Err}
 use Rattle.base_model.specs.Bytes.{number_at, put_at}
 use Rattle.record_model.specs.RecordMap.{Write}
 use Rattle.erst_client.specs.declared.errors.ClientError.{ClientError}

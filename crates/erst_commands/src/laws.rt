@@ -1,10 +1,16 @@
 // Laws on the machine's own table: the functions do nothing, and their clauses are the laws.
-ghost use Rattle.std.specs.Prelude.{◌≡◌, ℕ, ◌+◌, ◌≤◌, ◌<◌, ◌^◌, List, length, Option, Result};
-ghost use Rattle.record_model.specs.RecordMap.{Write, Clear};
+ghost use Rattle.std.specs.Prelude.{◌≡◌, ℕ, ◌+◌, ◌≤◌, ◌<◌, ◌^◌, max, List, length, Option, Result, Err};
+ghost use Rattle.base_model.specs.Bytes.{part, number_at, put_at};
+ghost use Rattle.record_model.specs.RecordMap.{Command, Write, Clear, changes_of};
+ghost use Rattle.erst_interp.specs.declared.stops.RunStop.TheVariants.{Budget};
 ghost use Rattle.erst_client.specs.declared.errors.AttachError.{AttachError};
 ghost use Rattle.erst_client.specs.declared.errors.ClientError.{ClientError};
-ghost use Rattle.erst_client.specs.Commands.{ClientState, Writes, Counts, Names};
+ghost use Rattle.erst_client.specs.Commands.{ClientState, Writes, Reads, Counts, Names};
+ghost use Rattle.erst_client.specs.declared.errors.ClientError.TheVariants.{Stopped};
+ghost use Rattle.erst_client.specs.declared.requests.Request.{Request};
 ghost use Rattle.erst_client.specs.Attaching.{Attaches};
+ghost use Rattle.erst_client.specs.Timings.{enough_steps};
+ghost use Rattle.erst_client.specs.Steps.{steps_needed};
 ghost use Rattle.erst_client.specs.Sequences.{Sequence, write_requests, read_requests, clear_requests, dummy_requests};
 ghost use Rattle.erst_machine.specs.MachineState.{MachineState, IsMachine, reach_in, records_of};
 ghost use Rattle.erst_machine.specs.Allowed.{Allows};
@@ -14,7 +20,7 @@ ghost use Rattle.erst_commands.specs.Attached.{own_client, AttachesOwn};
 ghost use Rattle.erst_commands.specs.Looks.{HaveIds, CountMade, NextMade, AsksOnce};
 ghost use Rattle.erst_commands.specs.Changes.{HoldsRecord, ChangeCommand, DummyCommand};
 ghost use Rattle.erst_commands.specs.Writes.{WriteAnswered};
-ghost use Rattle.erst_commands.specs.Reads.{ReadCommand};
+ghost use Rattle.erst_commands.specs.Reads.{ReadCommand, ReadAnswered};
 
 use erst_interp::a_straight_program_runs_through;
 use erst_machine::Machine;
@@ -97,3 +103,32 @@ pub fn a_read_is_the_maps<F: Flash>()
 {
     own_programs_run_through::<F>();
 }
+
+/// A client's read over the machine: after its sequence the record's length is read from the log range, and so many bytes of it are
+/// copied out.
+pub fn a_client_reads_as_the_map<F: Flash>()
+    ensures { F.tells → (id : ℕ) (out : List ℕ) (budget : ℕ) (first : MachineState) (result : Result ℕ ClientError) (after : List ℕ) (left : ℕ) (last : MachineState) → IsMachine first → id < 2 ^ 64
+        → Reads (Allows F.tells) (own_client first) id out budget first result after left last → ReadAnswered id out budget first result after left last }
+{
+    own_programs_run_through::<F>();
+}
+
+/// A record whose header says its length is shown whole by a log range that begins with it.
+pub fn a_framed_record_is_shown_whole()
+    ensures { (range body : List ℕ) → 128 ≤ length body → length body ≤ length range → number_at body 20 4 ≡ length body
+        → (number_at (put_at range 0 body) 20 4 ≡ length body) × (part (put_at range 0 body) 0 (length body) ≡ body) }
+{}
+
+/// The steps that a client takes by the machine's timings are enough for each of its commands, and a write or clear that has the steps
+/// of its changes is not stopped.
+pub fn enough_steps_are_enough()
+    ensures write { (state : MachineState) (id : ℕ) (bytes : List ℕ) → length bytes ≤ reach_in state.device
+        → steps_needed own_entries write_requests (max 1 (changes_of state.device.store.layout (Write id bytes) (records_of state))) ≤ enough_steps (own_client state).timings }
+    ensures clear { (state : MachineState) (id : ℕ)
+        → steps_needed own_entries (clear_requests id) (max 1 (changes_of state.device.store.layout (Clear id) (records_of state))) ≤ enough_steps (own_client state).timings }
+    ensures read { (state : MachineState) (id : ℕ) → steps_needed own_entries (read_requests id) 1 ≤ enough_steps (own_client state).timings }
+    ensures dummy { (state : MachineState) → steps_needed own_entries dummy_requests 1 ≤ enough_steps (own_client state).timings }
+    ensures not_stopped { (first last : MachineState) (id : ℕ) (command : Command) (requests : List Request) (budget : ℕ) (result : Result (Unit {0}) ClientError) (left : ℕ)
+        → steps_needed own_entries requests (max 1 (changes_of first.device.store.layout command (records_of first))) ≤ budget
+        → ChangeCommand first last id command requests budget result left → result ≡ Err (Stopped Budget) → ⊥ }
+{}
