@@ -1,6 +1,6 @@
 #!/usr/bin/env python3
 """Times the machine beside its store: a record of 128 bytes written by a client with the machine's own table and by a call of the
-store, a read of plain memory, and a boot and an opening over a flash of 64 MiB.
+store, an access of plain memory, and a boot and an opening over a flash of 64 MiB.
 
     bench/machine.py [PROGRAM]
 
@@ -30,8 +30,8 @@ def each(job, times):
 
 
 writes, calls = each("writes", 10_000), each("calls", 10_000)
-boots, openings = each("boots", 20), each("openings", 20)
-access = each("accesses", 10_000_000)
+boots, openings = each("boots", 200), each("openings", 200)
+access = each("accesses", 10_000_000) / 2
 print(f"a write by programs: {writes * 1e9:.0f} ns, by a call: {calls * 1e9:.0f} ns, ratio {writes / calls:.2f}")
-print(f"a read of plain memory: {access * 1e9:.1f} ns")
+print(f"an access of plain memory: {access * 1e9:.1f} ns")
 print(f"a boot over 64 MiB: {boots * 1e3:.2f} ms, an opening: {openings * 1e3:.2f} ms, ratio {boots / openings:.2f}")

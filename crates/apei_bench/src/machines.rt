@@ -104,8 +104,8 @@ pub fn write_by_calls(alloc: Global, times: u64) -> Option<u64> {
     Some(done)
 }
 
-/// Reads eight bytes of the machine's plain memory so many times. It answers their sum.
-pub fn read_memory(alloc: Global, times: u64) -> Option<u64> {
+/// Writes eight bytes of the machine's plain memory and reads them, so many times. It answers their sum.
+pub fn use_memory(alloc: Global, times: u64) -> Option<u64> {
     let mut machine = machine(alloc)?;
     let sum = sum_of(&mut machine, times);
     let _flash = machine.into_flash();
@@ -116,7 +116,11 @@ fn sum_of(machine: &mut Machine<SimFlash>, times: u64) -> Option<u64> {
     let mut sum = 0u64;
     for k in 0..times {
         let at = Place::Memory(SCRATCH + 8 * (k % 512));
-        sum = sum.wrapping_add(machine.read(at, Width::B64).ok()?);
+        machine.write(at, Width::B64, sum).ok()?;
+        let last = Place::Memory(SCRATCH + 8 * (k / 3 % 512));
+        sum = sum
+            .wrapping_add(1)
+            .wrapping_add(machine.read(last, Width::B64).ok()?);
     }
     Some(sum)
 }

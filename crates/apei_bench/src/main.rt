@@ -43,7 +43,7 @@ fn done(alloc: Global, job: &str, times: u64) -> Option<u64> {
         "pieces" => handovers::copy_by_pieces(alloc, times),
         "writes" => machines::write_by_programs(alloc, times),
         "calls" => machines::write_by_calls(alloc, times),
-        "accesses" => machines::read_memory(alloc, times),
+        "accesses" => machines::use_memory(alloc, times),
         "boots" => machines::boot(alloc, times),
         "openings" => machines::open(alloc, times),
         "lines" => lines::parse_lines(times),
