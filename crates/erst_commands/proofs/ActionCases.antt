@@ -2,7 +2,7 @@
 use Rattle.std.proofs.Common.{◌≡◌, ℕ, Bool, true, false, List, ◌++◌, take, drop, Option, Some, None, Result, refl, sym, ap, subst, ◌∙◌}
 use Rattle.std.proofs.lemmas.Option.{none-some, same_Some}
 use Rattle.flash_words.specs.Layout.{room_of, reach_of}
-use Rattle.record_store.specs.Store.{StoreView, Pending, Idle, IsBusy}
+use Rattle.record_store.specs.Store.{StoreView, IsBusy}
 use Rattle.record_store.specs.declared.errors.StoreError.{StoreError}
 use Rattle.erst_entries.specs.declared.actions.Action.{Action}
 use Rattle.erst_entries.specs.declared.actions.Action.TheVariants.{EndOperation, SetRecordOffset, ExecuteOperation, CheckBusyStatus, GetCommandStatus, GetRecordIdentifier, SetRecordIdentifier, GetRecordCount, GetErrorLogAddressRange, GetErrorLogAddressRangeLength, GetErrorLogAddressRangeAttributes, GetExecuteOperationTimings}
@@ -15,6 +15,7 @@ use Rattle.erst_device.specs.StoreCalls.{Stepped, ReadOut, FoundNext, Counted}
 use Rattle.erst_device.specs.DeviceState.{DeviceState, IsStill, IsRunning, Reads, Changes, given_up}
 use Rattle.erst_device.specs.Starts.{Starts}
 use Rattle.erst_device.specs.Actions.{begun_by, waits, IsAllowed, stepped, shown, found, counted, Acts, Begins, Ends, SetsOffset, SetsId, Waits, Executes, NoneRuns, Steps, Shows, TellsStatus, FindsNext, Counts, TellsAddress, TellsLength, TellsAttributes, TellsTimings, Ignores}
+use Rattle.erst_commands.proofs.SharedLemmas.{idle_busy}
 
 -- the device afterwards, with the log range as before
 pub record Becomes (device : DeviceState) (range : List ℕ) (new : DeviceState) (after : List ℕ) : Type 0 where
@@ -32,9 +33,6 @@ waits_no action known e none w = differ (sym w ∙ (ap waits (same_Some _ _ e) �
   where
     differ : true ≡ false → ⊥
     differ e = cc
-
-idle_busy : (pending : Pending) → pending ≡ Idle → IsBusy pending → ⊥
-idle_busy pending idle busy = subst (λ (p : Pending). IsBusy p) idle busy
 
 pub not_both : (old : DeviceState) → IsStill old → IsRunning old → ⊥
 not_both old still runs = elim runs [

@@ -31,6 +31,7 @@ use Rattle.erst_commands.specs.Changes.{IsErrorOf, copies_first, waits_after, Ch
 use Rattle.erst_commands.proofs.MachineSteps.{on_device}
 use Rattle.erst_commands.proofs.SequenceLemmas.{Untouched, Opened, Opens, Halts, StillWaited, IsAtOnce, IsShort, wait_still, ended_from, status_in, HasTold, HasNotTold, HasNotWaited, HasNotAsked, sequence_ends}
 use Rattle.erst_commands.proofs.WayLemmas.{Leads, OnWay, Broken, Midway, of_way, of_broken, WayWaited, WayEnds, WayBreaks, WayStops, wait_way}
+use Rattle.erst_commands.proofs.SharedLemmas.{alike_then}
 
 -- what a start leaves, whatever it answers
 pub record Base (first start : MachineState) : Type 0 where
@@ -70,9 +71,6 @@ pub record UnstartedChange (first start : MachineState) (id : ℕ) (command : Co
 pub kept_map : (old new : StoreView) → KeepsMap old new → DividesAlike old new → stored new ≡ stored old
 kept_map old new kept alike =
     ap (λ (layout : Layout). records_in layout new.flash.told.image) alike.layout ∙ Leaves-exit old.flash.told new.flash.told (λ image. records_in old.layout image ≡ stored old) kept
-
-alike_then : (a b c : StoreView) → DividesAlike a b → DividesAlike b c → DividesAlike a c
-alike_then a b c first second = record { layout = second.layout ∙ first.layout; size = second.size ∙ first.size; sector_size = second.sector_size ∙ first.sector_size }
 
 -- the start keeps the records, and what follows keeps them or makes these
 begun_then : (old mid new : StoreView) (made : Stored) → KeepsMap old mid → DividesAlike old mid → KeepsOrMakes mid new made → KeepsOrMakes old new made

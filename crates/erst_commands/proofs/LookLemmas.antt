@@ -29,17 +29,9 @@ use Rattle.erst_commands.specs.Looks.{HaveIds, OnlyLooked, HasAsked, HasFailed, 
 use Rattle.erst_commands.proofs.ActionCases.{finds_next, counts}
 use Rattle.erst_commands.proofs.OwnProgramLemmas.{steps-count, steps-next}
 use Rattle.erst_commands.proofs.MachineSteps.{acted_is}
+use Rattle.erst_commands.proofs.SharedLemmas.{never_falls}
 
 -- what the store says of a call that only looks, from the store with its execution given up
-never_falls : {T : Type 0} (before after : ℕ) (result : Result T StoreError) → HasFaultsOf before after result → before ≤ after
-never_falls before after (Ok done) h = omega (arith, h)
-never_falls before after (Err (errors.NoSpace free)) h = omega (arith, h)
-never_falls before after (Err (errors.LastGeneration id)) h = omega (arith, h)
-never_falls before after (Err errors.NotFound) h = omega (arith, h)
-never_falls before after (Err errors.Empty) h = omega (arith, h)
-never_falls before after (Err errors.Flash) h = h.0
-never_falls before after (Err (errors.Small need)) h = omega (arith, h)
-
 alike_from : (old new : StoreView) → DividesAlike (abandoned old) new → DividesAlike old new
 alike_from old new alike = record { layout = alike.layout; size = alike.size; sector_size = alike.sector_size }
 

@@ -50,7 +50,8 @@ use Rattle.erst_commands.proofs.OwnProgramLemmas.{steps-begin_read, steps-check}
 use Rattle.erst_commands.proofs.LookLemmas.{has_asked, has_failed}
 use Rattle.erst_commands.proofs.RangeLemmas.{at-start}
 use Rattle.erst_commands.proofs.ChangeLemmas.{kept_map, abandoned_idle}
-use Rattle.erst_commands.proofs.SequenceLemmas.{no_answer, no_stop, same_stop, same_number, Untouched, Opened, Opens, Halts, ask_none, ask_more, begun_device, begin_run, offset_run, identifier_run, execute_run, StillWaited, IsAtOnce, IsShort, wait_still, ended_from, status_in, HasTold, HasNotTold, HasNotWaited, HasNotAsked, sequence_ends}
+use Rattle.erst_commands.proofs.SequenceLemmas.{Untouched, Opened, Opens, Halts, ask_none, ask_more, begun_device, begin_run, offset_run, identifier_run, execute_run, StillWaited, IsAtOnce, IsShort, wait_still, ended_from, status_in, HasTold, HasNotTold, HasNotWaited, HasNotAsked, sequence_ends}
+use Rattle.erst_commands.proofs.SharedLemmas.{alike_then, never_falls, no_answer, no_stop, same_stop, same_number}
 
 pub needs-read : (id : ℕ) → steps_needed own_entries (read_requests id) 1 ≡ 10
 unfolding own_entries entries_of
@@ -239,18 +240,6 @@ kept_then a b c first alike second =
     Leaves-then a.flash.told b.flash.told c.flash.told (λ image. records_in a.layout image ≡ stored a) first
     (Leaves-weaker b.flash.told c.flash.told (λ image. records_in b.layout image ≡ stored b) (λ image. records_in a.layout image ≡ stored a) second
     (λ image same. ap (λ (l : Layout). records_in l image) (sym alike.layout) ∙ same ∙ kept_map a b first alike))
-
-alike_then : (a b c : StoreView) → DividesAlike a b → DividesAlike b c → DividesAlike a c
-alike_then a b c first second = record { layout = second.layout ∙ first.layout; size = second.size ∙ first.size; sector_size = second.sector_size ∙ first.sector_size }
-
-never_falls : (before after : ℕ) (result : Result ℕ StoreError) → HasFaultsOf before after result → before ≤ after
-never_falls before after (Ok done) h = omega (arith, h)
-never_falls before after (Err (errors.NoSpace free)) h = omega (arith, h)
-never_falls before after (Err (errors.LastGeneration id)) h = omega (arith, h)
-never_falls before after (Err errors.NotFound) h = omega (arith, h)
-never_falls before after (Err errors.Empty) h = omega (arith, h)
-never_falls before after (Err errors.Flash) h = h.0
-never_falls before after (Err (errors.Small need)) h = omega (arith, h)
 
 no_copies : (store : StoreView) → store.in_doubt ≡ false → copies_of store ≡ 0
 no_copies store certain = rw certain refl

@@ -28,6 +28,7 @@ use Rattle.erst_commands.proofs.ActionCases.{begins, ends, sets_offset, sets_id,
 use Rattle.erst_commands.proofs.MachineSteps.{on_device, acted_is}
 use Rattle.erst_commands.proofs.AskLemmas.{with_answer, Went, Halted, first_asked, none_asked}
 use Rattle.erst_commands.proofs.OwnProgramLemmas.{has_steps, steps-offset, steps-identifier, steps-execute, steps-check, steps-status}
+use Rattle.erst_commands.proofs.SharedLemmas.{no_answer, no_stop, same_stop, same_number}
 
 -- The flash, the layout and the cursor are as at first, and beside the device all is; at most an execution was given up
 pub record Untouched (first : MachineState) (w : MachineState) : Type 0 where
@@ -55,15 +56,6 @@ pub data RunTo (first : MachineState) (P : MachineState → Type 0) (cost budget
 pub data Opened (first : MachineState) (P : MachineState → Type 0) (cost budget : ℕ) : Result (List ℕ) RunStop → ℕ → MachineState → Type 0 where
   Opens : (answers : List ℕ) (left : ℕ) (w : MachineState) → P w → left + cost ≡ budget → Opened first P cost budget (Ok answers) left w
   Halts : (w : MachineState) → Untouched first w → budget < cost → Opened first P cost budget (Err Budget) 0 w
-
-pub no_answer : (answer : ℕ) (stop : RunStop) → Ok answer ≡ Err stop → ⊥
-no_answer answer stop e = absurd (cc)
-
-pub no_stop : (answer : ℕ) (stop : RunStop) → Err stop ≡ Ok answer → ⊥
-no_stop answer stop e = absurd (cc)
-
-pub same_stop : (x y : RunStop) → ◌≡◌ {A = Result ℕ RunStop} (Err x) (Err y) → x ≡ y
-same_stop x y e = cc
 
 record ReachedTo (P : MachineState → Type 0) (cost budget left : ℕ) (w : MachineState) : Type 0 where
   holds : P w
@@ -216,9 +208,6 @@ record NotBusy (w : MachineState) (budget busy left : ℕ) (mid : MachineState) 
   none : busy ≡ 0
   left_is : left ≡ budget
   mid_is : mid ≡ w
-
-pub same_number : (x y : ℕ) → ◌≡◌ {A = Result ℕ RunStop} (Ok x) (Ok y) → x ≡ y
-same_number x y e = cc
 
 zero_answered : (w : MachineState) (budget : ℕ) (result : Result ℕ RunStop) (left : ℕ) (last : MachineState) (answer : ℕ) → result ≡ Ok answer → StillChecked w budget result left last
     → (answer ≡ 0) × (last ≡ with_value 0 w) × (left + 2 ≡ budget)

@@ -48,6 +48,7 @@ use Rattle.erst_commands.proofs.OwnProgramLemmas.{steps-begin_write, steps-begin
 use Rattle.erst_commands.proofs.SequenceLemmas.{RunTo, Reaches, Falls, Opened, Opens, Halts, StillWaited, IsAtOnce, IsShort, wait_still, ended_from, status_in, HasTold, HasNotTold, HasNotWaited, HasNotAsked, sequence_ends, ask_none, ask_more, begun_device, begin_run, offset_run, identifier_run, execute_run}
 use Rattle.erst_commands.proofs.WayLemmas.{Leads, write_leads, some_changes}
 use Rattle.erst_commands.proofs.ChangeLemmas.{Base, StartedChange, UnstartedChange, UnstartedAnswer, RefusedBy, FailedBy, kept_map, change_command}
+use Rattle.erst_commands.proofs.SharedLemmas.{never_falls, differ}
 
 -- the steps of a sequence of three requests, with one that gives a value
 pub needs-write : (checks : ℕ) → steps_needed own_entries write_requests checks ≡ 6 + 2 * checks
@@ -69,15 +70,6 @@ run_weaker first P Q cost budget result left last weaker run = elim run as (λ r
 ]
 
 -- What the store's start leaves
-
-never_falls : (before after : ℕ) (result : Result (Unit {0}) StoreError) → HasFaultsOf before after result → before ≤ after
-never_falls before after (Ok done) h = omega (arith, h)
-never_falls before after (Err (errors.NoSpace free)) h = omega (arith, h)
-never_falls before after (Err (errors.LastGeneration id)) h = omega (arith, h)
-never_falls before after (Err errors.NotFound) h = omega (arith, h)
-never_falls before after (Err errors.Empty) h = omega (arith, h)
-never_falls before after (Err errors.Flash) h = h.0
-never_falls before after (Err (errors.Small need)) h = omega (arith, h)
 
 base_started : (tells : Type 0) (told : tells) (first start : MachineState) (store : StoreView) (result : Result (Unit {0}) StoreError) → OnlyStarts tells (abandoned first.device.store) store result → start.device.store ≡ store
     → start.device.cursor ≡ first.device.cursor → start ≡ on_device first start.device → Base first start
@@ -113,9 +105,6 @@ copies_usable id store usable = rw usable refl
 
 copies_reserved : (id : ℕ) (store : StoreView) → is_reserved id ≡ true → copies_first id store ≡ 0
 copies_reserved id store reserved = rw reserved refl
-
-differ : {P : Type 0} → true ≡ false → P
-differ e = absurd (cc)
 
 -- a start that answered an error that the map gives
 refused_start : (first start : MachineState) (store : StoreView) (id : ℕ) → is_reserved id ≡ false → start.device.store ≡ store → store.in_doubt ≡ false → store.flash.faults ≡ first.device.store.flash.faults

@@ -33,6 +33,7 @@ use Rattle.erst_commands.specs.Changes.{waits_after}
 use Rattle.erst_commands.proofs.ActionCases.{checks_busy}
 use Rattle.erst_commands.proofs.MachineSteps.{on_device, acted_is}
 use Rattle.erst_commands.proofs.OwnProgramLemmas.{steps-check}
+use Rattle.erst_commands.proofs.SharedLemmas.{alike_then, idle_busy, same_number, no_stop, no_answer, same_stop, differ}
 
 -- So many changes of what is pending are left. Each makes no other map, or the one that stands at the end
 abbrev pub Leads : ℕ → Layout → Pending → Stored → Stored → Type 0
@@ -177,9 +178,6 @@ pub data Moved (start : MachineState) (made : Stored) (all n left pauses : ℕ) 
   MovedOn : OnWay start made all (n + 1) left pauses new → new.device.value ≡ value_of left → Moved start made all n left pauses new
   Broke : Broken start made all pauses new → new.device.value ≡ 0 → Moved start made all n left pauses new
 
-alike_then : (a b c : StoreView) → DividesAlike a b → DividesAlike b c → DividesAlike a c
-alike_then a b c first second = record { layout = second.layout ∙ first.layout; size = second.size ∙ first.size; sector_size = second.sector_size ∙ first.sector_size }
-
 -- power lost in one more change
 way_crash : (old mid new : StoreView) (made : Stored) → DividesAlike old mid → KeepsOrMakes old mid made → (map_after old.layout mid.pending (stored mid) ≡ stored mid) ⊎ (map_after old.layout mid.pending (stored mid) ≡ made)
     → KeepsOrMakes mid new (map_after mid.layout mid.pending (stored mid)) → KeepsOrMakes old new made
@@ -207,12 +205,6 @@ way_crash old mid new made alike before step_map step =
       | inl first ↦ inl (alike_stored image ∙ same ∙ sym (alike_stored mid.flash.told.image) ∙ first)
       | inr last ↦ inr (alike_stored image ∙ same ∙ sym (alike_stored mid.flash.told.image) ∙ last)
     ]
-
-different : {P : Type 0} → true ≡ false → P
-different e = absurd (cc)
-
-idle_busy : (pending : Pending) → pending ≡ Idle → IsBusy pending → ⊥
-idle_busy pending idle busy = subst (λ (p : Pending). IsBusy p) idle busy
 
 module _ (tells : Type 0) (told : tells) (start : MachineState) (made : Stored) (all n left pauses : ℕ) (mid : MachineState) (way : OnWay start made all n (suc left) pauses mid) where
   led : (store : StoreView) (last : Bool) → Stepped tells mid.device.store store (Ok last) → Leads left start.device.store.layout store.pending (stored store) made
@@ -250,7 +242,7 @@ module _ (tells : Type 0) (told : tells) (start : MachineState) (made : Stored) 
       → (stepped (Ok last) store mid.device).value ≡ value_of k
   value_moved zero store true leads ends idle = refl
   value_moved zero store false leads ends idle = elim ends [
-    | inl is ↦ different (sym is)
+    | inl is ↦ differ (sym is)
     | inr more ↦ absurd (more.1 leads.0)
   ]
   value_moved (suc k) store true leads ends idle = absurd (idle_busy store.pending (idle refl) leads.0)
@@ -306,18 +298,6 @@ check_busy tells own told start made all n left pauses w way budget result after
       | StopsBefore few took ↦ absurd (cc)
       | StopsBehind last few shows acted ↦ ChecksNot last (of_moved start made all n left pauses last (moves tells told start made all n left pauses w way last acted)) (omega (arith, few))
     ]
-
-same_number : (x y : ℕ) → ◌≡◌ {A = Result ℕ RunStop} (Ok x) (Ok y) → x ≡ y
-same_number x y e = cc
-
-no_stop : (answer : ℕ) (stop : RunStop) → Err stop ≡ Ok answer → ⊥
-no_stop answer stop e = absurd (cc)
-
-no_answer : (answer : ℕ) (stop : RunStop) → Ok answer ≡ Err stop → ⊥
-no_answer answer stop e = absurd (cc)
-
-same_stop : (x y : RunStop) → ◌≡◌ {A = Result ℕ RunStop} (Err x) (Err y) → x ≡ y
-same_stop x y e = cc
 
 record CheckedOk (start : MachineState) (made : Stored) (all n left pauses budget answer after : ℕ) (last : MachineState) : Type 0 where
   moved : Moved start made all n left pauses last

@@ -1,0 +1,39 @@
+-- Small facts that several lemmas share.
+use Rattle.std.proofs.Common.{◌≡◌, ℕ, ◌≤◌, true, false, Result, Ok, Err, ◌∙◌, subst, arith}
+use Rattle.record_store.specs.Store.{StoreView, Pending, Idle, IsBusy, DividesAlike}
+use Rattle.record_store.specs.Answers.{HasFaultsOf}
+use Rattle.record_store.specs.declared.errors.StoreError.{StoreError}
+use Rattle.record_store.specs.declared.errors.StoreError.TheVariants as errors
+use Rattle.erst_interp.specs.declared.stops.RunStop.{RunStop}
+
+-- the answers of runs
+pub no_answer : (answer : ℕ) (stop : RunStop) → Ok answer ≡ Err stop → ⊥
+no_answer answer stop e = absurd (cc)
+
+pub no_stop : (answer : ℕ) (stop : RunStop) → Err stop ≡ Ok answer → ⊥
+no_stop answer stop e = absurd (cc)
+
+pub same_stop : (x y : RunStop) → ◌≡◌ {A = Result ℕ RunStop} (Err x) (Err y) → x ≡ y
+same_stop x y e = cc
+
+pub same_number : (x y : ℕ) → ◌≡◌ {A = Result ℕ RunStop} (Ok x) (Ok y) → x ≡ y
+same_number x y e = cc
+
+-- stores
+pub alike_then : (a b c : StoreView) → DividesAlike a b → DividesAlike b c → DividesAlike a c
+alike_then a b c first second = record { layout = second.layout ∙ first.layout; size = second.size ∙ first.size; sector_size = second.sector_size ∙ first.sector_size }
+
+pub idle_busy : (pending : Pending) → pending ≡ Idle → IsBusy pending → ⊥
+idle_busy pending idle busy = subst (λ (p : Pending). IsBusy p) idle busy
+
+pub never_falls : {T : Type 0} (before after : ℕ) (result : Result T StoreError) → HasFaultsOf before after result → before ≤ after
+never_falls before after (Ok done) h = omega (arith, h)
+never_falls before after (Err (errors.NoSpace free)) h = omega (arith, h)
+never_falls before after (Err (errors.LastGeneration id)) h = omega (arith, h)
+never_falls before after (Err errors.NotFound) h = omega (arith, h)
+never_falls before after (Err errors.Empty) h = omega (arith, h)
+never_falls before after (Err errors.Flash) h = h.0
+never_falls before after (Err (errors.Small need)) h = omega (arith, h)
+
+pub differ : {P : Type 0} → true ≡ false → P
+differ e = absurd (cc)
