@@ -30,7 +30,7 @@ def each(job, times):
 
 
 writes, calls = each("writes", 10_000), each("calls", 10_000)
-boots, openings = each("boots", 200), each("openings", 200)
+boots, openings = each("boots", 5_000), each("openings", 5_000)
 access = each("accesses", 10_000_000) / 2
 print(f"a write by programs: {writes * 1e9:.0f} ns, by a call: {calls * 1e9:.0f} ns, ratio {writes / calls:.2f}")
 print(f"an access of plain memory: {access * 1e9:.1f} ns")
