@@ -5,7 +5,8 @@ store, an access of plain memory, and a boot and an opening over a flash of 64 M
     bench/machine.py [PROGRAM]
 
 PROGRAM is the built program, by default crates/apei_bench/out/apei_bench; build it by `rt run` in crates/apei_bench. It
-prints the least time of five runs for each, and the ratios.
+prints the least time of five runs for each, and the ratios. Boots and openings are timed with memory that the C library keeps
+(MALLOC_TRIM_THRESHOLD_): else each gives its memory back and takes fresh pages of the system, some 0.1 ms a boot.
 """
 
 import os
@@ -17,9 +18,12 @@ TOP = os.path.dirname(os.path.dirname(os.path.abspath(__file__)))
 program = sys.argv[1] if len(sys.argv) > 1 else os.path.join(TOP, "crates/apei_bench/out/apei_bench")
 
 
+KEPT = dict(os.environ, MALLOC_TRIM_THRESHOLD_="4000000000")
+
+
 def seconds(job, times):
     start = time.perf_counter()
-    subprocess.run([program, job, str(times)], check=True, stdout=subprocess.DEVNULL)
+    subprocess.run([program, job, str(times)], check=True, stdout=subprocess.DEVNULL, env=KEPT)
     return time.perf_counter() - start
 
 
@@ -34,4 +38,4 @@ boots, openings = each("boots", 5_000), each("openings", 5_000)
 access = each("accesses", 10_000_000) / 2
 print(f"a write by programs: {writes * 1e9:.0f} ns, by a call: {calls * 1e9:.0f} ns, ratio {writes / calls:.2f}")
 print(f"an access of plain memory: {access * 1e9:.1f} ns")
-print(f"a boot over 64 MiB: {boots * 1e3:.2f} ms, an opening: {openings * 1e3:.2f} ms, ratio {boots / openings:.2f}")
+print(f"a boot over 64 MiB: {boots * 1e3:.3f} ms, an opening: {openings * 1e3:.3f} ms, ratio {boots / openings:.2f}")
