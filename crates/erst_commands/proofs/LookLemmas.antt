@@ -1,14 +1,12 @@
 -- Count and next by the machine's own table are the map's.
-use Rattle.std.proofs.Common.{◌≡◌, ◌≢◌, ℕ, ◌+◌, ◌-◌, ◌%◌, ◌^◌, ◌<◌, ◌≤◌, Bool, true, false, cond, List, Option, Some, None, Result, Ok, Err, refl, sym, ap, subst, ◌∙◌, arith}
+use Rattle.std.proofs.Common.{◌≡◌, ◌≢◌, ℕ, ◌+◌, ◌-◌, ◌%◌, ◌^◌, ◌<◌, ◌≤◌, Bool, true, false, cond, Option, Some, None, Result, Ok, Err, refl, sym, ap, subst, ◌∙◌, arith}
 use Rattle.std.specs.Prelude.{◌==◌, if◌then◌else◌}
 use Rattle.std.specs.FinMap.{len}
 use Rattle.std.proofs.lemmas.Bool.{ne_eqb}
 use Rattle.base_model.specs.Faults.{Rose}
-use Rattle.flash_words.specs.Layout.{Layout}
-use Rattle.record_model.specs.Records.{is_reserved, entry_at, stored_in}
+use Rattle.record_model.specs.Records.{is_reserved}
 use Rattle.record_model.proofs.RefusalLemmas.{allowed_not_zero}
-use Rattle.record_model.proofs.SizeLemmas.{empty_among-len_at_most}
-use Rattle.record_store.specs.Store.{StoreView, records_of as records_in, DividesAlike, abandoned}
+use Rattle.record_store.specs.Store.{StoreView, DividesAlike, abandoned}
 use Rattle.record_store.specs.Answers.{HasFaultsOf}
 use Rattle.record_store.specs.Calls.{OnlyLooks}
 use Rattle.record_store.specs.declared.errors.StoreError.{StoreError}
@@ -25,7 +23,7 @@ use Rattle.erst_machine.specs.MachineState.{MachineState, records_of}
 use Rattle.erst_machine.specs.Allowed.{Allows, ActsOn}
 use Rattle.erst_machine.specs.OwnTables.{own_entries}
 use Rattle.erst_commands.specs.OwnPrograms.{OwnRun, IsMade, StopsAtOnce as none_made, StopsBefore, StopsBehind as one_made, OwnProgramsRun}
-use Rattle.erst_commands.specs.Looks.{HaveIds, OnlyLooked, HasAsked, HasFailed, CountMade, IsCounted, IsNotCounted, NextMade, IsFound, IsAtEnd, IsNotFound, AsksOnce, Answers, StopsBehind, StopsAtOnce}
+use Rattle.erst_commands.specs.Looks.{OnlyLooked, HasAsked, HasFailed, CountMade, IsCounted, IsNotCounted, NextMade, IsFound, IsAtEnd, IsNotFound, AsksOnce, Answers, StopsBehind, StopsAtOnce}
 use Rattle.erst_commands.proofs.ActionCases.{finds_next, counts}
 use Rattle.erst_commands.proofs.OwnProgramLemmas.{steps-count, steps-next}
 use Rattle.erst_commands.proofs.MachineSteps.{acted_is}
@@ -70,13 +68,6 @@ has_failed {T = T} tells told first last store error leaves flash there elsewher
 
 -- Count
 
-few_records : (layout : Layout) (image : List ℕ) → len (records_in layout image) ≤ 1024
-unfolding stored_in
-few_records layout image =
-    let few = empty_among-len_at_most (entry_at layout.slot_size layout.slots image) layout.slots in
-    let most = layout.many_slots in
-    omega arith
-
 count_says : (n : ℕ) → n ≤ 1024 → count_answer (Ok (n % 2 ^ 32)) ≡ Ok n
 count_says n few =
     let small : n % 2 ^ 32 ≡ n = omega arith in
@@ -88,7 +79,9 @@ module _ (tells : Type 0) (told : tells) (first last : MachineState) where
   count_by store (Ok n) count is elsewhere =
       let there : last.device.store ≡ store = ap (λ (d : DeviceState). d.store) is in
       let n_is : n ≡ len (records_of first) = count.answer told in
-      let few = few_records first.device.store.layout first.device.store.flash.told.image in
+      let most = first.device.store.layout.many_slots in
+      let within : n ≤ first.device.store.layout.slots = count.within in
+      let few : len (records_of first) ≤ 1024 = omega arith in
       let value : last.device.value ≡ len (records_of first) = ap (λ (d : DeviceState). d.value) is ∙ n_is in
       subst (λ (r : Result ℕ ClientError). CountMade first last r) (sym (ap (λ (k : ℕ). count_answer (Ok (k % 2 ^ 32))) value ∙ count_says (len (records_of first)) few))
       (IsCounted (has_asked tells told first last store n count.leaves there elsewhere) (ap (λ (d : DeviceState). d.cursor) is))
@@ -132,14 +125,14 @@ next_says id small allowed =
     ∙ ap (λ (b : Bool). cond {A = Result (Option ℕ) ClientError} b (Err Hardware) (if id == 2 ^ 64 - 1 then Ok None else Ok (Some id))) (ne_eqb id 0 (allowed_not_zero id allowed))
     ∙ ap (λ (b : Bool). cond {A = Result (Option ℕ) ClientError} b (Ok None) (Ok (Some id))) (ne_eqb id (2 ^ 64 - 1) (allowed_not_last id allowed))
 
-module _ (tells : Type 0) (told : tells) (first last : MachineState) (ids : HaveIds (records_of first)) where
+module _ (tells : Type 0) (told : tells) (first last : MachineState) where
   next_by : (store : StoreView) (result : Result (Option ℕ) StoreError) → FoundNext tells (given_up first.device).store store first.device.cursor result → IsAllowed result
       → last.device ≡ found result store (given_up first.device) → last ≡ record first { device = last.device } → NextMade first last (next_answer (Ok (last.device.value % 2 ^ 64)))
   next_by store (Ok (Some id)) next allowed is elsewhere =
       let there : last.device.store ≡ store = ap (λ (d : DeviceState). d.store) is in
       let least = next.answer told in
       let value : last.device.value ≡ id = ap (λ (d : DeviceState). d.value) is in
-      subst (λ (r : Result (Option ℕ) ClientError). NextMade first last r) (sym (ap (λ (k : ℕ). next_answer (Ok (k % 2 ^ 64))) value ∙ next_says id (ids id least.here) allowed))
+      subst (λ (r : Result (Option ℕ) ClientError). NextMade first last r) (sym (ap (λ (k : ℕ). next_answer (Ok (k % 2 ^ 64))) value ∙ next_says id allowed.1 allowed.0))
       (IsFound id (has_asked tells told first last store (Some id) next.leaves there elsewhere) least (ap (λ (d : DeviceState). d.cursor) is))
   next_by store (Ok None) next allowed is elsewhere =
       let there : last.device.store ≡ store = ap (λ (d : DeviceState). d.store) is in
@@ -157,16 +150,16 @@ module _ (tells : Type 0) (told : tells) (first last : MachineState) (ids : Have
       let made = finds_next tells first.device first.memory.range last.device last.memory.range acted.acts in
       next_by made.store made.result made.next made.allowed made.new_is (acted_is tells first 0x8 last last.device acted refl made.range_is)
 
-pub next_command : (tells : Type 0) → OwnProgramsRun tells → tells → (budget : ℕ) (first : MachineState) (result : Result (Option ℕ) ClientError) (left : ℕ) (last : MachineState) → HaveIds (records_of first)
+pub next_command : (tells : Type 0) → OwnProgramsRun tells → tells → (budget : ℕ) (first : MachineState) (result : Result (Option ℕ) ClientError) (left : ℕ) (last : MachineState)
     → Names (Allows tells) own_entries budget first result left last → AsksOnce (NextMade first last) budget first last result left
-next_command tells own told budget first result left last ids asked =
+next_command tells own told budget first result left last asked =
     subst (λ (r : Result (Option ℕ) ClientError). AsksOnce (NextMade first last) budget first last r left) (sym asked.result_is)
     (by_run asked.answer left last (own GetRecordIdentifier 0 budget first asked.answer left last asked.asks))
   where
     by_run : (answer : Result ℕ RunStop) (left : ℕ) (last : MachineState) → OwnRun tells GetRecordIdentifier 0 budget first answer left last → AsksOnce (NextMade first last) budget first last (next_answer answer) left
     by_run answer left last run = elim run as (λ answer left last run. AsksOnce (NextMade first last) budget first last (next_answer answer) left) [
-      | IsMade left last acted spent ↦ Answers _ left (next_made tells told first last ids acted) (ap (λ (n : ℕ). left + n) (sym steps-next) ∙ spent)
+      | IsMade left last acted spent ↦ Answers _ left (next_made tells told first last acted) (ap (λ (n : ℕ). left + n) (sym steps-next) ∙ spent)
       | none_made none ↦ StopsAtOnce none refl
       | StopsBefore one takes ↦ absurd (cc)
-      | one_made last one shows acted ↦ StopsBehind _ (next_made tells told first last ids acted) one
+      | one_made last one shows acted ↦ StopsBehind _ (next_made tells told first last acted) one
     ]

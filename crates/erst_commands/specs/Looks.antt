@@ -1,8 +1,7 @@
 -- Count and next by the machine's own table, on the records of its flash.
-use Rattle.std.specs.Prelude.{◌≡◌, ℕ, ◌+◌, ◌≤◌, ◌^◌, ◌<◌, false, IsSome, Option, Some, None, Result, Ok, Err}
-use Rattle.std.specs.FinMap.{get, len}
+use Rattle.std.specs.Prelude.{◌≡◌, ℕ, ◌+◌, ◌≤◌, false, Option, Some, None, Result, Ok, Err}
+use Rattle.std.specs.FinMap.{len}
 use Rattle.base_model.specs.Faults.{Rose}
-use Rattle.record_model.specs.Records.{Stored}
 use Rattle.record_model.specs.RecordMap.{IsLeast, IsNextAbove}
 use Rattle.record_store.specs.Store.{Idle, KeepsMap, DividesAlike, abandoned}
 use Rattle.record_store.specs.Answers.{copies_of}
@@ -10,10 +9,6 @@ use Rattle.erst_interp.specs.declared.stops.RunStop.TheVariants.{Budget}
 use Rattle.erst_client.specs.declared.errors.ClientError.{ClientError}
 use Rattle.erst_client.specs.declared.errors.ClientError.TheVariants.{Hardware, Stopped}
 use Rattle.erst_machine.specs.MachineState.{MachineState, records_of}
-
--- the identifiers of records are numbers of 64 bits
-abbrev pub HaveIds : Stored → Type 0
-HaveIds stored = (id : ℕ) → IsSome (get stored id) → id < 2 ^ 64
 
 -- whatever is answered: power lost on the way leaves the records, there is at most one change, nothing is pending, and beside the device
 -- all is as it was

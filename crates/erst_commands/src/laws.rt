@@ -17,7 +17,7 @@ ghost use Rattle.erst_machine.specs.Allowed.{Allows};
 ghost use Rattle.erst_machine.specs.OwnTables.{own_entries, own_erst};
 ghost use Rattle.erst_commands.specs.OwnPrograms.{OwnProgramsRun};
 ghost use Rattle.erst_commands.specs.Attached.{own_client, AttachesOwn};
-ghost use Rattle.erst_commands.specs.Looks.{HaveIds, CountMade, NextMade, AsksOnce};
+ghost use Rattle.erst_commands.specs.Looks.{CountMade, NextMade, AsksOnce};
 ghost use Rattle.erst_commands.specs.Changes.{HoldsRecord, ChangeCommand, DummyCommand};
 ghost use Rattle.erst_commands.specs.Writes.{WriteAnswered};
 ghost use Rattle.erst_commands.specs.Reads.{ReadCommand, ReadAnswered};
@@ -53,7 +53,7 @@ pub fn a_count_is_the_maps<F: Flash>()
 
 /// Next answers the least stored identifier above the cursor, or the end; the rest as of a count.
 pub fn a_next_is_the_maps<F: Flash>()
-    ensures { F.tells → (budget : ℕ) (first : MachineState) (result : Result (Option ℕ) ClientError) (left : ℕ) (last : MachineState) → HaveIds (records_of first)
+    ensures { F.tells → (budget : ℕ) (first : MachineState) (result : Result (Option ℕ) ClientError) (left : ℕ) (last : MachineState)
         → Names (Allows F.tells) own_entries budget first result left last → AsksOnce (NextMade first last) budget first last result left }
 {
     own_programs_run_through::<F>();

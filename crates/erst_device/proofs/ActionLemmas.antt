@@ -81,7 +81,7 @@ finds_from tells old mid store result range is next allowed =
     (λ h. FindsNext store result h allowed) next
 
 pub finds_some : (tells : Type 0) (old mid : DeviceState) (store : StoreView) (found_id : Option ℕ) (id number : ℕ) (range : List ℕ) → mid ≡ given_up old → found_id ≡ Some id → number ≡ id
-    → is_reserved number ≡ false → FoundNext tells mid.store store mid.cursor (Ok found_id) → Acts tells old range (Some GetRecordIdentifier) (record mid { value = number; cursor = number; store = store }) range
+    → (is_reserved number ≡ false) × (number < 2 ^ 64) → FoundNext tells mid.store store mid.cursor (Ok found_id) → Acts tells old range (Some GetRecordIdentifier) (record mid { value = number; cursor = number; store = store }) range
 finds_some tells old mid store found_id id number range is some same allowed next =
     let named_one : found_id ≡ Some number = some ∙ ap (λ (n : ℕ). Some n) (sym same) in
     finds_from tells old mid store (Ok (Some number)) range is (subst (λ (o : Option ℕ). FoundNext tells mid.store store mid.cursor (Ok o)) named_one next) allowed

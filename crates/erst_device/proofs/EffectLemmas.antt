@@ -1,14 +1,12 @@
 -- What every action keeps, by its cases.
 use Rattle.std.proofs.Common.{◌≡◌, ℕ, ◌+◌, ◌-◌, ◌^◌, ◌≤◌, ◌⊎◌, Bool, true, false, cond, List, Option, Some, None, Result, Ok, Err, refl, sym, ap, subst, ◌∙◌, arith, inl, inr}
 use Rattle.std.specs.Prelude.{is_some, if◌then◌else◌}
-use Rattle.std.specs.FinMap.{len}
 use Rattle.base_model.specs.Faults.{Rose}
 use Rattle.flash_words.specs.Flash.{FlashState, LosesOnlyByChange}
 use Rattle.flash_words.specs.Layout.{Layout}
 use Rattle.flash_words.proofs.CrashLemmas.{Leaves-none, Leaves-weaker, Leaves-exit}
-use Rattle.record_model.specs.Records.{Stored, entry_at, stored_in}
+use Rattle.record_model.specs.Records.{Stored}
 use Rattle.record_model.proofs.RefusalLemmas.{allowed_not_zero}
-use Rattle.record_model.proofs.SizeLemmas.{empty_among-len_at_most}
 use Rattle.record_store.specs.Store.{StoreView, Pending, Idle, Writing, Clearing, stored, records_of, map_after, doubt_after, IsBusy, DividesAlike, KeepsMap, KeepsOrMakes, abandoned}
 use Rattle.record_store.specs.Answers.{HasFaultsOf, EndsCopies, copies_in, copies_of}
 use Rattle.record_store.specs.declared.errors.StoreError.{StoreError}
@@ -144,7 +142,7 @@ record HasCauses (tells : Type 0) (old : DeviceState) (action : Option Action) (
   status : new.status ≡ HardwareNotAvailable
       → Rose old.store.flash.faults new.store.flash.faults ⊎ ((new.status ≡ old.status) × (action ≡ Some ExecuteOperation → IsRunning old))
   next : action ≡ Some GetRecordIdentifier → new.value ≡ 0 → Rose old.store.flash.faults new.store.flash.faults
-  count : action ≡ Some GetRecordCount → tells → new.value ≡ 2 ^ 32 - 1 → Rose old.store.flash.faults new.store.flash.faults
+  count : action ≡ Some GetRecordCount → new.value ≡ 2 ^ 32 - 1 → Rose old.store.flash.faults new.store.flash.faults
 
 effect_by : (tells : Type 0) (old : DeviceState) (range : List ℕ) (action : Option Action) (new : DeviceState) (changing asking : Bool) → makes_change action old ≡ changing → asks action old range ≡ asking
     → Keeps tells old.store new.store (if changing then map_after old.store.layout old.store.pending (records old) else records old) (if changing then 1 else (if asking then copies_of (given_up old).store else 0))
@@ -366,7 +364,7 @@ effect_of_look : (tells : Type 0) (old : DeviceState) (range : List ℕ) (store 
 effect_of_look tells old range store (Ok (Some id)) next allowed =
     effect_by tells old range (Some GetRecordIdentifier) _ false true refl refl
     (keeps_given_up tells old.store store _ _ (keeps_looked tells _ store old.cursor (Ok (Some id)) next))
-    (record { status = λ is. inr (refl, λ e. absurd (cc)); next = λ e zero_value. absurd (allowed_not_zero id allowed zero_value); count = λ e. absurd (cc) })
+    (record { status = λ is. inr (refl, λ e. absurd (cc)); next = λ e zero_value. absurd (allowed_not_zero id allowed.0 zero_value); count = λ e. absurd (cc) })
 effect_of_look tells old range store (Ok None) next allowed =
     effect_by tells old range (Some GetRecordIdentifier) _ false true refl refl
     (keeps_given_up tells old.store store _ _ (keeps_looked tells _ store old.cursor (Ok None) next))
@@ -377,13 +375,6 @@ effect_of_look tells old range store (Err error) next allowed =
     (keeps_given_up tells old.store store _ _ (keeps_looked tells _ store old.cursor (Err error) next))
     (record { status = λ is. inr (refl, λ e. absurd (cc)); next = λ e zero_value. error_rose (Option ℕ) _ _ error leaves.cause next.error; count = λ e. absurd (cc) })
 
-few_records : (layout : Layout) (image : List ℕ) → len (records_of layout image) ≤ 1024
-unfolding stored_in
-few_records layout image =
-    let few = empty_among-len_at_most (entry_at layout.slot_size layout.slots image) layout.slots in
-    let most = layout.many_slots in
-    omega arith
-
 effect_of_count : (tells : Type 0) (old : DeviceState) (range : List ℕ) (store : StoreView) (result : Result ℕ StoreError) → Counted tells (given_up old).store store result
     → Effect tells old range (Some GetRecordCount) (counted result store (given_up old))
 effect_of_count tells old range store (Ok n) count =
@@ -393,9 +384,9 @@ effect_of_count tells old range store (Ok n) count =
     (record {
       status = λ is. inr (refl, λ e. absurd (cc));
       next = λ e. absurd (cc);
-      count = λ e told greatest.
-          let is : n ≡ len (records old) = count.answer told in
-          let few = few_records old.store.layout old.store.flash.told.image in
+      count = λ e greatest.
+          let most = old.store.layout.many_slots in
+          let few : n ≤ old.store.layout.slots = count.within in
           absurd (omega arith);
     })
 effect_of_count tells old range store (Err error) count =
@@ -405,7 +396,7 @@ effect_of_count tells old range store (Err error) count =
     (record {
       status = λ is. inr (refl, λ e. absurd (cc));
       next = λ e. absurd (cc);
-      count = λ e told greatest. error_rose ℕ _ _ error leaves.cause count.error;
+      count = λ e greatest. error_rose ℕ _ _ error leaves.cause count.error;
     })
 
 pub effect_of : (tells : Type 0) (old : DeviceState) (range : List ℕ) (action : Option Action) (new : DeviceState) (after : List ℕ) → Acts tells old range action new after → Effect tells old range action new

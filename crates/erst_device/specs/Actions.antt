@@ -1,6 +1,6 @@
 -- The serialization actions (ACPI 6.4, section 18.5.1.1) as the device carries them out, one case for each row of its table.
 -- `tells` says whether the flash tells its content; `range` is the log range.
-use Rattle.std.specs.Prelude.{◌≡◌, ℕ, ◌-◌, ◌^◌, Bool, true, false, if◌then◌else◌, List, take, drop, ◌++◌, Option, Some, None, Result, Ok, Err}
+use Rattle.std.specs.Prelude.{◌≡◌, ℕ, ◌-◌, ◌^◌, ◌<◌, Bool, true, false, if◌then◌else◌, List, take, drop, ◌++◌, Option, Some, None, Result, Ok, Err}
 use Rattle.flash_words.specs.Layout.{room_of, reach_of}
 use Rattle.record_model.specs.Records.{is_reserved}
 use Rattle.record_store.specs.Store.{StoreView, IsBusy}
@@ -53,9 +53,9 @@ abbrev pub shown : ℕ → Result ℕ StoreError → StoreView → DeviceState �
 shown id (Ok size) store old = record old { value = 0; status = Success; cursor = id; reading = None; store = store }
 shown id (Err error) store old = record old { value = 0; status = status_of error; reading = None; store = store }
 
--- an identifier that a look finds is one that a record can have
+-- an identifier that a look finds is one that a record can have, and a number of 64 bits
 abbrev pub IsAllowed : Result (Option ℕ) StoreError → Type 0
-IsAllowed (Ok (Some id)) = is_reserved id ≡ false
+IsAllowed (Ok (Some id)) = (is_reserved id ≡ false) × (id < 2 ^ 64)
 IsAllowed (Ok None) = Unit {0}
 IsAllowed (Err error) = Unit {0}
 

@@ -60,4 +60,4 @@ pub record Effect (tells : Type 0) (old : DeviceState) (range : List ℕ) (actio
       → Rose old.store.flash.faults new.store.flash.faults ⊎ ((new.status ≡ old.status) × (action ≡ Some ExecuteOperation → IsRunning old))
   -- and so the two answers by which a look and a count tell one
   pub next : action ≡ Some GetRecordIdentifier → new.value ≡ 0 → Rose old.store.flash.faults new.store.flash.faults
-  pub count : action ≡ Some GetRecordCount → tells → new.value ≡ 2 ^ 32 - 1 → Rose old.store.flash.faults new.store.flash.faults
+  pub count : action ≡ Some GetRecordCount → new.value ≡ 2 ^ 32 - 1 → Rose old.store.flash.faults new.store.flash.faults

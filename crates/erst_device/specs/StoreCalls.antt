@@ -57,6 +57,7 @@ pub record FoundNext (tells : Type 0) (old new : StoreView) (cursor : ℕ) (resu
 -- the count of the records
 pub record Counted (tells : Type 0) (old new : StoreView) (result : Result ℕ StoreError) : Type 0 where
   pub answer : tells → IfOk result (λ n. n ≡ len (stored old))
+  pub within : IfOk result (λ n. n ≤ old.layout.slots)
   pub error : FailsByFlash result
   pub still : old.in_doubt ≡ false → AnswersByItself old new result
   pub leaves : OnlyLooks tells old new result

@@ -278,6 +278,7 @@ impl<F: Flash> Store<F> {
     pub fn count(&mut self) -> Result<u32, StoreError>
         requires idle { self.old.pending ≡ Idle }
         ensures answer { F.tells → IfOk result (λ n. n ≡ len (stored self.old)) }
+        ensures few { IfOk result (λ n. n ≤ self.old.layout.slots) }
         ensures error { FailsByFlash result }
         ensures still { self.old.in_doubt ≡ false → AnswersByItself self.old self.new result }
         ensures reads { TakesReads (λ _ reads. reads) self.old self.new result }
