@@ -15,3 +15,5 @@ pub mod WriteLemmas
 pub mod ReadLemmas
 pub mod CopyLemmas
 pub mod EnoughLemmas
+pub mod CauseLemmas
+pub mod CallCauses

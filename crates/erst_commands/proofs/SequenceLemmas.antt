@@ -57,9 +57,9 @@ pub data Opened (first : MachineState) (P : MachineState → Type 0) (cost budge
   Opens : (answers : List ℕ) (left : ℕ) (w : MachineState) → P w → left + cost ≡ budget → Opened first P cost budget (Ok answers) left w
   Halts : (w : MachineState) → Untouched first w → budget < cost → Opened first P cost budget (Err Budget) 0 w
 
-record ReachedTo (P : MachineState → Type 0) (cost budget left : ℕ) (w : MachineState) : Type 0 where
-  holds : P w
-  spent : left + cost ≡ budget
+pub record ReachedTo (P : MachineState → Type 0) (cost budget left : ℕ) (w : MachineState) : Type 0 where
+  pub holds : P w
+  pub spent : left + cost ≡ budget
 
 record FallenTo (first : MachineState) (cost budget : ℕ) (stop : RunStop) (left : ℕ) (w : MachineState) : Type 0 where
   stop_is : stop ≡ Budget
@@ -67,7 +67,7 @@ record FallenTo (first : MachineState) (cost budget : ℕ) (stop : RunStop) (lef
   untouched : Untouched first w
   short : budget < cost
 
-ok_reaches : (first : MachineState) (P : MachineState → Type 0) (cost budget : ℕ) (result : Result ℕ RunStop) (left : ℕ) (w : MachineState) (answer : ℕ) → result ≡ Ok answer → RunTo first P cost budget result left w
+pub ok_reaches : (first : MachineState) (P : MachineState → Type 0) (cost budget : ℕ) (result : Result ℕ RunStop) (left : ℕ) (w : MachineState) (answer : ℕ) → result ≡ Ok answer → RunTo first P cost budget result left w
     → ReachedTo P cost budget left w
 ok_reaches first P cost budget result left w answer is run = (elim run as (λ result left w run. result ≡ Ok answer → ReachedTo P cost budget left w) [
   | Reaches other left w holds spent ↦ λ e. record { holds = holds; spent = spent }

@@ -4,3 +4,4 @@ pub mod Looks
 pub mod Changes
 pub mod Writes
 pub mod Reads
+pub mod Causes

@@ -21,6 +21,7 @@ ghost use Rattle.erst_commands.specs.Looks.{CountMade, NextMade, AsksOnce};
 ghost use Rattle.erst_commands.specs.Changes.{HoldsRecord, ChangeCommand, DummyCommand};
 ghost use Rattle.erst_commands.specs.Writes.{WriteAnswered};
 ghost use Rattle.erst_commands.specs.Reads.{ReadCommand, ReadAnswered};
+ghost use Rattle.erst_commands.specs.Causes.{HasItsCause};
 
 use erst_interp::a_straight_program_runs_through;
 use erst_machine::Machine;
@@ -109,6 +110,29 @@ pub fn a_read_is_the_maps<F: Flash>()
 pub fn a_client_reads_as_the_map<F: Flash>()
     ensures { F.tells → (id : ℕ) (out : List ℕ) (budget : ℕ) (first : MachineState) (result : Result ℕ ClientError) (after : List ℕ) (left : ℕ) (last : MachineState) → IsMachine first → id < 2 ^ 64
         → Reads (Allows F.tells) (own_client first) id out budget first result after left last → ReadAnswered id out budget first result after left last }
+{
+    own_programs_run_through::<F>();
+}
+
+/// On every flash, whether it tells its content or not: its count of faults never falls, and a call is answered `Hardware` only where
+/// the count rose.
+pub fn hardware_has_its_cause<F: Flash>()
+    ensures write_sequence { (timings : Option (ℕ × ℕ)) (budget : ℕ) (first : MachineState) (result : Result (Unit {0}) ClientError) (left : ℕ) (last : MachineState)
+        → Sequence (Allows F.tells) own_entries timings write_requests budget first result left last → HasItsCause first last result }
+    ensures clear_sequence { (id : ℕ) (timings : Option (ℕ × ℕ)) (budget : ℕ) (first : MachineState) (result : Result (Unit {0}) ClientError) (left : ℕ) (last : MachineState)
+        → Sequence (Allows F.tells) own_entries timings (clear_requests id) budget first result left last → HasItsCause first last result }
+    ensures read_sequence { (id : ℕ) (timings : Option (ℕ × ℕ)) (budget : ℕ) (first : MachineState) (result : Result (Unit {0}) ClientError) (left : ℕ) (last : MachineState)
+        → Sequence (Allows F.tells) own_entries timings (read_requests id) budget first result left last → HasItsCause first last result }
+    ensures dummy_sequence { (timings : Option (ℕ × ℕ)) (budget : ℕ) (first : MachineState) (result : Result (Unit {0}) ClientError) (left : ℕ) (last : MachineState)
+        → Sequence (Allows F.tells) own_entries timings dummy_requests budget first result left last → HasItsCause first last result }
+    ensures count { (budget : ℕ) (first : MachineState) (result : Result ℕ ClientError) (left : ℕ) (last : MachineState)
+        → Counts (Allows F.tells) own_entries budget first result left last → HasItsCause first last result }
+    ensures next { (budget : ℕ) (first : MachineState) (result : Result (Option ℕ) ClientError) (left : ℕ) (last : MachineState)
+        → Names (Allows F.tells) own_entries budget first result left last → HasItsCause first last result }
+    ensures write { (bytes : List ℕ) (budget : ℕ) (first : MachineState) (result : Result (Unit {0}) ClientError) (left : ℕ) (last : MachineState)
+        → Writes (Allows F.tells) (own_client first) bytes budget first result left last → HasItsCause first last result }
+    ensures read { (id : ℕ) (out : List ℕ) (budget : ℕ) (first : MachineState) (result : Result ℕ ClientError) (after : List ℕ) (left : ℕ) (last : MachineState)
+        → Reads (Allows F.tells) (own_client first) id out budget first result after left last → HasItsCause first last result }
 {
     own_programs_run_through::<F>();
 }

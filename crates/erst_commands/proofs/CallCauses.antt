@@ -1,0 +1,168 @@
+-- Each call of a client over the machine's own table has its cause.
+use Rattle.std.proofs.Common.{◌≡◌, ℕ, ◌-◌, ◌^◌, ◌≤◌, Bool, true, false, cond, List, [], ◌∷◌, length, Option, Some, None, Result, Ok, Err, refl, sym, ap, subst, ◌∙◌, arith}
+use Rattle.std.specs.Prelude.{◌||◌, nat_lt}
+use Rattle.base_model.specs.Faults.{Rose}
+use Rattle.base_model.specs.Bytes.{number_at}
+use Rattle.apei_space.specs.declared.faults.SpaceFault.{SpaceFault}
+use Rattle.cper_frame.specs.declared.error.FrameError.{FrameError}
+use Rattle.cper_frame.specs.Reading.{checked}
+use Rattle.erst_entries.specs.declared.actions.Action.TheVariants.{BeginWriteOperation, BeginReadOperation, BeginClearOperation, BeginDummyWriteOperation, SetRecordOffset, SetRecordIdentifier, ExecuteOperation}
+use Rattle.erst_client.specs.declared.errors.ClientError.{ClientError}
+use Rattle.erst_client.specs.declared.errors.ClientError.TheVariants.{Hardware, Range}
+use Rattle.erst_client.specs.Commands.{frame_refusal, write_refusal, copy_refusal, Puts, NotPut, NotMarked, IsPut, Writes, IsNoRecord, IsNotPut, IsAsked, CopiesOut, IsFilled, IsNotFilled, copied, Reads, IsNotRead, HasNoLength, IsNotCopied, IsCopied}
+use Rattle.erst_client.specs.Sequences.{write_requests, read_requests, clear_requests, dummy_requests, Sequence}
+use Rattle.erst_device.specs.declared.registers.Operation.TheVariants as operations
+use Rattle.erst_device.specs.DeviceState.{DeviceState}
+use Rattle.erst_machine.specs.declared.areas.Area.TheVariants.{Device, Scratch, LogRange, Handover, BootErrors, Ports}
+use Rattle.erst_machine.specs.declared.areas.Spot.{Spot}
+use Rattle.erst_machine.specs.declared.areas.Spot.TheVariants.{Inside, Beyond, Nowhere}
+use Rattle.erst_machine.specs.MachineState.{MachineState, reach_in}
+use Rattle.erst_machine.specs.Allowed.{Allows, bytes_stored}
+use Rattle.erst_machine.specs.OwnTables.{own_entries}
+use Rattle.erst_commands.specs.OwnPrograms.{OwnProgramsRun}
+use Rattle.erst_commands.specs.Attached.{own_client}
+use Rattle.erst_commands.specs.Causes.{HasItsCause}
+use Rattle.erst_commands.proofs.SequenceLemmas.{begin_run}
+use Rattle.erst_commands.proofs.OwnProgramLemmas.{steps-begin_write, steps-begin_read, steps-begin_clear, steps-begin_dummy}
+use Rattle.erst_commands.proofs.CauseLemmas.{sequence_cause}
+
+-- The sequences
+
+module _ (tells : Type 0) (own : OwnProgramsRun tells) where
+  pub write_cause : (timings : Option (ℕ × ℕ)) (budget : ℕ) (first : MachineState) (result : Result (Unit {0}) ClientError) (left : ℕ) (last : MachineState)
+      → Sequence (Allows tells) own_entries timings write_requests budget first result left last → HasItsCause first last result
+  write_cause timings budget first =
+      sequence_cause tells own first BeginWriteOperation operations.Write (record { action = SetRecordOffset; given = 0 } ∷ record { action = ExecuteOperation; given = 0 } ∷ [])
+      (λ budget result left last run. begin_run tells own first BeginWriteOperation operations.Write refl refl refl (λ m. refl) steps-begin_write refl budget result left last run) timings budget
+
+  pub read_cause : (id : ℕ) (timings : Option (ℕ × ℕ)) (budget : ℕ) (first : MachineState) (result : Result (Unit {0}) ClientError) (left : ℕ) (last : MachineState)
+      → Sequence (Allows tells) own_entries timings (read_requests id) budget first result left last → HasItsCause first last result
+  read_cause id timings budget first =
+      sequence_cause tells own first BeginReadOperation operations.Read
+      (record { action = SetRecordOffset; given = 0 } ∷ record { action = SetRecordIdentifier; given = id } ∷ record { action = ExecuteOperation; given = 0 } ∷ [])
+      (λ budget result left last run. begin_run tells own first BeginReadOperation operations.Read refl refl refl (λ m. refl) steps-begin_read refl budget result left last run) timings budget
+
+  pub clear_cause : (id : ℕ) (timings : Option (ℕ × ℕ)) (budget : ℕ) (first : MachineState) (result : Result (Unit {0}) ClientError) (left : ℕ) (last : MachineState)
+      → Sequence (Allows tells) own_entries timings (clear_requests id) budget first result left last → HasItsCause first last result
+  clear_cause id timings budget first =
+      sequence_cause tells own first BeginClearOperation operations.Clear (record { action = SetRecordIdentifier; given = id } ∷ record { action = ExecuteOperation; given = 0 } ∷ [])
+      (λ budget result left last run. begin_run tells own first BeginClearOperation operations.Clear refl refl refl (λ m. refl) steps-begin_clear refl budget result left last run) timings budget
+
+  pub dummy_cause : (timings : Option (ℕ × ℕ)) (budget : ℕ) (first : MachineState) (result : Result (Unit {0}) ClientError) (left : ℕ) (last : MachineState)
+      → Sequence (Allows tells) own_entries timings dummy_requests budget first result left last → HasItsCause first last result
+  dummy_cause timings budget first =
+      sequence_cause tells own first BeginDummyWriteOperation operations.Dummy (record { action = SetRecordOffset; given = 0 } ∷ record { action = ExecuteOperation; given = 0 } ∷ [])
+      (λ budget result left last run. begin_run tells own first BeginDummyWriteOperation operations.Dummy refl refl refl (λ m. refl) steps-begin_dummy refl budget result left last run) timings budget
+
+-- A refusal of the client's own is not `Hardware`
+
+no_refusal : (test : Bool) (refusal : ClientError) (other : Option ClientError) → (refusal ≡ Hardware → ⊥) → (other ≡ Some Hardware → ⊥) → cond {A = Option ClientError} test (Some refusal) other ≡ Some Hardware → ⊥
+no_refusal true refusal other apart rest e = apart (cc e)
+no_refusal false refusal other apart rest e = rest e
+
+frame_well : (answer : Result ℕ FrameError) (have range : ℕ) → frame_refusal answer have range ≡ Some Hardware → ⊥
+frame_well (Err error) have range e = absurd (cc e)
+frame_well (Ok len) have range e =
+    no_refusal (nat_lt len have) _ _ (λ same. absurd (cc same)) (no_refusal (nat_lt range have) _ None (λ same. absurd (cc same)) (λ none. absurd (cc none))) e
+
+write_well : (bytes : List ℕ) (range : ℕ) → write_refusal bytes range ≡ Some Hardware → ⊥
+write_well bytes range e = frame_well (checked (2 ^ 32 - 1) bytes) (length bytes) range e
+
+copy_well : (len range room : ℕ) → copy_refusal len range room ≡ Some Hardware → ⊥
+copy_well len range room e =
+    no_refusal (nat_lt len 128 || nat_lt range len) _ _ (λ same. absurd (cc same)) (no_refusal (nat_lt room len) _ None (λ same. absurd (cc same)) (λ none. absurd (cc none))) e
+
+same_error : {T : Type 0} (error : ClientError) → ◌≡◌ {A = Result T ClientError} (Err error) (Err Hardware) → error ≡ Hardware
+same_error error e = cc
+
+not_range : {T : Type 0} (fault : SpaceFault) → ◌≡◌ {A = Result T ClientError} (Err (Range fault)) (Err Hardware) → ⊥
+not_range fault e = absurd (cc)
+
+-- Bytes of the log range leave the device alone
+
+device_stored : (spot : Spot) (old : MachineState) (at : ℕ) (bytes : List ℕ) → (bytes_stored spot old at bytes).1.device ≡ old.device
+device_stored (Beyond area address) old at bytes = refl
+device_stored (Nowhere address) old at bytes = refl
+device_stored (Inside Device start) old at bytes = refl
+device_stored (Inside Scratch start) old at bytes = refl
+device_stored (Inside LogRange start) old at bytes = refl
+device_stored (Inside Handover start) old at bytes = refl
+device_stored (Inside BootErrors start) old at bytes = refl
+device_stored (Inside Ports start) old at bytes = refl
+
+module _ (tells : Type 0) where
+  stays : (spot : Spot) (old new : MachineState) (at : ℕ) (bytes : List ℕ) → new ≡ (bytes_stored spot old at bytes).1 → new.device ≡ old.device
+  stays spot old new at bytes is = ap (λ (m : MachineState). m.device) is ∙ device_stored spot old at bytes
+
+  record HasPut (old : MachineState) (result : Result (Unit {0}) ClientError) (new : MachineState) : Type 0 where
+    device : new.device ≡ old.device
+    well : result ≡ Err Hardware → ⊥
+
+  has_put : (address : ℕ) (bytes : List ℕ) (old : MachineState) (result : Result (Unit {0}) ClientError) (new : MachineState) → Puts (Allows tells) address bytes old result new → HasPut old result new
+  has_put address bytes old result new puts = elim puts as (λ result new puts. HasPut old result new) [
+    | NotPut fault last allowed ↦ record { device = stays _ old last _ _ allowed.1; well = λ e. not_range fault e }
+    | NotMarked mid fault last allowed marks ↦ record { device = stays _ mid last _ _ marks.1 ∙ stays _ old mid _ _ allowed.1; well = λ e. not_range fault e }
+    | IsPut mid last allowed marks ↦ record { device = stays _ mid last _ _ marks.1 ∙ stays _ old mid _ _ allowed.1; well = λ e. absurd (cc e) }
+  ]
+
+-- where the device is the same
+cause_same : {T : Type 0} (first last : MachineState) (result : Result T ClientError) → last.device ≡ first.device → (result ≡ Err Hardware → ⊥) → HasItsCause first last result
+cause_same first last result is well = record {
+  never_falls = subst (λ (d : DeviceState). first.device.store.flash.faults ≤ d.store.flash.faults) (sym is) (omega arith);
+  hardware = λ e. absurd (well e);
+}
+
+-- A client's write and read
+
+module _ (tells : Type 0) (own : OwnProgramsRun tells) where
+  cause_from : {T : Type 0} (first mid last : MachineState) (result : Result T ClientError) → mid.device ≡ first.device → HasItsCause mid last result → HasItsCause first last result
+  cause_from first mid last result is cause = record {
+    never_falls = subst (λ (d : DeviceState). d.store.flash.faults ≤ last.device.store.flash.faults) is cause.never_falls;
+    hardware = λ e. subst (λ (d : DeviceState). Rose d.store.flash.faults last.device.store.flash.faults) is (cause.hardware e);
+  }
+
+  pub client_write_cause : (bytes : List ℕ) (budget : ℕ) (first : MachineState) (result : Result (Unit {0}) ClientError) (left : ℕ) (last : MachineState)
+      → Writes (Allows tells) (own_client first) bytes budget first result left last → HasItsCause first last result
+  client_write_cause bytes budget first result left last writes = elim writes as (λ result left last writes. HasItsCause first last result) [
+    | IsNoRecord error is ↦
+        cause_same first first (Err error) refl
+        (λ e. write_well bytes (reach_in first.device) (is ∙ ap (λ (x : ClientError). Some x) (same_error error e)))
+    | IsNotPut error last is puts ↦ let put = has_put tells _ bytes first (Err error) last puts in cause_same first last (Err error) put.device put.well
+    | IsAsked mid result left last is puts sequence ↦
+        let put = has_put tells _ bytes first (Ok tt) mid puts in
+        cause_from first mid last result put.device (write_cause tells own (own_client first).timings budget mid result left last sequence)
+  ]
+
+  -- behind a read's sequence nothing is changed, and no error is `Hardware`
+  read_behind : (first mid last : MachineState) (result : Result ℕ ClientError) → HasItsCause {T = Unit {0}} first mid (Ok tt) → last ≡ mid → (result ≡ Err Hardware → ⊥) → HasItsCause first last result
+  read_behind first mid last result cause is well = record {
+    never_falls = subst (λ (m : MachineState). first.device.store.flash.faults ≤ m.device.store.flash.faults) (sym is) cause.never_falls;
+    hardware = λ e. absurd (well e);
+  }
+
+  record HasCopied (old : MachineState) (answer : Result (Unit {0}) ClientError) (new : MachineState) : Type 0 where
+    same : new ≡ old
+    well : (len : ℕ) → copied answer len ≡ Err Hardware → ⊥
+
+  has_copied : (address : ℕ) (before after : List ℕ) (old : MachineState) (answer : Result (Unit {0}) ClientError) (new : MachineState) → CopiesOut (Allows tells) address before after old answer new → HasCopied old answer new
+  has_copied address before after old answer new copies = elim copies as (λ answer new copies. HasCopied old answer new) [
+    | IsFilled new allowed ↦ record { same = allowed.2; well = λ len e. absurd (cc e) }
+    | IsNotFilled fault new allowed ↦ record { same = allowed.2; well = λ len e. not_range fault e }
+  ]
+
+  pub client_read_cause : (id : ℕ) (out : List ℕ) (budget : ℕ) (first : MachineState) (result : Result ℕ ClientError) (after : List ℕ) (left : ℕ) (last : MachineState)
+      → Reads (Allows tells) (own_client first) id out budget first result after left last → HasItsCause first last result
+  client_read_cause id out budget first result after left last reads = elim reads as (λ result after left last reads. HasItsCause first last result) [
+    | IsNotRead error left last sequence ↦
+        let cause = read_cause tells own id (own_client first).timings budget first (Err error) left last sequence in
+        record { never_falls = cause.never_falls; hardware = λ e. cause.hardware (ap (λ (x : ClientError). Err x) (same_error error e)) }
+    | HasNoLength left mid field fault last sequence length_at ↦
+        read_behind first mid last (Err (Range fault)) (read_cause tells own id (own_client first).timings budget first (Ok tt) left mid sequence) length_at.2 (λ e. not_range fault e)
+    | IsNotCopied left mid field error last sequence length_at refused ↦
+        read_behind first mid last (Err error) (read_cause tells own id (own_client first).timings budget first (Ok tt) left mid sequence) length_at.2
+        (λ e. copy_well (number_at field 0 4) (reach_in first.device) (length out) (refused ∙ ap (λ (x : ClientError). Some x) (same_error error e)))
+    | IsCopied left mid field next whole answer last sequence length_at fits copies ↦
+        let done = has_copied _ _ whole next answer last copies in
+        read_behind first mid last (copied answer (number_at field 0 4)) (read_cause tells own id (own_client first).timings budget first (Ok tt) left mid sequence) (done.same ∙ length_at.2)
+        (done.well (number_at field 0 4))
+  ]
