@@ -6,19 +6,18 @@ use Rattle.base_model.specs.Bytes.{number_at}
 use Rattle.apei_space.specs.declared.faults.SpaceFault.{SpaceFault}
 use Rattle.cper_frame.specs.declared.error.FrameError.{FrameError}
 use Rattle.cper_frame.specs.Reading.{checked}
+use Rattle.record_store.specs.Store.{StoreView}
 use Rattle.erst_entries.specs.declared.actions.Action.TheVariants.{BeginWriteOperation, BeginReadOperation, BeginClearOperation, BeginDummyWriteOperation, SetRecordOffset, SetRecordIdentifier, ExecuteOperation}
 use Rattle.erst_client.specs.declared.errors.ClientError.{ClientError}
 use Rattle.erst_client.specs.declared.errors.ClientError.TheVariants.{Hardware, Range}
 use Rattle.erst_client.specs.Commands.{frame_refusal, write_refusal, copy_refusal, Puts, NotPut, NotMarked, IsPut, Writes, IsNoRecord, IsNotPut, IsAsked, CopiesOut, IsFilled, IsNotFilled, copied, Reads, IsNotRead, HasNoLength, IsNotCopied, IsCopied}
 use Rattle.erst_client.specs.Sequences.{write_requests, read_requests, clear_requests, dummy_requests, Sequence}
 use Rattle.erst_device.specs.declared.registers.Operation.TheVariants as operations
-use Rattle.erst_device.specs.DeviceState.{DeviceState}
-use Rattle.erst_machine.specs.declared.areas.Area.TheVariants.{Device, Scratch, LogRange, Handover, BootErrors, Ports}
 use Rattle.erst_machine.specs.declared.areas.Spot.{Spot}
-use Rattle.erst_machine.specs.declared.areas.Spot.TheVariants.{Inside, Beyond, Nowhere}
 use Rattle.erst_machine.specs.MachineState.{MachineState, reach_in}
 use Rattle.erst_machine.specs.Allowed.{Allows, bytes_stored}
 use Rattle.erst_machine.specs.OwnTables.{own_entries}
+use Rattle.erst_machine.proofs.CrashTrail.{stored_store}
 use Rattle.erst_commands.specs.OwnPrograms.{OwnProgramsRun}
 use Rattle.erst_commands.specs.Attached.{own_client}
 use Rattle.erst_commands.specs.Causes.{HasItsCause}
@@ -78,47 +77,37 @@ same_error error e = cc
 not_range : {T : Type 0} (fault : SpaceFault) → ◌≡◌ {A = Result T ClientError} (Err (Range fault)) (Err Hardware) → ⊥
 not_range fault e = absurd (cc)
 
--- Bytes of the log range leave the device alone
-
-device_stored : (spot : Spot) (old : MachineState) (at : ℕ) (bytes : List ℕ) → (bytes_stored spot old at bytes).1.device ≡ old.device
-device_stored (Beyond area address) old at bytes = refl
-device_stored (Nowhere address) old at bytes = refl
-device_stored (Inside Device start) old at bytes = refl
-device_stored (Inside Scratch start) old at bytes = refl
-device_stored (Inside LogRange start) old at bytes = refl
-device_stored (Inside Handover start) old at bytes = refl
-device_stored (Inside BootErrors start) old at bytes = refl
-device_stored (Inside Ports start) old at bytes = refl
+-- Bytes that are written leave the store alone
 
 module _ (tells : Type 0) where
-  stays : (spot : Spot) (old new : MachineState) (at : ℕ) (bytes : List ℕ) → new ≡ (bytes_stored spot old at bytes).1 → new.device ≡ old.device
-  stays spot old new at bytes is = ap (λ (m : MachineState). m.device) is ∙ device_stored spot old at bytes
+  stays : (spot : Spot) (old new : MachineState) (at : ℕ) (bytes : List ℕ) → new ≡ (bytes_stored spot old at bytes).1 → new.device.store ≡ old.device.store
+  stays spot old new at bytes is = ap (λ (m : MachineState). m.device.store) is ∙ stored_store spot old at bytes
 
   record HasPut (old : MachineState) (result : Result (Unit {0}) ClientError) (new : MachineState) : Type 0 where
-    device : new.device ≡ old.device
+    store : new.device.store ≡ old.device.store
     well : result ≡ Err Hardware → ⊥
 
   has_put : (address : ℕ) (bytes : List ℕ) (old : MachineState) (result : Result (Unit {0}) ClientError) (new : MachineState) → Puts (Allows tells) address bytes old result new → HasPut old result new
   has_put address bytes old result new puts = elim puts as (λ result new puts. HasPut old result new) [
-    | NotPut fault last allowed ↦ record { device = stays _ old last _ _ allowed.1; well = λ e. not_range fault e }
-    | NotMarked mid fault last allowed marks ↦ record { device = stays _ mid last _ _ marks.1 ∙ stays _ old mid _ _ allowed.1; well = λ e. not_range fault e }
-    | IsPut mid last allowed marks ↦ record { device = stays _ mid last _ _ marks.1 ∙ stays _ old mid _ _ allowed.1; well = λ e. absurd (cc e) }
+    | NotPut fault last allowed ↦ record { store = stays _ old last _ _ allowed.1; well = λ e. not_range fault e }
+    | NotMarked mid fault last allowed marks ↦ record { store = stays _ mid last _ _ marks.1 ∙ stays _ old mid _ _ allowed.1; well = λ e. not_range fault e }
+    | IsPut mid last allowed marks ↦ record { store = stays _ mid last _ _ marks.1 ∙ stays _ old mid _ _ allowed.1; well = λ e. absurd (cc e) }
   ]
 
--- where the device is the same
-cause_same : {T : Type 0} (first last : MachineState) (result : Result T ClientError) → last.device ≡ first.device → (result ≡ Err Hardware → ⊥) → HasItsCause first last result
+-- where the store is the same
+cause_same : {T : Type 0} (first last : MachineState) (result : Result T ClientError) → last.device.store ≡ first.device.store → (result ≡ Err Hardware → ⊥) → HasItsCause first last result
 cause_same first last result is well = record {
-  never_falls = subst (λ (d : DeviceState). first.device.store.flash.faults ≤ d.store.flash.faults) (sym is) (omega arith);
+  never_falls = subst (λ (s : StoreView). first.device.store.flash.faults ≤ s.flash.faults) (sym is) (omega arith);
   hardware = λ e. absurd (well e);
 }
 
 -- A client's write and read
 
 module _ (tells : Type 0) (own : OwnProgramsRun tells) where
-  cause_from : {T : Type 0} (first mid last : MachineState) (result : Result T ClientError) → mid.device ≡ first.device → HasItsCause mid last result → HasItsCause first last result
+  cause_from : {T : Type 0} (first mid last : MachineState) (result : Result T ClientError) → mid.device.store ≡ first.device.store → HasItsCause mid last result → HasItsCause first last result
   cause_from first mid last result is cause = record {
-    never_falls = subst (λ (d : DeviceState). d.store.flash.faults ≤ last.device.store.flash.faults) is cause.never_falls;
-    hardware = λ e. subst (λ (d : DeviceState). Rose d.store.flash.faults last.device.store.flash.faults) is (cause.hardware e);
+    never_falls = subst (λ (s : StoreView). s.flash.faults ≤ last.device.store.flash.faults) is cause.never_falls;
+    hardware = λ e. subst (λ (s : StoreView). Rose s.flash.faults last.device.store.flash.faults) is (cause.hardware e);
   }
 
   pub client_write_cause : (bytes : List ℕ) (budget : ℕ) (first : MachineState) (result : Result (Unit {0}) ClientError) (left : ℕ) (last : MachineState)
@@ -127,10 +116,10 @@ module _ (tells : Type 0) (own : OwnProgramsRun tells) where
     | IsNoRecord error is ↦
         cause_same first first (Err error) refl
         (λ e. write_well bytes (reach_in first.device) (is ∙ ap (λ (x : ClientError). Some x) (same_error error e)))
-    | IsNotPut error last is puts ↦ let put = has_put tells _ bytes first (Err error) last puts in cause_same first last (Err error) put.device put.well
+    | IsNotPut error last is puts ↦ let put = has_put tells _ bytes first (Err error) last puts in cause_same first last (Err error) put.store put.well
     | IsAsked mid result left last is puts sequence ↦
         let put = has_put tells _ bytes first (Ok tt) mid puts in
-        cause_from first mid last result put.device (write_cause tells own (own_client first).timings budget mid result left last sequence)
+        cause_from first mid last result put.store (write_cause tells own (own_client first).timings budget mid result left last sequence)
   ]
 
   -- behind a read's sequence nothing is changed, and no error is `Hardware`

@@ -99,7 +99,7 @@ area_store Handover start old at bytes = refl
 area_store BootErrors start old at bytes = refl
 area_store Ports start old at bytes = refl
 
-stored_store : (spot : Spot) (old : MachineState) (at : ℕ) (bytes : List ℕ) → (bytes_stored spot old at bytes).1.device.store ≡ old.device.store
+pub stored_store : (spot : Spot) (old : MachineState) (at : ℕ) (bytes : List ℕ) → (bytes_stored spot old at bytes).1.device.store ≡ old.device.store
 stored_store (Inside area start) old at bytes = area_store area start old at bytes
 stored_store (Beyond area address) old at bytes = refl
 stored_store (Nowhere address) old at bytes = refl
@@ -109,7 +109,7 @@ copied_to_store (Inside area start) old bytes = refl
 copied_to_store (Beyond area address) old bytes = refl
 copied_to_store (Nowhere address) old bytes = refl
 
-copied_store : (first second : Option SpaceFault) (source target : Spot) (old : MachineState) (n : ℕ) → (copied first second source target old n).1.device.store ≡ old.device.store
+pub copied_store : (first second : Option SpaceFault) (source target : Spot) (old : MachineState) (n : ℕ) → (copied first second source target old n).1.device.store ≡ old.device.store
 copied_store (Some fault) second source target old n = refl
 copied_store None (Some fault) source target old n = refl
 copied_store None None source target old n = copied_to_store target old (copied_from source old n)

@@ -8,3 +8,4 @@ pub mod FindLemmas
 pub mod PlaceLemmas
 pub mod SealLemmas
 pub mod TableLemmas
+pub mod FaultLemmas

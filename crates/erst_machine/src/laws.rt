@@ -59,3 +59,8 @@ pub fn accesses_keep_a_machine<F: Flash>()
 pub fn events_keep_a_machine<F: Flash>()
     ensures { (first last : MachineState) (trail : List (Move Event MachineState)) → Trail (Happens F.tells) first trail last → IsMachine first → IsMachine last }
 {}
+
+/// Accesses never lower the flash's count of faults, whether it tells its content or not.
+pub fn accesses_never_lower_the_faults<F: Flash>()
+    ensures { (first last : MachineState) → Reaches (Allows F.tells) first last → first.device.store.flash.faults ≤ last.device.store.flash.faults }
+{}
