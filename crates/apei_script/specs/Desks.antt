@@ -1,0 +1,36 @@
+-- What is seen of a desk.
+use Rattle.std.specs.Prelude.{◌≡◌, ℕ, List, [], ◌∷◌, ◌++◌}
+use Rattle.std.specs.declared.alloc.Global.{Global}
+use Rattle.script_text.specs.ScriptGrammar.{Line, bert}
+use Rattle.apei_script.specs.declared.desk.Desk.{Desk}
+use Rattle.apei_script.specs.Players.{PlayerState}
+use Rattle.erst_machine.specs.MachineState.{MachineState}
+use Rattle.apei_script.specs.Words.{reply_at, replies_at}
+use Rattle.apei_script.specs.Happened.{Happened}
+use Rattle.apei_script.specs.Plays.{Plays, PartlySaid, changes_in, step_of}
+
+abbrev pub state_of : {F : Type 0} → Desk F → PlayerState
+state_of desk = record { machine = desk.machine; own = desk.own; other = desk.other; steps = desk.steps }
+
+-- a line of one reply was played, and its reply made
+pub record AnswersLine (tells : Type 0) (counts : List ℕ) (old : PlayerState) (line : Line) (new : PlayerState) (reply : List ℕ) : Type 0 where
+  pub words : List ℕ
+  pub plays : Plays tells counts old line (words ∷ []) [] new
+  pub text : reply ≡ reply_at (step_of new) words
+
+-- the clients and their steps are as they were
+pub record SameClients {F : Type 0} (old new : Desk F) : Type 0 where
+  pub own : new.own ≡ old.own
+  pub other : new.other ≡ old.other
+  pub steps : new.steps ≡ old.steps
+
+-- the blocks of the boot error region were shown, and how many they are: all of it was written, or a part of one of the replies
+pub record Lists (tells told_sink : Type 0) (machine : MachineState) (written written_now : List ℕ) : Type 0 where
+  pub said : List (List ℕ)
+  pub happened : Happened tells machine bert said [] machine
+  pub text : told_sink → written_now ≡ written ++ replies_at (changes_in machine) said
+
+pub record ListsUnheard (tells told_sink : Type 0) (machine : MachineState) (written written_now : List ℕ) : Type 0 where
+  pub said : List (List ℕ)
+  pub happened : Happened tells machine bert said [] machine
+  pub text : told_sink → PartlySaid (changes_in machine) said written written_now

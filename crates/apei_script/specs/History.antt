@@ -1,0 +1,61 @@
+-- The history of a run: a chain of states, one a line.
+use Rattle.std.specs.Prelude.{◌≡◌, ◌⊎◌, ℕ, ◌+◌, ◌-◌, ◌^◌, ◌==◌, nat_le, min, if◌then◌else◌, Bool, MatchBool, List, [], ◌∷◌}
+use Rattle.std.specs.List.{flat_map}
+use Rattle.flash_words.specs.Flash.{CrashImage, image_at}
+use Rattle.record_model.specs.Records.{Stored}
+use Rattle.apei_notify.specs.Telling.{wanted}
+use Rattle.erst_machine.specs.MachineState.{MachineState, records_of, told_of}
+use Rattle.erst_machine.specs.Shown.{shown_by, changes_of}
+use Rattle.script_text.specs.ScriptGrammar.{Line}
+use Rattle.apei_script.specs.Players.{PlayerState}
+use Rattle.apei_script.specs.Words.{replies_at}
+use Rattle.apei_script.specs.Mapped.{after_line}
+use Rattle.apei_script.specs.Plays.{LinePlayed, step_of}
+
+-- a line that was played: the words of its replies, the blocks of which the listeners were told, and the player afterwards
+pub record Played : Type 0 where
+  pub line : Line
+  pub said : List (List ℕ)
+  pub blocks : List (List ℕ)
+  pub left : PlayerState
+
+-- how often a listener has heard of an error once it was told of so many more that it wants
+abbrev pub heard_of : ℕ → ℕ → ℕ
+heard_of count more = if more == 0 then count else min (count + more) (2 ^ 64 - 1)
+
+-- the counts of the listeners once they were told of some blocks; `wants` are the severities that each of them wants
+abbrev pub heard_after : List (ℕ → Bool) → List (List ℕ) → List ℕ → List ℕ
+heard_after (want ∷ wants) blocks (count ∷ counts) = heard_of count (wanted want blocks) ∷ heard_after wants blocks counts
+heard_after wants blocks counts = counts
+
+-- lines one after another: each is played by the player that the one before it left
+abbrev pub Follows : Type 0 → List (ℕ → Bool) → List ℕ → PlayerState → List Played → PlayerState → Type 0
+Follows tells wants counts first [] last = last ≡ first
+Follows tells wants counts first (played ∷ rest) last =
+    LinePlayed tells counts first played.line played.said played.blocks played.left
+    × Follows tells wants (heard_after wants played.blocks counts) played.left rest last
+
+-- the blocks of which the listeners were told
+abbrev pub blocks_of : List Played → List (List ℕ)
+blocks_of lines = flat_map (λ (played : Played). played.blocks) lines
+
+-- the replies to a line, and to lines: each has the flash step at which its line ended
+abbrev pub reply_of : Played → List ℕ
+reply_of played = replies_at (step_of played.left) played.said
+
+abbrev pub text_of : List Played → List ℕ
+text_of lines = flat_map reply_of lines
+
+-- what power lost at step s may show: the records after the lines that had ended by s, or as the next one leaves them where nothing fails
+abbrev pub Shows : ℕ → PlayerState → List Played → Stored → Type 0
+Shows s state [] shown = shown ≡ records_of state.machine
+Shows s state (played ∷ rest) shown =
+    MatchBool (nat_le (changes_of played.left.machine) s)
+    (Shows s played.left rest shown)
+    ((shown ≡ records_of state.machine) ⊎ (shown ≡ after_line state.machine played.line))
+
+-- at the step at which each line ended, the image showed the records that it leaves
+abbrev pub ShowsEach : PlayerState → PlayerState → List Played → Type 0
+ShowsEach last state [] = Unit {0}
+ShowsEach last state (played ∷ rest) =
+    (shown_by state.machine (image_at (told_of last.machine) (changes_of played.left.machine)) ≡ records_of played.left.machine) × ShowsEach last played.left rest

@@ -1,0 +1,11 @@
+pub mod Players
+pub mod Words
+pub mod Replies
+pub mod Asked
+pub mod Tables
+pub mod Mapped
+pub mod Happened
+pub mod Changes
+pub mod Plays
+pub mod Desks
+pub mod History

@@ -1,0 +1,51 @@
+-- What a line asks of the client of the machine's own table: its command on the record map, answered as the map does.
+use Rattle.std.specs.Prelude.{◌≡◌, ◌⊎◌, ℕ, List, length, Option, is_none, if◌then◌else◌, Result, Ok, Err}
+use Rattle.hex.specs.Hex.{decode_of}
+use Rattle.hex.specs.declared.error.FromHexError.{FromHexError}
+use Rattle.flash_words.specs.Flash.{Leaves}
+use Rattle.record_model.specs.Records.{Stored}
+use Rattle.record_model.specs.RecordMap.{Write, Clear, after}
+use Rattle.erst_client.specs.declared.errors.ClientError.{ClientError}
+use Rattle.erst_client.specs.Commands.{write_refusal}
+use Rattle.erst_client.specs.Sequences.{clear_requests, dummy_requests}
+use Rattle.erst_machine.specs.MachineState.{MachineState, reach_in, records_of, told_of}
+use Rattle.erst_machine.specs.Shown.{shown_by}
+use Rattle.erst_commands.specs.Looks.{AsksOnce, CountMade, NextMade}
+use Rattle.erst_commands.specs.Changes.{ChangeCommand, DummyCommand}
+use Rattle.erst_commands.specs.Writes.{WriteAnswered, id_of, marked}
+use Rattle.erst_commands.specs.Reads.{ReadAnswered}
+use Rattle.script_text.specs.ScriptGrammar.{Line, write, read, clear, count, next, dummy}
+use Rattle.apei_script.specs.Words.{words_of_write, words_of_read, words_of_clear, words_of_count, words_of_next, words_of_dummy}
+use Rattle.apei_script.specs.Asked.{READ_BUFFER}
+
+-- the line, the words of its reply, and the machine afterwards, with its records
+pub data Mapped (steps : ℕ) (old : MachineState) : Line → List ℕ → MachineState → Type 0 where
+  IsWrite : (hex bytes : List ℕ) (result : Result (Unit {0}) ClientError) (left : ℕ) (new : MachineState) → decode_of hex ≡ Ok bytes
+      → WriteAnswered bytes steps old result left new → Mapped steps old (write hex) (words_of_write bytes result) new
+  IsRead : (id : ℕ) (out after : List ℕ) (result : Result ℕ ClientError) (left : ℕ) (new : MachineState) → length out ≡ READ_BUFFER
+      → ReadAnswered id out steps old result after left new → Mapped steps old (read id) (words_of_read after result) new
+  IsClear : (id : ℕ) (result : Result (Unit {0}) ClientError) (left : ℕ) (new : MachineState)
+      → ChangeCommand old new id (Clear id) (clear_requests id) steps result left → Mapped steps old (clear id) (words_of_clear id result) new
+  IsCount : (result : Result ℕ ClientError) (left : ℕ) (new : MachineState) → AsksOnce (CountMade old new) steps old new result left
+      → Mapped steps old count (words_of_count result) new
+  IsNext : (result : Result (Option ℕ) ClientError) (left : ℕ) (new : MachineState) → AsksOnce (NextMade old new) steps old new result left
+      → Mapped steps old next (words_of_next result) new
+  IsDummy : (result : Result (Unit {0}) ClientError) (left : ℕ) (new : MachineState) → DummyCommand old new dummy_requests steps result left
+      → Mapped steps old dummy (words_of_dummy result) new
+
+-- the records as the write of some bytes leaves them where nothing fails: bytes that the client refuses change nothing
+abbrev pub after_write : MachineState → Result (List ℕ) FromHexError → Stored
+after_write state (Ok bytes) =
+    if is_none (write_refusal bytes (reach_in state.device)) then after state.device.store.layout (Write (id_of bytes) (marked bytes)) (records_of state)
+    else records_of state
+after_write state (Err error) = records_of state
+
+-- the records as a line leaves them where nothing fails and its steps are enough: only writes and clears make others
+abbrev pub after_line : MachineState → Line → Stored
+after_line state (write hex) = after_write state (decode_of hex)
+after_line state (clear id) = after state.device.store.layout (Clear id) (records_of state)
+after_line state line = records_of state
+
+-- power lost in a line leaves the records from before it, or those
+abbrev pub LineLeaves : MachineState → Line → MachineState → Type 0
+LineLeaves old line new = Leaves (told_of old) (told_of new) (λ image. (shown_by old image ≡ records_of old) ⊎ (shown_by old image ≡ after_line old line))

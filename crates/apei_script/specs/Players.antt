@@ -1,0 +1,46 @@
+-- What is seen of a player, beside its listeners.
+use Rattle.std.specs.Prelude.{◌≡◌, ℕ, Option, Some, None}
+use Rattle.erst_client.specs.Commands.{ClientState}
+use Rattle.erst_client.specs.Timings.{enough_steps}
+use Rattle.erst_machine.specs.MachineState.{MachineState}
+use Rattle.erst_machine.specs.OwnTables.{own_erst}
+use Rattle.erst_commands.specs.Attached.{own_client}
+
+-- the machine; the client that was attached first; the client of a table that a line gave, which is in use in its place; and the steps
+-- that each line is given, none where that is as many as are enough by the client's timings
+pub record PlayerState : Type 0 where
+  pub machine : MachineState
+  pub own : ClientState
+  pub other : Option ClientState
+  pub steps : Option ℕ
+
+-- the one of two clients that is in use
+abbrev pub in_use : ClientState → Option ClientState → ClientState
+in_use own None = own
+in_use own (Some other) = other
+
+abbrev pub client_of : PlayerState → ClientState
+client_of state = in_use state.own state.other
+
+-- the steps of a line
+abbrev pub budget_by : Option ℕ → ClientState → ℕ
+budget_by None client = enough_steps client.timings
+budget_by (Some steps) client = steps
+
+abbrev pub budget_of : PlayerState → ℕ
+budget_of state = budget_by state.steps (client_of state)
+
+abbrev pub with_machine : MachineState → PlayerState → PlayerState
+with_machine machine state = record state { machine = machine }
+
+-- the client in use is that of the machine's own table
+abbrev pub UsesOwn : PlayerState → Type 0
+UsesOwn state = client_of state ≡ own_client state.machine
+
+-- a client of the machine's own table has the machine's log range and timings
+abbrev pub FitsMachine : MachineState → ClientState → Type 0
+FitsMachine machine client = client.table ≡ own_erst → client ≡ own_client machine
+
+-- a player right after it was made
+abbrev pub player_of : MachineState → ClientState → Option ℕ → PlayerState
+player_of machine own steps = record { machine = machine; own = own; other = None; steps = steps }

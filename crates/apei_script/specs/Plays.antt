@@ -1,0 +1,184 @@
+-- The playing of one line. `tells` says whether the flash tells its content.
+use Rattle.std.specs.Prelude.{◌≡◌, ◌⊎◌, ℕ, ◌+◌, ◌≤◌, Bool, true, false, List, [], ◌∷◌, ◌++◌, codes, length, take, map, Option, Some, None, Result, Ok, Err}
+use Rattle.std.specs.List.{AllZip}
+use Rattle.hex.specs.Hex.{decode_of}
+use Rattle.base_model.specs.Faults.{Rose}
+use Rattle.apei_space.specs.Accesses.{Move, Trail}
+use Rattle.apei_notify.specs.Telling.{IsToldOfAll}
+use Rattle.erst_client.specs.Commands.{ClientState}
+use Rattle.erst_client.specs.Timings.{enough_steps}
+use Rattle.erst_machine.specs.declared.errors.BootError.{BootError}
+use Rattle.erst_machine.specs.MachineState.{MachineState}
+use Rattle.erst_machine.specs.Events.{Event, Warms, Powers, Happens}
+use Rattle.script_text.specs.ScriptGrammar.{Line, blank, comment, write, read, clear, count, next, dummy, action, table, own_table, shadow_table, turns, bert, heard, reset, power, bridge}
+use Rattle.apei_script.specs.declared.player.PlayStop.{PlayStop}
+use Rattle.apei_script.specs.declared.player.PlayStop.TheVariants.{SinkFault, FlashFault, Memory}
+use Rattle.apei_script.specs.Players.{PlayerState, client_of, budget_of, with_machine, UsesOwn}
+use Rattle.apei_script.specs.Words.{refused, words_of_table, words_of_heard, words_of_reset, words_of_power, reply_at, replies_at}
+use Rattle.apei_script.specs.Asked.{Commanded}
+use Rattle.apei_script.specs.Tables.{GivesTable}
+use Rattle.apei_script.specs.Mapped.{Mapped}
+use Rattle.apei_script.specs.Happened.{Happened}
+use Rattle.apei_script.specs.Changes.{changes_along}
+
+-- a restart, and the words of its reply; the client that was attached first is in use again
+abbrev pub restarted : MachineState → PlayerState → PlayerState
+restarted machine old = record old { machine = machine; other = None }
+
+-- A line, the words of its replies, the blocks of which the listeners are told, and the player afterwards. `counts` says how often each
+-- listener has heard of an error before it
+pub data Plays (tells : Type 0) (counts : List ℕ) (old : PlayerState) : Line → List (List ℕ) → List (List ℕ) → PlayerState → Type 0 where
+  Blank : Plays tells counts old blank [] [] old
+  ByClient : (line : Line) (words : List ℕ) (machine : MachineState) → Commanded tells (client_of old) (budget_of old) old.machine line words machine
+      → Plays tells counts old line (words ∷ []) [] (with_machine machine old)
+  GivenTable : (hex bytes words : List ℕ) (machine : MachineState) (other : Option ClientState) → decode_of hex ≡ Ok bytes
+      → GivesTable tells old.machine old.other bytes words machine other → Plays tells counts old (table hex) (words ∷ []) [] (record old { machine = machine; other = other })
+  OwnTable : Plays tells counts old own_table (words_of_table (length old.own.table.entries) ∷ []) [] (record old { other = None })
+  OnMachine : (line : Line) (said blocks : List (List ℕ)) (machine : MachineState) → Happened tells old.machine line said blocks machine
+      → Plays tells counts old line said blocks (with_machine machine old)
+  Heard : Plays tells counts old heard (words_of_heard counts ∷ []) [] old
+  Reset : (n : ℕ) (machine : MachineState) → Warms tells old.machine (Ok n) machine
+      → Plays tells counts old reset (words_of_reset n ∷ []) [] (restarted machine old)
+  Power : (n : ℕ) (machine : MachineState) → Powers tells old.machine (Ok n) machine
+      → Plays tells counts old power (words_of_power n ∷ []) [] (restarted machine old)
+
+-- a restart that the flash failed
+pub data FailsRestart (tells : Type 0) (old : MachineState) : Line → MachineState → Type 0 where
+  ResetFails : (error : BootError) (new : MachineState) → Warms tells old (Err error) new → FailsRestart tells old reset new
+  PowerFails : (error : BootError) (new : MachineState) → Powers tells old (Err error) new → FailsRestart tells old power new
+
+-- What happened to the machine: its accesses, restarts, turns and blocks, one after another. Where no fault was counted the flash took
+-- exactly the changes that the definitions give them
+pub record HasHappened (tells : Type 0) (old new : MachineState) : Type 0 where
+  pub trail : List (Move Event MachineState)
+  pub happens : Trail (Happens tells) old trail new
+  pub never_falls : old.device.store.flash.faults ≤ new.device.store.flash.faults
+  pub exact : tells → (Rose old.device.store.flash.faults new.device.store.flash.faults → ⊥)
+      → new.device.store.flash.steps ≡ old.device.store.flash.steps + changes_along old trail
+
+-- a line that can be played
+abbrev pub IsBuilt : Line → Type 0
+IsBuilt shadow_table = ⊥
+IsBuilt (bridge id) = ⊥
+IsBuilt line = Unit {0}
+
+-- a line has exactly one reply, and the listeners have no part in it
+abbrev pub has_one_reply : Line → Bool
+has_one_reply blank = false
+has_one_reply (comment rest) = false
+has_one_reply (turns letters) = false
+has_one_reply bert = false
+has_one_reply heard = false
+has_one_reply shadow_table = false
+has_one_reply (bridge id) = false
+has_one_reply line = true
+
+-- a line asks the client in use
+abbrev pub asks_client : Line → Bool
+asks_client (write hex) = true
+asks_client (read id) = true
+asks_client (clear id) = true
+asks_client count = true
+asks_client next = true
+asks_client dummy = true
+asks_client (action code value) = true
+asks_client line = false
+
+-- a line that asks the client for a command on records
+abbrev pub names_command : Line → Bool
+names_command (write hex) = true
+names_command (read id) = true
+names_command (clear id) = true
+names_command count = true
+names_command next = true
+names_command dummy = true
+names_command line = false
+
+-- the reply is that the flash failed, and that there were too few steps
+abbrev pub SaysHardware : List (List ℕ) → Type 0
+SaysHardware said = said ≡ refused (codes "hardware") ∷ []
+
+abbrev pub SaysStopped : List (List ℕ) → Type 0
+SaysStopped said = said ≡ refused (codes "stopped budget") ∷ []
+
+-- One line that was played. By the machine's own table a command on records is the record map's; it says that the flash failed only where
+-- the flash's count of faults rose in this very line, and is never stopped where its steps are enough
+pub record LinePlayed (tells : Type 0) (counts : List ℕ) (old : PlayerState) (line : Line) (said blocks : List (List ℕ)) (new : PlayerState) : Type 0 where
+  pub plays : Plays tells counts old line said blocks new
+  pub happened : HasHappened tells old.machine new.machine
+  pub by_map : tells → UsesOwn old → names_command line ≡ true
+      → (words : List ℕ) × (said ≡ words ∷ []) × Mapped (budget_of old) old.machine line words new.machine
+  pub cause : UsesOwn old → names_command line ≡ true → SaysHardware said → Rose old.machine.device.store.flash.faults new.machine.device.store.flash.faults
+  pub enough : tells → UsesOwn old → names_command line ≡ true → enough_steps (client_of old).timings ≤ budget_of old → SaysStopped said → ⊥
+
+-- why a line was stopped, and what it left: a restart that the flash failed, or want of memory for a table, which leaves all as it was
+abbrev pub Stops : Type 0 → PlayerState → Line → PlayerState → PlayStop → Type 0
+Stops tells old line new SinkFault = ⊥
+Stops tells old line new FlashFault = (machine : MachineState) × FailsRestart tells old.machine line machine × HasHappened tells old.machine machine
+    × Rose old.machine.device.store.flash.faults machine.device.store.flash.faults × (new ≡ with_machine machine old)
+Stops tells old line new Memory = (new ≡ old) × ((hex : List ℕ) × (line ≡ table hex))
+
+-- how many flash changes were made when a line ended
+abbrev pub changes_in : MachineState → ℕ
+changes_in machine = machine.device.store.flash.steps
+
+abbrev pub step_of : PlayerState → ℕ
+step_of state = changes_in state.machine
+
+-- the listeners, before and after they were told of some blocks, each in its place
+abbrev pub Told : {L : Type 0} → (L → ℕ → Bool) → (L → ℕ) → (L → ℕ → List ℕ → Type 0) → List (List ℕ) → List L → List L → Type 0
+Told interest hearings heard_last blocks old new = AllZip (IsToldOfAll interest hearings heard_last blocks) old new
+
+-- a line was played, its listeners told, and its replies written
+pub record PlaysLine {L : Type 0} (interest : L → ℕ → Bool) (hearings : L → ℕ) (heard_last : L → ℕ → List ℕ → Type 0) (tells told_sink : Type 0)
+    (old new : PlayerState) (members members_now : List L) (line : Line) (written written_now : List ℕ) : Type 0 where
+  pub said : List (List ℕ)
+  pub blocks : List (List ℕ)
+  pub played : LinePlayed tells (map hearings members) old line said blocks new
+  pub told : Told interest hearings heard_last blocks members members_now
+  pub text : told_sink → written_now ≡ written ++ replies_at (step_of new) said
+
+-- the same of a line that asks the machine itself
+pub record Occurred {L : Type 0} (interest : L → ℕ → Bool) (hearings : L → ℕ) (heard_last : L → ℕ → List ℕ → Type 0) (tells told_sink : Type 0)
+    (old new : MachineState) (members members_now : List L) (line : Line) (written written_now : List ℕ) : Type 0 where
+  pub said : List (List ℕ)
+  pub blocks : List (List ℕ)
+  pub happened : Happened tells old line said blocks new
+  pub told : Told interest hearings heard_last blocks members members_now
+  pub text : told_sink → written_now ≡ written ++ replies_at (changes_in new) said
+
+-- a line of turns may be left where a reply is refused: of its turns no further one is made
+pub data IsCutShort : Line → Line → Type 0 where
+  Whole : (line : Line) → IsCutShort line line
+  SomeTurns : (letters behind : List ℕ) → IsCutShort (turns (letters ++ behind)) (turns letters)
+
+-- the replies up to one were written, and a part of that one
+pub record PartlySaid (step : ℕ) (said : List (List ℕ)) (written written_now : List ℕ) : Type 0 where
+  pub before : List (List ℕ)
+  pub last : List ℕ
+  pub behind : List (List ℕ)
+  pub said_is : said ≡ before ++ last ∷ behind
+  pub count : ℕ
+  pub text : written_now ≡ written ++ replies_at step before ++ take count (reply_at step last)
+
+-- a line was played, or the first turns of one, and its listeners told. The sink refused a reply
+pub record PlaysUnheard {L : Type 0} (interest : L → ℕ → Bool) (hearings : L → ℕ) (heard_last : L → ℕ → List ℕ → Type 0) (tells told_sink : Type 0)
+    (old new : PlayerState) (members members_now : List L) (line : Line) (written written_now : List ℕ) : Type 0 where
+  pub made : Line
+  pub cut : IsCutShort line made
+  pub said : List (List ℕ)
+  pub blocks : List (List ℕ)
+  pub played : LinePlayed tells (map hearings members) old made said blocks new
+  pub told : Told interest hearings heard_last blocks members members_now
+  pub text : told_sink → PartlySaid (step_of new) said written written_now
+
+-- the same of a line that asks the machine itself
+pub record OccurredUnheard {L : Type 0} (interest : L → ℕ → Bool) (hearings : L → ℕ) (heard_last : L → ℕ → List ℕ → Type 0) (tells told_sink : Type 0)
+    (old new : MachineState) (members members_now : List L) (line : Line) (written written_now : List ℕ) : Type 0 where
+  pub made : Line
+  pub cut : IsCutShort line made
+  pub said : List (List ℕ)
+  pub blocks : List (List ℕ)
+  pub happened : Happened tells old made said blocks new
+  pub told : Told interest hearings heard_last blocks members members_now
+  pub text : told_sink → PartlySaid (changes_in new) said written written_now

@@ -1,0 +1,134 @@
+-- The words of replies.
+use Rattle.std.specs.Prelude.{ℕ, List, [], ◌∷◌, ◌++◌, length, take, codes, decimal, Option, Some, None, Result, Ok, Err}
+use Rattle.std.specs.List.{flat_map}
+use Rattle.hex.specs.Hex.{encode_lower}
+use Rattle.base_model.specs.Bytes.{number_at}
+use Rattle.apei_space.specs.declared.faults.SpaceFault.{SpaceFault}
+use Rattle.erst_interp.specs.declared.stops.RunStop.{RunStop}
+use Rattle.erst_client.specs.declared.errors.AttachError.{AttachError}
+use Rattle.erst_client.specs.declared.errors.ClientError.{ClientError}
+use Rattle.erst_entries.specs.declared.tables.ErstError.{ErstError}
+use Rattle.ghes_ack.specs.declared.events.Event.{Event}
+use Rattle.ghes_ack.specs.declared.events.Event.TheVariants.{Idle, Fill, Publish, Free, Wait, Nothing, Found, Copied, Took, Clear, Ack}
+use Rattle.ghes_ack.specs.declared.submission.SubmitError.{SubmitError}
+use Rattle.ghes_ack.specs.declared.submission.SubmitError.TheVariants.{Long as too_long, Malformed as malformed, Trailing as trailing}
+use Rattle.bert_region.specs.declared.region.RegionFull.{RegionFull}
+use Rattle.erst_machine.specs.declared.errors.FatalError.{FatalError}
+use Rattle.erst_machine.specs.declared.errors.FatalError.TheVariants.{Long, Malformed, Trailing, Region}
+use Rattle.script_text.specs.ClientWords.{words_of_attach, words_of_client}
+use Rattle.script_text.specs.RunWords.{words_of_fault, words_of_stop}
+use Rattle.script_text.specs.SubmitWords.{words_of_submit, words_of_region}
+use Rattle.script_text.specs.TableWords.{words_of_erst}
+use Rattle.erst_commands.specs.Writes.{id_of}
+
+abbrev pub refused : List ℕ → List ℕ
+refused words = codes "refused " ++ words
+
+-- a write shows the identifier and the length of the bytes of its line
+abbrev pub words_of_write : List ℕ → Result (Unit {0}) ClientError → List ℕ
+words_of_write bytes (Ok done) = codes "wrote " ++ decimal (id_of bytes) ++ codes " " ++ decimal (length bytes)
+words_of_write bytes (Err error) = refused (words_of_client error)
+
+-- a record that was read: its identifier, its length, and its bytes as hexadecimal digits in lower case
+abbrev pub words_of_record : List ℕ → List ℕ
+words_of_record bytes = codes "record " ++ decimal (id_of bytes) ++ codes " " ++ decimal (length bytes) ++ codes " " ++ encode_lower bytes
+
+-- a read shows as many bytes of its buffer as it answers
+abbrev pub words_of_read : List ℕ → Result ℕ ClientError → List ℕ
+words_of_read out (Ok size) = words_of_record (take size out)
+words_of_read out (Err error) = refused (words_of_client error)
+
+abbrev pub words_of_clear : ℕ → Result (Unit {0}) ClientError → List ℕ
+words_of_clear id (Ok done) = codes "cleared " ++ decimal id
+words_of_clear id (Err error) = refused (words_of_client error)
+
+abbrev pub words_of_count : Result ℕ ClientError → List ℕ
+words_of_count (Ok n) = codes "count " ++ decimal n
+words_of_count (Err error) = refused (words_of_client error)
+
+abbrev pub words_of_next : Result (Option ℕ) ClientError → List ℕ
+words_of_next (Ok (Some id)) = codes "next " ++ decimal id
+words_of_next (Ok None) = codes "next end"
+words_of_next (Err error) = refused (words_of_client error)
+
+abbrev pub words_of_dummy : Result (Unit {0}) ClientError → List ℕ
+words_of_dummy (Ok done) = codes "dummy ok"
+words_of_dummy (Err error) = refused (words_of_client error)
+
+abbrev pub words_of_action : Result ℕ RunStop → List ℕ
+words_of_action (Ok n) = codes "result " ++ decimal n
+words_of_action (Err stop) = refused (codes "stopped " ++ words_of_stop stop)
+
+-- a table of so many entries
+abbrev pub words_of_table : ℕ → List ℕ
+words_of_table entries = codes "table " ++ decimal entries
+
+abbrev pub words_of_no_table : ErstError → List ℕ
+words_of_no_table error = refused (codes "table " ++ words_of_erst error)
+
+abbrev pub words_of_no_client : AttachError → List ℕ
+words_of_no_client error = refused (words_of_attach error)
+
+abbrev pub words_of_submission : Result ℕ SubmitError → List ℕ
+words_of_submission (Ok n) = codes "queued " ++ decimal n
+words_of_submission (Err error) = refused (words_of_submit error)
+
+-- the word of each turn's event
+abbrev pub word_of : Event → List ℕ
+word_of Idle = codes "idle"
+word_of Fill = codes "fill"
+word_of Publish = codes "publish"
+word_of Free = codes "free"
+word_of Wait = codes "wait"
+word_of Nothing = codes "nothing"
+word_of Found = codes "found"
+word_of Copied = codes "copy"
+word_of Took = codes "took"
+word_of Clear = codes "clear"
+word_of Ack = codes "ack"
+
+abbrev pub words_of_turns : List Event → List ℕ
+words_of_turns events = codes "turns" ++ flat_map (λ (event : Event). codes " " ++ word_of event) events
+
+-- an error status block: its severity (ACPI 6.4, table 18.11), its length and its bytes
+abbrev pub words_of_block : List ℕ → List ℕ
+words_of_block block = codes "block " ++ decimal (number_at block 16 4) ++ codes " " ++ decimal (length block) ++ codes " " ++ encode_lower block
+
+abbrev pub words_of_peek : List ℕ → Result (Unit {0}) SpaceFault → List ℕ
+words_of_peek bytes (Ok done) = codes "bytes " ++ encode_lower bytes
+words_of_peek bytes (Err fault) = refused (words_of_fault fault)
+
+-- why a fatal block is not laid: as one that is not handed over, or for want of room in the region
+abbrev pub words_of_fatal : FatalError → List ℕ
+words_of_fatal (Long len) = words_of_submit (too_long len)
+words_of_fatal (Malformed why) = words_of_submit (malformed why)
+words_of_fatal (Trailing bytes) = words_of_submit (trailing bytes)
+words_of_fatal (Region need) = codes "region " ++ decimal need
+
+-- a fatal block's place in the boot error region
+abbrev pub words_of_laid : Result ℕ FatalError → List ℕ
+words_of_laid (Ok at) = codes "laid " ++ decimal at
+words_of_laid (Err error) = refused (words_of_fatal error)
+
+-- how many blocks stand in the boot error region
+abbrev pub words_of_bert : ℕ → List ℕ
+words_of_bert n = codes "bert " ++ decimal n
+
+-- how often each listener has heard of an error, in their order
+abbrev pub words_of_heard : List ℕ → List ℕ
+words_of_heard counts = codes "heard" ++ flat_map (λ (n : ℕ). codes " " ++ decimal n) counts
+
+-- how many records there are after a restart
+abbrev pub words_of_reset : ℕ → List ℕ
+words_of_reset n = codes "reset " ++ decimal n
+
+abbrev pub words_of_power : ℕ → List ℕ
+words_of_power n = codes "power " ++ decimal n
+
+-- each reply is a line of its words and the flash step at which its line of the script ended
+abbrev pub reply_at : ℕ → List ℕ → List ℕ
+reply_at step words = words ++ (codes " @" ++ decimal step ++ 10 ∷ [])
+
+-- replies one after another
+abbrev pub replies_at : ℕ → List (List ℕ) → List ℕ
+replies_at step said = flat_map (reply_at step) said

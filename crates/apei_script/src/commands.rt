@@ -1,0 +1,197 @@
+// What a line asks of the client in use.
+ghost use Rattle.std.specs.Prelude.{◌≡◌, ◌*◌, ◌≤◌, ℕ, List, length, take, Ok};
+ghost use Rattle.hex.specs.Hex.{decode_of};
+ghost use Rattle.line_grammar.specs.Parts.{IsPairs};
+ghost use Rattle.script_text.specs.ScriptGrammar.{Line, write, read, clear, count, next, dummy, action};
+ghost use Rattle.apei_script.specs.Words.{words_of_write};
+ghost use Rattle.apei_script.specs.Replies.{IsMade};
+ghost use Rattle.apei_script.specs.Asked.{Answers};
+
+use crate::refusals::{refuse, refuse_behind};
+use crate::reply::Reply;
+use apei_bytes::get_u64;
+use erst_client::Client;
+use erst_interp::{Budget, run};
+use erst_machine::Machine;
+use flash_model::Flash;
+use hex::decode_to_slice;
+
+/// The bytes that the longest line stands for, and those of the longest record that is read.
+pub const LONGEST_HEX: usize = 70_000;
+const READ_BUFFER: usize = 65_536;
+
+/// The offset of a record's identifier, and the bytes of its header.
+const ID: usize = 96;
+
+/// The first bytes of a buffer become those of pairs of hexadecimal digits; their number is answered.
+pub fn decode(hex: &[u8], out: &mut [u8]) -> usize
+    requires pairs { IsPairs hex.now }
+    requires room { length hex.now ≤ 2 * length out.old }
+    ensures bytes { decode_of hex.now ≡ Ok (take result out.new) }
+    ensures within { result ≤ length out.new }
+    ensures size { length out.new ≡ length out.old }
+{
+    let count = hex.len() / 2;
+    match decode_to_slice(hex, &mut out[..count]) {
+        Ok(()) => count,
+        Err(_) => unreachable!(),
+    }
+}
+
+/// Writes the record of a line.
+pub fn write_record<F: Flash>(
+    client: &mut Client,
+    machine: &mut Machine<F>,
+    steps: u64,
+    hex: &[u8],
+    bytes: &mut [u8],
+    reply: &mut Reply,
+)
+    requires pairs { IsPairs hex.now }
+    requires room { length hex.now ≤ 2 * length bytes.old }
+    ensures answers { Answers F.tells client.old steps machine.old (write hex.now) machine.new reply.new }
+    ensures kept { client.new ≡ client.old }
+    ensures size { length bytes.new ≡ length bytes.old }
+{
+    let len = decode(hex, bytes);
+    let mut budget = Budget::new(steps);
+    match client.write(&bytes[..len], &mut budget, machine) {
+        Ok(()) => wrote(&bytes[..len], reply),
+        Err(error) => refuse(reply, &error),
+    }
+}
+
+/// The reply to a record that was written.
+fn wrote(bytes: &[u8], reply: &mut Reply)
+    requires { 128 ≤ length bytes.now }
+    ensures { IsMade reply.new (words_of_write bytes.now (Ok tt)) }
+{
+    reply.begin(b"wrote ");
+    reply.add_number(get_u64(bytes, ID));
+    reply.add(b" ");
+    reply.add_number(bytes.len() as u64);
+}
+
+/// Shows the record of an identifier.
+pub fn read_record<F: Flash>(
+    client: &mut Client,
+    machine: &mut Machine<F>,
+    steps: u64,
+    id: u64,
+    bytes: &mut [u8],
+    reply: &mut Reply,
+)
+    requires room { 65536 ≤ length bytes.old }
+    ensures answers { Answers F.tells client.old steps machine.old (read id) machine.new reply.new }
+    ensures kept { client.new ≡ client.old }
+    ensures size { length bytes.new ≡ length bytes.old }
+{
+    let out = &mut bytes[..READ_BUFFER];
+    let mut budget = Budget::new(steps);
+    match client.read(id, out, &mut budget, machine) {
+        Ok(len) => reply.record(&out[..len]),
+        Err(error) => refuse(reply, &error),
+    }
+}
+
+/// Clears an identifier.
+pub fn clear_record<F: Flash>(
+    client: &mut Client,
+    machine: &mut Machine<F>,
+    steps: u64,
+    id: u64,
+    reply: &mut Reply,
+)
+    ensures answers { Answers F.tells client.old steps machine.old (clear id) machine.new reply.new }
+    ensures kept { client.new ≡ client.old }
+{
+    let mut budget = Budget::new(steps);
+    match client.clear(id, &mut budget, machine) {
+        Ok(()) => {
+            reply.begin(b"cleared ");
+            reply.add_number(id);
+        }
+        Err(error) => refuse(reply, &error),
+    }
+}
+
+/// Counts the records.
+pub fn count_records<F: Flash>(
+    client: &mut Client,
+    machine: &mut Machine<F>,
+    steps: u64,
+    reply: &mut Reply,
+)
+    ensures answers { Answers F.tells client.old steps machine.old count machine.new reply.new }
+    ensures kept { client.new ≡ client.old }
+{
+    let mut budget = Budget::new(steps);
+    match client.count(&mut budget, machine) {
+        Ok(count) => {
+            reply.begin(b"count ");
+            reply.add_number(count);
+        }
+        Err(error) => refuse(reply, &error),
+    }
+}
+
+/// Shows the next identifier.
+pub fn show_next<F: Flash>(
+    client: &mut Client,
+    machine: &mut Machine<F>,
+    steps: u64,
+    reply: &mut Reply,
+)
+    ensures answers { Answers F.tells client.old steps machine.old next machine.new reply.new }
+    ensures kept { client.new ≡ client.old }
+{
+    let mut budget = Budget::new(steps);
+    match client.next(&mut budget, machine) {
+        Ok(Some(id)) => {
+            reply.begin(b"next ");
+            reply.add_number(id);
+        }
+        Ok(None) => reply.begin(b"next end"),
+        Err(error) => refuse(reply, &error),
+    }
+}
+
+/// Goes through a write that stores nothing.
+pub fn write_dummy<F: Flash>(
+    client: &mut Client,
+    machine: &mut Machine<F>,
+    steps: u64,
+    reply: &mut Reply,
+)
+    ensures answers { Answers F.tells client.old steps machine.old dummy machine.new reply.new }
+    ensures kept { client.new ≡ client.old }
+{
+    let mut budget = Budget::new(steps);
+    match client.dummy(&mut budget, machine) {
+        Ok(()) => reply.begin(b"dummy ok"),
+        Err(error) => refuse(reply, &error),
+    }
+}
+
+/// Runs the program of an action of the client's table.
+pub fn run_action<F: Flash>(
+    client: &Client,
+    machine: &mut Machine<F>,
+    steps: u64,
+    code: u64,
+    value: u64,
+    reply: &mut Reply,
+)
+    requires { code ≤ 255 }
+    ensures answers { Answers F.tells client.now steps machine.old (action code value) machine.new reply.new }
+{
+    let program = client.table().program(code as u8);
+    let mut budget = Budget::new(steps);
+    match run(&program, value, &mut budget, machine) {
+        Ok(result) => {
+            reply.begin(b"result ");
+            reply.add_number(result);
+        }
+        Err(stop) => refuse_behind(reply, b"stopped ", &stop),
+    }
+}
