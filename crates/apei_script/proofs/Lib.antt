@@ -1,0 +1,2 @@
+pub mod EventChanges
+pub mod LineLemmas
