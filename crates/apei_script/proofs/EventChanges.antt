@@ -26,26 +26,27 @@ use Rattle.erst_machine.specs.Events.{Warms, Powers, Event, Accessed, Warmed, Po
 use Rattle.erst_machine.proofs.CrashTrail.{stored_store, copied_store}
 use Rattle.apei_script.specs.Changes.{changes_at_register, changes_in, changes_at, changes_by_call, changes_by_event, changes_along}
 
--- what happened took so many changes where no fault was counted, and the count of faults never falls
+-- what happened took so many changes where no fault was counted, the count of faults never falls, and the flash is divided as it was
 pub record Takes (tells : Type 0) (old : MachineState) (changes : ℕ) (new : MachineState) : Type 0 where
   pub never_falls : old.device.store.flash.faults ≤ new.device.store.flash.faults
+  pub layout : new.device.store.layout ≡ old.device.store.layout
   pub exact : tells → (Rose old.device.store.flash.faults new.device.store.flash.faults → ⊥) → new.device.store.flash.steps ≡ old.device.store.flash.steps + changes
 
 pub takes_none : (tells : Type 0) (old : MachineState) → Takes tells old 0 old
-takes_none tells old = record { never_falls = omega arith; exact = λ _ _. omega arith }
+takes_none tells old = record { never_falls = omega arith; layout = refl; exact = λ _ _. omega arith }
 
 -- the store is as it was
 pub still : (tells : Type 0) (old new : MachineState) → new.device.store ≡ old.device.store → Takes tells old 0 new
 still tells old new same = subst
     (λ (s : StoreView). Takes tells old 0 (record new { device = record new.device { store = s } })) (sym same)
-    (record { never_falls = omega arith; exact = λ _ _. omega arith })
+    (record { never_falls = omega arith; layout = refl; exact = λ _ _. omega arith })
 
 by_state : (tells : Type 0) (old new other : MachineState) → new ≡ other → other.device.store ≡ old.device.store → Takes tells old 0 new
 by_state tells old new other is same = still tells old new (ap (λ (s : MachineState). s.device.store) is ∙ same)
 
 of_register : (tells : Type 0) (register : Register) (old new : MachineState) (at : ℕ) (width : Width) (value : ℕ) (answer : Result (Unit {0}) SpaceFault) →
     RegisterWritten tells register old at width value answer new → Takes tells old (changes_at_register register old (value % 2 ^ 32)) new
-of_register tells Action old new at width value answer h = record { never_falls = h.1.effect.never_falls; exact = h.1.effect.exact }
+of_register tells Action old new at width value answer h = record { never_falls = h.1.effect.never_falls; layout = h.1.effect.alike.layout; exact = h.1.effect.exact }
 of_register tells Value old new at width value answer h = by_state tells old new _ h.1 refl
 of_register tells NoRegister old new at width value answer h = by_state tells old new _ h.1 refl
 
@@ -76,14 +77,14 @@ of_access tells old (WriteBytes at bytes answer) new h = by_state tells old new 
 of_warms : (tells : Type 0) (old new : MachineState) (result : Result ℕ BootError) → Warms tells old result new → Takes tells old (copies_in old.device.store) new
 of_warms tells old new (Ok n) h =
     let cause : new.device.store.flash.faults ≡ old.device.store.flash.faults = h.leaves.cause in
-    record { never_falls = omega arith; exact = λ told _. h.leaves.ended told }
-of_warms tells old new (Err error) h = record { never_falls = h.leaves.cause.0; exact = λ told none. absurd (none h.leaves.cause.1) }
+    record { never_falls = omega arith; layout = h.leaves.alike.layout; exact = λ told _. h.leaves.ended told }
+of_warms tells old new (Err error) h = record { never_falls = h.leaves.cause.0; layout = h.leaves.alike.layout; exact = λ told none. absurd (none h.leaves.cause.1) }
 
 of_powers : (tells : Type 0) (old new : MachineState) (result : Result ℕ BootError) → Powers tells old result new → Takes tells old (copies_in old.device.store) new
 of_powers tells old new (Ok n) h =
     let cause : new.device.store.flash.faults ≡ old.device.store.flash.faults = h.restarts.leaves.cause in
-    record { never_falls = omega arith; exact = λ told _. h.restarts.leaves.ended told }
-of_powers tells old new (Err error) h = record { never_falls = h.restarts.leaves.cause.0; exact = λ told none. absurd (none h.restarts.leaves.cause.1) }
+    record { never_falls = omega arith; layout = h.restarts.leaves.alike.layout; exact = λ told _. h.restarts.leaves.ended told }
+of_powers tells old new (Err error) h = record { never_falls = h.restarts.leaves.cause.0; layout = h.restarts.leaves.alike.layout; exact = λ told none. absurd (none h.restarts.leaves.cause.1) }
 
 of_submits : (tells : Type 0) (old new : MachineState) (block : List ℕ) (result : Result ℕ SubmitError) → Submits old block result new → Takes tells old 0 new
 of_submits tells old new block (Ok n) h = by_state tells old new _ h.added refl
@@ -114,6 +115,7 @@ rose_behind first mid last low (inr full) = inr full
 then : (tells : Type 0) (first mid last : MachineState) (m n : ℕ) → Takes tells first m mid → Takes tells mid n last → Takes tells first (m + n) last
 then tells first mid last m n one two = record {
   never_falls = omega (arith, one.never_falls, two.never_falls);
+  layout = two.layout ∙ one.layout;
   exact = λ told none.
       let before = one.exact told (λ (rose : Rose first.device.store.flash.faults mid.device.store.flash.faults). none (rose_before _ _ _ one.never_falls two.never_falls rose)) in
       let behind = two.exact told (λ (rose : Rose mid.device.store.flash.faults last.device.store.flash.faults). none (rose_behind _ _ _ one.never_falls rose)) in

@@ -37,7 +37,7 @@ module _ (tells : Type 0) where
   turned : (old : MachineState) (letters : List ℕ) (events : List TurnEvent) (blocks : List (List ℕ)) (new : MachineState) → Turned old letters events blocks new → Trails tells old new
   turned old letters events blocks new turns = elim turns as (λ letters events blocks new turns. Trails tells old new) [
     | NoTurn ↦ none old
-    | OneMore letters events blocks mid letter event new before turns inductive ↦ more old mid new inductive (one mid (OneTurn (side_of letter) event) new turns)
+    | OneMore letters events blocks mid letter event new (before → trails) turns ↦ more old mid new trails (one mid (OneTurn (side_of letter) event) new turns)
   ]
 
   of_happened : (old : MachineState) (line : Line) (said blocks : List (List ℕ)) (new : MachineState) → Happened tells old line said blocks new → Trails tells old new
@@ -84,4 +84,31 @@ module _ (tells : Type 0) where
   failed_restart old line new fails = elim fails as (λ line new fails. HasHappened tells old new × Rose old.device.store.flash.faults new.device.store.flash.faults) [
     | ResetFails error new warms ↦ (has_happened old new (one old (Warmed (Err error)) new warms), warms.leaves.cause.1)
     | PowerFails error new powers ↦ (has_happened old new (one old (Powered (Err error)) new powers), powers.restarts.leaves.cause.1)
+  ]
+
+  -- the machine stays one, its flash divided as it was
+  pub line_keeps : (counts : List ℕ) (old : PlayerState) (line : Line) (said blocks : List (List ℕ)) (new : PlayerState) → IsMachine old.machine →
+      Plays tells counts old line said blocks new → IsMachine new.machine
+  line_keeps counts old line said blocks new machine plays =
+      let trails = of_line counts old line said blocks new plays in
+      events_keep tells old.machine new.machine trails.0 trails.1 machine
+
+  pub line_divides : (counts : List ℕ) (old : PlayerState) (line : Line) (said blocks : List (List ℕ)) (new : PlayerState) → Plays tells counts old line said blocks new →
+      new.machine.device.store.layout ≡ old.machine.device.store.layout
+  line_divides counts old line said blocks new plays =
+      let trails = of_line counts old line said blocks new plays in
+      (along tells old.machine new.machine trails.0 trails.1).layout
+
+  -- the player's own client and steps stay
+  pub line_own : (counts : List ℕ) (old : PlayerState) (line : Line) (said blocks : List (List ℕ)) (new : PlayerState) → Plays tells counts old line said blocks new →
+      (new.own ≡ old.own) × (new.steps ≡ old.steps)
+  line_own counts old line said blocks new plays = elim plays as (λ line said blocks new plays. (new.own ≡ old.own) × (new.steps ≡ old.steps)) [
+    | Blank ↦ (refl, refl)
+    | ByClient line words machine commanded ↦ (refl, refl)
+    | GivenTable hex bytes words machine other decoded gives ↦ (refl, refl)
+    | OwnTable ↦ (refl, refl)
+    | OnMachine line said blocks machine happened ↦ (refl, refl)
+    | Heard ↦ (refl, refl)
+    | Reset n machine warms ↦ (refl, refl)
+    | Power n machine powers ↦ (refl, refl)
   ]
