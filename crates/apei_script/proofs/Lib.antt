@@ -1,2 +1,3 @@
 pub mod EventChanges
 pub mod LineLemmas
+pub mod WordLemmas

@@ -1,4 +1,5 @@
 -- What one line did to the machine, as one list of what happens.
+use Rattle.apei_script.proofs.WordLemmas.{hardware}
 use Rattle.std.proofs.Common.{◌≡◌, ℕ, ◌+◌, ◌≤◌, List, [], ◌∷◌, ◌++◌, Option, Result, Ok, Err, refl, sym, ap, subst, ◌∙◌, arith}
 use Rattle.base_model.specs.Faults.{Rose}
 use Rattle.apei_space.specs.Calls.{ReadBytes}
