@@ -1,3 +1,5 @@
 pub mod EventChanges
 pub mod LineLemmas
 pub mod WordLemmas
+pub mod OwnClientLemmas
+pub mod EnoughSteps
