@@ -3,3 +3,4 @@ pub mod LineLemmas
 pub mod WordLemmas
 pub mod OwnClientLemmas
 pub mod EnoughSteps
+pub mod PlayedLemmas

@@ -1,6 +1,4 @@
 -- What one line did to the machine, as one list of what happens.
-use Rattle.apei_script.proofs.OwnClientLemmas.{asked_by_map, asked_cause}
-use Rattle.apei_script.proofs.EnoughSteps.{mapped_runs}
 use Rattle.std.proofs.Common.{◌≡◌, ℕ, ◌+◌, ◌≤◌, List, [], ◌∷◌, ◌++◌, Option, Result, Ok, Err, refl, sym, ap, subst, ◌∙◌, arith}
 use Rattle.base_model.specs.Faults.{Rose}
 use Rattle.apei_space.specs.Calls.{ReadBytes}

@@ -23,7 +23,7 @@ use Rattle.apei_script.specs.Mapped.{Mapped, IsWrite, IsRead, IsClear, IsCount, 
 use Rattle.apei_script.specs.Plays.{names_command}
 use Rattle.apei_script.proofs.WordLemmas.{hardware, of_write, of_read, of_clear, of_count, of_next, of_dummy}
 
-no_command : {Goal : Type 0} → false ≡ true → Goal
+pub no_command : {Goal : Type 0} → false ≡ true → Goal
 no_command e = absurd (cc e)
 
 module _ (tells : Type 0) (own : OwnProgramsRun tells) (steps : ℕ) (old : MachineState) where

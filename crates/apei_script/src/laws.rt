@@ -4,11 +4,12 @@ ghost use Rattle.base_model.specs.Faults.{Rose};
 ghost use Rattle.apei_space.specs.Accesses.{Move, Trail};
 ghost use Rattle.erst_machine.specs.MachineState.{MachineState, IsMachine};
 ghost use Rattle.erst_machine.specs.Events.{Event, Happens};
-ghost use Rattle.script_text.specs.ScriptGrammar.{Line};
+ghost use Rattle.script_text.specs.ScriptGrammar.{Line, IsValid};
 ghost use Rattle.apei_script.specs.Players.{PlayerState};
 ghost use Rattle.apei_script.specs.Changes.{changes_along};
-ghost use Rattle.apei_script.specs.Plays.{Plays, FailsRestart, HasHappened};
+ghost use Rattle.apei_script.specs.Plays.{Plays, FailsRestart, HasHappened, LinePlayed};
 
+use erst_commands::own_programs_run_through;
 use flash_model::Flash;
 
 /// Where no fault was counted, whatever happened to a machine took exactly the flash changes that the definitions give it, one after
@@ -20,6 +21,14 @@ pub fn events_take_their_changes<F: Flash>()
         → (Rose first.device.store.flash.faults last.device.store.flash.faults → ⊥)
         → last.device.store.flash.steps ≡ first.device.store.flash.steps + changes_along first trail }
 {}
+
+/// Whatever was played of a line is all that `LinePlayed` says of it.
+pub fn a_line_is_the_maps<F: Flash>()
+    ensures { (counts : List ℕ) (old : PlayerState) (line : Line) (said blocks : List (List ℕ)) (new : PlayerState)
+        → IsMachine old.machine → IsValid line → Plays F.tells counts old line said blocks new → LinePlayed F.tells counts old line said blocks new }
+{
+    own_programs_run_through::<F>();
+}
 
 /// A restart that the flash failed is among what happens too, and the flash counted a fault in it.
 pub fn a_failed_restart_has_happened<F: Flash>()
