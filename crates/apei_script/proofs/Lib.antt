@@ -4,3 +4,4 @@ pub mod WordLemmas
 pub mod OwnClientLemmas
 pub mod EnoughSteps
 pub mod PlayedLemmas
+pub mod LeavesLemmas

@@ -1,13 +1,15 @@
 // Laws on one line of a script: the functions do nothing, and their clauses are the laws.
-ghost use Rattle.std.specs.Prelude.{◌≡◌, ℕ, ◌+◌, ◌≤◌, List};
+ghost use Rattle.std.specs.Prelude.{◌≡◌, ℕ, ◌+◌, ◌≤◌, true, List};
 ghost use Rattle.base_model.specs.Faults.{Rose};
 ghost use Rattle.apei_space.specs.Accesses.{Move, Trail};
 ghost use Rattle.erst_machine.specs.MachineState.{MachineState, IsMachine};
 ghost use Rattle.erst_machine.specs.Events.{Event, Happens};
 ghost use Rattle.script_text.specs.ScriptGrammar.{Line, IsValid};
-ghost use Rattle.apei_script.specs.Players.{PlayerState};
+ghost use Rattle.apei_script.specs.Players.{PlayerState, UsesOwn};
 ghost use Rattle.apei_script.specs.Changes.{changes_along};
-ghost use Rattle.apei_script.specs.Plays.{Plays, FailsRestart, HasHappened, LinePlayed};
+ghost use Rattle.apei_script.specs.Mapped.{LineLeaves};
+ghost use Rattle.apei_script.specs.Plays.{Plays, FailsRestart, HasHappened, LinePlayed, names_command};
+ghost use Rattle.apei_script.specs.History.{IsOwnLine};
 
 use erst_commands::own_programs_run_through;
 use flash_model::Flash;
@@ -46,4 +48,11 @@ pub fn a_line_keeps_a_machine<F: Flash>()
         → Plays F.tells counts old line said blocks new → new.own ≡ old.own }
     ensures steps { (counts : List ℕ) (old : PlayerState) (line : Line) (said blocks : List (List ℕ)) (new : PlayerState)
         → Plays F.tells counts old line said blocks new → new.steps ≡ old.steps }
+{}
+
+/// Power lost in a line that neither runs an action nor gives a table leaves the records from before it, or as it leaves them where
+/// nothing fails.
+pub fn a_line_leaves_its_records<F: Flash>()
+    ensures { F.tells → (counts : List ℕ) (old : PlayerState) (line : Line) (said blocks : List (List ℕ)) (new : PlayerState)
+        → LinePlayed F.tells counts old line said blocks new → (names_command line ≡ true → UsesOwn old) → IsOwnLine line → LineLeaves old.machine line new.machine }
 {}
