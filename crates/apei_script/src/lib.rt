@@ -13,6 +13,9 @@ mod refusals;
 mod reply;
 mod tables;
 
-pub use laws::{a_failed_restart_has_happened, a_line_is_the_maps, a_line_keeps_a_machine, a_line_leaves_its_records, events_take_their_changes};
+pub use laws::{
+    a_failed_restart_has_happened, a_line_is_the_maps, a_line_keeps_a_machine,
+    a_line_leaves_its_records, events_take_their_changes,
+};
 pub use own::own_client;
 pub use player::{PlayStop, Player, PlayerRefused};
