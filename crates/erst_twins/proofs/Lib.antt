@@ -1,0 +1,3 @@
+pub mod StoreOutlines
+pub mod DeviceOutlines
+pub mod MachineOutlines

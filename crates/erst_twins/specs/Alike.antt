@@ -1,0 +1,109 @@
+-- Two stores, devices or machines that are alike: all that is seen of them is the same, but for the slots in which the records stand, and
+-- the flash's counts of reads and faults.
+use Rattle.std.specs.Prelude.{◌≡◌, ℕ, Bool, List, [], Option, Ok}
+use Rattle.base_model.specs.Faults.{Rose}
+use Rattle.flash_words.specs.Layout.{Layout}
+use Rattle.record_model.specs.Records.{Stored}
+use Rattle.record_store.specs.Store.{StoreView, Pending, Idle, Writing, Clearing, stored}
+use Rattle.record_store.specs.Answers.{copies_of}
+use Rattle.apei_space.specs.Calls.{Call, Read, Write, Wait, Copy, ReadBytes, WriteBytes}
+use Rattle.ghes_ack.specs.Handovers.{HandoverState}
+use Rattle.erst_device.specs.declared.registers.Operation.{Operation}
+use Rattle.erst_device.specs.declared.status.CommandStatus.{CommandStatus}
+use Rattle.erst_device.specs.DeviceState.{DeviceState}
+use Rattle.erst_machine.specs.Memories.{MemoryState}
+use Rattle.erst_machine.specs.MachineState.{MachineState}
+
+-- what a store has begun, but for the slots that it takes
+abbrev pub unplaced : Pending → Pending
+unplaced Idle = Idle
+unplaced (Writing id bytes slots replaces made) = Writing id bytes [] replaces made
+unplaced (Clearing id) = Clearing id
+
+-- what is seen of a store wherever its records stand: the records, the changes of the flash so far, what is pending, and the second copies
+-- that it ends before all else
+pub record StoreOutline : Type 0 where
+  pub layout : Layout
+  pub records : Stored
+  pub steps : ℕ
+  pub in_doubt : Bool
+  pub pending : Pending
+  pub copies : ℕ
+
+abbrev pub store_outline : StoreView → StoreOutline
+store_outline store = record {
+  layout = store.layout;
+  records = stored store;
+  steps = store.flash.steps;
+  in_doubt = store.in_doubt;
+  pending = unplaced store.pending;
+  copies = copies_of store;
+}
+
+-- the registers of a device, and the outline of its store
+pub record DeviceOutline : Type 0 where
+  pub value : ℕ
+  pub operation : Option Operation
+  pub offset : ℕ
+  pub id : ℕ
+  pub status : CommandStatus
+  pub cursor : ℕ
+  pub reading : Option ℕ
+  pub store : StoreOutline
+
+abbrev pub device_outline : DeviceState → DeviceOutline
+device_outline device = record {
+  value = device.value;
+  operation = device.operation;
+  offset = device.offset;
+  id = device.id;
+  status = device.status;
+  cursor = device.cursor;
+  reading = device.reading;
+  store = store_outline device.store;
+}
+
+-- the outline of a machine's device, with all else that is seen of the machine
+pub record MachineOutline : Type 0 where
+  pub device : DeviceOutline
+  pub memory : MemoryState
+  pub handover : HandoverState
+  pub waited : ℕ
+
+abbrev pub machine_outline : MachineState → MachineOutline
+machine_outline machine = record {
+  device = device_outline machine.device;
+  memory = machine.memory;
+  handover = machine.handover;
+  waited = machine.waited;
+}
+
+abbrev pub AlikeStores : StoreView → StoreView → Type 0
+AlikeStores one other = store_outline one ≡ store_outline other
+
+abbrev pub AlikeDevices : DeviceState → DeviceState → Type 0
+AlikeDevices one other = device_outline one ≡ device_outline other
+
+abbrev pub AlikeMachines : MachineState → MachineState → Type 0
+AlikeMachines one other = machine_outline one ≡ machine_outline other
+
+-- no fault of a store's flash was counted on the way
+abbrev pub FailsNothing : StoreView → StoreView → Type 0
+FailsNothing old new = Rose old.flash.faults new.flash.faults → ⊥
+
+-- and none of a machine's
+abbrev pub FailedNothing : MachineState → MachineState → Type 0
+FailedNothing first last = FailsNothing first.device.store last.device.store
+
+-- a call without its answer
+abbrev pub asked : Call → Call
+asked (Read at width answer) = Read at width (Ok 0)
+asked (Write at width value answer) = Write at width value (Ok tt)
+asked (Wait micros) = Wait micros
+asked (Copy from target len answer) = Copy from target len (Ok tt)
+asked (ReadBytes at before after answer) = ReadBytes at before [] (Ok tt)
+asked (WriteBytes at bytes answer) = WriteBytes at bytes (Ok tt)
+
+-- two calls ask the same
+abbrev pub AskAlike : Call → Call → Type 0
+AskAlike one other = asked one ≡ asked other
