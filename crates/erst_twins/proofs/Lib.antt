@@ -1,3 +1,6 @@
 pub mod StoreOutlines
 pub mod DeviceOutlines
 pub mod MachineOutlines
+pub mod Dialogues
+pub mod RunDialogues
+pub mod ClientDialogues
