@@ -163,7 +163,7 @@ module _ {W : Type 0} (allows : W → Call → W → Type 0) where
     unfolding perform
     perform_held action given budget old answer left new run = run_held allows (program_of (code_of action) entries) given budget old answer left new run
 
-    asks_held : (requests : List Request) (budget : ℕ) (old : W) (answers : Result (List ℕ) RunStop) (left : ℕ) (last : W) → Asks allows entries requests budget old answers left last
+    pub asks_held : (requests : List Request) (budget : ℕ) (old : W) (answers : Result (List ℕ) RunStop) (left : ℕ) (last : W) → Asks allows entries requests budget old answers left last
         → Held allows (ask_all entries requests budget) old (answers, left) last
     asks_held requests budget old answers left last asks = elim asks as (λ requests budget old answers left last asks. Held allows (ask_all entries requests budget) old (answers, left) last) [
       | NoneLeft budget old ↦ IsDone _ old
@@ -249,3 +249,64 @@ module _ {W : Type 0} (allows : W → Call → W → Type 0) where
         where
           ended_with : Result (Unit {0}) ClientError → ℕ → Ended
           ended_with r n = (r, n)
+
+    pub counts_held : (budget : ℕ) (first : W) (result : Result ℕ ClientError) (left : ℕ) (last : W) → Counts allows entries budget first result left last → Held allows (count entries budget) first (result, left) last
+    unfolding count
+    counts_held budget first result left last counts =
+        then _ (perform_held GetRecordCount 0 budget first counts.answer left last counts.asks) (subst (λ (r : Result ℕ ClientError). Held {A = Result ℕ ClientError × ℕ} allows (Ends (counted counts.answer, left)) last (r, left) last) (sym counts.result_is) (IsDone _ last))
+
+    pub names_held : (budget : ℕ) (first : W) (result : Result (Option ℕ) ClientError) (left : ℕ) (last : W) → Names allows entries budget first result left last → Held allows (name entries budget) first (result, left) last
+    unfolding name
+    names_held budget first result left last names =
+        then _ (perform_held GetRecordIdentifier 0 budget first names.answer left last names.asks) (subst (λ (r : Result (Option ℕ) ClientError). Held {A = Result (Option ℕ) ClientError × ℕ} allows (Ends (named names.answer, left)) last (r, left) last) (sym names.result_is) (IsDone _ last))
+
+  pub attaches_held : (erst : Erst) (budget : ℕ) (first : W) (result : Result ClientState AttachError) (left : ℕ) (last : W) → Attaches allows erst budget first result left last → Held allows (attach erst budget) first (result, left) last
+  unfolding attach
+  attaches_held erst budget first result left last attaches =
+      then _ (asks_held erst.entries (attach_requests erst.entries) budget first attaches.answers left last attaches.asks)
+      (subst (λ (r : Result ClientState AttachError). Held {A = Result ClientState AttachError × ℕ} allows (Ends (attached erst attaches.answers, left)) last (r, left) last) (sym attaches.result_is) (IsDone _ last))
+
+  puts_held : (address : ℕ) (bytes : List ℕ) (old : W) (result : Result (Unit {0}) ClientError) (new : W) → Puts allows address bytes old result new → Held allows (put address bytes) old result new
+  unfolding put
+  puts_held address bytes old result new puts = elim puts as (λ result new puts. Held allows (put address bytes) old result new) [
+    | NotPut fault last allowed ↦ Answered _ _ old (WriteBytes address bytes (Err fault)) last _ last refl allowed (IsDone _ last)
+    | NotMarked mid fault last allowed marked ↦ Answered _ _ old (WriteBytes address bytes (Ok tt)) mid _ last refl allowed
+        (Answered _ _ mid (WriteBytes (address_in address 108) (codes "ER") (Err fault)) last _ last refl marked (IsDone _ last))
+    | IsPut mid last allowed marked ↦ Answered _ _ old (WriteBytes address bytes (Ok tt)) mid _ last refl allowed
+        (Answered _ _ mid (WriteBytes (address_in address 108) (codes "ER") (Ok tt)) last _ last refl marked (IsDone _ last))
+  ]
+
+  pub writes_held : (client : ClientState) (bytes : List ℕ) (budget : ℕ) (first : W) (result : Result (Unit {0}) ClientError) (left : ℕ) (last : W) → Writes allows client bytes budget first result left last
+      → Held allows (write client bytes budget) first (result, left) last
+  unfolding write
+  writes_held client bytes budget first result left last writes = elim writes as (λ result left last writes. Held allows (write_if client bytes budget (write_refusal bytes client.range)) first (result, left) last) [
+    | IsNoRecord error refused ↦ subst (λ (r : Option ClientError). Held allows (write_if client bytes budget r) first (Err error, budget) first) (sym refused) (IsDone _ first)
+    | IsNotPut error last taken puts ↦ subst (λ (r : Option ClientError). Held allows (write_if client bytes budget r) first (Err error, budget) last) (sym taken)
+        (then _ (puts_held client.address bytes first (Err error) last puts) (IsDone _ last))
+    | IsAsked mid result left last taken puts ran ↦ subst (λ (r : Option ClientError). Held allows (write_if client bytes budget r) first (result, left) last) (sym taken)
+        (then _ (puts_held client.address bytes first (Ok tt) mid puts) (sequence_held client.table.entries client.timings write_requests budget mid result left last ran))
+  ]
+
+  copies_held : (client : ClientState) (out : List ℕ) (len left : ℕ) (whole : List ℕ) (old : W) (answer : Result (Unit {0}) ClientError) (new : W) → CopiesOut allows client.address (take len out) whole old answer new
+      → Held allows (copy_if client out None len left) old ((copied answer len, whole ++ drop len out), left) new
+  copies_held client out len left whole old answer new copies = elim copies as (λ answer new copies. Held allows (copy_if client out None len left) old ((copied answer len, whole ++ drop len out), left) new) [
+    | IsFilled new allowed ↦ Answered _ _ old (ReadBytes client.address (take len out) whole (Ok tt)) new _ new refl allowed (IsDone _ new)
+    | IsNotFilled fault new allowed ↦ Answered _ _ old (ReadBytes client.address (take len out) whole (Err fault)) new _ new refl allowed (IsDone _ new)
+  ]
+
+  pub reads_held : (client : ClientState) (id : ℕ) (out : List ℕ) (budget : ℕ) (first : W) (result : Result ℕ ClientError) (after : List ℕ) (left : ℕ) (last : W) → Reads allows client id out budget first result after left last
+      → Held allows (read client id out budget) first ((result, after), left) last
+  unfolding read
+  reads_held client id out budget first result after left last reads =
+      elim reads as (λ result after left last reads. Held allows (go_on (sequence client.table.entries client.timings (read_requests id) budget) (when_shown client out)) first ((result, after), left) last) [
+        | IsNotRead error left last ran ↦ then _ (sequence_held client.table.entries client.timings (read_requests id) budget first (Err error) left last ran) (IsDone _ last)
+        | HasNoLength left mid field fault last ran long ↦ then _ (sequence_held client.table.entries client.timings (read_requests id) budget first (Ok tt) left mid ran)
+            (Answered _ _ mid (ReadBytes (address_in client.address 20) (0 ∷ 0 ∷ 0 ∷ 0 ∷ []) field (Err fault)) last _ last refl long (IsDone _ last))
+        | IsNotCopied left mid field error last ran long refused ↦ then _ (sequence_held client.table.entries client.timings (read_requests id) budget first (Ok tt) left mid ran)
+            (Answered _ _ mid (ReadBytes (address_in client.address 20) (0 ∷ 0 ∷ 0 ∷ 0 ∷ []) field (Ok tt)) last _ last refl long
+            (subst (λ (r : Option ClientError). Held allows (copy_if client out r (number_at field 0 4) left) last ((Err error, out), left) last) (sym refused) (IsDone _ last)))
+        | IsCopied left mid field next whole answer last ran long taken copies ↦ then _ (sequence_held client.table.entries client.timings (read_requests id) budget first (Ok tt) left mid ran)
+            (Answered _ _ mid (ReadBytes (address_in client.address 20) (0 ∷ 0 ∷ 0 ∷ 0 ∷ []) field (Ok tt)) next _ last refl long
+            (subst (λ (r : Option ClientError). Held allows (copy_if client out r (number_at field 0 4) left) next ((copied answer (number_at field 0 4), whole ++ drop (number_at field 0 4) out), left) last) (sym taken)
+            (copies_held client out (number_at field 0 4) left whole next answer last copies)))
+      ]

@@ -4,3 +4,4 @@ pub mod MachineOutlines
 pub mod Dialogues
 pub mod RunDialogues
 pub mod ClientDialogues
+pub mod MachineDialogues

@@ -107,3 +107,16 @@ asked (WriteBytes at bytes answer) = WriteBytes at bytes (Ok tt)
 -- two calls ask the same
 abbrev pub AskAlike : Call → Call → Type 0
 AskAlike one other = asked one ≡ asked other
+
+-- two ends of what was done: the same answer, as many steps left of a budget, and machines that are alike
+pub record EndAlike {A : Type 0} (answer also : A) (left also_left : ℕ) (one_after other_after : MachineState) : Type 0 where
+  pub same_answer : answer ≡ also
+  pub same_left : left ≡ also_left
+  pub alike : AlikeMachines one_after other_after
+
+-- what is done from a state of a machine, with its answer, the steps that are left and the state afterwards: from two machines that are
+-- alike, over flashes that fail nothing, it ends alike
+abbrev pub IsDoneAlike : {A : Type 0} → (MachineState → A → ℕ → MachineState → Type 0) → Type 0
+IsDoneAlike {A} does = (one other : MachineState) (answer also : A) (left also_left : ℕ) (one_after other_after : MachineState) → AlikeMachines one other
+    → does one answer left one_after → FailedNothing one one_after → does other also also_left other_after → FailedNothing other other_after
+    → EndAlike answer also left also_left one_after other_after

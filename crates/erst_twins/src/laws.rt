@@ -1,12 +1,24 @@
 // Laws on two machines that are alike: the functions do nothing, and their clauses are the laws.
-ghost use Rattle.std.specs.Prelude.{◌≡◌, ℕ, true, List, Option};
+ghost use Rattle.std.specs.Prelude.{◌≡◌, ℕ, true, List, Option, Result};
 ghost use Rattle.apei_space.specs.Calls.{Call};
 ghost use Rattle.erst_entries.specs.declared.actions.Action.{Action};
 ghost use Rattle.erst_device.specs.Actions.{Acts, gives_up};
 ghost use Rattle.erst_device.specs.DeviceState.{DeviceState, KnowsCopies};
 ghost use Rattle.erst_machine.specs.MachineState.{MachineState};
 ghost use Rattle.erst_machine.specs.Allowed.{Allows};
-ghost use Rattle.erst_twins.specs.Alike.{FailsNothing, FailedNothing, AlikeDevices, AlikeMachines, AskAlike};
+ghost use Rattle.erst_entries.specs.declared.entries.Entry.{Entry};
+ghost use Rattle.erst_entries.specs.Layout.{Erst};
+ghost use Rattle.erst_entries.specs.Programs.{Listed};
+ghost use Rattle.erst_interp.specs.declared.stops.RunStop.{RunStop};
+ghost use Rattle.erst_interp.specs.Runs.{Run};
+ghost use Rattle.erst_client.specs.declared.errors.AttachError.{AttachError};
+ghost use Rattle.erst_client.specs.declared.errors.ClientError.{ClientError};
+ghost use Rattle.erst_client.specs.declared.requests.Request.{Request};
+ghost use Rattle.erst_client.specs.Requests.{Asks};
+ghost use Rattle.erst_client.specs.Sequences.{Sequence};
+ghost use Rattle.erst_client.specs.Attaching.{Attaches};
+ghost use Rattle.erst_client.specs.Commands.{ClientState, Writes, Reads, Counts, Names};
+ghost use Rattle.erst_twins.specs.Alike.{FailsNothing, FailedNothing, AlikeDevices, AlikeMachines, AskAlike, IsDoneAlike};
 
 use flash_model::Flash;
 
@@ -25,4 +37,52 @@ pub fn alike_machines_answer_alike<F: Flash>()
     ensures { F.tells → (one other : MachineState) (call also : Call) (one_after other_after : MachineState) → AlikeMachines one other → AskAlike call also
         → Allows F.tells one call one_after → FailedNothing one one_after → Allows F.tells other also other_after → FailedNothing other other_after
         → (call ≡ also) × AlikeMachines one_after other_after }
+{}
+
+/// A run of any program, with any given value and any budget, answers the same, with as many steps left, and leaves machines that are alike.
+pub fn alike_machines_run_alike<F: Flash>()
+    ensures { F.tells → (program : Listed) (given budget : ℕ)
+        → IsDoneAlike {A = Result ℕ RunStop} (λ first answer left last. Run (Allows F.tells) program given budget first answer left last) }
+{}
+
+/// So do the programs of any table for some requests, one after another.
+pub fn alike_machines_ask_alike<F: Flash>()
+    ensures { F.tells → (entries : List Entry) (requests : List Request) (budget : ℕ)
+        → IsDoneAlike {A = Result (List ℕ) RunStop} (λ first answers left last. Asks (Allows F.tells) entries requests budget first answers left last) }
+{}
+
+/// Attaching to any table finds the same.
+pub fn alike_machines_attach_alike<F: Flash>()
+    ensures { F.tells → (table : Erst) (budget : ℕ)
+        → IsDoneAlike {A = Result ClientState AttachError} (λ first result left last. Attaches (Allows F.tells) table budget first result left last) }
+{}
+
+/// A sequence of any requests, as those of a clear or a dummy write, is answered the same.
+pub fn alike_machines_end_sequences_alike<F: Flash>()
+    ensures { F.tells → (entries : List Entry) (timings : Option (ℕ × ℕ)) (requests : List Request) (budget : ℕ)
+        → IsDoneAlike {A = Result (Unit {0}) ClientError} (λ first result left last. Sequence (Allows F.tells) entries timings requests budget first result left last) }
+{}
+
+/// A client's write is answered the same.
+pub fn alike_machines_write_alike<F: Flash>()
+    ensures { F.tells → (client : ClientState) (bytes : List ℕ) (budget : ℕ)
+        → IsDoneAlike {A = Result (Unit {0}) ClientError} (λ first result left last. Writes (Allows F.tells) client bytes budget first result left last) }
+{}
+
+/// A client's read is answered the same, and its buffer holds the same bytes.
+pub fn alike_machines_read_alike<F: Flash>()
+    ensures { F.tells → (client : ClientState) (id : ℕ) (out : List ℕ) (budget : ℕ)
+        → IsDoneAlike {A = Result ℕ ClientError × List ℕ} (λ first result left last. Reads (Allows F.tells) client id out budget first result.0 result.1 left last) }
+{}
+
+/// A count is the same.
+pub fn alike_machines_count_alike<F: Flash>()
+    ensures { F.tells → (entries : List Entry) (budget : ℕ)
+        → IsDoneAlike {A = Result ℕ ClientError} (λ first result left last. Counts (Allows F.tells) entries budget first result left last) }
+{}
+
+/// Next names the same identifier, or none.
+pub fn alike_machines_name_alike<F: Flash>()
+    ensures { F.tells → (entries : List Entry) (budget : ℕ)
+        → IsDoneAlike {A = Result (Option ℕ) ClientError} (λ first result left last. Names (Allows F.tells) entries budget first result left last) }
 {}
