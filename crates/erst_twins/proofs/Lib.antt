@@ -5,3 +5,4 @@ pub mod Dialogues
 pub mod RunDialogues
 pub mod ClientDialogues
 pub mod MachineDialogues
+pub mod EventOutlines

@@ -95,7 +95,7 @@ kept_map old new kept alike =
     ∙ Leaves-exit old.flash.told new.flash.told (λ image. records_of old.layout image ≡ stored old) kept
 
 -- a store that knows its records has no second copy to end
-no_copies : (new : StoreView) → new.in_doubt ≡ false → copies_of new ≡ 0
+pub no_copies : (new : StoreView) → new.in_doubt ≡ false → copies_of new ≡ 0
 no_copies new certain = ap (λ (b : Bool). if b then copies_in new else 0) certain
 
 looked_by : {T : Type 0} (old new : StoreView) (result : Result T StoreError) (pending : Pending) → FailsNothing old new → KeepsMap old new → EndsCopies old new result → new.in_doubt ≡ false → unplaced new.pending ≡ pending

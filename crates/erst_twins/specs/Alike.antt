@@ -1,18 +1,21 @@
 -- Two stores, devices or machines that are alike: all that is seen of them is the same, but for the slots in which the records stand, and
 -- the flash's counts of reads and faults.
-use Rattle.std.specs.Prelude.{◌≡◌, ℕ, Bool, List, [], Option, Ok}
+use Rattle.std.specs.Prelude.{◌≡◌, ℕ, Bool, List, [], map, Option, Ok}
 use Rattle.base_model.specs.Faults.{Rose}
 use Rattle.flash_words.specs.Layout.{Layout}
 use Rattle.record_model.specs.Records.{Stored}
 use Rattle.record_store.specs.Store.{StoreView, Pending, Idle, Writing, Clearing, stored}
 use Rattle.record_store.specs.Answers.{copies_of}
 use Rattle.apei_space.specs.Calls.{Call, Read, Write, Wait, Copy, ReadBytes, WriteBytes}
+use Rattle.apei_space.specs.Accesses.{Move}
+use Rattle.ghes_ack.specs.declared.events.Event.TheVariants as turns
 use Rattle.ghes_ack.specs.Handovers.{HandoverState}
 use Rattle.erst_device.specs.declared.registers.Operation.{Operation}
 use Rattle.erst_device.specs.declared.status.CommandStatus.{CommandStatus}
 use Rattle.erst_device.specs.DeviceState.{DeviceState}
 use Rattle.erst_machine.specs.Memories.{MemoryState}
 use Rattle.erst_machine.specs.MachineState.{MachineState}
+use Rattle.erst_machine.specs.Events.{Event, Accessed, Warmed, Powered, Submitted, Turned, Laid}
 
 -- what a store has begun, but for the slots that it takes
 abbrev pub unplaced : Pending → Pending
@@ -120,3 +123,19 @@ abbrev pub IsDoneAlike : {A : Type 0} → (MachineState → A → ℕ → Machin
 IsDoneAlike {A} does = (one other : MachineState) (answer also : A) (left also_left : ℕ) (one_after other_after : MachineState) → AlikeMachines one other
     → does one answer left one_after → FailedNothing one one_after → does other also also_left other_after → FailedNothing other other_after
     → EndAlike answer also left also_left one_after other_after
+
+-- what happens, without its answer
+abbrev pub asked_event : Event → Event
+asked_event (Accessed call) = Accessed (asked call)
+asked_event (Warmed result) = Warmed (Ok 0)
+asked_event (Powered result) = Powered (Ok 0)
+asked_event (Submitted block result) = Submitted block (Ok 0)
+asked_event (Turned side event) = Turned side turns.Idle
+asked_event (Laid block result) = Laid block (Ok 0)
+
+-- the events of some moves, with their answers and without
+abbrev pub events_of : List (Move Event MachineState) → List Event
+events_of moves = map (λ move. move.event) moves
+
+abbrev pub asked_by : List (Move Event MachineState) → List Event
+asked_by moves = map (λ move. asked_event move.event) moves
