@@ -102,7 +102,7 @@ same_kept (Some x) (Some y) xs ys is long =
     let head : x ≡ y = cc in
     (ap (λ (z : List ℕ). Some z) head, cc)
 
--- a handover stands for one state of the handover machine at most in one way
+-- what a handover keeps is told by the state of the handover machine that it stands for, and by its map
 stands_once : (g h : HandoverState) (ram mem : RamState) (m : HandoverMachine) → g.map ≡ h.map → StandsFor g ram m → StandsFor h mem m → g ≡ h
 stands_once g h ram mem m at first second =
     let both = same_kept g.at_work h.at_work g.waiting h.waiting (first.blocks ∙ sym second.blocks) (first.wait ∙ sym second.wait) in

@@ -6,3 +6,4 @@ pub mod RunDialogues
 pub mod ClientDialogues
 pub mod MachineDialogues
 pub mod EventOutlines
+pub mod TrailOutlines

@@ -1,10 +1,12 @@
 -- Two stores, devices or machines that are alike: all that is seen of them is the same, but for the slots in which the records stand, and
 -- the flash's counts of reads and faults.
-use Rattle.std.specs.Prelude.{◌≡◌, ℕ, Bool, List, [], map, Option, Ok}
+use Rattle.std.specs.Prelude.{◌≡◌, ℕ, ◌+◌, Bool, List, [], map, Option, Ok}
 use Rattle.base_model.specs.Faults.{Rose}
+use Rattle.flash_words.specs.Flash.{FlashState}
 use Rattle.flash_words.specs.Layout.{Layout}
-use Rattle.record_model.specs.Records.{Stored}
-use Rattle.record_store.specs.Store.{StoreView, Pending, Idle, Writing, Clearing, stored}
+use Rattle.flash_model.specs.declared.geometry.Geometry.{Geometry}
+use Rattle.record_model.specs.Records.{Stored, second_copies}
+use Rattle.record_store.specs.Store.{StoreView, Pending, Idle, Writing, Clearing, stored, KeepsRecordsOf}
 use Rattle.record_store.specs.Answers.{copies_of}
 use Rattle.apei_space.specs.Calls.{Call, Read, Write, Wait, Copy, ReadBytes, WriteBytes}
 use Rattle.apei_space.specs.Accesses.{Move}
@@ -15,6 +17,7 @@ use Rattle.erst_device.specs.declared.status.CommandStatus.{CommandStatus}
 use Rattle.erst_device.specs.DeviceState.{DeviceState}
 use Rattle.erst_machine.specs.Memories.{MemoryState}
 use Rattle.erst_machine.specs.MachineState.{MachineState}
+use Rattle.erst_machine.specs.Boots.{IsBooted}
 use Rattle.erst_machine.specs.Events.{Event, Accessed, Warmed, Powered, Submitted, Turned, Laid}
 
 -- what a store has begun, but for the slots that it takes
@@ -139,3 +142,9 @@ events_of moves = map (λ move. move.event) moves
 
 abbrev pub asked_by : List (Move Event MachineState) → List Event
 asked_by moves = map (λ move. asked_event move.event) moves
+
+-- a machine was booted over a flash that tells its content: the flash's records are kept, and each second copy is ended by one change
+pub record BootsFrom (geometry : Geometry) (flash : FlashState) (machine : MachineState) : Type 0 where
+  pub booted : IsBooted geometry machine
+  pub kept : KeepsRecordsOf geometry flash machine.device.store.flash
+  pub steps : machine.device.store.flash.steps ≡ flash.steps + second_copies geometry.slot_size geometry.slots flash.told.image

@@ -1,10 +1,16 @@
 // Laws on two machines that are alike: the functions do nothing, and their clauses are the laws.
 ghost use Rattle.std.specs.Prelude.{◌≡◌, ℕ, true, List, Option, Result};
+ghost use Rattle.flash_words.specs.Flash.{FlashState};
+ghost use Rattle.flash_model.specs.declared.geometry.Geometry.{Geometry as AnyGeometry};
+ghost use Rattle.flash_model.specs.Layouts.{layout_of};
+ghost use Rattle.record_model.specs.Records.{second_copies};
+ghost use Rattle.record_store.specs.Store.{records_of as records_in};
 ghost use Rattle.apei_space.specs.Calls.{Call};
+ghost use Rattle.apei_space.specs.Accesses.{Move, Trail};
 ghost use Rattle.erst_entries.specs.declared.actions.Action.{Action};
 ghost use Rattle.erst_device.specs.Actions.{Acts, gives_up};
 ghost use Rattle.erst_device.specs.DeviceState.{DeviceState, KnowsCopies};
-ghost use Rattle.erst_machine.specs.MachineState.{MachineState};
+ghost use Rattle.erst_machine.specs.MachineState.{MachineState, IsMachine, records_of};
 ghost use Rattle.erst_machine.specs.Allowed.{Allows};
 ghost use Rattle.erst_entries.specs.declared.entries.Entry.{Entry};
 ghost use Rattle.erst_entries.specs.Layout.{Erst};
@@ -18,7 +24,9 @@ ghost use Rattle.erst_client.specs.Requests.{Asks};
 ghost use Rattle.erst_client.specs.Sequences.{Sequence};
 ghost use Rattle.erst_client.specs.Attaching.{Attaches};
 ghost use Rattle.erst_client.specs.Commands.{ClientState, Writes, Reads, Counts, Names};
-ghost use Rattle.erst_twins.specs.Alike.{FailsNothing, FailedNothing, AlikeDevices, AlikeMachines, AskAlike, IsDoneAlike};
+ghost use Rattle.erst_machine.specs.Boots.{IsBooted};
+ghost use Rattle.erst_machine.specs.Events.{Event, Happens};
+ghost use Rattle.erst_twins.specs.Alike.{FailsNothing, FailedNothing, AlikeDevices, AlikeMachines, AskAlike, IsDoneAlike, BootsFrom, asked_event, asked_by, events_of};
 
 use flash_model::Flash;
 
@@ -85,4 +93,29 @@ pub fn alike_machines_count_alike<F: Flash>()
 pub fn alike_machines_name_alike<F: Flash>()
     ensures { F.tells → (entries : List Entry) (budget : ℕ)
         → IsDoneAlike {A = Result (Option ℕ) ClientError} (λ first result left last. Names (Allows F.tells) entries budget first result left last) }
+{}
+
+/// Restarts, calls of the handover and fatal blocks too are answered the same, and leave machines that are alike.
+pub fn alike_machines_go_on_alike<F: Flash>()
+    ensures { F.tells → (one other : MachineState) (event also : Event) (one_after other_after : MachineState) → AlikeMachines one other → IsMachine one → asked_event event ≡ asked_event also
+        → Happens F.tells one event one_after → FailedNothing one one_after → Happens F.tells other also other_after → FailedNothing other other_after
+        → (event ≡ also) × AlikeMachines one_after other_after }
+{}
+
+/// So does whatever happens to two machines that are alike, one event after another.
+pub fn alike_machines_stay_alike<F: Flash>()
+    ensures { F.tells → (one other : MachineState) (first second : List (Move Event MachineState)) (one_after other_after : MachineState) → AlikeMachines one other → IsMachine one → asked_by first ≡ asked_by second
+        → Trail (Happens F.tells) one first one_after → FailedNothing one one_after → Trail (Happens F.tells) other second other_after → FailedNothing other other_after
+        → (events_of first ≡ events_of second) × AlikeMachines one_after other_after }
+{}
+
+/// Machines of one geometry that have just booted are alike where they hold the same records and their flashes have made as many changes;
+/// and so over flashes with the same records, as many changes and as many second copies.
+pub fn alike_flashes_boot_alike()
+    ensures machines { (geometry : AnyGeometry) (one other : MachineState) → IsBooted geometry one → IsBooted geometry other → records_of one ≡ records_of other
+        → one.device.store.flash.steps ≡ other.device.store.flash.steps → AlikeMachines one other }
+    ensures flashes { (geometry : AnyGeometry) (first second : FlashState) (one other : MachineState)
+        → records_in (layout_of geometry) first.told.image ≡ records_in (layout_of geometry) second.told.image → first.steps ≡ second.steps
+        → second_copies geometry.slot_size geometry.slots first.told.image ≡ second_copies geometry.slot_size geometry.slots second.told.image
+        → BootsFrom geometry first one → BootsFrom geometry second other → AlikeMachines one other }
 {}
