@@ -1,15 +1,15 @@
 -- The outline of a device after an action over a flash that fails nothing, as the outline before it determines it, with the least identifier
 -- above a cursor where the action looks for one.
-use Rattle.std.proofs.Common.{◌≡◌, ℕ, ◌+◌, ◌-◌, ◌^◌, ◌<◌, ◌≤◌, Bool, true, false, cond, List, ◌++◌, length, take, drop, Option, Some, None, Result, Ok, Err, refl, sym, ap, subst, ◌∙◌, arith}
+use Rattle.std.proofs.Common.{◌≡◌, ℕ, ◌+◌, ◌-◌, ◌^◌, ◌<◌, ◌≤◌, Bool, true, false, List, ◌++◌, length, take, drop, Option, Some, None, Result, Ok, Err, refl, sym, ap, subst, ◌∙◌, arith}
 use Rattle.std.specs.Prelude.{if◌then◌else◌, is_some, nat_lt, IsSome}
 use Rattle.std.specs.FinMap.{get, len}
 use Rattle.std.proofs.lemmas.Option.{none-some, same_Some}
 use Rattle.std.proofs.lemmas.Bool.Decides.{nat_tests}
 use Rattle.base_model.specs.Bytes.{part}
-use Rattle.flash_words.specs.Layout.{Layout, room_of, reach_of}
+use Rattle.flash_words.specs.Layout.{room_of, reach_of}
 use Rattle.record_model.specs.Records.{Stored, is_reserved}
 use Rattle.record_model.specs.RecordMap.{Refusal, Write as write_command, Clear as clear_command, refusal_of, IsNextAbove}
-use Rattle.record_store.specs.Store.{StoreView, Pending, Idle, Writing, Clearing, stored, IsBusy, IsReady}
+use Rattle.record_store.specs.Store.{StoreView, Pending, Idle, Writing, Clearing, stored, IsBusy}
 use Rattle.record_store.specs.Calls.{OnlyLooks}
 use Rattle.record_store.specs.declared.errors.StoreError.{StoreError}
 use Rattle.erst_entries.specs.declared.actions.Action.{Action}
@@ -19,13 +19,13 @@ use Rattle.erst_device.specs.declared.registers.Operation.{Operation}
 use Rattle.erst_device.specs.declared.registers.Operation.TheVariants.{Write, Read, Clear, Dummy}
 use Rattle.erst_device.specs.declared.status.CommandStatus.{CommandStatus}
 use Rattle.erst_device.specs.declared.status.CommandStatus.TheVariants.{Success, Failed, RecordStoreEmpty, RecordNotFound}
-use Rattle.erst_device.specs.Statuses.{number_of, status_of}
+use Rattle.erst_device.specs.Statuses.{number_of}
 use Rattle.erst_device.specs.Timings.{timings_of}
 use Rattle.erst_device.specs.Drafts.{draft_at}
 use Rattle.erst_device.specs.StoreCalls.{Stepped, StartedWrite, StartedClear, FoundNext, Counted, ReadOut}
 use Rattle.erst_device.specs.DeviceState.{DeviceState, IsStill, IsRunning, Reads, Changes, is_busy, given_up, KnowsCopies}
 use Rattle.erst_device.specs.Starts.{named, HasLength, Starts, NoneBegun, WritesDummy, NoDraft, Writes, LookFails, FindsNone, Misses, GoesBeyond, Finds, NoneToClear, Clears, status_after}
-use Rattle.erst_device.specs.Actions.{begun_by, waits, gives_up, IsAllowed, stepped, shown, found, counted, Acts, Begins, Ends, SetsOffset, SetsId, Waits, Executes, NoneRuns, Steps, Shows, TellsStatus, FindsNext, Counts, TellsAddress, TellsLength, TellsAttributes, TellsTimings, Ignores}
+use Rattle.erst_device.specs.Actions.{begun_by, waits, gives_up, stepped, shown, found, counted, Acts, Begins, Ends, SetsOffset, SetsId, Waits, Executes, NoneRuns, Steps, Shows, TellsStatus, FindsNext, Counts, TellsAddress, TellsLength, TellsAttributes, TellsTimings, Ignores}
 use Rattle.erst_twins.specs.Alike.{StoreOutline, DeviceOutline, unplaced, store_outline, device_outline, FailsNothing}
 use Rattle.erst_twins.proofs.StoreOutlines.{looked, gave_up, changed, started, status_by, is_idle, write_pending, given_up_outline, only_looked, has_changed, write_started, clear_started, answers_ok}
 
@@ -319,7 +319,7 @@ module _ (tells : Type 0) (told : tells) (old : DeviceState) (range : List ℕ) 
       let answer = read.answer told in
       let before : List ℕ = drop old.offset range in
       let out_is : out ≡ body_of (get (stored old.store) id) before =
-        answer.3 ∙ ap (λ (n : ℕ). answer.0 ++ drop n before) answer.2 ∙ sym (ap (λ (k : Option (List ℕ × ℕ)). body_of k before) answer.1.1) in
+      answer.3 ∙ ap (λ (n : ℕ). answer.0 ++ drop n before) answer.2 ∙ sym (ap (λ (k : Option (List ℕ × ℕ)). body_of k before) answer.1.1) in
       plain (Some CheckBusyStatus) _ _ range _ refl
       (ap (λ (s : StoreOutline). record (device_outline old) { value = 0; status = Success; cursor = id; reading = None; store = s }) (only_looked {T = ℕ} tells told old.store store (Ok size) quiet read.leaves)
       ∙ sym (ap (λ (r : Option ℕ). go_on r (device_outline old)) reading))

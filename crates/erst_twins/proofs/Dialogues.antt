@@ -1,6 +1,6 @@
 -- Dialogues with a space: what a program or a client does, as the calls that it makes and how it goes on by their answers. Two of one
 -- dialogue, from spaces that are alike, end alike.
-use Rattle.std.proofs.Common.{◌≡◌, ℕ, ◌+◌, ◌-◌, ◌^◌, ◌<◌, ◌≤◌, ◌⊎◌, refl, sym, ap, subst, ◌∙◌, arith, inl, inr}
+use Rattle.std.proofs.Common.{◌≡◌, ℕ, ◌-◌, ◌^◌, ◌<◌, ◌≤◌, refl, sym, ap, subst, ◌∙◌, arith, inl, inr}
 use Rattle.base_model.specs.Faults.{Rose}
 use Rattle.apei_space.specs.Calls.{Call}
 use Rattle.erst_twins.specs.Alike.{AskAlike}
@@ -69,7 +69,7 @@ quiet_second a b c first second quiet rose = elim rose [
 -- Two of one dialogue. `alike` relates two spaces, and one call of each keeps it where nothing fails
 module _ {W : Type 0} (allows : W → Call → W → Type 0) (faults : W → ℕ) (alike : W → W → Type 0) (grows : (old new : W) (call : Call) → allows old call new → faults old ≤ faults new)
     (keeps : (one other : W) (call also : Call) (one_after other_after : W) → alike one other → AskAlike call also → allows one call one_after → (Rose (faults one) (faults one_after) → ⊥)
-      → allows other also other_after → (Rose (faults other) (faults other_after) → ⊥) → (call ≡ also) × alike one_after other_after) where
+    → allows other also other_after → (Rose (faults other) (faults other_after) → ⊥) → (call ≡ also) × alike one_after other_after) where
   pub held_grows : {A : Type 0} (dialogue : Dialogue A) (old : W) (x : A) (new : W) → HeldBy allows dialogue old x new → faults old ≤ faults new
   held_grows (Ends y) old x new held = let same = ap faults held.1 in omega arith
   held_grows (Calls call next) old x new held =
@@ -87,8 +87,8 @@ module _ {W : Type 0} (allows : W → Call → W → Type 0) (faults : W → ℕ
       let other_step = grows other second.1 second.0 second.3 in
       let other_rest = held_grows (next second.0) second.1 y other_after second.4 in
       let both = keeps one other first.0 second.0 first.1 second.1 related (sym first.2 ∙ second.2)
-        first.3 (quiet_first (faults one) (faults first.1) (faults one_after) one_step one_rest quiet)
-        second.3 (quiet_first (faults other) (faults second.1) (faults other_after) other_step other_rest also_quiet) in
+      first.3 (quiet_first (faults one) (faults first.1) (faults one_after) one_step one_rest quiet)
+      second.3 (quiet_first (faults other) (faults second.1) (faults other_after) other_step other_rest also_quiet) in
       let rest = subst (λ (c : Call). HeldBy allows (next c) second.1 y other_after) (sym both.0) second.4 in
       held_alike (next first.0) first.1 second.1 x y one_after other_after both.1
       first.4 (quiet_second (faults one) (faults first.1) (faults one_after) one_step one_rest quiet)

@@ -1,34 +1,30 @@
 -- Restarts, calls of the handover, fatal blocks and boots of two machines that are alike, over flashes that fail nothing.
-use Rattle.std.proofs.Common.{◌≡◌, ℕ, suc, ◌+◌, ◌-◌, ◌≤◌, Bool, true, false, List, [], ◌∷◌, ◌++◌, length, map, drop, Option, Some, None, Result, Ok, Err, refl, sym, ap, subst, ◌∙◌, arith}
+use Rattle.std.proofs.Common.{◌≡◌, ℕ, suc, Bool, true, false, List, [], ◌∷◌, ◌++◌, length, Option, Some, None, Result, Ok, Err, refl, sym, ap, subst, ◌∙◌, arith}
 use Rattle.std.specs.Prelude.{if◌then◌else◌, option_to_list}
 use Rattle.std.specs.FinMap.{len}
 use Rattle.std.proofs.lemmas.Option.{none-some, same_Some}
-use Rattle.base_model.specs.Faults.{Rose}
-use Rattle.base_model.specs.Bytes.{joined}
 use Rattle.flash_words.specs.Layout.{Layout}
 use Rattle.flash_model.specs.declared.geometry.Geometry.{Geometry}
-use Rattle.record_store.specs.Store.{StoreView, Pending, Idle, Writing, Clearing, stored, doubted, restarted}
+use Rattle.record_store.specs.Store.{StoreView, Pending, Idle, Writing, Clearing, doubted, restarted}
 use Rattle.record_store.specs.Answers.{copies_in, copies_pending}
 use Rattle.apei_space.specs.RamState.{RamState}
-use Rattle.apei_space.specs.Accesses.{Move, Trail}
 use Rattle.ghes_ack.specs.declared.maps.HandoverMap.{HandoverMap}
 use Rattle.ghes_ack.specs.declared.events.Side.{Side}
 use Rattle.ghes_ack.specs.declared.events.Event.{Event as TurnEvent}
 use Rattle.ghes_ack.specs.declared.submission.SubmitError.{SubmitError}
 use Rattle.ghes_ack.specs.Machine.{Machine as HandoverMachine, Situation, turned}
 use Rattle.ghes_ack.specs.Maps.{window, memory_started, memory_after}
-use Rattle.ghes_ack.specs.Handovers.{HandoverState, StandsFor, fresh, kept, refusal}
-use Rattle.bert_region.specs.Region.{IsLaidOut, zeros}
+use Rattle.ghes_ack.specs.Handovers.{HandoverState, StandsFor, fresh, refusal}
+use Rattle.bert_region.specs.Region.{IsLaidOut}
 use Rattle.erst_device.specs.declared.status.CommandStatus.TheVariants.{Success}
-use Rattle.erst_device.specs.DeviceState.{DeviceState, at_first, KnowsCopies}
+use Rattle.erst_device.specs.DeviceState.{KnowsCopies}
 use Rattle.erst_machine.specs.declared.errors.BootError.{BootError}
 use Rattle.erst_machine.specs.declared.errors.FatalError.{FatalError}
 use Rattle.erst_machine.specs.Memories.{MemoryState, cleared}
 use Rattle.erst_machine.specs.MachineState.{MachineState, IsMachine, records_of}
-use Rattle.erst_machine.specs.Allowed.{Allows}
 use Rattle.erst_machine.specs.Boots.{IsBooted}
-use Rattle.erst_machine.specs.Events.{store_answer, Restarts, Warms, Powers, Submits, Turns, LaysFatal, fatal_refusal, Event, Accessed, Warmed, Powered, Submitted, Turned, Laid, Happens}
-use Rattle.erst_twins.specs.Alike.{StoreOutline, DeviceOutline, MachineOutline, unplaced, store_outline, device_outline, machine_outline, AlikeMachines, FailsNothing, FailedNothing, asked, asked_event}
+use Rattle.erst_machine.specs.Events.{Restarts, Warms, Powers, Submits, Turns, LaysFatal, Event, Accessed, Warmed, Powered, Submitted, Turned, Laid, Happens}
+use Rattle.erst_twins.specs.Alike.{StoreOutline, DeviceOutline, MachineOutline, unplaced, store_outline, device_outline, machine_outline, AlikeMachines, FailsNothing, FailedNothing, asked_event}
 use Rattle.erst_twins.proofs.StoreOutlines.{looked, same_outline, only_looked, no_copies}
 use Rattle.erst_twins.proofs.MachineOutlines.{same_machine, answer_alike}
 
@@ -62,7 +58,7 @@ began : (tells : Type 0) → tells → (before : StoreView) (memory : MemoryStat
     → FailsNothing before new.device.store → Restarts tells before memory old result new → Began memory (machine_outline old) result (machine_outline new)
 began tells told before memory old (Ok n) new before_is quiet restarts =
     let store : store_outline new.device.store ≡ looked (doubting (store_outline old.device.store)) =
-      only_looked {T = ℕ} tells told before new.device.store (Ok n) quiet restarts.leaves ∙ ap looked before_is in
+    only_looked {T = ℕ} tells told before new.device.store (Ok n) quiet restarts.leaves ∙ ap looked before_is in
     record {
       answer = ap (λ (k : ℕ). Ok k) (restarts.count told ∙ ap (λ (s : StoreOutline). len s.records) store);
       outline = same_machine (machine_outline new) (begun memory (machine_outline old)) (ap device_outline restarts.registers ∙ ap first_device store) restarts.memory_is restarts.handover restarts.waited;
@@ -72,9 +68,10 @@ began tells told before memory old (Err error) new before_is quiet restarts = ab
 -- two restarts
 begin_alike : (memory : MachineOutline → MemoryState) (one other : MachineOutline) (result also : Result ℕ BootError) (one_after other_after : MachineOutline) → one ≡ other → Began (memory one) one result one_after
     → Began (memory other) other also other_after → (result ≡ also) × (one_after ≡ other_after)
-begin_alike memory one other result also one_after other_after alike first second =
-    (first.answer ∙ ap (λ (o : MachineOutline). Ok (len o.device.store.records)) alike ∙ sym second.answer,
-    first.outline ∙ ap (λ (o : MachineOutline). begun (memory o) o) alike ∙ sym second.outline)
+begin_alike memory one other result also one_after other_after alike first second = (
+  first.answer ∙ ap (λ (o : MachineOutline). Ok (len o.device.store.records)) alike ∙ sym second.answer,
+  first.outline ∙ ap (λ (o : MachineOutline). begun (memory o) o) alike ∙ sym second.outline,
+)
 
 abbrev warm_memory : MachineOutline → MemoryState
 warm_memory o = record o.memory { shared = memory_started o.handover.map o.memory.shared }
@@ -112,15 +109,16 @@ module _ (one other : MachineState) (alike : AlikeMachines one other) where
   submits_alike : (block : List ℕ) (result also : Result ℕ SubmitError) (one_after other_after : MachineState) → Submits one block result one_after → Submits other block also other_after → (result ≡ also) × AlikeMachines one_after other_after
   submits_alike block (Ok n) (Ok k) one_after other_after first second =
       let after : AlikeMachines one_after other_after =
-        ap machine_outline first.added ∙ ap (λ (o : MachineOutline). record o { handover = record o.handover { waiting = o.handover.waiting ++ block ∷ [] } }) alike ∙ sym (ap machine_outline second.added) in
+      ap machine_outline first.added ∙ ap (λ (o : MachineOutline). record o { handover = record o.handover { waiting = o.handover.waiting ++ block ∷ [] } }) alike ∙ sym (ap machine_outline second.added) in
       (ap (λ (i : ℕ). Ok i) (first.number ∙ ap (λ (o : MachineOutline). length o.handover.waiting) after ∙ sym second.number), after)
   submits_alike block (Ok n) (Err error) one_after other_after first second =
       absurd (none-some error (sym first.exact ∙ ap (λ (o : MachineOutline). refusal o.handover block) alike ∙ second.exact))
   submits_alike block (Err error) (Ok n) one_after other_after first second =
       absurd (none-some error (sym second.exact ∙ sym (ap (λ (o : MachineOutline). refusal o.handover block) alike) ∙ first.exact))
-  submits_alike block (Err error) (Err why) one_after other_after first second =
-      (ap (λ (e : SubmitError). Err e) (same_Some error why (sym first.exact ∙ ap (λ (o : MachineOutline). refusal o.handover block) alike ∙ second.exact)),
-      ap machine_outline first.refused ∙ alike ∙ sym (ap machine_outline second.refused))
+  submits_alike block (Err error) (Err why) one_after other_after first second = (
+    ap (λ (e : SubmitError). Err e) (same_Some error why (sym first.exact ∙ ap (λ (o : MachineOutline). refusal o.handover block) alike ∙ second.exact)),
+    ap machine_outline first.refused ∙ alike ∙ sym (ap machine_outline second.refused),
+  )
 
   same_handover : one.handover ≡ other.handover
   same_handover = ap (λ (o : MachineOutline). o.handover) alike
@@ -138,19 +136,21 @@ module _ (one other : MachineState) (alike : AlikeMachines one other) where
       let maps : one_after.handover.map ≡ other_after.handover.map = first.map ∙ ap (λ (h : HandoverState). h.map) same_handover ∙ sym second.map in
       let events : event ≡ also = own.event_is ∙ sym others.event_is in
       let windows : window one.handover.map one_after.memory.shared ≡ window other.handover.map other_after.memory.shared =
-        ap (λ (at : HandoverMap). window at one_after.memory.shared) (sym first.map) ∙ sym own.stands.window_is ∙ others.stands.window_is
-        ∙ ap (λ (at : HandoverMap). window at other_after.memory.shared) second.map in
+      ap (λ (at : HandoverMap). window at one_after.memory.shared) (sym first.map) ∙ sym own.stands.window_is ∙ others.stands.window_is
+      ∙ ap (λ (at : HandoverMap). window at other_after.memory.shared) second.map in
       let memory : one_after.memory ≡ other_after.memory =
-        first.memory_is
-        ∙ ap (λ (bytes : List ℕ). record one.memory { shared = memory_after one.handover.map event one.memory.shared bytes }) windows
-        ∙ ap (λ (e : TurnEvent). record one.memory { shared = memory_after one.handover.map e one.memory.shared (window other.handover.map other_after.memory.shared) }) events
-        ∙ ap (λ (o : MachineOutline). record o.memory { shared = memory_after o.handover.map also o.memory.shared (window other.handover.map other_after.memory.shared) }) alike
-        ∙ sym second.memory_is in
-      (events, same_machine (machine_outline one_after) (machine_outline other_after)
-      (ap device_outline first.device ∙ ap (λ (o : MachineOutline). o.device) alike ∙ sym (ap device_outline second.device))
-      memory
-      (stands_once one_after.handover other_after.handover one_after.memory.shared other_after.memory.shared (turned side m).1 maps own.stands others.stands)
-      (first.waited ∙ ap (λ (o : MachineOutline). o.waited) alike ∙ sym second.waited))
+      first.memory_is
+      ∙ ap (λ (bytes : List ℕ). record one.memory { shared = memory_after one.handover.map event one.memory.shared bytes }) windows
+      ∙ ap (λ (e : TurnEvent). record one.memory { shared = memory_after one.handover.map e one.memory.shared (window other.handover.map other_after.memory.shared) }) events
+      ∙ ap (λ (o : MachineOutline). record o.memory { shared = memory_after o.handover.map also o.memory.shared (window other.handover.map other_after.memory.shared) }) alike
+      ∙ sym second.memory_is in (
+        events,
+        same_machine (machine_outline one_after) (machine_outline other_after)
+            (ap device_outline first.device ∙ ap (λ (o : MachineOutline). o.device) alike ∙ sym (ap device_outline second.device))
+            memory
+            (stands_once one_after.handover other_after.handover one_after.memory.shared other_after.memory.shared (turned side m).1 maps own.stands others.stands)
+            (first.waited ∙ ap (λ (o : MachineOutline). o.waited) alike ∙ sym second.waited),
+      )
 
   lays_alike : IsMachine one → (block : List ℕ) (result also : Result ℕ FatalError) (one_after other_after : MachineState) → LaysFatal one block result one_after → LaysFatal other block also other_after → (result ≡ also) × AlikeMachines one_after other_after
   lays_alike machine block result also one_after other_after first second =
@@ -164,17 +164,19 @@ module _ (one other : MachineState) (alike : AlikeMachines one other) where
       by_result blocks left laid laid_too (Ok at) (Ok place) first second =
           let own = first.laid blocks left laid in
           let others = second.laid blocks left laid_too in
-          let region : one_after.memory.region ≡ other_after.memory.region = own.1.region_is ∙ sym others.1.region_is in
-          (ap (λ (n : ℕ). Ok n) (own.0 ∙ sym others.0),
-          ap machine_outline first.others
-          ∙ ap (λ (o : MachineOutline). record o { memory = record o.memory { region = one_after.memory.region } }) alike
-          ∙ ap (λ (r : List ℕ). machine_outline (record other { memory = record other.memory { region = r } })) region
-          ∙ sym (ap machine_outline second.others))
+          let region : one_after.memory.region ≡ other_after.memory.region = own.1.region_is ∙ sym others.1.region_is in (
+            ap (λ (n : ℕ). Ok n) (own.0 ∙ sym others.0),
+            ap machine_outline first.others
+                ∙ ap (λ (o : MachineOutline). record o { memory = record o.memory { region = one_after.memory.region } }) alike
+                ∙ ap (λ (r : List ℕ). machine_outline (record other { memory = record other.memory { region = r } })) region
+                ∙ sym (ap machine_outline second.others),
+          )
       by_result blocks left laid laid_too (Ok at) (Err error) first second = absurd (none-some error (sym (first.exact blocks left laid) ∙ second.exact blocks left laid_too))
       by_result blocks left laid laid_too (Err error) (Ok at) first second = absurd (none-some error (sym (second.exact blocks left laid_too) ∙ first.exact blocks left laid))
-      by_result blocks left laid laid_too (Err error) (Err why) first second =
-          (ap (λ (e : FatalError). Err e) (same_Some error why (sym (first.exact blocks left laid) ∙ second.exact blocks left laid_too)),
-          ap machine_outline first.refused ∙ alike ∙ sym (ap machine_outline second.refused))
+      by_result blocks left laid laid_too (Err error) (Err why) first second = (
+        ap (λ (e : FatalError). Err e) (same_Some error why (sym (first.exact blocks left laid) ∙ second.exact blocks left laid_too)),
+        ap machine_outline first.refused ∙ alike ∙ sym (ap machine_outline second.refused),
+      )
 
   module _ (tells : Type 0) (told : tells) where
     warms_alike : (result also : Result ℕ BootError) (one_after other_after : MachineState) → Warms tells one result one_after → FailedNothing one one_after → Warms tells other also other_after → FailedNothing other other_after
@@ -221,10 +223,10 @@ module _ (one other : MachineState) (alike : AlikeMachines one other) where
 pub boots_alike : (geometry : Geometry) (one other : MachineState) → IsBooted geometry one → IsBooted geometry other → records_of one ≡ records_of other → one.device.store.flash.steps ≡ other.device.store.flash.steps → AlikeMachines one other
 boots_alike geometry one other first second records steps =
     let store : store_outline one.device.store ≡ store_outline other.device.store =
-      same_outline (store_outline one.device.store) (store_outline other.device.store)
-      (first.opened.layout ∙ sym second.opened.layout) records steps (first.opened.ready.certain ∙ sym second.opened.ready.certain)
-      (ap unplaced (first.opened.ready.idle ∙ sym second.opened.ready.idle))
-      (no_copies one.device.store first.opened.ready.certain ∙ sym (no_copies other.device.store second.opened.ready.certain)) in
+    same_outline (store_outline one.device.store) (store_outline other.device.store)
+    (first.opened.layout ∙ sym second.opened.layout) records steps (first.opened.ready.certain ∙ sym second.opened.ready.certain)
+    (ap unplaced (first.opened.ready.idle ∙ sym second.opened.ready.idle))
+    (no_copies one.device.store first.opened.ready.certain ∙ sym (no_copies other.device.store second.opened.ready.certain)) in
     same_machine (machine_outline one) (machine_outline other)
     (ap device_outline first.registers ∙ ap first_device store ∙ sym (ap device_outline second.registers))
     (first.memory ∙ sym second.memory) (first.handover ∙ sym second.handover) (first.waited ∙ sym second.waited)

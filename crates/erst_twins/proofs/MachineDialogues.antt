@@ -5,7 +5,7 @@ use Rattle.apei_space.specs.Calls.{Call}
 use Rattle.erst_machine.specs.MachineState.{MachineState}
 use Rattle.erst_machine.specs.Allowed.{Allows}
 use Rattle.erst_machine.proofs.CrashTrail.{one_access}
-use Rattle.erst_twins.specs.Alike.{AlikeMachines, FailedNothing, AskAlike, EndAlike, IsDoneAlike}
+use Rattle.erst_twins.specs.Alike.{AlikeMachines, AskAlike, IsDoneAlike}
 use Rattle.erst_twins.proofs.MachineOutlines.{answer_alike}
 use Rattle.erst_twins.proofs.Dialogues.{Dialogue, Held, ends_alike}
 
@@ -25,5 +25,5 @@ module _ (tells : Type 0) (told : tells) where
       → ((first : MachineState) (answer : A) (left : ℕ) (last : MachineState) → does first answer left last → Held (Allows tells) dialogue first (answer, left) last) → IsDoneAlike does
   done_alike does dialogue holds one other answer also left also_left one_after other_after alike first quiet second also_quiet =
       let both = ends_alike (Allows tells) faults_of AlikeMachines grows keeps dialogue one other (answer, left) (also, also_left) one_after other_after alike
-        (holds one answer left one_after first) quiet (holds other also also_left other_after second) also_quiet in
+      (holds one answer left one_after first) quiet (holds other also also_left other_after second) also_quiet in
       record { same_answer = ap (λ p. p.0) both.0; same_left = ap (λ p. p.1) both.0; alike = both.1 }

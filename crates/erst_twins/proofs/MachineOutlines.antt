@@ -1,5 +1,5 @@
 -- One access of two machines that are alike, over flashes that fail nothing.
-use Rattle.std.proofs.Common.{◌≡◌, ℕ, ◌+◌, ◌-◌, ◌/◌, ◌%◌, ◌^◌, Bool, true, false, List, [], length, Option, Some, None, Result, Ok, Err, refl, sym, ap, subst, ◌∙◌}
+use Rattle.std.proofs.Common.{◌≡◌, ℕ, ◌+◌, ◌-◌, ◌/◌, ◌%◌, ◌^◌, List, length, Option, Some, None, Result, Ok, refl, sym, ap, subst, ◌∙◌}
 use Rattle.std.specs.Prelude.{min}
 use Rattle.base_model.specs.Bytes.{part, number_at, spelled, put_at}
 use Rattle.apei_gas.specs.declared.registers.Place.{Place}
@@ -21,7 +21,7 @@ use Rattle.erst_machine.specs.Areas.{place_spot, register_at}
 use Rattle.erst_machine.specs.Memories.{MemoryState, bytes_in, with_bytes}
 use Rattle.erst_machine.specs.MachineState.{MachineState, spot_of, spot_at}
 use Rattle.erst_machine.specs.Allowed.{ActsOn, RegisterWritten, AreaWritten, NumberWritten, number_read, area_read, register_read, put_in, area_bytes, bytes_read, area_stored, bytes_stored, copy_fault, copied_from, copied_to, copied, copy_of, Allows}
-use Rattle.erst_twins.specs.Alike.{DeviceOutline, MachineOutline, device_outline, machine_outline, AlikeMachines, FailedNothing, asked, AskAlike}
+use Rattle.erst_twins.specs.Alike.{DeviceOutline, MachineOutline, device_outline, machine_outline, AlikeMachines, FailedNothing, AskAlike}
 use Rattle.erst_twins.proofs.DeviceOutlines.{Became, became, became_alike}
 
 pub same_machine : (s t : MachineOutline) → s.device ≡ t.device → s.memory ≡ t.memory → s.handover ≡ t.handover → s.waited ≡ t.waited → s ≡ t
@@ -57,7 +57,7 @@ module _ (tells : Type 0) (told : tells) (one other : MachineState) (alike : Ali
       let others = became tells told other.device other.memory.range (action_of code) other_after.device other_after.memory.range second.acts (second.copies told) also_quiet in
       let moved = subst (λ (r : List ℕ). Became (action_of code) (device_outline other.device) r (device_outline other_after.device) other_after.memory.range) (sym same_range) others in
       let both_are = became_alike (action_of code) (device_outline one.device) (device_outline other.device) one.memory.range (device_outline one_after.device) one_after.memory.range (device_outline other_after.device) other_after.memory.range
-        (ap (λ (o : MachineOutline). o.device) alike) own moved in
+      (ap (λ (o : MachineOutline). o.device) alike) own moved in
       same_machine (machine_outline one_after) (machine_outline other_after) both_are.0
       (first.memory ∙ ap (λ (o : MachineOutline). record o.memory { range = one_after.memory.range }) alike ∙ ap (λ (r : List ℕ). record other.memory { range = r }) both_are.1 ∙ sym second.memory)
       (first.handover ∙ ap (λ (o : MachineOutline). o.handover) alike ∙ sym second.handover)
@@ -181,7 +181,7 @@ module _ (tells : Type 0) (told : tells) (one other : MachineState) (alike : Ali
   copy_both from target n x y one_after other_after first second =
       let own = copied_alike (copy_fault (spot_at one from n) from) (copy_fault (spot_at one target n) target) (spot_at one from n) (spot_at one target n) n in
       let moved : copy_of (spot_at other from n) (spot_at other target n) other from target n ≡ copy_of (spot_at one from n) (spot_at one target n) other from target n =
-        ap (λ (o : MachineOutline). copy_of (place_spot (length o.memory.range) (Memory from) n) (place_spot (length o.memory.range) (Memory target) n) other from target n) (sym alike) in
+      ap (λ (o : MachineOutline). copy_of (place_spot (length o.memory.range) (Memory from) n) (place_spot (length o.memory.range) (Memory target) n) other from target n) (sym alike) in
       both x y one_after other_after _ _ _ _ first.0 (second.0 ∙ ap (λ (p : Result (Unit {0}) SpaceFault × MachineState). p.0) moved) first.1 (second.1 ∙ ap (λ (p : Result (Unit {0}) SpaceFault × MachineState). p.1) moved)
       own.answer own.alike
 
@@ -190,18 +190,19 @@ module _ (tells : Type 0) (told : tells) (one other : MachineState) (alike : Ali
   fill_both at before after afterwards x y one_after other_after first second =
       let spot : Spot = spot_at one at (length before) in
       let moved : bytes_read (spot_at other at (length before)) other at before ≡ bytes_read spot other at before =
-        ap (λ (s : Spot). bytes_read s other at before) (same_spot (Memory at) (length before)) in
-      let same = bytes_alike spot at before ∙ sym moved in
-      (first.0 ∙ ap (λ (p : Result (Unit {0}) SpaceFault × List ℕ). p.0) same ∙ sym second.0,
-      first.1 ∙ ap (λ (p : Result (Unit {0}) SpaceFault × List ℕ). p.1) same ∙ sym second.1,
-      become_alike one_after other_after one other first.2 second.2 alike)
+      ap (λ (s : Spot). bytes_read s other at before) (same_spot (Memory at) (length before)) in
+      let same = bytes_alike spot at before ∙ sym moved in (
+        first.0 ∙ ap (λ (p : Result (Unit {0}) SpaceFault × List ℕ). p.0) same ∙ sym second.0,
+        first.1 ∙ ap (λ (p : Result (Unit {0}) SpaceFault × List ℕ). p.1) same ∙ sym second.1,
+        become_alike one_after other_after one other first.2 second.2 alike,
+      )
 
   put_both : (at : ℕ) (bytes : List ℕ) (x y : Result (Unit {0}) SpaceFault) (one_after other_after : MachineState) → Allows tells one (WriteBytes at bytes x) one_after → Allows tells other (WriteBytes at bytes y) other_after → BothDo x y one_after other_after
   put_both at bytes x y one_after other_after first second =
       let spot : Spot = spot_at one at (length bytes) in
       let own = stored_alike spot at bytes in
       let moved : bytes_stored (spot_at other at (length bytes)) other at bytes ≡ bytes_stored spot other at bytes =
-        ap (λ (s : Spot). bytes_stored s other at bytes) (same_spot (Memory at) (length bytes)) in
+      ap (λ (s : Spot). bytes_stored s other at bytes) (same_spot (Memory at) (length bytes)) in
       both x y one_after other_after _ _ _ _ first.0 (second.0 ∙ ap (λ (p : Result (Unit {0}) SpaceFault × MachineState). p.0) moved) first.1 (second.1 ∙ ap (λ (p : Result (Unit {0}) SpaceFault × MachineState). p.1) moved)
       own.answer own.alike
 
@@ -219,7 +220,7 @@ module _ (tells : Type 0) (told : tells) (one other : MachineState) (alike : Ali
       let width_is : wide ≡ width = cc in
       let value_is : number ≡ value = cc in
       let moved = subst (λ (w : Width). Allows tells other (Write at w value y) other_after) width_is (subst (λ (p : Place). Allows tells other (Write p wide value y) other_after) at_is
-        (subst (λ (n : ℕ). Allows tells other (Write place wide n y) other_after) value_is second)) in
+      (subst (λ (n : ℕ). Allows tells other (Write place wide n y) other_after) value_is second)) in
       let done = write_both at width value x y one_after other_after first quiet moved also_quiet in
       let answer : x ≡ y = done.answer in
       (cc, done.alike)
@@ -231,7 +232,7 @@ module _ (tells : Type 0) (told : tells) (one other : MachineState) (alike : Ali
       let target_is : place ≡ target = cc in
       let len_is : n ≡ len = cc in
       let moved = subst (λ (k : ℕ). Allows tells other (Copy from target k y) other_after) len_is (subst (λ (k : ℕ). Allows tells other (Copy from k n y) other_after) target_is
-        (subst (λ (k : ℕ). Allows tells other (Copy k place n y) other_after) from_is second)) in
+      (subst (λ (k : ℕ). Allows tells other (Copy k place n y) other_after) from_is second)) in
       let done = copy_both from target len x y one_after other_after first moved in
       let answer : x ≡ y = done.answer in
       (cc, done.alike)

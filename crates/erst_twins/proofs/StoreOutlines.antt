@@ -1,21 +1,20 @@
 -- What a call leaves of the outline of a store whose flash fails nothing.
-use Rattle.std.proofs.Common.{◌≡◌, ℕ, ◌+◌, ◌≤◌, ◌⊎◌, Bool, true, false, cond, List, [], ◌∷◌, ◌++◌, length, drop, Option, Some, None, Result, Ok, Err, refl, sym, ap, subst, ◌∙◌, arith, inl, inr}
+use Rattle.std.proofs.Common.{◌≡◌, ℕ, ◌+◌, ◌⊎◌, Bool, true, false, List, [], Option, Some, None, Result, Ok, Err, refl, sym, ap, subst, ◌∙◌, inl, inr}
 use Rattle.std.specs.Prelude.{if◌then◌else◌, is_some}
-use Rattle.std.specs.FinMap.{get, len}
-use Rattle.base_model.specs.Faults.{Rose}
+use Rattle.std.specs.FinMap.{get}
 use Rattle.flash_words.specs.Layout.{Layout}
 use Rattle.flash_words.proofs.CrashLemmas.{Leaves-exit}
 use Rattle.record_model.specs.Records.{Stored}
-use Rattle.record_model.specs.RecordMap.{Refusal, Write, Clear, Failed, NoSpace, NotFound, Empty, TooLong, refusal_of, IsNextAbove}
-use Rattle.record_store.specs.Store.{StoreView, Pending, Idle, Writing, Clearing, stored, records_of, slots_for, map_after, pending_after, doubt_after, IsReady, KeepsMap, DividesAlike, abandoned}
-use Rattle.record_store.specs.Answers.{HasFaultsOf, HasDoubtOf, EndsCopies, IsStep, HasStepped, copies_in, copies_of, copies_pending}
+use Rattle.record_model.specs.RecordMap.{Refusal, Write, Clear, Failed, NoSpace, NotFound, Empty, TooLong, refusal_of}
+use Rattle.record_store.specs.Store.{StoreView, Pending, Idle, Writing, Clearing, stored, records_of, map_after, pending_after, doubt_after, IsReady, KeepsMap, DividesAlike, abandoned}
+use Rattle.record_store.specs.Answers.{HasFaultsOf, HasDoubtOf, EndsCopies, copies_in, copies_of, copies_pending}
 use Rattle.record_store.specs.Calls.{OnlyLooks, OnlyStarts}
 use Rattle.record_store.specs.declared.errors.StoreError.{StoreError}
 use Rattle.record_store.specs.declared.errors.StoreError.TheVariants as errors
 use Rattle.erst_device.specs.declared.status.CommandStatus.{CommandStatus}
 use Rattle.erst_device.specs.declared.status.CommandStatus.TheVariants as statuses
 use Rattle.erst_device.specs.Statuses.{status_of}
-use Rattle.erst_device.specs.StoreCalls.{Stepped, StartedWrite, StartedClear, FoundNext, Counted, ReadOut}
+use Rattle.erst_device.specs.StoreCalls.{Stepped, StartedWrite, StartedClear}
 use Rattle.erst_device.specs.DeviceState.{KnowsCopies}
 use Rattle.erst_device.specs.Starts.{status_after}
 use Rattle.erst_twins.specs.Alike.{StoreOutline, unplaced, store_outline, FailsNothing}
@@ -188,7 +187,7 @@ started_ok : (tells : Type 0) → tells → (old new : StoreView) (result : Resu
 started_ok tells told old new result refusal pending ok none quiet certain is leaves = record {
   status = ap status_after ok ∙ sym (ap status_by none);
   outline = looked_by old new result pending quiet (leaves.kept told) (leaves.ended told) certain is leaves.alike leaves.cause
-    ∙ sym (ap (λ (r : Option Refusal). started r pending (store_outline old)) none);
+      ∙ sym (ap (λ (r : Option Refusal). started r pending (store_outline old)) none);
 }
 
 started_refused : (tells : Type 0) → tells → (old new : StoreView) (error : StoreError) (refusal : Option Refusal) (why : Refusal) (pending : Pending) → refusal ≡ Some why → status_of error ≡ status_by (Some why) → FailsNothing old new → IsReady new
@@ -196,7 +195,7 @@ started_refused : (tells : Type 0) → tells → (old new : StoreView) (error : 
 started_refused tells told old new error refusal why pending is status quiet ready leaves = record {
   status = status ∙ sym (ap status_by is);
   outline = looked_by {T = Unit {0}} old new (Err error) Idle quiet (leaves.kept told) (leaves.ended told) ready.certain (ap unplaced ready.idle) leaves.alike leaves.cause
-    ∙ sym (ap (λ (r : Option Refusal). started r pending (store_outline old)) is);
+      ∙ sym (ap (λ (r : Option Refusal). started r pending (store_outline old)) is);
 }
 
 abbrev pub write_pending : Layout → Stored → ℕ → List ℕ → Pending

@@ -1,16 +1,14 @@
 -- Whatever happens to two machines that are alike, over flashes that fail nothing.
-use Rattle.std.proofs.Common.{◌≡◌, ℕ, ◌+◌, ◌≤◌, List, [], ◌∷◌, refl, sym, ap, subst, ◌∙◌, arith}
-use Rattle.base_model.specs.Faults.{Rose}
+use Rattle.std.proofs.Common.{◌≡◌, ℕ, ◌+◌, ◌≤◌, List, [], ◌∷◌, refl, sym, ap, ◌∙◌}
 use Rattle.flash_words.specs.Flash.{FlashState}
 use Rattle.flash_words.specs.Layout.{Layout}
 use Rattle.flash_words.proofs.CrashLemmas.{Leaves-exit}
 use Rattle.flash_model.specs.declared.geometry.Geometry.{Geometry}
 use Rattle.flash_model.specs.Layouts.{layout_of}
 use Rattle.record_model.specs.Records.{second_copies}
-use Rattle.record_store.specs.Store.{records_of as records_in, KeepsRecordsOf}
+use Rattle.record_store.specs.Store.{records_of as records_in}
 use Rattle.apei_space.specs.Accesses.{Move, Trail}
 use Rattle.erst_machine.specs.MachineState.{MachineState, IsMachine, records_of}
-use Rattle.erst_machine.specs.Boots.{IsBooted}
 use Rattle.erst_machine.specs.Events.{Event, Happens}
 use Rattle.erst_machine.proofs.CrashTrail.{events_are_shown}
 use Rattle.erst_machine.proofs.EventLemmas.{events_keep}
@@ -43,11 +41,11 @@ module _ (tells : Type 0) (told : tells) where
       let other_step = trail_grows other next.left (one_move next) (also.0, refl) in
       let other_rest = trail_grows next.left other_after more also.1 in
       let both = happens_alike one other alike tells told machine move.event next.event move.left next.left head
-        trail.0 (quiet_first (faults_of one) (faults_of move.left) (faults_of one_after) one_step one_rest quiet)
-        also.0 (quiet_first (faults_of other) (faults_of next.left) (faults_of other_after) other_step other_rest also_quiet) in
+      trail.0 (quiet_first (faults_of one) (faults_of move.left) (faults_of one_after) one_step one_rest quiet)
+      also.0 (quiet_first (faults_of other) (faults_of next.left) (faults_of other_after) other_step other_rest also_quiet) in
       let after = trails_alike rest more move.left next.left one_after other_after both.1 (events_keep tells one move.left (one_move move) (trail.0, refl) machine) tail
-        trail.1 (quiet_second (faults_of one) (faults_of move.left) (faults_of one_after) one_step one_rest quiet)
-        also.1 (quiet_second (faults_of other) (faults_of next.left) (faults_of other_after) other_step other_rest also_quiet) in
+      trail.1 (quiet_second (faults_of one) (faults_of move.left) (faults_of one_after) one_step one_rest quiet)
+      also.1 (quiet_second (faults_of other) (faults_of next.left) (faults_of other_after) other_step other_rest also_quiet) in
       (ap (λ (e : Event). e ∷ events_of rest) both.0 ∙ ap (λ (es : List Event). next.event ∷ es) after.0, after.1)
   trails_alike first second one other one_after other_after alike machine asks trail quiet also also_quiet = absurd (cc)
 

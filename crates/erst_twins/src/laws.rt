@@ -1,17 +1,13 @@
 // Laws on two machines that are alike: the functions do nothing, and their clauses are the laws.
 ghost use Rattle.std.specs.Prelude.{◌≡◌, ℕ, true, List, Option, Result};
 ghost use Rattle.flash_words.specs.Flash.{FlashState};
-ghost use Rattle.flash_model.specs.declared.geometry.Geometry.{Geometry as AnyGeometry};
+ghost use Rattle.flash_model.specs.declared.geometry.Geometry.{Geometry};
 ghost use Rattle.flash_model.specs.Layouts.{layout_of};
 ghost use Rattle.record_model.specs.Records.{second_copies};
 ghost use Rattle.record_store.specs.Store.{records_of as records_in};
 ghost use Rattle.apei_space.specs.Calls.{Call};
 ghost use Rattle.apei_space.specs.Accesses.{Move, Trail};
 ghost use Rattle.erst_entries.specs.declared.actions.Action.{Action};
-ghost use Rattle.erst_device.specs.Actions.{Acts, gives_up};
-ghost use Rattle.erst_device.specs.DeviceState.{DeviceState, KnowsCopies};
-ghost use Rattle.erst_machine.specs.MachineState.{MachineState, IsMachine, records_of};
-ghost use Rattle.erst_machine.specs.Allowed.{Allows};
 ghost use Rattle.erst_entries.specs.declared.entries.Entry.{Entry};
 ghost use Rattle.erst_entries.specs.Layout.{Erst};
 ghost use Rattle.erst_entries.specs.Programs.{Listed};
@@ -24,6 +20,10 @@ ghost use Rattle.erst_client.specs.Requests.{Asks};
 ghost use Rattle.erst_client.specs.Sequences.{Sequence};
 ghost use Rattle.erst_client.specs.Attaching.{Attaches};
 ghost use Rattle.erst_client.specs.Commands.{ClientState, Writes, Reads, Counts, Names};
+ghost use Rattle.erst_device.specs.Actions.{Acts, gives_up};
+ghost use Rattle.erst_device.specs.DeviceState.{DeviceState, KnowsCopies};
+ghost use Rattle.erst_machine.specs.MachineState.{MachineState, IsMachine, records_of};
+ghost use Rattle.erst_machine.specs.Allowed.{Allows};
 ghost use Rattle.erst_machine.specs.Boots.{IsBooted};
 ghost use Rattle.erst_machine.specs.Events.{Event, Happens};
 ghost use Rattle.erst_twins.specs.Alike.{FailsNothing, FailedNothing, AlikeDevices, AlikeMachines, AskAlike, IsDoneAlike, BootsFrom, asked_event, asked_by, events_of};
@@ -112,9 +112,9 @@ pub fn alike_machines_stay_alike<F: Flash>()
 /// Machines of one geometry that have just booted are alike where they hold the same records and their flashes have made as many changes;
 /// and so over flashes with the same records, as many changes and as many second copies.
 pub fn alike_flashes_boot_alike()
-    ensures machines { (geometry : AnyGeometry) (one other : MachineState) → IsBooted geometry one → IsBooted geometry other → records_of one ≡ records_of other
+    ensures machines { (geometry : Geometry) (one other : MachineState) → IsBooted geometry one → IsBooted geometry other → records_of one ≡ records_of other
         → one.device.store.flash.steps ≡ other.device.store.flash.steps → AlikeMachines one other }
-    ensures flashes { (geometry : AnyGeometry) (first second : FlashState) (one other : MachineState)
+    ensures flashes { (geometry : Geometry) (first second : FlashState) (one other : MachineState)
         → records_in (layout_of geometry) first.told.image ≡ records_in (layout_of geometry) second.told.image → first.steps ≡ second.steps
         → second_copies geometry.slot_size geometry.slots first.told.image ≡ second_copies geometry.slot_size geometry.slots second.told.image
         → BootsFrom geometry first one → BootsFrom geometry second other → AlikeMachines one other }

@@ -1,4 +1,3 @@
-use Rattle.erst_device.specs.DeviceState.{DeviceState}
 use Rattle.erst_twins.specs.Alike.{device_outline}
 use Rattle.erst_twins.proofs.DeviceOutlines.{became, became_alike}
 use Rattle.erst_twins.proofs.laws.alike_devices_act_alike.Goals as goal
