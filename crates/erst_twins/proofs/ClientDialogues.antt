@@ -1,7 +1,8 @@
 -- A client's commands as dialogues.
-use Rattle.std.proofs.Common.{◌≡◌, ℕ, zero, suc, ◌-◌, ◌*◌, ◌<◌, ◌≤◌, Bool, true, false, List, [], ◌∷◌, ◌++◌, length, take, drop, Option, Some, None, Result, Ok, Err, refl, sym, ap, subst, arith}
-use Rattle.std.specs.Prelude.{◌==◌, nat_lt, codes}
-use Rattle.std.proofs.lemmas.Bool.{ne_eqb}
+use Rattle.std.proofs.Common.{◌∙◌, cond, ◌≡◌, ℕ, zero, suc, ◌-◌, ◌*◌, ◌<◌, ◌≤◌, Bool, true, false, List, [], ◌∷◌, ◌++◌, length, take, drop, Option, Some, None, Result, Ok, Err, refl, sym, ap, subst, arith}
+use Rattle.std.specs.Prelude.{◌||◌, replicate, IfOk, ◌==◌, nat_lt, codes}
+use Rattle.std.proofs.lemmas.Bool.{ne_eqb, ltb-false}
+use Rattle.std.proofs.lemmas.List.{length-replicate, length-take-le}
 use Rattle.std.proofs.lemmas.Bool.Decides.{nat_tests}
 use Rattle.base_model.specs.Bytes.{number_at}
 use Rattle.apei_space.specs.declared.faults.SpaceFault.{SpaceFault}
@@ -22,6 +23,7 @@ use Rattle.erst_client.specs.Requests.{Performs, Asks, NoneLeft, Answered as ask
 use Rattle.erst_client.specs.Sequences.{Pauses, Untimed, Timed, TooOften, Busy, NotYet, Again, Waits, IsIdle, IsStopped, IsLate, judged, UntilStatus, NotAsked, NotWaited, NotTold, IsTold, closed, end_steps, Sequence, write_requests, read_requests}
 use Rattle.erst_client.specs.Commands.{ClientState, write_refusal, address_in, Puts, NotPut, NotMarked, IsPut, Writes, IsNoRecord, IsNotPut, IsAsked, copy_refusal, CopiesOut, IsFilled, IsNotFilled, copied, Reads, IsNotRead, HasNoLength, IsNotCopied, IsCopied, Counts, counted, Names, named}
 use Rattle.erst_client.specs.Attaching.{Attaches, attached, attach_requests}
+use Rattle.erst_twins.specs.Alike.{AskAlike}
 use Rattle.erst_twins.proofs.Dialogues.{Dialogue, Ends, Calls, go_on, Held, IsDone, Answered, done, then}
 use Rattle.erst_twins.proofs.RunDialogues.{answer_in, run_of, run_held}
 
@@ -128,26 +130,25 @@ write_if client bytes budget (Some error) = Ends (Err error, budget)
 pub write : ClientState → List ℕ → ℕ → Dialogue Ended
 write client bytes budget = write_if client bytes budget (write_refusal bytes client.range)
 
--- a read: its answer with the buffer, and the steps that are left
+-- a read into a buffer of so many bytes: its answer with the bytes that it read, and the steps that are left
 abbrev pub Copied : Type 0
 Copied = Result ℕ ClientError × List ℕ
 
-abbrev copy_if : ClientState → List ℕ → Option ClientError → ℕ → ℕ → Dialogue (Copied × ℕ)
-copy_if client out (Some error) len left = Ends ((Err error, out), left)
-copy_if client out None len left =
-    Calls (ReadBytes client.address (take len out) [] (Ok tt)) (λ call. Ends ((copied (in_range (answer_in call)) len, filled_in call ++ drop len out), left))
+abbrev copy_if : ClientState → Option ClientError → ℕ → ℕ → Dialogue (Copied × ℕ)
+copy_if client (Some error) len left = Ends ((Err error, []), left)
+copy_if client None len left = Calls (ReadBytes client.address (replicate len 0) [] (Ok tt)) (λ call. Ends ((copied (in_range (answer_in call)) len, filled_in call), left))
 
-abbrev when_long : ClientState → List ℕ → ℕ → Result (Unit {0}) SpaceFault → List ℕ → Dialogue (Copied × ℕ)
-when_long client out left (Ok done) field = copy_if client out (copy_refusal (number_at field 0 4) client.range (length out)) (number_at field 0 4) left
-when_long client out left (Err fault) field = Ends ((Err (Range fault), out), left)
+abbrev when_long : ClientState → ℕ → ℕ → Result (Unit {0}) SpaceFault → List ℕ → Dialogue (Copied × ℕ)
+when_long client room left (Ok done) field = copy_if client (copy_refusal (number_at field 0 4) client.range room) (number_at field 0 4) left
+when_long client room left (Err fault) field = Ends ((Err (Range fault), []), left)
 
-abbrev when_shown : ClientState → List ℕ → Ended → Dialogue (Copied × ℕ)
-when_shown client out (Ok done, left) =
-    Calls (ReadBytes (address_in client.address 20) (0 ∷ 0 ∷ 0 ∷ 0 ∷ []) [] (Ok tt)) (λ call. when_long client out left (answer_in call) (filled_in call))
-when_shown client out (Err error, left) = Ends ((Err error, out), left)
+abbrev when_shown : ClientState → ℕ → Ended → Dialogue (Copied × ℕ)
+when_shown client room (Ok done, left) =
+    Calls (ReadBytes (address_in client.address 20) (0 ∷ 0 ∷ 0 ∷ 0 ∷ []) [] (Ok tt)) (λ call. when_long client room left (answer_in call) (filled_in call))
+when_shown client room (Err error, left) = Ends ((Err error, []), left)
 
-pub read : ClientState → ℕ → List ℕ → ℕ → Dialogue (Copied × ℕ)
-read client id out budget = go_on (sequence client.table.entries client.timings (read_requests id) budget) (when_shown client out)
+pub read : ClientState → ℕ → ℕ → ℕ → Dialogue (Copied × ℕ)
+read client id room budget = go_on (sequence client.table.entries client.timings (read_requests id) budget) (when_shown client room)
 
 -- The relations of the client are these dialogues
 
@@ -156,6 +157,16 @@ less_true a b less = grind (arith, nat_tests)
 
 less_false : (a b : ℕ) → b ≤ a → nat_lt a b ≡ false
 less_false a b less = grind (arith, nat_tests)
+
+-- a record that is copied out fits the buffer
+pub copy_fits : (len range room : ℕ) → copy_refusal len range room ≡ None → len ≤ room
+copy_fits len range room is = ltb-false room len (by_tests (nat_lt len 128) (nat_lt range len) (nat_lt room len) _ _ is)
+  where
+    by_tests : (a b c : Bool) (first second : ClientError) → cond {A = Option ClientError} (a || b) (Some first) (cond c (Some second) None) ≡ None → c ≡ false
+    by_tests true b c first second h = absurd (cc h)
+    by_tests false true c first second h = absurd (cc h)
+    by_tests false false true first second h = absurd (cc h)
+    by_tests false false false first second h = refl
 
 module _ {W : Type 0} (allows : W → Call → W → Type 0) where
   module _ (entries : List Entry) where
@@ -287,26 +298,65 @@ module _ {W : Type 0} (allows : W → Call → W → Type 0) where
         (then _ (puts_held client.address bytes first (Ok tt) mid puts) (sequence_held client.table.entries client.timings write_requests budget mid result left last ran))
   ]
 
-  copies_held : (client : ClientState) (out : List ℕ) (len left : ℕ) (whole : List ℕ) (old : W) (answer : Result (Unit {0}) ClientError) (new : W) → CopiesOut allows client.address (take len out) whole old answer new
-      → Held allows (copy_if client out None len left) old ((copied answer len, whole ++ drop len out), left) new
-  copies_held client out len left whole old answer new copies = elim copies as (λ answer new copies. Held allows (copy_if client out None len left) old ((copied answer len, whole ++ drop len out), left) new) [
-    | IsFilled new allowed ↦ Answered _ _ old (ReadBytes client.address (take len out) whole (Ok tt)) new _ new refl allowed (IsDone _ new)
-    | IsNotFilled fault new allowed ↦ Answered _ _ old (ReadBytes client.address (take len out) whole (Err fault)) new _ new refl allowed (IsDone _ new)
-  ]
+  -- a read was held, and left these bytes at the start of its buffer
+  pub record ReadHeld (client : ClientState) (id : ℕ) (out : List ℕ) (budget : ℕ) (first : W) (result : Result ℕ ClientError) (after : List ℕ) (left : ℕ) (last : W) : Type 0 where
+    pub whole : List ℕ
+    pub held : Held allows (read client id (length out) budget) first ((result, whole), left) last
+    pub filled : IfOk result (λ size. (size ≤ length out) × (after ≡ whole ++ drop size out))
+
+  read_shown : (client : ClientState) (id : ℕ) (out : List ℕ) (budget : ℕ) (first : W) (left : ℕ) (mid : W) (outcome : Copied × ℕ) (last : W)
+      → Sequence allows client.table.entries client.timings (read_requests id) budget first (Ok tt) left mid → Held allows (when_shown client (length out) (Ok tt, left)) mid outcome last → Held allows (read client id (length out) budget) first outcome last
+  unfolding read
+  read_shown client id out budget first left mid outcome last ran held = then _ (sequence_held client.table.entries client.timings (read_requests id) budget first (Ok tt) left mid ran) held
+
+  not_shown : (client : ClientState) (id : ℕ) (out : List ℕ) (budget : ℕ) (first : W) (error : ClientError) (left : ℕ) (last : W)
+      → Sequence allows client.table.entries client.timings (read_requests id) budget first (Err error) left last → Held allows (read client id (length out) budget) first ((Err error, []), left) last
+  unfolding read
+  not_shown client id out budget first error left last ran = then _ (sequence_held client.table.entries client.timings (read_requests id) budget first (Err error) left last ran) (IsDone _ last)
+
+  copies_held : (client : ClientState) (id : ℕ) (out : List ℕ) (budget : ℕ) (first : W) (len left : ℕ) (whole : List ℕ) (old : W) (answer : Result (Unit {0}) ClientError) (new : W) → len ≤ length out
+      → CopiesOut allows client.address (take len out) whole old answer new
+      → ((outcome : Copied) → Held allows (copy_if client None len left) old (outcome, left) new → Held allows (read client id (length out) budget) first (outcome, left) new)
+      → ReadHeld client id out budget first (copied answer len) (whole ++ drop len out) left new
+  copies_held client id out budget first len left whole old answer new fits copies rest =
+      let buffer : length (replicate len 0) ≡ length (take len out) = length-replicate {A = ℕ} len 0 ∙ sym (length-take-le len out fits) in
+      let asks : (answer : Result (Unit {0}) SpaceFault) → AskAlike (ReadBytes client.address (replicate len 0) [] (Ok tt)) (ReadBytes client.address (take len out) whole answer) =
+        λ answer. ap (λ (n : ℕ). ReadBytes client.address (replicate n 0) [] (Ok tt)) buffer in
+      (elim copies as (λ answer new copies. ((outcome : Copied) → Held allows (copy_if client None len left) old (outcome, left) new → Held allows (read client id (length out) budget) first (outcome, left) new)
+        → ReadHeld client id out budget first (copied answer len) (whole ++ drop len out) left new) [
+        | IsFilled new allowed ↦ λ rest. record {
+            whole = whole;
+            held = rest _ (Answered _ _ old (ReadBytes client.address (take len out) whole (Ok tt)) new _ new (asks (Ok tt)) allowed (IsDone _ new));
+            filled = (fits, refl);
+          }
+        | IsNotFilled fault new allowed ↦ λ rest. record {
+            whole = [];
+            held = rest _ (Answered _ _ old (ReadBytes client.address (take len out) whole (Err fault)) new _ new (asks (Err fault)) allowed (IsDone _ new));
+            filled = tt;
+          }
+      ]) rest
 
   pub reads_held : (client : ClientState) (id : ℕ) (out : List ℕ) (budget : ℕ) (first : W) (result : Result ℕ ClientError) (after : List ℕ) (left : ℕ) (last : W) → Reads allows client id out budget first result after left last
-      → Held allows (read client id out budget) first ((result, after), left) last
-  unfolding read
+      → ReadHeld client id out budget first result after left last
   reads_held client id out budget first result after left last reads =
-      elim reads as (λ result after left last reads. Held allows (go_on (sequence client.table.entries client.timings (read_requests id) budget) (when_shown client out)) first ((result, after), left) last) [
-        | IsNotRead error left last ran ↦ then _ (sequence_held client.table.entries client.timings (read_requests id) budget first (Err error) left last ran) (IsDone _ last)
-        | HasNoLength left mid field fault last ran long ↦ then _ (sequence_held client.table.entries client.timings (read_requests id) budget first (Ok tt) left mid ran)
-            (Answered _ _ mid (ReadBytes (address_in client.address 20) (0 ∷ 0 ∷ 0 ∷ 0 ∷ []) field (Err fault)) last _ last refl long (IsDone _ last))
-        | IsNotCopied left mid field error last ran long refused ↦ then _ (sequence_held client.table.entries client.timings (read_requests id) budget first (Ok tt) left mid ran)
-            (Answered _ _ mid (ReadBytes (address_in client.address 20) (0 ∷ 0 ∷ 0 ∷ 0 ∷ []) field (Ok tt)) last _ last refl long
-            (subst (λ (r : Option ClientError). Held allows (copy_if client out r (number_at field 0 4) left) last ((Err error, out), left) last) (sym refused) (IsDone _ last)))
-        | IsCopied left mid field next whole answer last ran long taken copies ↦ then _ (sequence_held client.table.entries client.timings (read_requests id) budget first (Ok tt) left mid ran)
+      elim reads as (λ result after left last reads. ReadHeld client id out budget first result after left last) [
+        | IsNotRead error left last ran ↦ record { whole = []; held = not_shown client id out budget first error left last ran; filled = tt }
+        | HasNoLength left mid field fault last ran long ↦ record {
+            whole = [];
+            held = read_shown client id out budget first left mid _ last ran
+                (Answered _ _ mid (ReadBytes (address_in client.address 20) (0 ∷ 0 ∷ 0 ∷ 0 ∷ []) field (Err fault)) last _ last refl long (IsDone _ last));
+            filled = tt;
+          }
+        | IsNotCopied left mid field error last ran long refused ↦ record {
+            whole = [];
+            held = read_shown client id out budget first left mid _ last ran
+                (Answered _ _ mid (ReadBytes (address_in client.address 20) (0 ∷ 0 ∷ 0 ∷ 0 ∷ []) field (Ok tt)) last _ last refl long
+                (subst (λ (r : Option ClientError). Held allows (copy_if client r (number_at field 0 4) left) last ((Err error, []), left) last) (sym refused) (IsDone _ last)));
+            filled = tt;
+          }
+        | IsCopied left mid field next whole answer last ran long taken copies ↦
+            copies_held client id out budget first (number_at field 0 4) left whole next answer last (copy_fits (number_at field 0 4) client.range (length out) taken) copies
+            (λ outcome held. read_shown client id out budget first left mid (outcome, left) last ran
             (Answered _ _ mid (ReadBytes (address_in client.address 20) (0 ∷ 0 ∷ 0 ∷ 0 ∷ []) field (Ok tt)) next _ last refl long
-            (subst (λ (r : Option ClientError). Held allows (copy_if client out r (number_at field 0 4) left) next ((copied answer (number_at field 0 4), whole ++ drop (number_at field 0 4) out), left) last) (sym taken)
-            (copies_held client out (number_at field 0 4) left whole next answer last copies)))
+            (subst (λ (r : Option ClientError). Held allows (copy_if client r (number_at field 0 4) left) next (outcome, left) last) (sym taken) held)))
       ]

@@ -24,7 +24,7 @@ use Rattle.erst_machine.specs.Memories.{MemoryState, cleared}
 use Rattle.erst_machine.specs.MachineState.{MachineState, IsMachine, records_of}
 use Rattle.erst_machine.specs.Boots.{IsBooted}
 use Rattle.erst_machine.specs.Events.{Restarts, Warms, Powers, Submits, Turns, LaysFatal, Event, Accessed, Warmed, Powered, Submitted, Turned, Laid, Happens}
-use Rattle.erst_twins.specs.Alike.{StoreOutline, DeviceOutline, MachineOutline, unplaced, store_outline, device_outline, machine_outline, AlikeMachines, FailsNothing, FailedNothing, asked_event}
+use Rattle.erst_twins.specs.Alike.{StoreOutline, DeviceOutline, MachineOutline, unplaced, store_outline, device_outline, machine_outline, AlikeMachines, FailsNothing, FailedNothing, asked_event, answered_event}
 use Rattle.erst_twins.proofs.StoreOutlines.{looked, same_outline, only_looked, no_copies}
 use Rattle.erst_twins.proofs.MachineOutlines.{same_machine, answer_alike}
 
@@ -194,7 +194,7 @@ module _ (one other : MachineState) (alike : AlikeMachines one other) where
         (began tells told (restarted other.device.store) _ other also other_after (doubted_outline other.device.store (second.restarts.copies told)) also_quiet second.restarts)
 
     pub happens_alike : IsMachine one → (event also : Event) (one_after other_after : MachineState) → asked_event event ≡ asked_event also → Happens tells one event one_after → FailedNothing one one_after
-        → Happens tells other also other_after → FailedNothing other other_after → (event ≡ also) × AlikeMachines one_after other_after
+        → Happens tells other also other_after → FailedNothing other other_after → (answered_event event ≡ answered_event also) × AlikeMachines one_after other_after
     happens_alike machine (Accessed call) (Accessed others) one_after other_after asks first quiet second also_quiet =
         let both = answer_alike tells told one other alike call others one_after other_after (cc) first quiet second also_quiet in
         (ap (λ c. Accessed c) both.0, both.1)

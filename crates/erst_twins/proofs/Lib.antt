@@ -7,3 +7,4 @@ pub mod ClientDialogues
 pub mod MachineDialogues
 pub mod EventOutlines
 pub mod TrailOutlines
+pub mod ReadLemmas

@@ -1,6 +1,7 @@
 -- One access of two machines that are alike, over flashes that fail nothing.
 use Rattle.std.proofs.Common.{◌≡◌, ℕ, ◌+◌, ◌-◌, ◌/◌, ◌%◌, ◌^◌, List, length, Option, Some, None, Result, Ok, refl, sym, ap, subst, ◌∙◌}
 use Rattle.std.specs.Prelude.{min}
+use Rattle.std.proofs.lemmas.List.{length-replicate}
 use Rattle.base_model.specs.Bytes.{part, number_at, spelled, put_at}
 use Rattle.apei_gas.specs.declared.registers.Place.{Place}
 use Rattle.apei_gas.specs.declared.registers.Place.TheVariants.{Memory}
@@ -21,7 +22,7 @@ use Rattle.erst_machine.specs.Areas.{place_spot, register_at}
 use Rattle.erst_machine.specs.Memories.{MemoryState, bytes_in, with_bytes}
 use Rattle.erst_machine.specs.MachineState.{MachineState, spot_of, spot_at}
 use Rattle.erst_machine.specs.Allowed.{ActsOn, RegisterWritten, AreaWritten, NumberWritten, number_read, area_read, register_read, put_in, area_bytes, bytes_read, area_stored, bytes_stored, copy_fault, copied_from, copied_to, copied, copy_of, Allows}
-use Rattle.erst_twins.specs.Alike.{DeviceOutline, MachineOutline, device_outline, machine_outline, AlikeMachines, FailedNothing, AskAlike}
+use Rattle.erst_twins.specs.Alike.{DeviceOutline, MachineOutline, device_outline, machine_outline, AlikeMachines, FailedNothing, bytes_shown, any_buffer, answered, AskAlike}
 use Rattle.erst_twins.proofs.DeviceOutlines.{Became, became, became_alike}
 
 pub same_machine : (s t : MachineOutline) → s.device ≡ t.device → s.memory ≡ t.memory → s.handover ≡ t.handover → s.waited ≡ t.waited → s ≡ t
@@ -85,18 +86,25 @@ module _ (tells : Type 0) (told : tells) (one other : MachineState) (alike : Ali
   number_alike (Beyond area address) at width = refl
   number_alike (Nowhere address) at width = refl
 
-  filled_alike : (area : Area) (start at : ℕ) (before : List ℕ) → area_bytes area start one at before ≡ area_bytes area start other at before
-  filled_alike Device start at before = refl
-  filled_alike Scratch start at before = ap (λ (o : MachineOutline). (Ok tt, part (bytes_in Scratch o.memory) start (length before))) alike
-  filled_alike LogRange start at before = ap (λ (o : MachineOutline). (Ok tt, part (bytes_in LogRange o.memory) start (length before))) alike
-  filled_alike Handover start at before = ap (λ (o : MachineOutline). (Ok tt, part (bytes_in Handover o.memory) start (length before))) alike
-  filled_alike BootErrors start at before = ap (λ (o : MachineOutline). (Ok tt, part (bytes_in BootErrors o.memory) start (length before))) alike
-  filled_alike Ports start at before = ap (λ (o : MachineOutline). (Ok tt, part (bytes_in Ports o.memory) start (length before))) alike
+  part_alike : (area : Area) (start : ℕ) (before buffer : List ℕ) → length before ≡ length buffer → part (bytes_in area one.memory) start (length before) ≡ part (bytes_in area other.memory) start (length buffer)
+  part_alike area start before buffer long =
+      ap (λ (o : MachineOutline). part (bytes_in area o.memory) start (length before)) alike ∙ ap (λ (n : ℕ). part (bytes_in area other.memory) start n) long
 
-  bytes_alike : (spot : Spot) (at : ℕ) (before : List ℕ) → bytes_read spot one at before ≡ bytes_read spot other at before
-  bytes_alike (Inside area start) at before = filled_alike area start at before
-  bytes_alike (Beyond area address) at before = refl
-  bytes_alike (Nowhere address) at before = refl
+  -- what a read of bytes answers, and what it shows
+  filled_alike : (area : Area) (start at : ℕ) (before buffer : List ℕ) → length before ≡ length buffer → ((area_bytes area start one at before).0 ≡ (area_bytes area start other at buffer).0)
+      × (bytes_shown (area_bytes area start one at before).0 (area_bytes area start one at before).1 ≡ bytes_shown (area_bytes area start other at buffer).0 (area_bytes area start other at buffer).1)
+  filled_alike Device start at before buffer long = (refl, refl)
+  filled_alike Scratch start at before buffer long = (refl, part_alike Scratch start before buffer long)
+  filled_alike LogRange start at before buffer long = (refl, part_alike LogRange start before buffer long)
+  filled_alike Handover start at before buffer long = (refl, part_alike Handover start before buffer long)
+  filled_alike BootErrors start at before buffer long = (refl, part_alike BootErrors start before buffer long)
+  filled_alike Ports start at before buffer long = (refl, part_alike Ports start before buffer long)
+
+  bytes_alike : (spot : Spot) (at : ℕ) (before buffer : List ℕ) → length before ≡ length buffer → ((bytes_read spot one at before).0 ≡ (bytes_read spot other at buffer).0)
+      × (bytes_shown (bytes_read spot one at before).0 (bytes_read spot one at before).1 ≡ bytes_shown (bytes_read spot other at buffer).0 (bytes_read spot other at buffer).1)
+  bytes_alike (Inside area start) at before buffer long = filled_alike area start at before buffer long
+  bytes_alike (Beyond area address) at before buffer long = (refl, refl)
+  bytes_alike (Nowhere address) at before buffer long = (refl, refl)
 
   -- writes of bytes, and copies
   area_stored_alike : (area : Area) (start at : ℕ) (bytes : List ℕ) →
@@ -185,17 +193,19 @@ module _ (tells : Type 0) (told : tells) (one other : MachineState) (alike : Ali
       both x y one_after other_after _ _ _ _ first.0 (second.0 ∙ ap (λ (p : Result (Unit {0}) SpaceFault × MachineState). p.0) moved) first.1 (second.1 ∙ ap (λ (p : Result (Unit {0}) SpaceFault × MachineState). p.1) moved)
       own.answer own.alike
 
-  fill_both : (at : ℕ) (before after afterwards : List ℕ) (x y : Result (Unit {0}) SpaceFault) (one_after other_after : MachineState) → Allows tells one (ReadBytes at before after x) one_after
-      → Allows tells other (ReadBytes at before afterwards y) other_after → (x ≡ y) × (after ≡ afterwards) × AlikeMachines one_after other_after
-  fill_both at before after afterwards x y one_after other_after first second =
+  fill_both : (at : ℕ) (before buffer after afterwards : List ℕ) (x y : Result (Unit {0}) SpaceFault) (one_after other_after : MachineState) → length before ≡ length buffer → Allows tells one (ReadBytes at before after x) one_after
+      → Allows tells other (ReadBytes at buffer afterwards y) other_after → (x ≡ y) × (bytes_shown x after ≡ bytes_shown y afterwards) × AlikeMachines one_after other_after
+  fill_both at before buffer after afterwards x y one_after other_after long first second =
       let spot : Spot = spot_at one at (length before) in
-      let moved : bytes_read (spot_at other at (length before)) other at before ≡ bytes_read spot other at before =
-      ap (λ (s : Spot). bytes_read s other at before) (same_spot (Memory at) (length before)) in
-      let same = bytes_alike spot at before ∙ sym moved in (
-        first.0 ∙ ap (λ (p : Result (Unit {0}) SpaceFault × List ℕ). p.0) same ∙ sym second.0,
-        first.1 ∙ ap (λ (p : Result (Unit {0}) SpaceFault × List ℕ). p.1) same ∙ sym second.1,
-        become_alike one_after other_after one other first.2 second.2 alike,
-      )
+      let moved : bytes_read (spot_at other at (length buffer)) other at buffer ≡ bytes_read spot other at buffer =
+        ap (λ (n : ℕ). bytes_read (spot_at other at n) other at buffer) (sym long) ∙ ap (λ (s : Spot). bytes_read s other at buffer) (same_spot (Memory at) (length before)) in
+      let same = bytes_alike spot at before buffer long in
+      let other_answer : y ≡ (bytes_read spot other at buffer).0 = second.0 ∙ ap (λ (p : Result (Unit {0}) SpaceFault × List ℕ). p.0) moved in
+      let other_bytes : afterwards ≡ (bytes_read spot other at buffer).1 = second.1 ∙ ap (λ (p : Result (Unit {0}) SpaceFault × List ℕ). p.1) moved in
+      (first.0 ∙ same.0 ∙ sym other_answer,
+      ap (λ (r : Result (Unit {0}) SpaceFault). bytes_shown r after) first.0 ∙ ap (λ (xs : List ℕ). bytes_shown (bytes_read spot one at before).0 xs) first.1 ∙ same.1
+      ∙ sym (ap (λ (r : Result (Unit {0}) SpaceFault). bytes_shown r afterwards) other_answer ∙ ap (λ (xs : List ℕ). bytes_shown (bytes_read spot other at buffer).0 xs) other_bytes),
+      become_alike one_after other_after one other first.2 second.2 alike)
 
   put_both : (at : ℕ) (bytes : List ℕ) (x y : Result (Unit {0}) SpaceFault) (one_after other_after : MachineState) → Allows tells one (WriteBytes at bytes x) one_after → Allows tells other (WriteBytes at bytes y) other_after → BothDo x y one_after other_after
   put_both at bytes x y one_after other_after first second =
@@ -207,7 +217,7 @@ module _ (tells : Type 0) (told : tells) (one other : MachineState) (alike : Ali
       own.answer own.alike
 
   pub answer_alike : (call also : Call) (one_after other_after : MachineState) → AskAlike call also → Allows tells one call one_after → FailedNothing one one_after → Allows tells other also other_after → FailedNothing other other_after
-      → (call ≡ also) × AlikeMachines one_after other_after
+      → (answered call ≡ answered also) × AlikeMachines one_after other_after
   answer_alike (Read at width x) (Read place wide y) one_after other_after asks first quiet second also_quiet =
       let at_is : place ≡ at = cc in
       let width_is : wide ≡ width = cc in
@@ -238,11 +248,12 @@ module _ (tells : Type 0) (told : tells) (one other : MachineState) (alike : Ali
       (cc, done.alike)
   answer_alike (ReadBytes at before after x) (ReadBytes place buffer afterwards y) one_after other_after asks first quiet second also_quiet =
       let at_is : place ≡ at = cc in
-      let before_is : buffer ≡ before = cc in
-      let moved = subst (λ (b : List ℕ). Allows tells other (ReadBytes at b afterwards y) other_after) before_is (subst (λ (k : ℕ). Allows tells other (ReadBytes k buffer afterwards y) other_after) at_is second) in
-      let done = fill_both at before after afterwards x y one_after other_after first moved in
+      let buffer_is : any_buffer before ≡ any_buffer buffer = cc in
+      let long : length before ≡ length buffer = sym (length-replicate {A = ℕ} (length before) 0) ∙ ap (λ (xs : List ℕ). length xs) buffer_is ∙ length-replicate {A = ℕ} (length buffer) 0 in
+      let moved = subst (λ (k : ℕ). Allows tells other (ReadBytes k buffer afterwards y) other_after) at_is second in
+      let done = fill_both at before buffer after afterwards x y one_after other_after long first moved in
       let answer : x ≡ y = done.0 in
-      let filled : after ≡ afterwards = done.1 in
+      let filled : bytes_shown x after ≡ bytes_shown y afterwards = done.1 in
       (cc, done.2)
   answer_alike (WriteBytes at bytes x) (WriteBytes place others y) one_after other_after asks first quiet second also_quiet =
       let at_is : place ≡ at = cc in

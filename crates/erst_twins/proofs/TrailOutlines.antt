@@ -12,7 +12,7 @@ use Rattle.erst_machine.specs.MachineState.{MachineState, IsMachine, records_of}
 use Rattle.erst_machine.specs.Events.{Event, Happens}
 use Rattle.erst_machine.proofs.CrashTrail.{events_are_shown}
 use Rattle.erst_machine.proofs.EventLemmas.{events_keep}
-use Rattle.erst_twins.specs.Alike.{machine_outline, AlikeMachines, FailedNothing, asked_event, events_of, asked_by, BootsFrom}
+use Rattle.erst_twins.specs.Alike.{machine_outline, AlikeMachines, FailedNothing, asked_event, answered_event, asked_by, answered_by, BootsFrom}
 use Rattle.erst_twins.proofs.Dialogues.{quiet_first, quiet_second}
 use Rattle.erst_twins.proofs.EventOutlines.{happens_alike, boots_alike}
 
@@ -31,7 +31,7 @@ module _ (tells : Type 0) (told : tells) where
 
   pub trails_alike : (first second : Moves) (one other one_after other_after : MachineState) → AlikeMachines one other → IsMachine one → asked_by first ≡ asked_by second
       → Trail (Happens tells) one first one_after → FailedNothing one one_after → Trail (Happens tells) other second other_after → FailedNothing other other_after
-      → (events_of first ≡ events_of second) × AlikeMachines one_after other_after
+      → (answered_by first ≡ answered_by second) × AlikeMachines one_after other_after
   trails_alike [] [] one other one_after other_after alike machine asks trail quiet also also_quiet = (refl, ap machine_outline trail ∙ alike ∙ sym (ap machine_outline also))
   trails_alike (move ∷ rest) (next ∷ more) one other one_after other_after alike machine asks trail quiet also also_quiet =
       let head : asked_event move.event ≡ asked_event next.event = cc in
@@ -46,7 +46,7 @@ module _ (tells : Type 0) (told : tells) where
       let after = trails_alike rest more move.left next.left one_after other_after both.1 (events_keep tells one move.left (one_move move) (trail.0, refl) machine) tail
       trail.1 (quiet_second (faults_of one) (faults_of move.left) (faults_of one_after) one_step one_rest quiet)
       also.1 (quiet_second (faults_of other) (faults_of next.left) (faults_of other_after) other_step other_rest also_quiet) in
-      (ap (λ (e : Event). e ∷ events_of rest) both.0 ∙ ap (λ (es : List Event). next.event ∷ es) after.0, after.1)
+      (ap (λ (e : Event). e ∷ answered_by rest) both.0 ∙ ap (λ (es : List Event). answered_event next.event ∷ es) after.0, after.1)
   trails_alike first second one other one_after other_after alike machine asks trail quiet also also_quiet = absurd (cc)
 
 -- the records of a machine that was booted over a flash are the flash's

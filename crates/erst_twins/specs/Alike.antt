@@ -1,6 +1,6 @@
 -- Two stores, devices or machines that are alike: all that is seen of them is the same, but for the slots in which the records stand, and
 -- the flash's counts of reads and faults.
-use Rattle.std.specs.Prelude.{◌≡◌, ℕ, ◌+◌, Bool, List, [], map, Option, Ok}
+use Rattle.std.specs.Prelude.{◌≡◌, ℕ, ◌+◌, Bool, List, [], length, take, map, replicate, Option, Result, Ok, Err}
 use Rattle.base_model.specs.Faults.{Rose}
 use Rattle.flash_words.specs.Flash.{FlashState}
 use Rattle.flash_words.specs.Layout.{Layout}
@@ -8,10 +8,12 @@ use Rattle.flash_model.specs.declared.geometry.Geometry.{Geometry}
 use Rattle.record_model.specs.Records.{Stored, second_copies}
 use Rattle.record_store.specs.Store.{StoreView, Pending, Idle, Writing, Clearing, stored, KeepsRecordsOf}
 use Rattle.record_store.specs.Answers.{copies_of}
+use Rattle.apei_space.specs.declared.faults.SpaceFault.{SpaceFault}
 use Rattle.apei_space.specs.Calls.{Call, Read, Write, Wait, Copy, ReadBytes, WriteBytes}
 use Rattle.apei_space.specs.Accesses.{Move}
 use Rattle.ghes_ack.specs.declared.events.Event.TheVariants as turns
 use Rattle.ghes_ack.specs.Handovers.{HandoverState}
+use Rattle.erst_client.specs.declared.errors.ClientError.{ClientError}
 use Rattle.erst_device.specs.declared.registers.Operation.{Operation}
 use Rattle.erst_device.specs.declared.status.CommandStatus.{CommandStatus}
 use Rattle.erst_device.specs.DeviceState.{DeviceState}
@@ -101,14 +103,28 @@ FailsNothing old new = Rose old.flash.faults new.flash.faults → ⊥
 abbrev pub FailedNothing : MachineState → MachineState → Type 0
 FailedNothing first last = FailsNothing first.device.store last.device.store
 
--- a call without its answer
+-- the bytes that a call shows: none where it is refused
+abbrev pub bytes_shown : Result (Unit {0}) SpaceFault → List ℕ → List ℕ
+bytes_shown (Ok done) bytes = bytes
+bytes_shown (Err fault) bytes = []
+
+-- a buffer of so many bytes, whatever they are
+abbrev pub any_buffer : List ℕ → List ℕ
+any_buffer buffer = replicate (length buffer) 0
+
+-- a call as it is asked, without its answer, where a buffer counts by its length
 abbrev pub asked : Call → Call
 asked (Read at width answer) = Read at width (Ok 0)
 asked (Write at width value answer) = Write at width value (Ok tt)
 asked (Wait micros) = Wait micros
 asked (Copy from target len answer) = Copy from target len (Ok tt)
-asked (ReadBytes at before after answer) = ReadBytes at before [] (Ok tt)
+asked (ReadBytes at before after answer) = ReadBytes at (any_buffer before) [] (Ok tt)
 asked (WriteBytes at bytes answer) = WriteBytes at bytes (Ok tt)
+
+-- and as it is answered
+abbrev pub answered : Call → Call
+answered (ReadBytes at before after answer) = ReadBytes at (any_buffer before) (bytes_shown answer after) answer
+answered call = call
 
 -- two calls ask the same
 abbrev pub AskAlike : Call → Call → Type 0
@@ -127,7 +143,7 @@ IsDoneAlike {A} does = (one other : MachineState) (answer also : A) (left also_l
     → does one answer left one_after → FailedNothing one one_after → does other also also_left other_after → FailedNothing other other_after
     → EndAlike answer also left also_left one_after other_after
 
--- what happens, without its answer
+-- what happens, as it is asked
 abbrev pub asked_event : Event → Event
 asked_event (Accessed call) = Accessed (asked call)
 asked_event (Warmed result) = Warmed (Ok 0)
@@ -136,15 +152,25 @@ asked_event (Submitted block result) = Submitted block (Ok 0)
 asked_event (Turned side event) = Turned side turns.Idle
 asked_event (Laid block result) = Laid block (Ok 0)
 
--- the events of some moves, with their answers and without
-abbrev pub events_of : List (Move Event MachineState) → List Event
-events_of moves = map (λ move. move.event) moves
+-- and as it is answered
+abbrev pub answered_event : Event → Event
+answered_event (Accessed call) = Accessed (answered call)
+answered_event event = event
 
+-- moves as they are asked, and as they are answered
 abbrev pub asked_by : List (Move Event MachineState) → List Event
 asked_by moves = map (λ move. asked_event move.event) moves
+
+abbrev pub answered_by : List (Move Event MachineState) → List Event
+answered_by moves = map (λ move. answered_event move.event) moves
 
 -- a machine was booted over a flash that tells its content: the flash's records are kept, and each second copy is ended by one change
 pub record BootsFrom (geometry : Geometry) (flash : FlashState) (machine : MachineState) : Type 0 where
   pub booted : IsBooted geometry machine
   pub kept : KeepsRecordsOf geometry flash machine.device.store.flash
   pub steps : machine.device.store.flash.steps ≡ flash.steps + second_copies geometry.slot_size geometry.slots flash.told.image
+
+-- the bytes of a record that was read into a buffer
+abbrev pub record_in : Result ℕ ClientError → List ℕ → List ℕ
+record_in (Ok size) buffer = take size buffer
+record_in (Err error) buffer = []

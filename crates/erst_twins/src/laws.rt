@@ -1,5 +1,5 @@
 // Laws on two machines that are alike: the functions do nothing, and their clauses are the laws.
-ghost use Rattle.std.specs.Prelude.{◌≡◌, ℕ, true, List, Option, Result};
+ghost use Rattle.std.specs.Prelude.{◌≡◌, ℕ, true, List, length, Option, Result};
 ghost use Rattle.flash_words.specs.Flash.{FlashState};
 ghost use Rattle.flash_model.specs.declared.geometry.Geometry.{Geometry};
 ghost use Rattle.flash_model.specs.Layouts.{layout_of};
@@ -26,7 +26,7 @@ ghost use Rattle.erst_machine.specs.MachineState.{MachineState, IsMachine, recor
 ghost use Rattle.erst_machine.specs.Allowed.{Allows};
 ghost use Rattle.erst_machine.specs.Boots.{IsBooted};
 ghost use Rattle.erst_machine.specs.Events.{Event, Happens};
-ghost use Rattle.erst_twins.specs.Alike.{FailsNothing, FailedNothing, AlikeDevices, AlikeMachines, AskAlike, IsDoneAlike, BootsFrom, asked_event, asked_by, events_of};
+ghost use Rattle.erst_twins.specs.Alike.{FailsNothing, FailedNothing, AlikeDevices, AlikeMachines, AskAlike, EndAlike, IsDoneAlike, BootsFrom, record_in, answered, asked_event, answered_event, asked_by, answered_by};
 
 use flash_model::Flash;
 
@@ -44,7 +44,7 @@ pub fn alike_devices_act_alike<F: Flash>()
 pub fn alike_machines_answer_alike<F: Flash>()
     ensures { F.tells → (one other : MachineState) (call also : Call) (one_after other_after : MachineState) → AlikeMachines one other → AskAlike call also
         → Allows F.tells one call one_after → FailedNothing one one_after → Allows F.tells other also other_after → FailedNothing other other_after
-        → (call ≡ also) × AlikeMachines one_after other_after }
+        → (answered call ≡ answered also) × AlikeMachines one_after other_after }
 {}
 
 /// A run of any program, with any given value and any budget, answers the same, with as many steps left, and leaves machines that are alike.
@@ -77,10 +77,19 @@ pub fn alike_machines_write_alike<F: Flash>()
         → IsDoneAlike {A = Result (Unit {0}) ClientError} (λ first result left last. Writes (Allows F.tells) client bytes budget first result left last) }
 {}
 
-/// A client's read is answered the same, and its buffer holds the same bytes.
+/// A client's read into buffers of the same length is answered the same, and the bytes of the record that they hold then are the same; and
+/// so are all bytes of buffers that held the same before.
 pub fn alike_machines_read_alike<F: Flash>()
-    ensures { F.tells → (client : ClientState) (id : ℕ) (out : List ℕ) (budget : ℕ)
-        → IsDoneAlike {A = Result ℕ ClientError × List ℕ} (λ first result left last. Reads (Allows F.tells) client id out budget first result.0 result.1 left last) }
+    ensures records { F.tells → (client : ClientState) (id : ℕ) (out others : List ℕ) (budget : ℕ) (one other : MachineState) (result also : Result ℕ ClientError) (after afterwards : List ℕ) (left also_left : ℕ)
+        (one_after other_after : MachineState) → AlikeMachines one other → IsMachine one → length out ≡ length others
+        → Reads (Allows F.tells) client id out budget one result after left one_after → FailedNothing one one_after
+        → Reads (Allows F.tells) client id others budget other also afterwards also_left other_after → FailedNothing other other_after
+        → EndAlike result also left also_left one_after other_after × (record_in result after ≡ record_in also afterwards) }
+    ensures buffers { F.tells → (client : ClientState) (id : ℕ) (out : List ℕ) (budget : ℕ) (one other : MachineState) (result also : Result ℕ ClientError) (after afterwards : List ℕ) (left also_left : ℕ)
+        (one_after other_after : MachineState) → AlikeMachines one other
+        → Reads (Allows F.tells) client id out budget one result after left one_after → FailedNothing one one_after
+        → Reads (Allows F.tells) client id out budget other also afterwards also_left other_after → FailedNothing other other_after
+        → after ≡ afterwards }
 {}
 
 /// A count is the same.
@@ -99,14 +108,14 @@ pub fn alike_machines_name_alike<F: Flash>()
 pub fn alike_machines_go_on_alike<F: Flash>()
     ensures { F.tells → (one other : MachineState) (event also : Event) (one_after other_after : MachineState) → AlikeMachines one other → IsMachine one → asked_event event ≡ asked_event also
         → Happens F.tells one event one_after → FailedNothing one one_after → Happens F.tells other also other_after → FailedNothing other other_after
-        → (event ≡ also) × AlikeMachines one_after other_after }
+        → (answered_event event ≡ answered_event also) × AlikeMachines one_after other_after }
 {}
 
 /// So does whatever happens to two machines that are alike, one event after another.
 pub fn alike_machines_stay_alike<F: Flash>()
     ensures { F.tells → (one other : MachineState) (first second : List (Move Event MachineState)) (one_after other_after : MachineState) → AlikeMachines one other → IsMachine one → asked_by first ≡ asked_by second
         → Trail (Happens F.tells) one first one_after → FailedNothing one one_after → Trail (Happens F.tells) other second other_after → FailedNothing other other_after
-        → (events_of first ≡ events_of second) × AlikeMachines one_after other_after }
+        → (answered_by first ≡ answered_by second) × AlikeMachines one_after other_after }
 {}
 
 /// Machines of one geometry that have just booted are alike where they hold the same records and their flashes have made as many changes;

@@ -1,7 +1,10 @@
-use Rattle.erst_machine.specs.Allowed.{Allows}
-use Rattle.erst_twins.proofs.MachineDialogues.{done_alike}
-use Rattle.erst_twins.proofs.ClientDialogues.{read, reads_held}
+use Rattle.erst_twins.proofs.ReadLemmas.{record_alike, buffer_alike}
 use Rattle.erst_twins.proofs.laws.alike_machines_read_alike.Goals as goal
 
-pub returns : goal.returns
-returns g c = λ told client id out budget. done_alike g.F.Flash.tells told _ (read client id out budget) (λ first result left last. reads_held (Allows g.F.Flash.tells) client id out budget first result.0 result.1 left last)
+pub returns-clause-records : goal.returns-clause-records
+returns-clause-records g c = λ told client id out others budget one other result also after afterwards left also_left one_after other_after alike machine room first quiet second also_quiet.
+    record_alike g.F.Flash.tells told client id budget one other alike out others result also after afterwards left also_left one_after other_after machine room first quiet second also_quiet
+
+pub returns-clause-buffers : goal.returns-clause-buffers
+returns-clause-buffers g c = λ told client id out budget one other result also after afterwards left also_left one_after other_after alike first quiet second also_quiet.
+    buffer_alike g.F.Flash.tells told client id budget one other alike out result also after afterwards left also_left one_after other_after first quiet second also_quiet
