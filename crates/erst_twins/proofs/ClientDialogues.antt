@@ -321,19 +321,19 @@ module _ {W : Type 0} (allows : W → Call → W → Type 0) where
   copies_held client id out budget first len left whole old answer new fits copies rest =
       let buffer : length (replicate len 0) ≡ length (take len out) = length-replicate {A = ℕ} len 0 ∙ sym (length-take-le len out fits) in
       let asks : (answer : Result (Unit {0}) SpaceFault) → AskAlike (ReadBytes client.address (replicate len 0) [] (Ok tt)) (ReadBytes client.address (take len out) whole answer) =
-        λ answer. ap (λ (n : ℕ). ReadBytes client.address (replicate n 0) [] (Ok tt)) buffer in
+      λ answer. ap (λ (n : ℕ). ReadBytes client.address (replicate n 0) [] (Ok tt)) buffer in
       (elim copies as (λ answer new copies. ((outcome : Copied) → Held allows (copy_if client None len left) old (outcome, left) new → Held allows (read client id (length out) budget) first (outcome, left) new)
-        → ReadHeld client id out budget first (copied answer len) (whole ++ drop len out) left new) [
+      → ReadHeld client id out budget first (copied answer len) (whole ++ drop len out) left new) [
         | IsFilled new allowed ↦ λ rest. record {
-            whole = whole;
-            held = rest _ (Answered _ _ old (ReadBytes client.address (take len out) whole (Ok tt)) new _ new (asks (Ok tt)) allowed (IsDone _ new));
-            filled = (fits, refl);
-          }
+          whole = whole;
+          held = rest _ (Answered _ _ old (ReadBytes client.address (take len out) whole (Ok tt)) new _ new (asks (Ok tt)) allowed (IsDone _ new));
+          filled = (fits, refl);
+        }
         | IsNotFilled fault new allowed ↦ λ rest. record {
-            whole = [];
-            held = rest _ (Answered _ _ old (ReadBytes client.address (take len out) whole (Err fault)) new _ new (asks (Err fault)) allowed (IsDone _ new));
-            filled = tt;
-          }
+          whole = [];
+          held = rest _ (Answered _ _ old (ReadBytes client.address (take len out) whole (Err fault)) new _ new (asks (Err fault)) allowed (IsDone _ new));
+          filled = tt;
+        }
       ]) rest
 
   pub reads_held : (client : ClientState) (id : ℕ) (out : List ℕ) (budget : ℕ) (first : W) (result : Result ℕ ClientError) (after : List ℕ) (left : ℕ) (last : W) → Reads allows client id out budget first result after left last
@@ -342,18 +342,18 @@ module _ {W : Type 0} (allows : W → Call → W → Type 0) where
       elim reads as (λ result after left last reads. ReadHeld client id out budget first result after left last) [
         | IsNotRead error left last ran ↦ record { whole = []; held = not_shown client id out budget first error left last ran; filled = tt }
         | HasNoLength left mid field fault last ran long ↦ record {
-            whole = [];
-            held = read_shown client id out budget first left mid _ last ran
-                (Answered _ _ mid (ReadBytes (address_in client.address 20) (0 ∷ 0 ∷ 0 ∷ 0 ∷ []) field (Err fault)) last _ last refl long (IsDone _ last));
-            filled = tt;
-          }
+          whole = [];
+          held = read_shown client id out budget first left mid _ last ran
+              (Answered _ _ mid (ReadBytes (address_in client.address 20) (0 ∷ 0 ∷ 0 ∷ 0 ∷ []) field (Err fault)) last _ last refl long (IsDone _ last));
+          filled = tt;
+        }
         | IsNotCopied left mid field error last ran long refused ↦ record {
-            whole = [];
-            held = read_shown client id out budget first left mid _ last ran
-                (Answered _ _ mid (ReadBytes (address_in client.address 20) (0 ∷ 0 ∷ 0 ∷ 0 ∷ []) field (Ok tt)) last _ last refl long
-                (subst (λ (r : Option ClientError). Held allows (copy_if client r (number_at field 0 4) left) last ((Err error, []), left) last) (sym refused) (IsDone _ last)));
-            filled = tt;
-          }
+          whole = [];
+          held = read_shown client id out budget first left mid _ last ran
+              (Answered _ _ mid (ReadBytes (address_in client.address 20) (0 ∷ 0 ∷ 0 ∷ 0 ∷ []) field (Ok tt)) last _ last refl long
+              (subst (λ (r : Option ClientError). Held allows (copy_if client r (number_at field 0 4) left) last ((Err error, []), left) last) (sym refused) (IsDone _ last)));
+          filled = tt;
+        }
         | IsCopied left mid field next whole answer last ran long taken copies ↦
             copies_held client id out budget first (number_at field 0 4) left whole next answer last (copy_fits (number_at field 0 4) client.range (length out) taken) copies
             (λ outcome held. read_shown client id out budget first left mid (outcome, left) last ran

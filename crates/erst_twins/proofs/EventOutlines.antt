@@ -106,7 +106,7 @@ stands_once g h ram mem m at first second =
     same_state g h at (sym first.situation ∙ second.situation) both.1 both.0 (first.filled ∙ sym second.filled) (first.copied ∙ sym second.copied) (first.last ∙ sym second.last)
 
 module _ (one other : MachineState) (alike : AlikeMachines one other) where
-  submits_alike : (block : List ℕ) (result also : Result ℕ SubmitError) (one_after other_after : MachineState) → Submits one block result one_after → Submits other block also other_after → (result ≡ also) × AlikeMachines one_after other_after
+  pub submits_alike : (block : List ℕ) (result also : Result ℕ SubmitError) (one_after other_after : MachineState) → Submits one block result one_after → Submits other block also other_after → (result ≡ also) × AlikeMachines one_after other_after
   submits_alike block (Ok n) (Ok k) one_after other_after first second =
       let after : AlikeMachines one_after other_after =
       ap machine_outline first.added ∙ ap (λ (o : MachineOutline). record o { handover = record o.handover { waiting = o.handover.waiting ++ block ∷ [] } }) alike ∙ sym (ap machine_outline second.added) in
@@ -126,7 +126,7 @@ module _ (one other : MachineState) (alike : AlikeMachines one other) where
   same_shared : one.memory.shared ≡ other.memory.shared
   same_shared = ap (λ (o : MachineOutline). o.memory.shared) alike
 
-  turns_alike : (side : Side) (event also : TurnEvent) (one_after other_after : MachineState) → Turns side one event one_after → Turns side other also other_after → (event ≡ also) × AlikeMachines one_after other_after
+  pub turns_alike : (side : Side) (event also : TurnEvent) (one_after other_after : MachineState) → Turns side one event one_after → Turns side other also other_after → (event ≡ also) × AlikeMachines one_after other_after
   turns_alike side event also one_after other_after first second =
       let m = first.stood.0 in
       let stands = first.stood.1 in
@@ -152,7 +152,7 @@ module _ (one other : MachineState) (alike : AlikeMachines one other) where
             (first.waited ∙ ap (λ (o : MachineOutline). o.waited) alike ∙ sym second.waited),
       )
 
-  lays_alike : IsMachine one → (block : List ℕ) (result also : Result ℕ FatalError) (one_after other_after : MachineState) → LaysFatal one block result one_after → LaysFatal other block also other_after → (result ≡ also) × AlikeMachines one_after other_after
+  pub lays_alike : IsMachine one → (block : List ℕ) (result also : Result ℕ FatalError) (one_after other_after : MachineState) → LaysFatal one block result one_after → LaysFatal other block also other_after → (result ≡ also) × AlikeMachines one_after other_after
   lays_alike machine block result also one_after other_after first second =
       let blocks : List (List ℕ) = machine.laid.0 in
       let left : ℕ = machine.laid.1 in

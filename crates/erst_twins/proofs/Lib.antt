@@ -8,3 +8,4 @@ pub mod MachineDialogues
 pub mod EventOutlines
 pub mod TrailOutlines
 pub mod ReadLemmas
+pub mod OneLemmas

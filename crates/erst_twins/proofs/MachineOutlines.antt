@@ -193,19 +193,20 @@ module _ (tells : Type 0) (told : tells) (one other : MachineState) (alike : Ali
       both x y one_after other_after _ _ _ _ first.0 (second.0 ∙ ap (λ (p : Result (Unit {0}) SpaceFault × MachineState). p.0) moved) first.1 (second.1 ∙ ap (λ (p : Result (Unit {0}) SpaceFault × MachineState). p.1) moved)
       own.answer own.alike
 
-  fill_both : (at : ℕ) (before buffer after afterwards : List ℕ) (x y : Result (Unit {0}) SpaceFault) (one_after other_after : MachineState) → length before ≡ length buffer → Allows tells one (ReadBytes at before after x) one_after
+  pub fill_both : (at : ℕ) (before buffer after afterwards : List ℕ) (x y : Result (Unit {0}) SpaceFault) (one_after other_after : MachineState) → length before ≡ length buffer → Allows tells one (ReadBytes at before after x) one_after
       → Allows tells other (ReadBytes at buffer afterwards y) other_after → (x ≡ y) × (bytes_shown x after ≡ bytes_shown y afterwards) × AlikeMachines one_after other_after
   fill_both at before buffer after afterwards x y one_after other_after long first second =
       let spot : Spot = spot_at one at (length before) in
       let moved : bytes_read (spot_at other at (length buffer)) other at buffer ≡ bytes_read spot other at buffer =
-        ap (λ (n : ℕ). bytes_read (spot_at other at n) other at buffer) (sym long) ∙ ap (λ (s : Spot). bytes_read s other at buffer) (same_spot (Memory at) (length before)) in
+      ap (λ (n : ℕ). bytes_read (spot_at other at n) other at buffer) (sym long) ∙ ap (λ (s : Spot). bytes_read s other at buffer) (same_spot (Memory at) (length before)) in
       let same = bytes_alike spot at before buffer long in
       let other_answer : y ≡ (bytes_read spot other at buffer).0 = second.0 ∙ ap (λ (p : Result (Unit {0}) SpaceFault × List ℕ). p.0) moved in
-      let other_bytes : afterwards ≡ (bytes_read spot other at buffer).1 = second.1 ∙ ap (λ (p : Result (Unit {0}) SpaceFault × List ℕ). p.1) moved in
-      (first.0 ∙ same.0 ∙ sym other_answer,
-      ap (λ (r : Result (Unit {0}) SpaceFault). bytes_shown r after) first.0 ∙ ap (λ (xs : List ℕ). bytes_shown (bytes_read spot one at before).0 xs) first.1 ∙ same.1
-      ∙ sym (ap (λ (r : Result (Unit {0}) SpaceFault). bytes_shown r afterwards) other_answer ∙ ap (λ (xs : List ℕ). bytes_shown (bytes_read spot other at buffer).0 xs) other_bytes),
-      become_alike one_after other_after one other first.2 second.2 alike)
+      let other_bytes : afterwards ≡ (bytes_read spot other at buffer).1 = second.1 ∙ ap (λ (p : Result (Unit {0}) SpaceFault × List ℕ). p.1) moved in (
+        first.0 ∙ same.0 ∙ sym other_answer,
+        ap (λ (r : Result (Unit {0}) SpaceFault). bytes_shown r after) first.0 ∙ ap (λ (xs : List ℕ). bytes_shown (bytes_read spot one at before).0 xs) first.1 ∙ same.1
+            ∙ sym (ap (λ (r : Result (Unit {0}) SpaceFault). bytes_shown r afterwards) other_answer ∙ ap (λ (xs : List ℕ). bytes_shown (bytes_read spot other at buffer).0 xs) other_bytes),
+        become_alike one_after other_after one other first.2 second.2 alike,
+      )
 
   put_both : (at : ℕ) (bytes : List ℕ) (x y : Result (Unit {0}) SpaceFault) (one_after other_after : MachineState) → Allows tells one (WriteBytes at bytes x) one_after → Allows tells other (WriteBytes at bytes y) other_after → BothDo x y one_after other_after
   put_both at bytes x y one_after other_after first second =

@@ -1,16 +1,15 @@
 -- Reads of two machines that are alike, into buffers of the same length.
-use Rattle.std.proofs.Common.{◌≡◌, ℕ, ◌+◌, ◌-◌, ◌≤◌, List, ◌++◌, length, take, drop, Result, Ok, Err, refl, sym, ap, subst, ◌∙◌, arith, length-append, length-drop}
+use Rattle.std.proofs.Common.{◌≡◌, ℕ, ◌+◌, ◌≤◌, List, ◌++◌, length, take, drop, Result, Ok, Err, refl, sym, ap, subst, ◌∙◌, arith, length-append, length-drop}
 use Rattle.std.specs.Prelude.{IfOk}
 use Rattle.std.proofs.lemmas.List.{take_at, length-take-le, take-append-drop}
 use Rattle.base_model.specs.Bytes.{number_at}
 use Rattle.base_model.proofs.BytesLemmas.{length-part}
 use Rattle.apei_gas.specs.declared.registers.Place.TheVariants.{Memory}
 use Rattle.apei_space.specs.declared.faults.SpaceFault.{SpaceFault}
-use Rattle.apei_space.specs.Calls.{ReadBytes}
 use Rattle.apei_space.specs.Accesses.{Stays}
 use Rattle.apei_space.specs.Windows.{total}
 use Rattle.erst_client.specs.declared.errors.ClientError.{ClientError}
-use Rattle.erst_client.specs.Sequences.{Sequence, read_requests}
+use Rattle.erst_client.specs.Sequences.{read_requests}
 use Rattle.erst_client.specs.Commands.{ClientState, CopiesOut, IsFilled, IsNotFilled, copied, Reads, IsNotRead, HasNoLength, IsNotCopied, IsCopied}
 use Rattle.erst_client.proofs.SequenceLemmas.{sequence_on}
 use Rattle.erst_machine.specs.declared.areas.Area.{Area}
@@ -18,14 +17,13 @@ use Rattle.erst_machine.specs.declared.areas.Area.TheVariants.{Device, Scratch, 
 use Rattle.erst_machine.specs.declared.areas.Spot.{Spot}
 use Rattle.erst_machine.specs.declared.areas.Spot.TheVariants.{Inside, Beyond, Nowhere}
 use Rattle.erst_machine.specs.Areas.{size_of, IsPlaced}
-use Rattle.erst_machine.specs.Memories.{bytes_in}
 use Rattle.erst_machine.specs.MachineState.{MachineState, IsMachine, spot_at}
 use Rattle.erst_machine.specs.Allowed.{area_bytes, bytes_read, Allows}
 use Rattle.erst_machine.proofs.KeptLemmas.{spot_placed}
 use Rattle.erst_machine.proofs.CrashTrail.{reached_is_machine}
 use Rattle.erst_twins.specs.Alike.{AlikeMachines, FailedNothing, EndAlike, record_in}
 use Rattle.erst_twins.proofs.Dialogues.{Held}
-use Rattle.erst_twins.proofs.ClientDialogues.{Copied, copy_fits, read, ReadHeld, reads_held}
+use Rattle.erst_twins.proofs.ClientDialogues.{Copied, copy_fits, read, reads_held}
 use Rattle.erst_twins.proofs.MachineDialogues.{pair_alike}
 
 -- a read of bytes fills the whole buffer, or leaves it
@@ -136,20 +134,25 @@ module _ (tells : Type 0) (told : tells) (client : ClientState) (id budget : ℕ
       let held = subst (λ (n : ℕ). Held (Allows tells) (read client id n budget) other ((also, theirs.whole), also_left) other_after) (sym room) theirs.held in
       let both = pair_alike tells told (read client id (length out) budget) one other (result, own.whole) (also, theirs.whole) left also_left one_after other_after alike own.held quiet held also_quiet in
       let answers : result ≡ also = ap (λ (p : Copied). p.0) both.same_answer in
-      let bytes : own.whole ≡ theirs.whole = ap (λ (p : Copied). p.1) both.same_answer in
-      (record { same_answer = answers; same_left = both.same_left; alike = both.alike },
-      (own.whole, own.filled,
-      subst (λ (r : Result ℕ ClientError). IfOk r (λ size. (size ≤ length others) × (afterwards ≡ own.whole ++ drop size others))) (sym answers)
-      (subst (λ (w : List ℕ). IfOk also (λ size. (size ≤ length others) × (afterwards ≡ w ++ drop size others))) (sym bytes) theirs.filled)))
+      let bytes : own.whole ≡ theirs.whole = ap (λ (p : Copied). p.1) both.same_answer in (
+        record { same_answer = answers; same_left = both.same_left; alike = both.alike },
+        (
+          own.whole,
+          own.filled,
+          subst (λ (r : Result ℕ ClientError). IfOk r (λ size. (size ≤ length others) × (afterwards ≡ own.whole ++ drop size others))) (sym answers)
+              (subst (λ (w : List ℕ). IfOk also (λ size. (size ≤ length others) × (afterwards ≡ w ++ drop size others))) (sym bytes) theirs.filled),
+        ),
+      )
 
   pub record_alike : (out others : List ℕ) (result also : Result ℕ ClientError) (after afterwards : List ℕ) (left also_left : ℕ) (one_after other_after : MachineState) → IsMachine one → length out ≡ length others
       → Reads (Allows tells) client id out budget one result after left one_after → FailedNothing one one_after → Reads (Allows tells) client id others budget other also afterwards also_left other_after → FailedNothing other other_after
       → EndAlike result also left also_left one_after other_after × (record_in result after ≡ record_in also afterwards)
   record_alike out others result also after afterwards left also_left one_after other_after machine room first quiet second also_quiet =
-      let both = read_both out others result also after afterwards left also_left one_after other_after room first quiet second also_quiet in
-      (both.0,
-      same_record result both.1.0 out others after afterwards (read_length tells client id out budget one machine result after left one_after first) both.1.1 both.1.2
-      ∙ ap (λ (r : Result ℕ ClientError). record_in r afterwards) both.0.same_answer)
+      let both = read_both out others result also after afterwards left also_left one_after other_after room first quiet second also_quiet in (
+        both.0,
+        same_record result both.1.0 out others after afterwards (read_length tells client id out budget one machine result after left one_after first) both.1.1 both.1.2
+            ∙ ap (λ (r : Result ℕ ClientError). record_in r afterwards) both.0.same_answer,
+      )
 
   pub buffer_alike : (out : List ℕ) (result also : Result ℕ ClientError) (after afterwards : List ℕ) (left also_left : ℕ) (one_after other_after : MachineState)
       → Reads (Allows tells) client id out budget one result after left one_after → FailedNothing one one_after → Reads (Allows tells) client id out budget other also afterwards also_left other_after → FailedNothing other other_after

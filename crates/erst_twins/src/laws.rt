@@ -5,8 +5,13 @@ ghost use Rattle.flash_model.specs.declared.geometry.Geometry.{Geometry};
 ghost use Rattle.flash_model.specs.Layouts.{layout_of};
 ghost use Rattle.record_model.specs.Records.{second_copies};
 ghost use Rattle.record_store.specs.Store.{records_of as records_in};
-ghost use Rattle.apei_space.specs.Calls.{Call};
+ghost use Rattle.apei_space.specs.declared.faults.SpaceFault.{SpaceFault};
+ghost use Rattle.apei_space.specs.Calls.{Call, ReadBytes};
 ghost use Rattle.apei_space.specs.Accesses.{Move, Trail};
+ghost use Rattle.ghes_ack.specs.declared.events.Side.{Side as AnySide};
+ghost use Rattle.ghes_ack.specs.declared.events.Event.{Event as TurnEvent};
+ghost use Rattle.ghes_ack.specs.declared.submission.SubmitError.{SubmitError};
+ghost use Rattle.bert_region.specs.Region.{IsLaidOut};
 ghost use Rattle.erst_entries.specs.declared.actions.Action.{Action};
 ghost use Rattle.erst_entries.specs.declared.entries.Entry.{Entry};
 ghost use Rattle.erst_entries.specs.Layout.{Erst};
@@ -25,8 +30,9 @@ ghost use Rattle.erst_device.specs.DeviceState.{DeviceState, KnowsCopies};
 ghost use Rattle.erst_machine.specs.MachineState.{MachineState, IsMachine, records_of};
 ghost use Rattle.erst_machine.specs.Allowed.{Allows};
 ghost use Rattle.erst_machine.specs.Boots.{IsBooted};
-ghost use Rattle.erst_machine.specs.Events.{Event, Happens};
-ghost use Rattle.erst_twins.specs.Alike.{FailsNothing, FailedNothing, AlikeDevices, AlikeMachines, AskAlike, EndAlike, IsDoneAlike, BootsFrom, record_in, answered, asked_event, answered_event, asked_by, answered_by};
+ghost use Rattle.erst_machine.specs.declared.errors.FatalError.{FatalError};
+ghost use Rattle.erst_machine.specs.Events.{Event, Happens, Submits, Turns, LaysFatal};
+ghost use Rattle.erst_twins.specs.Alike.{FailsNothing, FailedNothing, AlikeDevices, AlikeMachines, AskAlike, EndAlike, IsDoneAlike, BootsFrom, record_in, bytes_shown, answered, asked_event, answered_event, asked_by, answered_by};
 
 use flash_model::Flash;
 
@@ -45,6 +51,14 @@ pub fn alike_machines_answer_alike<F: Flash>()
     ensures { F.tells → (one other : MachineState) (call also : Call) (one_after other_after : MachineState) → AlikeMachines one other → AskAlike call also
         → Allows F.tells one call one_after → FailedNothing one one_after → Allows F.tells other also other_after → FailedNothing other other_after
         → (answered call ≡ answered also) × AlikeMachines one_after other_after }
+{}
+
+/// A read of bytes into buffers of the same length is answered the same, and fills them alike, whatever the flashes do.
+pub fn alike_machines_show_alike<F: Flash>()
+    ensures { F.tells → (one other : MachineState) (at : ℕ) (before others after afterwards : List ℕ) (answer also : Result (Unit {0}) SpaceFault) (one_after other_after : MachineState)
+        → AlikeMachines one other → length before ≡ length others
+        → Allows F.tells one (ReadBytes at before after answer) one_after → Allows F.tells other (ReadBytes at others afterwards also) other_after
+        → (answer ≡ also) × (bytes_shown answer after ≡ bytes_shown also afterwards) × AlikeMachines one_after other_after }
 {}
 
 /// A run of any program, with any given value and any budget, answers the same, with as many steps left, and leaves machines that are alike.
@@ -104,6 +118,16 @@ pub fn alike_machines_name_alike<F: Flash>()
         → IsDoneAlike {A = Result (Option ℕ) ClientError} (λ first result left last. Names (Allows F.tells) entries budget first result left last) }
 {}
 
+/// Calls of the handover and fatal blocks are answered the same, and leave machines that are alike, whatever the flashes do.
+pub fn alike_machines_hand_over_alike()
+    ensures submits { (one other : MachineState) (block : List ℕ) (result also : Result ℕ SubmitError) (one_after other_after : MachineState) → AlikeMachines one other
+        → Submits one block result one_after → Submits other block also other_after → (result ≡ also) × AlikeMachines one_after other_after }
+    ensures turns { (one other : MachineState) (side : AnySide) (event also : TurnEvent) (one_after other_after : MachineState) → AlikeMachines one other
+        → Turns side one event one_after → Turns side other also other_after → (event ≡ also) × AlikeMachines one_after other_after }
+    ensures lays { (one other : MachineState) (block : List ℕ) (result also : Result ℕ FatalError) (one_after other_after : MachineState) → AlikeMachines one other → IsMachine one
+        → LaysFatal one block result one_after → LaysFatal other block also other_after → (result ≡ also) × AlikeMachines one_after other_after }
+{}
+
 /// Restarts, calls of the handover and fatal blocks too are answered the same, and leave machines that are alike.
 pub fn alike_machines_go_on_alike<F: Flash>()
     ensures { F.tells → (one other : MachineState) (event also : Event) (one_after other_after : MachineState) → AlikeMachines one other → IsMachine one → asked_event event ≡ asked_event also
@@ -127,4 +151,9 @@ pub fn alike_flashes_boot_alike()
         → records_in (layout_of geometry) first.told.image ≡ records_in (layout_of geometry) second.told.image → first.steps ≡ second.steps
         → second_copies geometry.slot_size geometry.slots first.told.image ≡ second_copies geometry.slot_size geometry.slots second.told.image
         → BootsFrom geometry first one → BootsFrom geometry second other → AlikeMachines one other }
+{}
+
+/// A boot error region has one list of blocks.
+pub fn a_region_has_one_list()
+    ensures { (region : List ℕ) (blocks others : List (List ℕ)) (left rest : ℕ) → IsLaidOut blocks left region → IsLaidOut others rest region → (blocks ≡ others) × (left ≡ rest) }
 {}
