@@ -6,7 +6,7 @@ use Rattle.record_model.specs.Records.{Stored}
 use Rattle.apei_notify.specs.Telling.{wanted}
 use Rattle.erst_machine.specs.MachineState.{MachineState, records_of, told_of}
 use Rattle.erst_machine.specs.Shown.{shown_by, changes_of}
-use Rattle.script_text.specs.ScriptGrammar.{Line}
+use Rattle.script_text.specs.ScriptGrammar.{Line, action, table}
 use Rattle.apei_script.specs.Players.{PlayerState}
 use Rattle.apei_script.specs.Words.{replies_at}
 use Rattle.apei_script.specs.Mapped.{after_line}
@@ -59,3 +59,14 @@ abbrev pub ShowsEach : PlayerState → PlayerState → List Played → Type 0
 ShowsEach last state [] = Unit {0}
 ShowsEach last state (played ∷ rest) =
     (shown_by state.machine (image_at (told_of last.machine) (changes_of played.left.machine)) ≡ records_of played.left.machine) × ShowsEach last played.left rest
+
+-- a line that neither runs an action nor gives a table
+abbrev pub IsOwnLine : Line → Type 0
+IsOwnLine (action code value) = ⊥
+IsOwnLine (table hex) = ⊥
+IsOwnLine line = Unit {0}
+
+-- scripts without lines that run an action or give a table
+abbrev pub AreOwnLines : List Played → Type 0
+AreOwnLines [] = Unit {0}
+AreOwnLines (played ∷ rest) = IsOwnLine played.line × AreOwnLines rest

@@ -6,11 +6,13 @@ mod buffers;
 mod commands;
 mod desk;
 mod events;
+mod history;
 mod own;
 mod player;
 mod refusals;
 mod reply;
 mod tables;
 
+pub use history::{lines_are_one_list, lines_are_shown};
 pub use own::own_client;
 pub use player::{PlayStop, Player, PlayerRefused};
