@@ -1,23 +1,22 @@
 -- Lines one after another.
-use Rattle.std.proofs.Common.{◌≡◌, ℕ, ◌≤◌, Bool, true, false, List, [], ◌∷◌, ◌++◌, length, Option, Some, None, refl, sym, ap, subst, ◌∙◌, arith, inl, inr}
+use Rattle.std.proofs.Common.{◌≡◌, ℕ, ◌≤◌, Bool, true, false, List, [], ◌∷◌, ◌++◌, length, None, refl, sym, ap, subst, ◌∙◌, arith, inl, inr}
 use Rattle.std.specs.Prelude.{nat_le, MatchBool}
 use Rattle.std.proofs.lemmas.Bool.{cases_lt, le-leb, lt-leb}
-use Rattle.flash_words.specs.Flash.{Told, CrashImage, IsLater, image_at}
+use Rattle.flash_words.specs.Flash.{CrashImage, IsLater, image_at}
 use Rattle.flash_words.specs.Layout.{Layout}
 use Rattle.flash_words.proofs.CrashLemmas.{image_at-later, image_at-now, CrashImage-earlier, CrashImage-now}
 use Rattle.record_model.specs.Records.{Stored}
 use Rattle.record_store.specs.Store.{DividesAlike, records_of as records_in}
 use Rattle.apei_space.specs.Accesses.{Move, Trail}
-use Rattle.erst_client.specs.Commands.{ClientState}
-use Rattle.erst_machine.specs.MachineState.{MachineState, IsMachine, records_of, told_of}
+use Rattle.erst_machine.specs.MachineState.{MachineState, IsMachine, told_of}
 use Rattle.erst_machine.specs.Events.{Event, Happens}
 use Rattle.erst_machine.specs.Shown.{changes_of, shown_by, GoesOn}
 use Rattle.erst_machine.proofs.CrashTrail.{events_are_shown, happens_then}
 use Rattle.erst_machine.proofs.EventLemmas.{events_keep}
 use Rattle.erst_commands.specs.Attached.{own_client}
 use Rattle.script_text.specs.ScriptGrammar.{Line}
-use Rattle.apei_script.specs.Players.{PlayerState, client_of, in_use, UsesOwn}
-use Rattle.apei_script.specs.Mapped.{LineLeaves, after_line}
+use Rattle.apei_script.specs.Players.{PlayerState, in_use, UsesOwn}
+use Rattle.apei_script.specs.Mapped.{LineLeaves}
 use Rattle.apei_script.specs.Plays.{Plays, Blank, ByClient, GivenTable, OwnTable, OnMachine, Heard, Reset, Power, LinePlayed, names_command}
 use Rattle.apei_script.specs.History.{Played, heard_after, Follows, Shows, ShowsEach, IsOwnLine, AreOwnLines}
 
@@ -109,8 +108,8 @@ module _ (tells : Type 0) where
         (history_ends wants counts first played last is, (history_goes_on wants counts first played last is).1.later)
 
     -- a line of the machine's own client leaves the records from before it, or those that it makes
-    module _ (line_leaves : (counts : List ℕ) (old : PlayerState) (line : Line) (said blocks : List (List ℕ)) (new : PlayerState) → IsMachine old.machine
-        → Plays tells counts old line said blocks new → (names_command line ≡ true → UsesOwn old) → IsOwnLine line → LineLeaves old.machine line new.machine) where
+    module _ (line_leaves : (counts : List ℕ) (old : PlayerState) (line : Line) (said blocks : List (List ℕ)) (new : PlayerState)
+        → LinePlayed tells counts old line said blocks new → (names_command line ≡ true → UsesOwn old) → IsOwnLine line → LineLeaves old.machine line new.machine) where
       pub history_shows : (wants : List (ℕ → Bool)) (counts : List ℕ) (first : PlayerState) (played : List Played) (last : PlayerState)
           → IsMachine first.machine → first.own ≡ own_client first.machine → first.other ≡ None → AreOwnLines played → Follows tells wants counts first played last
           → (s : ℕ) (image : List ℕ) → changes_of first.machine ≤ s → CrashImage (told_of last.machine) s image → Shows s first played (shown_by first.machine image)
@@ -120,7 +119,7 @@ module _ (tells : Type 0) where
           let left = line.left.machine in
           let one = (line_goes_on counts first line.line line.said line.blocks line.left is.0).1 in
           let more = (history_goes_on wants (heard_after wants line.blocks counts) line.left rest last is.1).1 in
-          let leaves = line_leaves counts first line.line line.said line.blocks line.left machine is.0.plays (λ _. ap (in_use first.own) none ∙ own) lines.0 in
+          let leaves = line_leaves counts first line.line line.said line.blocks line.left is.0 (λ _. ap (in_use first.own) none ∙ own) lines.0 in
           let stay = clients_stay counts first line.line line.said line.blocks line.left is.0.plays in
           elim (cases_lt s (changes_of left)) [
             | inl before ↦

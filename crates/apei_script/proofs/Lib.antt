@@ -1,1 +1,4 @@
 pub mod HistoryLemmas
+pub mod LineKinds
+pub mod TurnsAlike
+pub mod TwinLemmas

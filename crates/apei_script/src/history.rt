@@ -6,7 +6,9 @@ ghost use Rattle.erst_machine.specs.MachineState.{MachineState, IsMachine, told_
 ghost use Rattle.erst_machine.specs.Events.{Event, Happens};
 ghost use Rattle.erst_machine.specs.Shown.{changes_of, shown_by};
 ghost use Rattle.erst_commands.specs.Attached.{own_client};
+ghost use Rattle.erst_twins.specs.Alike.{FailedNothing};
 ghost use Rattle.apei_script.specs.Players.{PlayerState};
+ghost use Rattle.apei_script.specs.Alike.{AlikePlayers, WantAlike, lines_of, PlayedAlike};
 ghost use Rattle.apei_script.specs.History.{Played, Follows, Shows, ShowsEach, AreOwnLines};
 
 use flash_model::Flash;
@@ -31,4 +33,14 @@ pub fn lines_are_shown<F: Flash>()
         → Follows F.tells wants counts first played last
         → (s : ℕ) (image : List ℕ) → changes_of first.machine ≤ s → CrashImage (told_of last.machine) s image
         → Shows s first played (shown_by first.machine image) }
+{}
+
+/// The same lines of two players that are alike, over flashes that fail nothing: the replies are the same, at the same flash steps, and so
+/// are the blocks that the operating system takes and the records at the end. Where the records stand plays no part in it.
+pub fn scripts_play_alike<F: Flash>()
+    ensures { F.tells → (wants wants_too : List (ℕ → Bool)) (counts : List ℕ) (one also : PlayerState) (first second : List Played) (one_last also_last : PlayerState)
+        → WantAlike wants wants_too → AlikePlayers one also → IsMachine one.machine → lines_of first ≡ lines_of second
+        → Follows F.tells wants counts one first one_last → FailedNothing one.machine one_last.machine
+        → Follows F.tells wants_too counts also second also_last → FailedNothing also.machine also_last.machine
+        → PlayedAlike first second one_last also_last }
 {}

@@ -13,6 +13,6 @@ mod refusals;
 mod reply;
 mod tables;
 
-pub use history::{lines_are_one_list, lines_are_shown};
+pub use history::{lines_are_one_list, lines_are_shown, scripts_play_alike};
 pub use own::own_client;
 pub use player::{PlayStop, Player, PlayerRefused};
