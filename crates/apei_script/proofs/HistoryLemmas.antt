@@ -15,10 +15,10 @@ use Rattle.erst_machine.proofs.CrashTrail.{events_are_shown, happens_then}
 use Rattle.erst_machine.proofs.EventLemmas.{events_keep}
 use Rattle.erst_commands.specs.Attached.{own_client}
 use Rattle.script_text.specs.ScriptGrammar.{Line}
-use Rattle.apei_script.specs.Players.{PlayerState, in_use, UsesOwn}
-use Rattle.apei_script.specs.Mapped.{LineLeaves}
-use Rattle.apei_script.specs.Plays.{Plays, Blank, ByClient, GivenTable, OwnTable, OnMachine, Heard, Reset, Power, LinePlayed, names_command}
+use Rattle.apei_script.specs.Players.{PlayerState, in_use}
+use Rattle.apei_script.specs.Plays.{Plays, Blank, ByClient, GivenTable, OwnTable, OnMachine, Heard, Reset, Power, LinePlayed}
 use Rattle.apei_script.specs.History.{Played, heard_after, Follows, Shows, ShowsEach, IsOwnLine, AreOwnLines}
+use Rattle.apei_script.proofs.LeavesLemmas.{line_leaves}
 
 abbrev Moves : Type 0
 Moves = List (Move Event MachineState)
@@ -107,29 +107,25 @@ module _ (tells : Type 0) where
     history_ends_later wants counts first played last is =
         (history_ends wants counts first played last is, (history_goes_on wants counts first played last is).1.later)
 
-    -- a line of the machine's own client leaves the records from before it, or those that it makes
-    module _ (line_leaves : (counts : List ℕ) (old : PlayerState) (line : Line) (said blocks : List (List ℕ)) (new : PlayerState)
-        → LinePlayed tells counts old line said blocks new → (names_command line ≡ true → UsesOwn old) → IsOwnLine line → LineLeaves old.machine line new.machine) where
-      pub history_shows : (wants : List (ℕ → Bool)) (counts : List ℕ) (first : PlayerState) (played : List Played) (last : PlayerState)
-          → IsMachine first.machine → first.own ≡ own_client first.machine → first.other ≡ None → AreOwnLines played → Follows tells wants counts first played last
-          → (s : ℕ) (image : List ℕ) → changes_of first.machine ≤ s → CrashImage (told_of last.machine) s image → Shows s first played (shown_by first.machine image)
-      history_shows wants counts first [] last machine own none lines is s image from crash =
-          ap (shown_by first.machine) (CrashImage-now (told_of first.machine) s image from (subst (λ (p : PlayerState). CrashImage (told_of p.machine) s image) is crash))
-      history_shows wants counts first (line ∷ rest) last machine own none lines is s image from crash =
-          let left = line.left.machine in
-          let one = (line_goes_on counts first line.line line.said line.blocks line.left is.0).1 in
-          let more = (history_goes_on wants (heard_after wants line.blocks counts) line.left rest last is.1).1 in
-          let leaves = line_leaves counts first line.line line.said line.blocks line.left is.0 (λ _. ap (in_use first.own) none ∙ own) lines.0 in
-          let stay = clients_stay counts first line.line line.said line.blocks line.left is.0.plays in
-          elim (cases_lt s (changes_of left)) [
-            | inl before ↦
-                on_false (nat_le (changes_of left) s) _ _ (lt-leb (changes_of left) s before)
-                (leaves.each s image from (CrashImage-earlier (told_of left) (told_of last.machine) s image more.later before crash))
-            | inr after ↦
-                on_true (nat_le (changes_of left) s) _ _ (le-leb (changes_of left) s after)
-                (subst (λ (m : Stored). Shows s line.left rest m) (shown_alike first.machine left image one.alike)
-                (history_shows wants (heard_after wants line.blocks counts) line.left rest last
-                (events_keep tells first.machine left is.0.happened.trail is.0.happened.happens machine)
-                (stay.0 ∙ own ∙ sym (own_client-alike first.machine left one.alike))
-                (no_other counts first line.line line.said line.blocks line.left is.0.plays lines.0 none) lines.1 is.1 s image after crash))
-          ]
+    pub history_shows : (wants : List (ℕ → Bool)) (counts : List ℕ) (first : PlayerState) (played : List Played) (last : PlayerState)
+        → first.own ≡ own_client first.machine → first.other ≡ None → AreOwnLines played → Follows tells wants counts first played last
+        → (s : ℕ) (image : List ℕ) → changes_of first.machine ≤ s → CrashImage (told_of last.machine) s image → Shows s first played (shown_by first.machine image)
+    history_shows wants counts first [] last own none lines is s image from crash =
+        ap (shown_by first.machine) (CrashImage-now (told_of first.machine) s image from (subst (λ (p : PlayerState). CrashImage (told_of p.machine) s image) is crash))
+    history_shows wants counts first (line ∷ rest) last own none lines is s image from crash =
+        let left = line.left.machine in
+        let one = (line_goes_on counts first line.line line.said line.blocks line.left is.0).1 in
+        let more = (history_goes_on wants (heard_after wants line.blocks counts) line.left rest last is.1).1 in
+        let leaves = line_leaves tells told counts first line.line line.said line.blocks line.left is.0 (λ _. ap (in_use first.own) none ∙ own) lines.0 in
+        let stay = clients_stay counts first line.line line.said line.blocks line.left is.0.plays in
+        elim (cases_lt s (changes_of left)) [
+          | inl before ↦
+              on_false (nat_le (changes_of left) s) _ _ (lt-leb (changes_of left) s before)
+              (leaves.each s image from (CrashImage-earlier (told_of left) (told_of last.machine) s image more.later before crash))
+          | inr after ↦
+              on_true (nat_le (changes_of left) s) _ _ (le-leb (changes_of left) s after)
+              (subst (λ (m : Stored). Shows s line.left rest m) (shown_alike first.machine left image one.alike)
+              (history_shows wants (heard_after wants line.blocks counts) line.left rest last
+              (stay.0 ∙ own ∙ sym (own_client-alike first.machine left one.alike))
+              (no_other counts first line.line line.said line.blocks line.left is.0.plays lines.0 none) lines.1 is.1 s image after crash))
+        ]

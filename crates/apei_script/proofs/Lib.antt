@@ -2,3 +2,10 @@ pub mod HistoryLemmas
 pub mod LineKinds
 pub mod TurnsAlike
 pub mod TwinLemmas
+pub mod EventChanges
+pub mod LineLemmas
+pub mod WordLemmas
+pub mod OwnClientLemmas
+pub mod EnoughSteps
+pub mod PlayedLemmas
+pub mod LeavesLemmas

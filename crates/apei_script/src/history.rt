@@ -29,7 +29,7 @@ pub fn lines_are_shown<F: Flash>()
         → Follows F.tells wants counts first played last
         → ShowsEach last first played × IsLater (told_of first.machine) (told_of last.machine) }
     ensures crash { F.tells → (wants : List (ℕ → Bool)) (counts : List ℕ) (first : PlayerState) (played : List Played) (last : PlayerState)
-        → IsMachine first.machine → first.own ≡ own_client first.machine → first.other ≡ None → AreOwnLines played
+        → first.own ≡ own_client first.machine → first.other ≡ None → AreOwnLines played
         → Follows F.tells wants counts first played last
         → (s : ℕ) (image : List ℕ) → changes_of first.machine ≤ s → CrashImage (told_of last.machine) s image
         → Shows s first played (shown_by first.machine image) }

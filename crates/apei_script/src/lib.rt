@@ -7,6 +7,7 @@ mod commands;
 mod desk;
 mod events;
 mod history;
+mod laws;
 mod own;
 mod player;
 mod refusals;
@@ -14,5 +15,6 @@ mod reply;
 mod tables;
 
 pub use history::{lines_are_one_list, lines_are_shown, scripts_play_alike};
+pub use laws::{a_failed_restart_has_happened, a_line_is_the_maps, a_line_keeps_a_machine, a_line_leaves_its_records, events_take_their_changes};
 pub use own::own_client;
 pub use player::{PlayStop, Player, PlayerRefused};

@@ -5,4 +5,4 @@ pub returns-clause-ends : goal.returns-clause-ends
 returns-clause-ends g c = history_ends_later g.F.Flash.tells
 
 pub returns-clause-crash : goal.returns-clause-crash
-returns-clause-crash g c = λ told. history_shows g.F.Flash.tells told ?
+returns-clause-crash g c = λ told. history_shows g.F.Flash.tells told
