@@ -1,3 +1,7 @@
+pub mod HistoryLemmas
+pub mod LineKinds
+pub mod TurnsAlike
+pub mod TwinLemmas
 pub mod EventChanges
 pub mod LineLemmas
 pub mod WordLemmas

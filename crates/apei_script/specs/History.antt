@@ -1,10 +1,10 @@
 -- The history of a run: a chain of states, one a line.
 use Rattle.std.specs.Prelude.{◌≡◌, ◌⊎◌, ℕ, ◌+◌, ◌-◌, ◌^◌, ◌==◌, nat_le, min, if◌then◌else◌, Bool, MatchBool, List, [], ◌∷◌}
 use Rattle.std.specs.List.{flat_map}
-use Rattle.flash_words.specs.Flash.{CrashImage, image_at}
+use Rattle.flash_words.specs.Flash.{image_at}
 use Rattle.record_model.specs.Records.{Stored}
 use Rattle.apei_notify.specs.Telling.{wanted}
-use Rattle.erst_machine.specs.MachineState.{MachineState, records_of, told_of}
+use Rattle.erst_machine.specs.MachineState.{records_of, told_of}
 use Rattle.erst_machine.specs.Shown.{shown_by, changes_of}
 use Rattle.script_text.specs.ScriptGrammar.{Line, action, table}
 use Rattle.apei_script.specs.Players.{PlayerState}

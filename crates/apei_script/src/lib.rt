@@ -6,6 +6,7 @@ mod buffers;
 mod commands;
 mod desk;
 mod events;
+mod history;
 mod laws;
 mod own;
 mod player;
@@ -13,6 +14,7 @@ mod refusals;
 mod reply;
 mod tables;
 
+pub use history::{lines_are_one_list, lines_are_shown, scripts_play_alike};
 pub use laws::{
     a_failed_restart_has_happened, a_line_is_the_maps, a_line_keeps_a_machine,
     a_line_leaves_its_records, events_take_their_changes,
