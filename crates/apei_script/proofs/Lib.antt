@@ -1,0 +1,4 @@
+pub mod ToldLemmas
+pub mod TakenLemmas
+pub mod TurnLemmas
+pub mod ResultLemmas
