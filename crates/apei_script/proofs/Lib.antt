@@ -2,3 +2,4 @@ pub mod ToldLemmas
 pub mod TakenLemmas
 pub mod TurnLemmas
 pub mod ResultLemmas
+pub mod HeardLemmas
