@@ -9,3 +9,8 @@ pub mod OwnClientLemmas
 pub mod EnoughSteps
 pub mod PlayedLemmas
 pub mod LeavesLemmas
+pub mod ToldLemmas
+pub mod TakenLemmas
+pub mod TurnLemmas
+pub mod ResultLemmas
+pub mod HeardLemmas

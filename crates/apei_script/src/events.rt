@@ -1,9 +1,12 @@
 // Lines that the listeners have a part in, and that of the boot error region: they have more than one reply, or one of any length.
 ghost use Rattle.std.specs.Prelude.{◌≡◌, ◌≤◌, ◌++◌, ◌∷◌, [], ℕ, List, length, map, take, true, false, IsTrue, OnOk, OnErr};
 ghost use Rattle.base_model.specs.Faults.{HasCause};
+ghost use Rattle.ghes_ack.specs.Machine.{Fits};
+ghost use Rattle.erst_machine.specs.Events.{Turns};
 ghost use Rattle.script_text.specs.ScriptGrammar.{turns};
 ghost use Rattle.apei_notify.specs.Chains.{members_of};
 ghost use Rattle.apei_script.specs.Replies.{IsMade};
+ghost use Rattle.apei_script.specs.Happened.{side_of};
 ghost use Rattle.apei_script.specs.Words.{words_of_turns, words_of_heard, words_of_block, reply_at};
 ghost use Rattle.apei_script.specs.Plays.{Occurred, OccurredUnheard, Told, changes_in};
 ghost use Rattle.apei_script.specs.Desks.{state_of, SameClients, Lists, ListsUnheard};
@@ -14,6 +17,7 @@ use crate::reply::Reply;
 use apei_bytes::{Sink, SinkFault, get_u32, write_all};
 use apei_notify::{Chain, Listener};
 use apei_space::Space;
+use erst_machine::Machine;
 use flash_model::Flash;
 use ghes_ack::Event;
 
@@ -41,7 +45,7 @@ pub fn turns<F: Flash, O: Sink>(
 {
     desk.buffers.events.clear();
     'turning: for letter in letters {
-        let event = desk.machine.turn(side_of(*letter));
+        let event = turn(&mut desk.machine, *letter);
         desk.buffers.events.push(event).unwrap();
         if event == Event::Took {
             hear_of_block(desk, chain, out)?;
@@ -54,6 +58,15 @@ pub fn turns<F: Flash, O: Sink>(
     write_all(out, reply.text())
 }
 
+/// A turn of the side of a letter. A block that it took is one that the handover's window takes.
+fn turn<F: Flash>(machine: &mut Machine<F>, letter: u8) -> Event
+    ensures turned { Turns (side_of letter) machine.old result machine.new }
+    ensures took { result ≡ Event.Took → Fits 4096 machine.new.handover.last }
+{
+    let _ = machine.reach();
+    machine.turn(side_of(letter))
+}
+
 /// The offset of a block's severity.
 const SEVERITY: usize = 16;
 
@@ -63,8 +76,7 @@ fn hear_of_block<F: Flash, O: Sink>(
     chain: &mut Chain,
     out: &mut O,
 ) -> Result<(), SinkFault>
-    requires head { 20 ≤ length desk.old.machine.handover.last }
-    requires fits { length desk.old.machine.handover.last ≤ 4096 }
+    requires { Fits 4096 desk.old.machine.handover.last }
     ensures told { Told
         (λ b. (⟦<dyn Listener as Listener>⟧ b.vtable).interest b.value)
         (λ b. (⟦<dyn Listener as Listener>⟧ b.vtable).hearings b.value)
