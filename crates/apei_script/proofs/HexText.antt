@@ -3,7 +3,6 @@ use Rattle.std.proofs.Common.{◌≡◌, ℕ, ◌+◌, ◌*◌, ◌/◌, ◌%◌
 use Rattle.std.specs.Prelude.{All, IsTrue, MatchResult}
 use Rattle.std.specs.Char.{is_ascii_hexdigit}
 use Rattle.std.proofs.lemmas.Bool.Decides.{nat_tests}
-use Rattle.std.proofs.lemmas.List.{take-append}
 use Rattle.std.proofs.lemmas.List.Elements.{All-weaker}
 use Rattle.hex.specs.Hex.{decode_of, decode_sized, is_hex_digit}
 use Rattle.hex.specs.declared.error.FromHexError.{FromHexError}
@@ -32,10 +31,7 @@ is_decoded hex out n result pairs len value =
     let fits = rw (decode_sized-twice hex n len, found.1) at value in
     record { ok = fits.0; bytes = rw fits.1 found.1 }
 
--- the bytes that pairs of digits stand for are half as many
-pub half_of : (hex bytes : List ℕ) → decode_of hex ≡ Ok bytes → length hex ≡ 2 * length bytes
-half_of hex bytes e = (decode_of-ok hex bytes e).2
-
--- written to the beginning of a buffer
-pub at_beginning : (front rest : List ℕ) (n : ℕ) → n ≡ length front → take n (front ++ rest) ≡ front
-at_beginning front rest n e = rw (e, take-append) refl
+-- so they are never refused
+pub not_refused : (hex out : List ℕ) (n : ℕ) (error : FromHexError) → IsPairs hex → length hex ≡ 2 * n
+    → MatchResult (decode_sized hex n) (λ bytes. (◌≡◌ {A = Result (Unit {0}) FromHexError} (Err error) (Ok tt)) × (out ≡ bytes)) (λ e. ◌≡◌ {A = Result (Unit {0}) FromHexError} (Err error) (Err e)) → ⊥
+not_refused hex out n error pairs len value = let never = (is_decoded hex out n (Err error) pairs len value).ok in cc never

@@ -12,7 +12,7 @@ returns-in-Ok-Some-clause-answers g c =
 pub returns-in-Ok-None-clause-answers : goal.returns-in-Ok-None-clause-answers
 returns-in-Ok-None-clause-answers g c =
     names g.F.Flash.tells c.args.client.now c.args.steps c.args.machine.now (Ok None) _ _ _ _ c.new-budget.ensures
-    (rw c.in-Ok-None.field-0-is at c.in-Ok-None.ensures.names) c.in-Ok-None.ensures.reaches (made_word _ _ (omega arith) c.begin.ensures)
+    (rw c.in-Ok-None.field-0-is at c.in-Ok-None.ensures.names) c.in-Ok-None.ensures.reaches (made_word _ _ (omega arith) c.begin-in-Ok-None.ensures)
 
 pub returns-in-Err-clause-answers : goal.returns-in-Err-clause-answers
 returns-in-Err-clause-answers g c =
