@@ -14,3 +14,8 @@ pub mod TakenLemmas
 pub mod TurnLemmas
 pub mod ResultLemmas
 pub mod HeardLemmas
+pub mod HexText
+pub mod Lengths
+pub mod Made
+pub mod Asking
+pub mod Happening
