@@ -1,7 +1,8 @@
 -- How long the records are that a client's calls succeed on.
-use Rattle.std.proofs.Common.{◌≡◌, ℕ, ◌<◌, ◌≤◌, Bool, true, false, ◌||◌, cond, List, length, Option, Some, None, Result, Ok, Err, refl, subst, arith}
+use Rattle.std.proofs.Common.{◌≡◌, ℕ, ◌<◌, ◌≤◌, Bool, true, false, ◌||◌, cond, List, length, take, Option, Some, None, Result, Ok, Err, refl, subst, arith}
 use Rattle.std.specs.Prelude.{nat_lt, IfOk, OnOk}
 use Rattle.std.proofs.lemmas.Bool.{ltb-false}
+use Rattle.std.proofs.lemmas.List.{length-take-le}
 use Rattle.apei_space.specs.Calls.{Call}
 use Rattle.base_model.specs.Bytes.{number_at}
 use Rattle.erst_client.specs.declared.errors.ClientError.{ClientError}
@@ -52,3 +53,15 @@ written_length allows client bytes steps old result left last writes =
     of : 128 ≤ length bytes → (result : Result (Unit {0}) ClientError) → OnOk result (128 ≤ length bytes)
     of h (Ok done) = h
     of h (Err error) = tt
+
+-- so many bytes stand in a buffer that was the beginning of a longer one
+pub within_out : (len : ℕ) (out after : List ℕ) → length after ≡ length out → IsRecordLength len (length out) → len ≤ length after
+within_out len out after same is = let most = is.most in omega arith
+
+pub fits_out : (len : ℕ) (bytes after : List ℕ) → 65536 ≤ length bytes → length after ≡ length (take 65536 bytes) → IsRecordLength len (length (take 65536 bytes)) → IsRecordLength (length (take len after)) 65536
+fits_out len bytes after room same is =
+    let whole : length (take 65536 bytes) ≡ 65536 = length-take-le 65536 bytes room in
+    let least = is.least in
+    let most = is.most in
+    let size : length (take len after) ≡ len = length-take-le len after (omega arith) in
+    record { least = omega arith; most = omega arith }

@@ -19,3 +19,6 @@ pub mod Lengths
 pub mod Made
 pub mod Asking
 pub mod Happening
+pub mod Giving
+pub mod Owning
+pub mod DeskLines
