@@ -1,5 +1,5 @@
 -- The history of a run: a chain of states, one a line.
-use Rattle.std.specs.Prelude.{◌≡◌, ◌⊎◌, ℕ, ◌+◌, ◌-◌, ◌^◌, ◌==◌, nat_le, min, if◌then◌else◌, Bool, MatchBool, List, [], ◌∷◌}
+use Rattle.std.specs.Prelude.{◌≡◌, ◌⊎◌, ℕ, ◌+◌, ◌-◌, ◌^◌, ◌==◌, ◌≤◌, nat_le, min, if◌then◌else◌, Bool, MatchBool, List, [], ◌∷◌}
 use Rattle.std.specs.List.{flat_map}
 use Rattle.flash_words.specs.Flash.{image_at}
 use Rattle.record_model.specs.Records.{Stored}
@@ -45,6 +45,11 @@ reply_of played = replies_at (step_of played.left) played.said
 
 abbrev pub text_of : List Played → List ℕ
 text_of lines = flat_map reply_of lines
+
+-- the lines end one after another, between these numbers of flash changes
+abbrev pub EndInOrder : ℕ → List Played → ℕ → Type 0
+EndInOrder from [] to = from ≤ to
+EndInOrder from (played ∷ rest) to = (from ≤ changes_of played.left.machine) × EndInOrder (changes_of played.left.machine) rest to
 
 -- what power lost at step s may show: the records after the lines that had ended by s, or as the next one leaves them where nothing fails
 abbrev pub Shows : ℕ → PlayerState → List Played → Stored → Type 0
