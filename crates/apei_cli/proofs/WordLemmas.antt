@@ -1,5 +1,5 @@
 -- What words give an option, one word after another.
-use Rattle.std.proofs.Common.{◌≡◌, ℕ, ◌+◌, ◌<◌, List, [], ◌∷◌, ◌++◌, length, take, drop, get_or, Bool, true, false, cond, sym, ap, subst, ◌∙◌, refl, Bor, inl, inr}
+use Rattle.std.proofs.Common.{◌≡◌, ℕ, ◌+◌, ◌^◌, ◌<◌, List, [], ◌∷◌, ◌++◌, length, take, drop, get_or, Bool, true, false, cond, sym, ap, subst, ◌∙◌, refl, Bor, inl, inr}
 use Rattle.std.proofs.lemmas.List.{map-append, take_more, append-nil, take-append-drop}
 use Rattle.std.proofs.lemmas.List.Elements.{filter_map-append}
 use Rattle.std.proofs.lemmas.Str.Pattern.{starts_text}
