@@ -1,5 +1,6 @@
 pub mod LineLemmas
 pub mod DecimalLemmas
+pub mod ToldLemmas
 pub mod RunLemmas
 pub mod CompleteLemmas
 pub mod WordLemmas
