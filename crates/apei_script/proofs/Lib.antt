@@ -3,3 +3,4 @@ pub mod TakenLemmas
 pub mod TurnLemmas
 pub mod ResultLemmas
 pub mod HeardLemmas
+pub mod ListLemmas

@@ -46,13 +46,29 @@ impl<F: Flash> Desk<F> {
             ScriptLine::Table { hex } => self.give_table(hex)?,
             ScriptLine::TableOwn => self.use_own_table(),
             ScriptLine::Error { hex } => {
-                give_block(&mut self.machine, hex, &mut self.buffers.bytes, &mut self.buffers.reply);
+                give_block(
+                    &mut self.machine,
+                    hex,
+                    &mut self.buffers.bytes,
+                    &mut self.buffers.reply,
+                );
             }
             ScriptLine::Peek { at, len } => {
-                show_bytes(&mut self.machine, *at, *len, &mut self.buffers.bytes, &mut self.buffers.reply);
+                show_bytes(
+                    &mut self.machine,
+                    *at,
+                    *len,
+                    &mut self.buffers.bytes,
+                    &mut self.buffers.reply,
+                );
             }
             ScriptLine::Fatal { hex } => {
-                lay_block(&mut self.machine, hex, &mut self.buffers.bytes, &mut self.buffers.reply);
+                lay_block(
+                    &mut self.machine,
+                    hex,
+                    &mut self.buffers.bytes,
+                    &mut self.buffers.reply,
+                );
             }
             ScriptLine::Reset => self.reset()?,
             ScriptLine::Power => self.power()?,
@@ -149,7 +165,9 @@ fn ask<F: Flash>(
         ScriptLine::Count => count_records(client, machine, steps, reply),
         ScriptLine::Next => show_next(client, machine, steps, reply),
         ScriptLine::Dummy => write_dummy(client, machine, steps, reply),
-        ScriptLine::Action { code, value } => run_action(client, machine, steps, *code, *value, reply),
+        ScriptLine::Action { code, value } => run_action(
+            client, machine, steps, *code, *value, reply,
+        ),
         _ => unreachable!(),
     }
 }
