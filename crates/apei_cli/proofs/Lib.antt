@@ -1,12 +1,6 @@
 pub mod LineLemmas
-pub mod ReadLemmas
 pub mod DecimalLemmas
-pub mod PlayLemmas
-pub mod AnswerLemmas
-pub mod RecordLemmas
-pub mod LookLemmas
-pub mod StillLemmas
-pub mod LinePlayLemmas
+pub mod ToldLemmas
 pub mod RunLemmas
 pub mod CompleteLemmas
 pub mod WordLemmas

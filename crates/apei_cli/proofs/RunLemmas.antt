@@ -1,32 +1,28 @@
 -- Laws of a run over the lines of a script.
-use Rattle.std.proofs.Common.{◌≡◌, ℕ, ◌-◌, ◌*◌, ◌^◌, ◌≤◌, inl, inr, Bool, true, false, cond, List, [], ◌∷◌, ◌++◌, length, take, Option, Some, None, refl, sym, ap, subst, ◌∙◌, arith, append_assoc, length-append}
-use Rattle.std.proofs.Math.Bridge.{le_prop}
-use Rattle.std.proofs.Math.Nat.{ℕ_set}
+use Rattle.std.proofs.Common.{◌≡◌, ℕ, ◌+◌, ◌^◌, ◌<◌, ◌≤◌, inl, inr, Bool, true, false, List, [], ◌∷◌, ◌++◌, length, map, take, refl, sym, ap, subst, ◌∙◌, arith, append_assoc, length-append}
 use Rattle.std.proofs.lemmas.Bool.{cases_lt}
 use Rattle.std.proofs.lemmas.List.{append-nil}
-use Rattle.flash_words.specs.Flash.{FlashState}
-use Rattle.flash_words.specs.Layout.{Layout, reach_of}
-use Rattle.flash_model.specs.Layouts.{layout_of}
-use Rattle.record_model.specs.Records.{Stored}
-use Rattle.record_model.specs.RecordMap.{Command}
-use Rattle.record_model.specs.History.{Played, cursor_left, ended_last, IsHistory}
-use Rattle.record_model.proofs.HistoryLemmas.{cursor_left-append, IsHistory-then}
-use Rattle.flash_words.proofs.CrashLemmas.{Leaves-exit, past_grows, IsLater-refl, CrashImage-now}
-use Rattle.flash_words.specs.Flash.{Told, Leaves}
+use Rattle.std.specs.List.{flat_map}
 use Rattle.base_model.specs.Faults.{Rose}
-use Rattle.record_store.specs.Store.{StoreView, records_of, DividesAlike, KeepsRecordsOf}
-use Rattle.flash_model.specs.declared.geometry.Geometry.{Geometry}
-use Rattle.apei_cli.specs.Lines.{Line, Reading, lines_of, ended_lines_of, lines_ahead, IsTooLong, ReadsLine, with_newline, last_one, IsNextLine, IsAtEnd, HasNoLine}
-use Rattle.apei_cli.specs.Script.{command_in, IsBuilt, commands_of}
-use Rattle.apei_cli.specs.Replies.{reply_of, text_of}
-use Rattle.apei_cli.specs.Plays.{longest_of, doubt_of, doubt_left, TakeEach, StaysIdle, Plays, ArePlayable, commands_of_lines, commands_played, AreOf, PartlyWritten, PlaysLine, PlaysUnheard}
-use Rattle.apei_cli.specs.Statuses.{EndsBy, WritesReplies}
-use Rattle.apei_cli.specs.declared.job.Plan.{Plan}
-use Rattle.apei_cli.specs.Runs.{IsLayoutOf, longest_by, opened_at, PlaysScript, ComesFirst, IsRun}
+use Rattle.line_grammar.specs.Columns.{BreaksAt}
+use Rattle.erst_machine.specs.MachineState.{MachineState}
+use Rattle.script_text.specs.ScriptGrammar.{Line as ScriptLine, IsLine, IsValid, blank, comment, table}
+use Rattle.script_text.specs.ScriptText.{IsText, IsWritten, line_of as meant}
+use Rattle.script_text.specs.declared.script_line.ScriptLine.{ScriptLine as Parsed}
+use Rattle.script_text.specs.declared.script_line.ScriptLine.TheVariants.{Blank, Write, Read, Clear, Count, Next, Dummy, Action, Table, TableOwn, TableShadow, Error, Turns, Peek, Fatal, Bert, Heard, Reset, Power, Bridge}
+use Rattle.apei_script.specs.declared.player.PlayStop.TheVariants.{FlashFault as RestartFailed, Memory as NoMemory}
+use Rattle.apei_script.specs.Players.{PlayerState, with_machine}
+use Rattle.apei_script.specs.Words.{replies_at}
+use Rattle.apei_script.specs.Plays.{IsBuilt, LinePlayed, HasHappened, FailsRestart, PartlySaid, PlaysLine, PlaysUnheard, Stops, Told, IsCutShort, step_of}
+use Rattle.apei_script.specs.History.{Played, Follows, blocks_of, reply_of, text_of, heard_after}
+use Rattle.apei_cli.specs.Lines.{Line, Reading, lines_of, ended_lines_of, lines_ahead, IsTooLong, ReadsLine, with_newline, last_one, IsNextLine, IsAtEnd, NextIsTooLong, HasNoLine}
+use Rattle.apei_cli.specs.Played.{Means, IsLine as MeansLine, IsComment, IsPlayable, ArePlayed}
+use Rattle.apei_cli.specs.Statuses.{StopsAt, EndsBy, LeavesLast, WritesReplies}
+use Rattle.apei_cli.specs.Runs.{PlaysScript}
 use Rattle.apei_cli.specs.declared.status.Status.{Status}
-use Rattle.apei_cli.specs.declared.status.Status.TheVariants.{Done, BadWords, SourceFault, SinkFault, FlashFault, BadGeometry, TooLong, Memory, NotYet}
+use Rattle.apei_cli.specs.declared.status.Status.TheVariants.{Done, BadWords, BadLine, SourceFault, SinkFault, FlashFault, BadGeometry, TooLong, Memory, NotYet}
 use Rattle.apei_cli.proofs.LineLemmas.{lines_of-newline, lines_of-nil, lines_of-last, ended_lines_of-newline, ended_lines_of-one_line}
-use Rattle.apei_cli.proofs.PlayLemmas.{Plays-none, Plays-then, doubt_left-append, doubt_left-later}
+use Rattle.apei_cli.proofs.ToldLemmas.{WantsOf, wants_first, wants_stay, none_told, all_told_then, heard_all}
 
 -- the line that was read
 abbrev pub line_of : Reading → Line
@@ -79,380 +75,334 @@ next_taken tells a b script rest rest_now lines next told so_far not_end = by_ki
 pub end_small : (tells : Type 0) (a b : Reading) (rest rest_now : List ℕ) → IsNextLine tells a b rest rest_now → b.end ≤ 2 ^ 24
 end_small tells a b rest rest_now next = elim (cases_lt (2 ^ 24) b.end) [ inl far ↦ absurd (next.within (inr far)) | inr near ↦ near ]
 
--- playable lines, one after another
-ArePlayable-append : (some more : List Line) → ArePlayable some → ArePlayable more → ArePlayable (some ++ more)
-ArePlayable-append [] more p q = q
-ArePlayable-append (line ∷ lines) more p q = (p.0, ArePlayable-append lines more p.1 q)
+-- what a text that was read means
+pub means : (text : List ℕ) (line : Parsed) → IsText text line → Means text (meant line)
+means text Blank (inl empty) = MeansLine blank empty
+means text Blank (inr (rest, written)) = IsComment rest written
+means text (Write hex) written = MeansLine _ written
+means text (Read id) written = MeansLine _ written
+means text (Clear id) written = MeansLine _ written
+means text Count written = MeansLine _ written
+means text Next written = MeansLine _ written
+means text Dummy written = MeansLine _ written
+means text (Action code value) written = MeansLine _ written
+means text (Table hex) written = MeansLine _ written
+means text TableOwn written = MeansLine _ written
+means text TableShadow written = MeansLine _ written
+means text (Error hex) written = MeansLine _ written
+means text (Turns letters) written = MeansLine _ written
+means text (Peek at len) written = MeansLine _ written
+means text (Fatal hex) written = MeansLine _ written
+means text Bert written = MeansLine _ written
+means text Heard written = MeansLine _ written
+means text Reset written = MeansLine _ written
+means text Power written = MeansLine _ written
+means text (Bridge id) written = MeansLine _ written
 
-commands_of_lines-append : (reach : ℕ) (some more : List Line) → commands_of_lines reach (some ++ more) ≡ commands_of_lines reach some ++ commands_of_lines reach more
-commands_of_lines-append reach [] more = refl
-commands_of_lines-append reach (line ∷ lines) more =
-    ap (λ (cs : List Command). commands_of reach (command_in line.text) ++ cs) (commands_of_lines-append reach lines more)
-    ∙ sym (append_assoc (commands_of reach (command_in line.text)) (commands_of_lines reach lines) (commands_of_lines reach more))
-
-commands_played-append : (some more : List Played) → commands_played (some ++ more) ≡ commands_played some ++ commands_played more
-commands_played-append [] more = refl
-commands_played-append (played ∷ rest) more = ap (λ (cs : List Command). played.command ∷ cs) (commands_played-append rest more)
-
-text_of-append : (some more : List Played) → text_of (some ++ more) ≡ text_of some ++ text_of more
-text_of-append [] more = refl
-text_of-append (played ∷ rest) more = ap (λ (bs : List ℕ). reply_of played ++ bs) (text_of-append rest more) ∙ sym (append_assoc (reply_of played) (text_of rest) (text_of more))
+pub means_valid : (text : List ℕ) (line : ScriptLine) → Means text line → IsValid line
+means_valid text line is = elim is as (λ line is. IsValid line) [ MeansLine line written ↦ written.0 | IsComment rest written ↦ tt ]
 
 -- one more line
-pub AreOf-push : (reach : ℕ) (lines : List Line) (line : Line) (some more : List Played) → AreOf reach lines some → IsBuilt (command_in line.text) → (IsTooLong line → ⊥)
-    → commands_played more ≡ commands_of reach (command_in line.text) → AreOf reach (lines ++ line ∷ []) (some ++ more)
-AreOf-push reach lines line some more so_far built short asked = record {
-  playable = ArePlayable-append lines (line ∷ []) so_far.playable ((built, short), tt);
-  commands_are =
-      commands_played-append some more
-      ∙ ap (λ (cs : List Command). cs ++ commands_played more) so_far.commands_are
-      ∙ ap (λ (cs : List Command). commands_of_lines reach lines ++ cs) (asked ∙ sym (append-nil (commands_of reach (command_in line.text))))
-      ∙ sym (commands_of_lines-append reach lines (line ∷ []));
-}
+pub ArePlayed-push : (texts : List Line) (text : Line) (some : List Played) (played : Played) → ArePlayed texts some → IsPlayable text played.line → ArePlayed (texts ++ text ∷ []) (some ++ played ∷ [])
+ArePlayed-push [] text [] played are is = (is, tt)
+ArePlayed-push [] text (first ∷ some) played are is = absurd are
+ArePlayed-push (first ∷ texts) text [] played are is = absurd are
+ArePlayed-push (first ∷ texts) text (one ∷ some) played are is = (are.0, ArePlayed-push texts text some played are.1 is)
 
--- the replies of more commands
-pub text-then : (some more : List Played) (written middle now : List ℕ) → middle ≡ written ++ text_of some → now ≡ middle ++ text_of more → now ≡ written ++ text_of (some ++ more)
-text-then some more written middle now first second =
-    second ∙ ap (λ (bs : List ℕ). bs ++ text_of more) first ∙ append_assoc written (text_of some) (text_of more) ∙ ap (λ (bs : List ℕ). written ++ bs) (sym (text_of-append some more))
+text_of-push : (some : List Played) (played : Played) → text_of (some ++ played ∷ []) ≡ text_of some ++ reply_of played
+text_of-push [] played = append-nil (reply_of played)
+text_of-push (first ∷ some) played = ap (λ (bs : List ℕ). reply_of first ++ bs) (text_of-push some played) ∙ sym (append_assoc (reply_of first) (text_of some) (reply_of played))
 
-pub partly-then : (some more : List Played) (written middle now : List ℕ) → middle ≡ written ++ text_of some → PartlyWritten more middle now → PartlyWritten (some ++ more) written now
-partly-then some more written middle now first part = record {
-  before = some ++ part.before;
-  last = part.last;
-  commands_are = ap (λ (ps : List Played). some ++ ps) part.commands_are ∙ sym (append_assoc some part.before (part.last ∷ []));
-  count = part.count;
-  text =
-      part.text
-      ∙ ap (λ (bs : List ℕ). bs ++ take part.count (reply_of part.last))
-      (ap (λ (bs : List ℕ). bs ++ text_of part.before) first ∙ append_assoc written (text_of some) (text_of part.before) ∙ ap (λ (bs : List ℕ). written ++ bs) (sym (text_of-append some part.before)));
-}
+blocks_of-push : (some : List Played) (played : Played) → blocks_of (some ++ played ∷ []) ≡ blocks_of some ++ played.blocks
+blocks_of-push [] played = append-nil played.blocks
+blocks_of-push (first ∷ some) played = ap (λ (bs : List (List ℕ)). first.blocks ++ bs) (blocks_of-push some played) ∙ sym (append_assoc first.blocks (blocks_of some) played.blocks)
 
--- a run so far: the lines that were read, all of them played, and their commands
-pub record SoFar (told_source told_sink told_flash : Type 0) (script rest written written_now : List ℕ) (old new : StoreView) (cursor : ℕ) (reading : Reading) : Type 0 where
-  pub lines : List Line
-  pub commands : List Played
-  pub number : reading.number ≡ length lines
-  pub played : AreOf (longest_of old.layout) lines commands
-  pub ahead : told_source → lines_of 0 script ≡ lines ++ lines_ahead reading rest
-  pub taken : told_source → reading.at_end ≡ false → TakenSoFar script rest lines reading
-  pub plays : Plays told_flash None old.layout 0 old.flash new.flash commands
-  pub moved : cursor ≡ cursor_left commands 0
-  pub text : told_sink → written_now ≡ written ++ text_of commands
-  pub alike : DividesAlike old new
-  pub doubt : told_flash → doubt_of new ≡ doubt_left new.flash.told commands None
+-- how often each listener has heard after some lines
+abbrev pub counts_after : List (ℕ → Bool) → List Played → List ℕ → List ℕ
+counts_after wants [] counts = counts
+counts_after wants (played ∷ rest) counts = counts_after wants rest (heard_after wants played.blocks counts)
 
--- nothing was read
-pub SoFar-start : (told_source told_sink told_flash : Type 0) (script written : List ℕ) (store : StoreView) (cursor : ℕ) (reading : Reading)
-    → reading ≡ record { line = []; number = 0; end = 0; pending = []; at_end = false } → cursor ≡ 0 → store.in_doubt ≡ false
-    → SoFar told_source told_sink told_flash script script written written store store cursor reading
-SoFar-start told_source told_sink told_flash script written store cursor reading start at_start certain =
-    subst (SoFar told_source told_sink told_flash script script written written store store cursor) (sym start) (record {
-      lines = [];
-      commands = [];
-      number = refl;
-      played = record { playable = tt; commands_are = refl };
-      ahead = λ told. refl;
-      taken = λ told e. record { taken = []; source = refl; ended = λ more. refl };
-      plays = Plays-none told_flash None store.layout 0 store.flash;
-      moved = at_start;
-      text = λ told. sym (append-nil written);
-      alike = record { layout = refl; size = refl; sector_size = refl };
-      doubt = λ told. ap (λ (b : Bool). cond {A = Option (List ℕ)} b (Some store.flash.told.image) None) certain;
-    })
+counts_after-push : (wants : List (ℕ → Bool)) (some : List Played) (played : Played) (counts : List ℕ)
+    → counts_after wants (some ++ played ∷ []) counts ≡ heard_after wants played.blocks (counts_after wants some counts)
+counts_after-push wants [] played counts = refl
+counts_after-push wants (first ∷ some) played counts = counts_after-push wants some played (heard_after wants first.blocks counts)
 
-DividesAlike-then : (old mid new : StoreView) → DividesAlike old mid → DividesAlike mid new → DividesAlike old new
-DividesAlike-then old mid new first second = record {
-  layout = second.layout ∙ first.layout;
-  size = second.size ∙ first.size;
-  sector_size = second.sector_size ∙ first.sector_size;
-}
+Follows-push : (tells : Type 0) (wants : List (ℕ → Bool)) (counts : List ℕ) (first : PlayerState) (some : List Played) (mid : PlayerState) (played : Played) → Follows tells wants counts first some mid
+    → LinePlayed tells (counts_after wants some counts) mid played.line played.said played.blocks played.left → Follows tells wants counts first (some ++ played ∷ []) played.left
+Follows-push tells wants counts first [] mid played is line = (subst (λ (p : PlayerState). LinePlayed tells counts p played.line played.said played.blocks played.left) is line, refl)
+Follows-push tells wants counts first (one ∷ some) mid played is line = (is.0, Follows-push tells wants (heard_after wants one.blocks counts) one.left some mid played is.1 line)
 
--- some lines, and then the commands of one more
-commands_then : (told_source told_sink told_flash : Type 0) (script rest written middle : List ℕ) (old mid new : StoreView) (cursor : ℕ) (a : Reading) (commands : List Played)
-    → (so_far : SoFar told_source told_sink told_flash script rest written middle old mid cursor a)
-    → Plays told_flash (doubt_of mid) mid.layout cursor mid.flash new.flash commands
-    → Plays told_flash None old.layout 0 old.flash new.flash (so_far.commands ++ commands)
-commands_then told_source told_sink told_flash script rest written middle old mid new cursor a commands so_far plays =
-    Plays-then told_flash None (doubt_of mid) old.layout 0 old.flash mid.flash new.flash so_far.commands commands so_far.plays
-    (subst (λ (n : ℕ). Plays told_flash (doubt_of mid) old.layout n mid.flash new.flash commands) so_far.moved
-    (subst (λ (l : Layout). Plays told_flash (doubt_of mid) l cursor mid.flash new.flash commands) (let alike = so_far.alike in alike.layout) plays))
-    so_far.doubt
+abbrev played_as : ScriptLine → List (List ℕ) → List (List ℕ) → PlayerState → Played
+played_as line said blocks left = record { line = line; said = said; blocks = blocks; left = left }
 
--- one more line was read and played
-pub SoFar-played : (told_source told_sink told_flash : Type 0) (script rest rest_now written middle now text : List ℕ) (old mid new : StoreView) (cursor cursor_now : ℕ) (a b : Reading)
-    → SoFar told_source told_sink told_flash script rest written middle old mid cursor a
-    → IsNextLine told_source a b rest rest_now → text ≡ b.line
-    → PlaysLine told_flash told_sink mid new (command_in text) cursor cursor_now middle now → StaysIdle mid new
-    → SoFar told_source told_sink told_flash script rest_now written now old new cursor_now b
-SoFar-played told_source told_sink told_flash script rest rest_now written middle now text old mid new cursor cursor_now a b so_far next is line stays = record {
-  lines = so_far.lines ++ line_of b ∷ [];
-  commands = so_far.commands ++ line.commands;
-  number = omega (arith, next.number, so_far.number, length-append so_far.lines (line_of b ∷ []));
-  played = AreOf-push (longest_of old.layout) so_far.lines (line_of b) so_far.commands line.commands so_far.played built next.within
-      (line.commands_are ∙ ap (λ (l : Layout). commands_of (longest_of l) (command_in text)) (let alike = so_far.alike in alike.layout) ∙ ap (λ (t : List ℕ). commands_of (longest_of old.layout) (command_in t)) is);
-  ahead = λ told.
-      so_far.ahead told ∙ ap (λ (ls : List Line). so_far.lines ++ ls) (next_ahead told_source a b rest rest_now next told) ∙ sym (append_assoc so_far.lines (line_of b ∷ []) (lines_ahead b rest_now));
-  taken = λ told e. next_taken told_source a b script rest rest_now so_far.lines next told (so_far.taken told) e;
-  plays = commands_then told_source told_sink told_flash script rest written middle old mid new cursor a line.commands so_far line.plays;
-  moved = line.moved ∙ ap (cursor_left line.commands) so_far.moved ∙ sym (cursor_left-append so_far.commands line.commands 0);
-  text = λ told. text-then so_far.commands line.commands written middle now (so_far.text told) (line.text_now told);
-  alike = DividesAlike-then old mid new so_far.alike stays.alike;
-  doubt = λ told.
-      let plays = so_far.plays in
-      let before = plays.history told in
-      let more = line.plays in
-      let behind = more.history told in
-      line.doubt told
-      ∙ ap (doubt_left new.flash.told line.commands)
-      (so_far.doubt told ∙ sym (doubt_left-later mid.flash.told new.flash.told (length old.flash.told.past) so_far.commands None behind.later before.in_order))
-      ∙ sym (doubt_left-append new.flash.told so_far.commands line.commands None);
-}
-  where
-    built : IsBuilt (command_in b.line)
-    built = subst (λ (t : List ℕ). IsBuilt (command_in t)) is line.built
+module _ {L : Type 0} (interest : L → ℕ → Bool) (hearings : L → ℕ) (heard_last : L → ℕ → List ℕ → Type 0) (told_source told_sink tells : Type 0) where
+  -- a run so far: the lines that were read, all of them played, and the listeners told
+  pub record SoFar (script rest written written_now : List ℕ) (listeners listeners_now : List L) (old new : PlayerState) (reading : Reading) : Type 0 where
+    pub lines : List Line
+    pub played : List Played
+    pub number : reading.number ≡ length lines
+    pub are : ArePlayed lines played
+    pub ahead : told_source → lines_of 0 script ≡ lines ++ lines_ahead reading rest
+    pub taken : told_source → reading.at_end ≡ false → TakenSoFar script rest lines reading
+    pub history : Follows tells (map interest listeners) (map hearings listeners) old played new
+    pub counts : map hearings listeners_now ≡ counts_after (map interest listeners) played (map hearings listeners)
+    pub wants : WantsOf interest hearings heard_last (map interest listeners) listeners_now
+    pub told : Told interest hearings heard_last (blocks_of played) listeners listeners_now
+    pub text : told_sink → written_now ≡ written ++ text_of played
 
--- the script was read to its end
-pub ends_done : (told_source told_sink told_flash : Type 0) (script rest rest_now written written_now : List ℕ) (old new : StoreView) (cursor : ℕ) (a b : Reading)
-    → IsAtEnd told_source a b rest rest_now
-    → SoFar told_source told_sink told_flash script rest written written_now old new cursor a
-    → PlaysScript told_source told_sink told_flash old.layout script rest_now written written_now old.flash new.flash Done
-ends_done told_source told_sink told_flash script rest rest_now written written_now old new cursor a b end so_far = record {
-  commands = so_far.commands;
-  plays = so_far.plays;
-  lines = λ told.
-      let left = end.nothing_left told in
-      let none : lines_ahead a rest ≡ [] = ap (lines_of a.end) (ap (λ (bs : List ℕ). bs ++ rest) end.pending ∙ left.0) ∙ lines_of-nil a.end in
-      let all : lines_of 0 script ≡ so_far.lines = so_far.ahead told ∙ ap (λ (ls : List Line). so_far.lines ++ ls) none ∙ append-nil so_far.lines in
-      record { all_read = left.1; played = subst (λ (ls : List Line). AreOf (longest_of old.layout) ls so_far.commands) (sym all) so_far.played };
-  text = so_far.text;
-}
+  -- nothing was read
+  pub SoFar-start : (script written : List ℕ) (listeners : List L) (player : PlayerState) (reading : Reading)
+      → reading ≡ record { line = []; number = 0; end = 0; pending = []; at_end = false } → SoFar script script written written listeners listeners player player reading
+  SoFar-start script written listeners player reading start =
+      subst (SoFar script script written written listeners listeners player player) (sym start) (record {
+        lines = [];
+        played = [];
+        number = refl;
+        are = tt;
+        ahead = λ told. refl;
+        taken = λ told e. record { taken = []; source = refl; ended = λ more. refl };
+        history = refl;
+        counts = refl;
+        wants = wants_first interest hearings heard_last listeners;
+        told = none_told interest hearings heard_last listeners;
+        text = λ told. sym (append-nil written);
+      })
 
--- the source failed
-pub ends_fault : (told_source told_sink told_flash : Type 0) (script rest rest_now written written_now : List ℕ) (old new : StoreView) (cursor : ℕ) (a b : Reading)
-    → HasNoLine told_source a b rest rest_now
-    → SoFar told_source told_sink told_flash script rest written written_now old new cursor a
-    → PlaysScript told_source told_sink told_flash old.layout script rest_now written written_now old.flash new.flash SourceFault
-ends_fault told_source told_sink told_flash script rest rest_now written written_now old new cursor a b failed so_far = record {
-  commands = so_far.commands;
-  plays = so_far.plays;
-  lines = λ told.
-      let before = so_far.taken told failed.not_at_end in
-      let none : ended_lines_of a.end (a.pending ++ failed.bytes) ≡ [] = ended_lines_of-one_line a.end (a.pending ++ failed.bytes) failed.one_line in
-      let lines : ended_lines_of 0 (before.taken ++ (a.pending ++ failed.bytes)) ≡ so_far.lines =
-      before.ended (a.pending ++ failed.bytes) ∙ ap (λ (ls : List Line). so_far.lines ++ ls) none ∙ append-nil so_far.lines in
-      record {
-        taken = before.taken ++ (a.pending ++ failed.bytes);
-        source =
-            before.source
-            ∙ ap (λ (bs : List ℕ). before.taken ++ bs) (ap (λ (bs : List ℕ). a.pending ++ bs) (failed.given told) ∙ sym (append_assoc a.pending failed.bytes rest_now))
-            ∙ sym (append_assoc before.taken (a.pending ++ failed.bytes) rest_now);
-        played = subst (λ (ls : List Line). AreOf (longest_of old.layout) ls so_far.commands) (sym lines) so_far.played;
-      };
-  text = so_far.text;
-}
+  -- the lines before the one that was read, and those behind it
+  stops_at : (script rest rest_now written middle : List ℕ) (members members_now : List L) (old mid : PlayerState) (a b : Reading) (number : ℕ)
+      → (so_far : SoFar script rest written middle members members_now old mid a) → IsNextLine told_source a b rest rest_now → number ≡ b.number → told_source
+      → StopsAt script so_far.played number (line_of b)
+  stops_at script rest rest_now written middle members members_now old mid a b number so_far next is told = record {
+    before = so_far.lines;
+    behind = lines_ahead b rest_now;
+    lines = so_far.ahead told ∙ ap (λ (ls : List Line). so_far.lines ++ ls) (next_ahead told_source a b rest rest_now next told);
+    numbered = omega (arith, is, next.number, so_far.number);
+    are = so_far.are;
+  }
 
--- the line that was read is not built
-pub ends_not_built : (told_source told_sink told_flash : Type 0) (script rest rest_now written middle now text : List ℕ) (old mid new : StoreView) (cursor : ℕ) (a b : Reading) (number : ℕ)
-    → IsNextLine told_source a b rest rest_now → number ≡ b.number → text ≡ b.line → (IsBuilt (command_in text) → ⊥) → new ≡ mid → now ≡ middle
-    → SoFar told_source told_sink told_flash script rest written middle old mid cursor a
-    → PlaysScript told_source told_sink told_flash old.layout script rest_now written now old.flash new.flash (NotYet number)
-ends_not_built told_source told_sink told_flash script rest rest_now written middle now text old mid new cursor a b number next is text_is other same quiet so_far = record {
-  commands = so_far.commands;
-  plays = subst (λ (s : StoreView). Plays told_flash None old.layout 0 old.flash s.flash so_far.commands) (sym same) so_far.plays;
-  lines = λ told. record {
-    line = line_of b;
-    stops = record {
+  -- a line that was played, behind some
+  module _ (script rest written middle : List ℕ) (first members : List L) (old mid : PlayerState) (a : Reading) (so_far : SoFar script rest written middle first members old mid a)
+      (line : ScriptLine) (said blocks : List (List ℕ)) (new : PlayerState) (members_now : List L)
+      (played : LinePlayed tells (map hearings members) mid line said blocks new) (told : Told interest hearings heard_last blocks members members_now) where
+    history_then : Follows tells (map interest first) (map hearings first) old (so_far.played ++ played_as line said blocks new ∷ []) new
+    history_then =
+        Follows-push tells (map interest first) (map hearings first) old so_far.played mid (played_as line said blocks new) so_far.history
+        (subst (λ (counts : List ℕ). LinePlayed tells counts mid line said blocks new) so_far.counts played)
+
+    told_now : Told interest hearings heard_last (blocks_of (so_far.played ++ played_as line said blocks new ∷ [])) first members_now
+    told_now =
+        subst (λ (bs : List (List ℕ)). Told interest hearings heard_last bs first members_now) (sym (blocks_of-push so_far.played (played_as line said blocks new)))
+        (all_told_then interest hearings heard_last (blocks_of so_far.played) blocks first members members_now so_far.told told)
+
+    counts_now : map hearings members_now ≡ counts_after (map interest first) (so_far.played ++ played_as line said blocks new ∷ []) (map hearings first)
+    counts_now =
+        heard_all interest hearings heard_last (map interest first) blocks members members_now so_far.wants told
+        ∙ ap (heard_after (map interest first) blocks) so_far.counts
+        ∙ sym (counts_after-push (map interest first) so_far.played (played_as line said blocks new) (map hearings first))
+
+  -- one more line was read and played
+  pub SoFar-played : (script rest rest_now written middle now : List ℕ) (first members members_now : List L) (old mid new : PlayerState) (a b : Reading) (line : ScriptLine)
+      → SoFar script rest written middle first members old mid a → IsNextLine told_source a b rest rest_now → IsPlayable (line_of b) line
+      → PlaysLine interest hearings heard_last tells told_sink mid new members members_now line middle now
+      → SoFar script rest_now written now first members_now old new b
+  SoFar-played script rest rest_now written middle now first members members_now old mid new a b line so_far next is plays = record {
+    lines = so_far.lines ++ line_of b ∷ [];
+    played = so_far.played ++ played_as line plays.said plays.blocks new ∷ [];
+    number = omega (arith, next.number, so_far.number, length-append so_far.lines (line_of b ∷ []));
+    are = ArePlayed-push so_far.lines (line_of b) so_far.played (played_as line plays.said plays.blocks new) so_far.are is;
+    ahead = λ told.
+        so_far.ahead told ∙ ap (λ (ls : List Line). so_far.lines ++ ls) (next_ahead told_source a b rest rest_now next told) ∙ sym (append_assoc so_far.lines (line_of b ∷ []) (lines_ahead b rest_now));
+    taken = λ told e. next_taken told_source a b script rest rest_now so_far.lines next told (so_far.taken told) e;
+    history = history_then script rest written middle first members old mid a so_far line plays.said plays.blocks new members_now plays.played plays.told;
+    counts = counts_now script rest written middle first members old mid a so_far line plays.said plays.blocks new members_now plays.played plays.told;
+    wants = wants_stay interest hearings heard_last (map interest first) plays.blocks members members_now so_far.wants plays.told;
+    told = told_now script rest written middle first members old mid a so_far line plays.said plays.blocks new members_now plays.played plays.told;
+    text = λ told.
+        plays.text told
+        ∙ ap (λ (bs : List ℕ). bs ++ replies_at (step_of new) plays.said) (so_far.text told)
+        ∙ append_assoc written (text_of so_far.played) (replies_at (step_of new) plays.said)
+        ∙ ap (λ (bs : List ℕ). written ++ bs) (sym (text_of-push so_far.played (played_as line plays.said plays.blocks new)));
+  }
+
+  -- a run whose last line was played whole, and whose machine is as that left it
+  as_so_far : (script rest rest_now written middle now : List ℕ) (first members : List L) (old new : PlayerState) (a : Reading) (status : Status)
+      → (so_far : SoFar script rest written middle first members old new a)
+      → (told_source → EndsBy tells script rest_now so_far.played new.machine new.machine status)
+      → (told_sink → WritesReplies so_far.played written now status) → LeavesLast new.machine new.machine status → (status ≡ FlashFault → ⊥)
+      → PlaysScript interest hearings heard_last told_source told_sink tells script rest_now written now first members old new status
+  as_so_far script rest rest_now written middle now first members old new a status so_far lines text behind other = record {
+    played = so_far.played;
+    last = new;
+    history = so_far.history;
+    lines = lines;
+    text = text;
+    behind = behind;
+    told = so_far.told;
+    fault = λ e. absurd (other e);
+  }
+
+  -- the script was read to its end
+  pub ends_done : (script rest rest_now written now : List ℕ) (first members : List L) (old new : PlayerState) (a b : Reading)
+      → IsAtEnd told_source a b rest rest_now → SoFar script rest written now first members old new a
+      → PlaysScript interest hearings heard_last told_source told_sink tells script rest_now written now first members old new Done
+  ends_done script rest rest_now written now first members old new a b end so_far =
+      as_so_far script rest rest_now written now now first members old new a Done so_far
+      (λ told.
+          let left = end.nothing_left told in
+          let none : lines_ahead a rest ≡ [] = ap (lines_of a.end) (ap (λ (bs : List ℕ). bs ++ rest) end.pending ∙ left.0) ∙ lines_of-nil a.end in
+          let all : lines_of 0 script ≡ so_far.lines = so_far.ahead told ∙ ap (λ (ls : List Line). so_far.lines ++ ls) none ∙ append-nil so_far.lines in
+          record { all_read = left.1; are = subst (λ (ls : List Line). ArePlayed ls so_far.played) (sym all) so_far.are })
+      so_far.text refl (λ e. absurd (cc e))
+
+  -- the source failed
+  pub ends_fault : (script rest rest_now written now : List ℕ) (first members : List L) (old new : PlayerState) (a b : Reading)
+      → HasNoLine told_source a b rest rest_now → SoFar script rest written now first members old new a
+      → PlaysScript interest hearings heard_last told_source told_sink tells script rest_now written now first members old new SourceFault
+  ends_fault script rest rest_now written now first members old new a b failed so_far =
+      as_so_far script rest rest_now written now now first members old new a SourceFault so_far
+      (λ told.
+          let before = so_far.taken told failed.not_at_end in
+          let none : ended_lines_of a.end (a.pending ++ failed.bytes) ≡ [] = ended_lines_of-one_line a.end (a.pending ++ failed.bytes) failed.one_line in
+          let lines : ended_lines_of 0 (before.taken ++ (a.pending ++ failed.bytes)) ≡ so_far.lines =
+          before.ended (a.pending ++ failed.bytes) ∙ ap (λ (ls : List Line). so_far.lines ++ ls) none ∙ append-nil so_far.lines in
+          record {
+            taken = before.taken ++ (a.pending ++ failed.bytes);
+            source =
+                before.source
+                ∙ ap (λ (bs : List ℕ). before.taken ++ bs) (ap (λ (bs : List ℕ). a.pending ++ bs) (failed.given told) ∙ sym (append_assoc a.pending failed.bytes rest_now))
+                ∙ sym (append_assoc before.taken (a.pending ++ failed.bytes) rest_now);
+            are = subst (λ (ls : List Line). ArePlayed ls so_far.played) (sym lines) so_far.are;
+          })
+      so_far.text refl (λ e. absurd (cc e))
+
+  -- the next line is too long
+  pub ends_too_long : (script rest rest_now written now : List ℕ) (first members : List L) (old new : PlayerState) (a b : Reading) (number : ℕ)
+      → NextIsTooLong told_source a b rest → number ≡ b.number → SoFar script rest written now first members old new a
+      → PlaysScript interest hearings heard_last told_source told_sink tells script rest_now written now first members old new (TooLong (number + 1))
+  ends_too_long script rest rest_now written now first members old new a b number next is so_far =
+      as_so_far script rest rest_now written now now first members old new a (TooLong (number + 1)) so_far
+      (λ told.
+          let ahead = next.too_long told in
+          record {
+            line = ahead.0;
+            stops = record {
+              before = so_far.lines;
+              behind = ahead.1;
+              lines = so_far.ahead told ∙ ap (λ (ls : List Line). so_far.lines ++ ls) ahead.2;
+              numbered = omega (arith, is, next.number, so_far.number);
+              are = so_far.are;
+            };
+            too_long = ahead.3;
+          })
+      so_far.text refl (λ e. absurd (cc e))
+
+  -- the line that was read is none
+  pub ends_bad : (script rest rest_now written now : List ℕ) (first members : List L) (old new : PlayerState) (a b : Reading) (number column : ℕ)
+      → IsNextLine told_source a b rest rest_now → number ≡ b.number → BreaksAt IsLine b.line column → SoFar script rest written now first members old new a
+      → PlaysScript interest hearings heard_last told_source told_sink tells script rest_now written now first members old new (BadLine number column)
+  ends_bad script rest rest_now written now first members old new a b number column next is breaks so_far =
+      as_so_far script rest rest_now written now now first members old new a (BadLine number column) so_far
+      (λ told. record {
+        line = line_of b;
+        stops = stops_at script rest rest_now written now first members old new a b number so_far next is told;
+        within = next.within;
+        breaks = breaks;
+      })
+      so_far.text refl (λ e. absurd (cc e))
+
+  -- it is not built
+  pub ends_not_built : (script rest rest_now written now : List ℕ) (first members : List L) (old new : PlayerState) (a b : Reading) (number : ℕ) (line : ScriptLine)
+      → IsNextLine told_source a b rest rest_now → number ≡ b.number → Means b.line line → (IsBuilt line → ⊥) → SoFar script rest written now first members old new a
+      → PlaysScript interest hearings heard_last told_source told_sink tells script rest_now written now first members old new (NotYet number)
+  ends_not_built script rest rest_now written now first members old new a b number line next is means_it other so_far =
+      as_so_far script rest rest_now written now now first members old new a (NotYet number) so_far
+      (λ told. record {
+        line = line_of b;
+        stops = stops_at script rest rest_now written now first members old new a b number so_far next is told;
+        within = next.within;
+        asked = line;
+        means = means_it;
+        not_built = other;
+      })
+      so_far.text refl (λ e. absurd (cc e))
+
+  -- its reply was refused by the sink
+  pub ends_unheard : (script rest rest_now written middle now : List ℕ) (first members members_now : List L) (old mid new : PlayerState) (a b : Reading) (line : ScriptLine)
+      → SoFar script rest written middle first members old mid a → IsNextLine told_source a b rest rest_now → IsPlayable (line_of b) line
+      → PlaysUnheard interest hearings heard_last tells told_sink mid new members members_now line middle now
+      → PlaysScript interest hearings heard_last told_source told_sink tells script rest_now written now first members_now old new SinkFault
+  ends_unheard script rest rest_now written middle now first members members_now old mid new a b line so_far next is plays = record {
+    played = so_far.played ++ played_as plays.made plays.said plays.blocks new ∷ [];
+    last = new;
+    history = history_then script rest written middle first members old mid a so_far plays.made plays.said plays.blocks new members_now plays.played plays.told;
+    lines = λ told. record {
       before = so_far.lines;
+      line = line_of b;
       behind = lines_ahead b rest_now;
       lines = so_far.ahead told ∙ ap (λ (ls : List Line). so_far.lines ++ ls) (next_ahead told_source a b rest rest_now next told);
-      numbered = omega (arith, is, next.number, so_far.number);
-      played = so_far.played;
+      first = so_far.played;
+      last = played_as plays.made plays.said plays.blocks new;
+      played_is = refl;
+      are = so_far.are;
+      whole = line;
+      is = is;
+      cut = plays.cut;
     };
-    within = next.within;
-    other = subst (λ (t : List ℕ). IsBuilt (command_in t) → ⊥) text_is other;
-  };
-  text = λ told. quiet ∙ so_far.text told;
-}
+    text = λ told. record {
+      first = so_far.played;
+      last = played_as plays.made plays.said plays.blocks new;
+      played_is = refl;
+      text = subst (λ (bs : List ℕ). PartlySaid (step_of new) plays.said bs now) (so_far.text told) (plays.text told);
+    };
+    behind = refl;
+    told = told_now script rest written middle first members old mid a so_far plays.made plays.said plays.blocks new members_now plays.played plays.told;
+    fault = λ e. absurd (cc e);
+  }
 
--- its reply was refused by the sink
-pub ends_unheard : (told_source told_sink told_flash : Type 0) (script rest rest_now written middle now text : List ℕ) (old mid new : StoreView) (cursor : ℕ) (a b : Reading)
-    → SoFar told_source told_sink told_flash script rest written middle old mid cursor a
-    → IsNextLine told_source a b rest rest_now → text ≡ b.line
-    → PlaysUnheard told_flash told_sink mid new (command_in text) cursor middle now
-    → PlaysScript told_source told_sink told_flash old.layout script rest_now written now old.flash new.flash SinkFault
-ends_unheard told_source told_sink told_flash script rest rest_now written middle now text old mid new cursor a b so_far next is line = record {
-  commands = so_far.commands ++ line.commands;
-  plays = commands_then told_source told_sink told_flash script rest written middle old mid new cursor a line.commands so_far line.plays;
-  lines = λ told. record {
-    before = so_far.lines ++ line_of b ∷ [];
-    behind = lines_ahead b rest_now;
-    lines = so_far.ahead told ∙ ap (λ (ls : List Line). so_far.lines ++ ls) (next_ahead told_source a b rest rest_now next told) ∙ sym (append_assoc so_far.lines (line_of b ∷ []) (lines_ahead b rest_now));
-    played = AreOf-push (longest_of old.layout) so_far.lines (line_of b) so_far.commands line.commands so_far.played
-        (subst (λ (t : List ℕ). IsBuilt (command_in t)) is line.built) next.within
-        (line.commands_are ∙ ap (λ (l : Layout). commands_of (longest_of l) (command_in text)) (let alike = so_far.alike in alike.layout) ∙ ap (λ (t : List ℕ). commands_of (longest_of old.layout) (command_in t)) is);
-  };
-  text = λ told. partly-then so_far.commands line.commands written middle now (so_far.text told) (line.text_now told);
-}
+  -- the flash failed in its restart
+  pub ends_failed : (script rest rest_now written middle now : List ℕ) (first members members_now : List L) (old mid new : PlayerState) (a b : Reading) (line : ScriptLine)
+      → SoFar script rest written middle first members old mid a → IsNextLine told_source a b rest rest_now → IsPlayable (line_of b) line
+      → Stops tells mid line new RestartFailed → members_now ≡ members → now ≡ middle
+      → PlaysScript interest hearings heard_last told_source told_sink tells script rest_now written now first members_now old new FlashFault
+  ends_failed script rest rest_now written middle now first members members_now old mid new a b line so_far next is (machine, fails, happened, rose, same) quiet said = record {
+    played = so_far.played;
+    last = mid;
+    history = so_far.history;
+    lines = λ told. record {
+      line = line_of b;
+      number = b.number;
+      stops = stops_at script rest rest_now written middle first members old mid a b b.number so_far next refl told;
+      asked = line;
+      is = is;
+      fails = subst (FailsRestart tells mid.machine line) left fails;
+    };
+    text = λ told. said ∙ so_far.text told;
+    behind = tt;
+    told = subst (Told interest hearings heard_last (blocks_of so_far.played) first) (sym quiet) so_far.told;
+    fault = λ e. subst (λ (m : MachineState). HasHappened tells mid.machine m × Rose mid.machine.device.store.flash.faults m.device.store.flash.faults) left (happened, rose);
+  }
+    where
+      left : machine ≡ new.machine
+      left = sym (ap (λ (p : PlayerState). p.machine) same)
 
--- the opening of a store keeps the records: no command was played
-pub IsHistory-kept : (layout : Layout) (cursor : ℕ) (view : List ℕ → Stored) (old new : Told) → Leaves old new (λ image. view image ≡ view old.image) → IsHistory layout cursor view old new []
-IsHistory-kept layout cursor view old new kept = record {
-  later = kept.later;
-  in_order = past_grows old new kept.later;
-  answered = tt;
-  now = Leaves-exit old new (λ image. view image ≡ view old.image) kept;
-  ends = tt;
-  crash = λ s image from crash. kept.each s image from crash;
-}
-
--- the records of a flash were kept
-abbrev pub KeepsAll : Layout → FlashState → FlashState → Type 0
-KeepsAll layout old new =
-    Leaves old.told new.told (λ image. records_of layout image ≡ records_of layout old.told.image)
-
-KeepsAll-same : (layout : Layout) (old new : FlashState) → new ≡ old → KeepsAll layout old new
-KeepsAll-same layout old new same =
-    subst (λ (flash : FlashState). KeepsAll layout old flash) (sym same) (record {
-      later = IsLater-refl old.told;
-      each = λ s image from crash. ap (records_of layout) (CrashImage-now old.told s image from crash);
-    })
-
-ends_first : (reach : ℕ) (script rest : List ℕ) (status : Status) → ComesFirst status → EndsBy reach script rest [] status
-ends_first reach script rest Done first = absurd first
-ends_first reach script rest BadWords first = refl
-ends_first reach script rest SourceFault first = absurd first
-ends_first reach script rest SinkFault first = absurd first
-ends_first reach script rest FlashFault first = refl
-ends_first reach script rest (BadGeometry sector per_slot slots size) first = refl
-ends_first reach script rest (TooLong line) first = absurd first
-ends_first reach script rest Memory first = refl
-ends_first reach script rest (NotYet line) first = absurd first
-
-written_first : (written : List ℕ) (status : Status) → ComesFirst status → WritesReplies [] written written status
-written_first written Done first = absurd first
-written_first written BadWords first = sym (append-nil written)
-written_first written SourceFault first = absurd first
-written_first written SinkFault first = absurd first
-written_first written FlashFault first = sym (append-nil written)
-written_first written (BadGeometry sector per_slot slots size) first = sym (append-nil written)
-written_first written (TooLong line) first = absurd first
-written_first written Memory first = sym (append-nil written)
-written_first written (NotYet line) first = absurd first
-
--- nothing was played
-pub run_kept : (told_source told_sink told_flash : Type 0) (plan : Plan) (script written : List ℕ) (old new : FlashState) (status : Status) → ComesFirst status
-    → (told_flash → (layout : Layout) → IsLayoutOf plan layout → KeepsAll layout old new)
-    → IsRun told_source told_sink told_flash plan script script written written old new status
-run_kept told_source told_sink told_flash plan script written old new status first kept = record {
-  commands = [];
-  history = λ told layout of. IsHistory-kept layout 0 (records_of layout) old.told new.told (kept told layout of);
-  steps = λ told layout of. tt;
-  ended = refl;
-  opened = λ told layout of later. absurd (later first);
-  cause = λ h. absurd h;
-  lines = λ told. ends_first (longest_by plan) script script status first;
-  text = λ told. written_first written status first;
-}
-
-pub run_none : (told_source told_sink told_flash : Type 0) (plan : Plan) (script written : List ℕ) (old new : FlashState) (status : Status) → ComesFirst status
-    → new ≡ old → IsRun told_source told_sink told_flash plan script script written written old new status
-run_none told_source told_sink told_flash plan script written old new status first same =
-    run_kept told_source told_sink told_flash plan script written old new status first (λ told layout of. KeepsAll-same layout old new same)
-
--- what a layout has beside its numbers
-abbrev pub Limits : ℕ → ℕ → ℕ → ℕ → Type 0
-Limits sector per_slot slots slot_size =
-    (slot_size ≡ sector * per_slot) × (256 ≤ sector) × (2 ≤ per_slot) × (2 ≤ slots) × (slots ≤ 1024) × (512 ≤ slot_size) × (slot_size ≤ 65600)
-
-abbrev limits_of : (layout : Layout) → Limits layout.sector layout.per_slot layout.slots layout.slot_size
-limits_of layout = (layout.product, layout.least_sector, layout.few_sectors, layout.few_slots, layout.many_slots, layout.least_slot, layout.greatest_slot)
-
-abbrev with_limits : (sector per_slot slots slot_size : ℕ) → Limits sector per_slot slots slot_size → Layout
-with_limits sector per_slot slots slot_size limits = record {
-  sector = sector;
-  per_slot = per_slot;
-  slots = slots;
-  slot_size = slot_size;
-  product = limits.0;
-  least_sector = limits.1;
-  few_sectors = limits.2;
-  few_slots = limits.3;
-  many_slots = limits.4;
-  least_slot = limits.5;
-  greatest_slot = limits.6;
-}
-
-only_limits : (sector per_slot slots slot_size : ℕ) → IsProp (Limits sector per_slot slots slot_size)
-only_limits sector per_slot slots slot_size = hlevel (ℕ_set, le_prop)
-
--- the numbers of a layout are all that it is
-with_limits-same : (sector per_slot slots slot_size sector' per_slot' slots' slot_size' : ℕ) (a : Limits sector per_slot slots slot_size) (b : Limits sector' per_slot' slots' slot_size')
-    → sector ≡ sector' → per_slot ≡ per_slot' → slots ≡ slots' → slot_size ≡ slot_size'
-    → with_limits sector per_slot slots slot_size a ≡ with_limits sector' per_slot' slots' slot_size' b
-with_limits-same sector per_slot slots slot_size sector' per_slot' slots' slot_size' a b e1 e2 e3 e4 =
-    let at_once : (b : Limits sector per_slot slots slot_size) → with_limits sector per_slot slots slot_size a ≡ with_limits sector per_slot slots slot_size b =
-    λ b. ap (with_limits sector per_slot slots slot_size) (only_limits sector per_slot slots slot_size a b) in
-    let by_sector = subst (λ (n : ℕ). (b : Limits n per_slot slots slot_size) → with_limits sector per_slot slots slot_size a ≡ with_limits n per_slot slots slot_size b) e1 at_once in
-    let by_per_slot = subst (λ (n : ℕ). (b : Limits sector' n slots slot_size) → with_limits sector per_slot slots slot_size a ≡ with_limits sector' n slots slot_size b) e2 by_sector in
-    let by_slots = subst (λ (n : ℕ). (b : Limits sector' per_slot' n slot_size) → with_limits sector per_slot slots slot_size a ≡ with_limits sector' per_slot' n slot_size b) e3 by_per_slot in
-    subst (λ (n : ℕ). (b : Limits sector' per_slot' slots' n) → with_limits sector per_slot slots slot_size a ≡ with_limits sector' per_slot' slots' n b) e4 by_slots b
-
-same_layout : (a b : Layout) → a.sector ≡ b.sector → a.per_slot ≡ b.per_slot → a.slots ≡ b.slots → a ≡ b
-same_layout a b sector per_slot slots =
-    with_limits-same a.sector a.per_slot a.slots a.slot_size b.sector b.per_slot b.slots b.slot_size (limits_of a) (limits_of b) sector per_slot slots
-    (a.product ∙ ap (λ (n : ℕ). n * a.per_slot) sector ∙ ap (λ (n : ℕ). b.sector * n) per_slot ∙ sym b.product)
-
--- a geometry of a plan's numbers
-pub record IsOf (plan : Plan) (geometry : Geometry) : Type 0 where
-  pub sector : geometry.sector ≡ plan.sector
-  pub per_slot : geometry.per_slot ≡ plan.per_slot
-  pub slots : geometry.slots ≡ plan.slots
-
-layout_is : (plan : Plan) (geometry : Geometry) (layout : Layout) → IsOf plan geometry → IsLayoutOf plan layout → layout_of geometry ≡ layout
-layout_is plan geometry layout is of = same_layout (layout_of geometry) layout (is.sector ∙ sym of.sector) (is.per_slot ∙ sym of.per_slot) (is.slots ∙ sym of.slots)
-
-longest_is : (plan : Plan) (geometry : Geometry) → IsOf plan geometry → longest_of (layout_of geometry) ≡ longest_by plan
-longest_is plan geometry is =
-    ap (λ (n : ℕ). reach_of (n - 64)) (geometry.product ∙ ap (λ (n : ℕ). n * geometry.per_slot) is.sector ∙ ap (λ (n : ℕ). plan.sector * n) is.per_slot)
-
--- the store was not opened
-pub run_refused : (told_source told_sink told_flash : Type 0) (plan : Plan) (geometry : Geometry) (script written : List ℕ) (old back : FlashState) (status : Status) → ComesFirst status
-    → IsOf plan geometry → (told_flash → KeepsRecordsOf geometry old back)
-    → IsRun told_source told_sink told_flash plan script script written written old back status
-run_refused told_source told_sink told_flash plan geometry script written old back status first is kept =
-    run_kept told_source told_sink told_flash plan script written old back status first
-    (λ told layout of. subst (λ (l : Layout). KeepsAll l old back) (layout_is plan geometry layout is of) (kept told))
-
--- the last command ended at a step, or there is none
-ended_last-later : (from other to : ℕ) (commands : List Played) → ended_last from commands ≡ to → (commands ≡ [] → other ≡ to) → ended_last other commands ≡ to
-ended_last-later from other to [] ended none = none refl
-ended_last-later from other to (played ∷ rest) ended none = ended
-
--- the store was opened, and then commands were played on it
-pub run_opened : (told_source told_sink told_flash : Type 0) (plan : Plan) (geometry : Geometry) (script rest written now : List ℕ) (old mid new : FlashState) (status : Status)
-    → IsOf plan geometry → (told_flash → KeepsRecordsOf geometry old mid)
-    → (told_flash → mid.steps ≡ opened_at (layout_of geometry) old) → mid.faults ≡ old.faults
-    → PlaysScript told_source told_sink told_flash (layout_of geometry) script rest written now mid new status
-    → IsRun told_source told_sink told_flash plan script rest written now old new status
-run_opened told_source told_sink told_flash plan geometry script rest written now old mid new status is kept opens faults played =
-    let plays = played.plays in
-    record {
-      commands = played.commands;
-      history = λ told layout of.
-          subst (λ (l : Layout). IsHistory l 0 (records_of l) old.told new.told played.commands) (layout_is plan geometry layout is of)
-          (IsHistory-then (layout_of geometry) 0 (records_of (layout_of geometry)) old.told mid.told new.told [] played.commands
-          (IsHistory-kept (layout_of geometry) 0 (records_of (layout_of geometry)) old.told mid.told (kept told)) (plays.history told));
-      steps = λ told layout of.
-          subst (λ (l : Layout). TakeEach l new.told (opened_at l old) None played.commands (records_of l old.told.image)) (layout_is plan geometry layout is of)
-          (subst (λ (n : ℕ). TakeEach (layout_of geometry) new.told n None played.commands (records_of (layout_of geometry) old.told.image)) (opens told)
-          (subst (λ (m : Stored). TakeEach (layout_of geometry) new.told mid.steps None played.commands m)
-          (Leaves-exit old.told mid.told (λ image. records_of (layout_of geometry) image ≡ records_of (layout_of geometry) old.told.image) (kept told))
-          (plays.steps told)));
-      ended = ended_last-later mid.steps new.steps new.steps played.commands plays.ended (λ none. refl);
-      opened = λ told layout of later.
-          subst (λ (l : Layout). ended_last (opened_at l old) played.commands ≡ new.steps) (layout_is plan geometry layout is of)
-          (ap (λ (n : ℕ). ended_last n played.commands) (sym (opens told)) ∙ plays.ended);
-      cause = λ h. subst (λ (n : ℕ). Rose n new.faults) faults (plays.cause h);
-      lines = λ told. subst (λ (n : ℕ). EndsBy n script rest played.commands status) (longest_is plan geometry is) (played.lines told);
-      text = played.text;
-    }
+  -- there was no memory for its table
+  pub ends_memory : (script rest rest_now written middle now : List ℕ) (first members members_now : List L) (old mid new : PlayerState) (a b : Reading) (line : ScriptLine)
+      → SoFar script rest written middle first members old mid a → IsNextLine told_source a b rest rest_now → IsPlayable (line_of b) line
+      → Stops tells mid line new NoMemory → members_now ≡ members → now ≡ middle
+      → PlaysScript interest hearings heard_last told_source told_sink tells script rest_now written now first members_now old new Memory
+  ends_memory script rest rest_now written middle now first members members_now old mid new a b line so_far next is (same, hex, is_table) quiet said = record {
+    played = so_far.played;
+    last = mid;
+    history = so_far.history;
+    lines = λ told. record {
+      line = line_of b;
+      number = b.number;
+      stops = stops_at script rest rest_now written middle first members old mid a b b.number so_far next refl told;
+      hex = hex;
+      is = subst (IsPlayable (line_of b)) is_table is;
+    };
+    text = λ told. said ∙ so_far.text told;
+    behind = ap (λ (p : PlayerState). p.machine) same;
+    told = subst (Told interest hearings heard_last (blocks_of so_far.played) first) (sym quiet) so_far.told;
+    fault = λ e. absurd (cc e);
+  }

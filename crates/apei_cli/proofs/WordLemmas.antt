@@ -1,5 +1,5 @@
 -- What words give an option, one word after another.
-use Rattle.std.proofs.Common.{◌≡◌, ℕ, ◌+◌, ◌<◌, List, [], ◌∷◌, ◌++◌, length, take, drop, get_or, Bool, true, false, cond, sym, ap, subst, ◌∙◌, refl, Bor, inl, inr}
+use Rattle.std.proofs.Common.{◌≡◌, ℕ, ◌+◌, ◌^◌, ◌<◌, List, [], ◌∷◌, ◌++◌, length, take, drop, get_or, Bool, true, false, cond, sym, ap, subst, ◌∙◌, refl, Bor, inl, inr}
 use Rattle.std.proofs.lemmas.List.{map-append, take_more, append-nil, take-append-drop}
 use Rattle.std.proofs.lemmas.List.Elements.{filter_map-append}
 use Rattle.std.proofs.lemmas.Str.Pattern.{starts_text}
@@ -12,7 +12,7 @@ use Rattle.apei_cli.specs.Decimals.{IsNumber}
 use Rattle.apei_cli.specs.declared.job.Job.{Job}
 use Rattle.apei_cli.specs.declared.job.Job.TheVariants.{Sim}
 use Rattle.apei_cli.specs.declared.job.Plan.{Plan}
-use Rattle.apei_cli.specs.Plan.{IsPlanOf, IsGiven, IsGivenOr, behind, values_of, texts_of}
+use Rattle.apei_cli.specs.Plan.{IsPlanOf, IsGiven, IsGivenOr, IsSteps, behind, values_of, texts_of}
 
 -- what is left of a word without an option's name
 stripped : (name word : List ℕ) (r : Option (Bor (List ℕ))) → MatchOption r (FindsTextPrefix name word None) (λ x. StripsPrefix (FindsTextPrefix name) word x.now)
@@ -135,15 +135,33 @@ given_once_or name words default one other (inl a) (inr b) = let e : Some one �
 given_once_or name words default one other (inr a) (inl b) = let e : None ≡ Some other = given_once name words None (Some other) a.0 b in absurd (cc e)
 given_once_or name words default one other (inr a) (inr b) = a.1 ∙ sym b.1
 
+-- the steps that words give are what they give the option
+steps_given : (words : List (List ℕ)) (given : Option ℕ) → IsSteps words given → IsGiven (codes "--steps=") words given
+steps_given words None steps = steps
+steps_given words (Some n) steps = steps.0
+
+-- words that give a line no number of 32 bits give it no steps
+pub too_many_steps : (words : List (List ℕ)) (n : ℕ) → IsGiven (codes "--steps=") words (Some n) → (n < 2 ^ 32 → ⊥) → (given : Option ℕ) → ¬ IsSteps words given
+too_many_steps words n one large None steps = let e : None ≡ Some n = given_once (codes "--steps=") words None (Some n) steps one in absurd (cc e)
+too_many_steps words n one large (Some m) steps =
+    let e : Some m ≡ Some n = given_once (codes "--steps=") words (Some m) (Some n) steps.0 one in
+    let same : m ≡ n = cc e in
+    large (subst (λ (k : ℕ). k < 2 ^ 32) same steps.1)
+
+pub no_steps : (words : List (List ℕ)) → ((given : Option ℕ) → ¬ IsGiven (codes "--steps=") words given) → (given : Option ℕ) → ¬ IsSteps words given
+no_steps words none given steps = none given (steps_given words given steps)
+
 -- words have one plan
 pub same_plan : (words : List (String Global)) (one other : Plan) → IsPlanOf words one → IsPlanOf words other → one ≡ other
 same_plan words one other a b =
     let texts : List (List ℕ) = texts_of words in
-    same_fields one.job other.job one.sector other.sector one.per_slot other.per_slot one.slots other.slots one.fail other.fail one.fail_read other.fail_read one.torn other.torn
+    same_fields one.job other.job one.sector other.sector one.per_slot other.per_slot one.slots other.slots one.steps other.steps one.cut other.cut one.fail other.fail one.fail_read other.fail_read one.torn other.torn
     (only_job one.job other.job)
     (given_once_or (codes "--sector=") texts 4096 one.sector other.sector a.sector b.sector)
     (given_once_or (codes "--per-slot=") texts 2 one.per_slot other.per_slot a.per_slot b.per_slot)
     (given_once_or (codes "--slots=") texts 32 one.slots other.slots a.slots b.slots)
+    (given_once (codes "--steps=") texts one.steps other.steps (steps_given texts one.steps a.steps) (steps_given texts other.steps b.steps))
+    (given_once (codes "--cut=") texts one.cut other.cut a.cut b.cut)
     (given_once (codes "--fail=") texts one.fail other.fail a.fail b.fail)
     (given_once (codes "--fail-read=") texts one.fail_read other.fail_read a.fail_read b.fail_read)
     (given_once_or (codes "--torn=") texts 0 one.torn other.torn a.torn.0 b.torn.0)
@@ -151,10 +169,20 @@ same_plan words one other a b =
     only_job : (x y : Job) → x ≡ y
     only_job Sim Sim = refl
 
-    plan_of : Job → ℕ → ℕ → ℕ → Option ℕ → Option ℕ → ℕ → Plan
-    plan_of job sector per_slot slots fail fail_read torn = record { job = job; sector = sector; per_slot = per_slot; slots = slots; fail = fail; fail_read = fail_read; torn = torn }
+    plan_of : Job → ℕ → ℕ → ℕ → Option ℕ → Option ℕ → Option ℕ → Option ℕ → ℕ → Plan
+    plan_of job sector per_slot slots steps cut fail fail_read torn = record {
+      job = job;
+      sector = sector;
+      per_slot = per_slot;
+      slots = slots;
+      steps = steps;
+      cut = cut;
+      fail = fail;
+      fail_read = fail_read;
+      torn = torn;
+    }
 
-    same_fields : (job job' : Job) (sector sector' per_slot per_slot' slots slots' : ℕ) (fail fail' fail_read fail_read' : Option ℕ) (torn torn' : ℕ)
-        → job ≡ job' → sector ≡ sector' → per_slot ≡ per_slot' → slots ≡ slots' → fail ≡ fail' → fail_read ≡ fail_read' → torn ≡ torn'
-        → plan_of job sector per_slot slots fail fail_read torn ≡ plan_of job' sector' per_slot' slots' fail' fail_read' torn'
-    same_fields job job' sector sector' per_slot per_slot' slots slots' fail fail' fail_read fail_read' torn torn' e1 e2 e3 e4 e5 e6 e7 = cc
+    same_fields : (job job' : Job) (sector sector' per_slot per_slot' slots slots' : ℕ) (steps steps' cut cut' fail fail' fail_read fail_read' : Option ℕ) (torn torn' : ℕ)
+        → job ≡ job' → sector ≡ sector' → per_slot ≡ per_slot' → slots ≡ slots' → steps ≡ steps' → cut ≡ cut' → fail ≡ fail' → fail_read ≡ fail_read' → torn ≡ torn'
+        → plan_of job sector per_slot slots steps cut fail fail_read torn ≡ plan_of job' sector' per_slot' slots' steps' cut' fail' fail_read' torn'
+    same_fields job job' sector sector' per_slot per_slot' slots slots' steps steps' cut cut' fail fail' fail_read fail_read' torn torn' e1 e2 e3 e4 e5 e6 e7 e8 e9 = cc

@@ -1,10 +1,5 @@
 pub mod Lines
-pub mod Script
-pub mod Replies
-pub mod Parsed
-pub mod Plays
-pub mod Records
-pub mod Refusals
+pub mod Played
 pub mod Statuses
 pub mod Runs
 pub mod Numbers

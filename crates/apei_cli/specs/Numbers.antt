@@ -1,11 +1,12 @@
 -- The exit number of each status.
 use Rattle.std.specs.Prelude.{ℕ}
 use Rattle.apei_cli.specs.declared.status.Status.{Status}
-use Rattle.apei_cli.specs.declared.status.Status.TheVariants.{Done, BadWords, SourceFault, SinkFault, FlashFault, BadGeometry, TooLong, Memory, NotYet}
+use Rattle.apei_cli.specs.declared.status.Status.TheVariants.{Done, BadWords, BadLine, SourceFault, SinkFault, FlashFault, BadGeometry, TooLong, Memory, NotYet}
 
 abbrev pub exit_number : Status → ℕ
 exit_number Done = 0
 exit_number BadWords = 1
+exit_number (BadLine line column) = 2
 exit_number SourceFault = 3
 exit_number SinkFault = 4
 exit_number FlashFault = 5

@@ -8,7 +8,7 @@ use Rattle.apei_cli.specs.declared.job.PlanError.TheVariants.{BadWords}
 
 -- the options' names, each with the sign before its value
 abbrev pub option_names : List (List ℕ)
-option_names = codes "--sector=" ∷ codes "--per-slot=" ∷ codes "--slots=" ∷ codes "--fail=" ∷ codes "--fail-read=" ∷ codes "--torn=" ∷ []
+option_names = codes "--sector=" ∷ codes "--per-slot=" ∷ codes "--slots=" ∷ codes "--steps=" ∷ codes "--cut=" ∷ codes "--fail=" ∷ codes "--fail-read=" ∷ codes "--torn=" ∷ []
 
 abbrev pub is_job : List ℕ → Bool
 is_job word = bytes_eq word (codes "sim")
@@ -38,6 +38,11 @@ IsGivenOr default name words n = IsGiven name words (Some n) ⊎ (IsGiven name w
 abbrev pub IsTorn : List (List ℕ) → ℕ → Type 0
 IsTorn words n = IsGivenOr 0 (codes "--torn=") words n × (n ≤ 3)
 
+-- the words give the steps of a line this number, which has 32 bits, or none
+abbrev pub IsSteps : List (List ℕ) → Option ℕ → Type 0
+IsSteps words None = IsGiven (codes "--steps=") words None
+IsSteps words (Some n) = IsGiven (codes "--steps=") words (Some n) × (n < 2 ^ 32)
+
 abbrev pub texts_of : List (String Global) → List (List ℕ)
 texts_of words = map string_bytes words
 
@@ -52,6 +57,8 @@ pub record IsPlanOf (words : List (String Global)) (plan : Plan) : Type 0 where
   pub sector : IsGivenOr 4096 (codes "--sector=") (texts_of words) plan.sector
   pub per_slot : IsGivenOr 2 (codes "--per-slot=") (texts_of words) plan.per_slot
   pub slots : IsGivenOr 32 (codes "--slots=") (texts_of words) plan.slots
+  pub steps : IsSteps (texts_of words) plan.steps
+  pub cut : IsGiven (codes "--cut=") (texts_of words) plan.cut
   pub fail : IsGiven (codes "--fail=") (texts_of words) plan.fail
   pub fail_read : IsGiven (codes "--fail-read=") (texts_of words) plan.fail_read
   pub torn : IsTorn (texts_of words) plan.torn

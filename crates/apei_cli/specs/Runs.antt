@@ -1,30 +1,32 @@
 -- What a run of the program over a script leaves.
-use Rattle.std.specs.Prelude.{◌≡◌, ◌≤◌, ◌⊎◌, ℕ, ◌+◌, ◌-◌, ◌*◌, List, String, None}
+use Rattle.std.specs.Prelude.{◌≡◌, ◌≤◌, ◌⊎◌, ℕ, ◌*◌, Bool, true, List, [], ◌∷◌, map, length, String, None}
 use Rattle.std.specs.declared.alloc.Global.{Global}
 use Rattle.base_model.specs.Faults.{Rose}
-use Rattle.flash_words.specs.Flash.{FlashState}
-use Rattle.flash_words.specs.Layout.{Layout, reach_of}
+use Rattle.flash_words.specs.Flash.{FlashState, CrashImage, IsLater}
+use Rattle.flash_words.specs.Layout.{Layout}
 use Rattle.flash_model.specs.Limits.{IsGeometry}
+use Rattle.flash_model.specs.Layouts.{layout_of}
+use Rattle.flash_model.specs.declared.geometry.Geometry.{Geometry}
 use Rattle.record_model.specs.Records.{second_copies}
-use Rattle.record_model.specs.History.{Played, ended_last, IsHistory}
-use Rattle.record_store.specs.Store.{records_of}
+use Rattle.record_store.specs.Store.{records_of, KeepsRecordsOf}
+use Rattle.apei_space.specs.Accesses.{Move, Trail}
+use Rattle.erst_device.specs.Timings.{timings_of}
+use Rattle.erst_machine.specs.Boots.{IsBooted}
+use Rattle.erst_machine.specs.MachineState.{MachineState}
+use Rattle.erst_machine.specs.Events.{Event, Happens}
+use Rattle.erst_machine.specs.Shown.{Shows as ShowsMoves, made_by_event}
+use Rattle.erst_commands.specs.OwnPrograms.{with_value}
+use Rattle.erst_commands.specs.Attached.{own_client}
+use Rattle.apei_script.specs.Players.{PlayerState, UsesOwn, player_of}
+use Rattle.apei_script.specs.Plays.{SaysHardware, Told, HasHappened, names_command}
+use Rattle.apei_script.specs.History.{Played, Follows, Shows, ShowsEach, AreOwnLines, blocks_of, heard_after}
 use Rattle.apei_cli.specs.Lines.{lines_of}
 use Rattle.apei_cli.specs.Plan.{IsPlanOf, AreBad}
+use Rattle.apei_cli.specs.Played.{ArePlayable}
+use Rattle.apei_cli.specs.Statuses.{EndsBy, LeavesLast, WritesReplies}
 use Rattle.apei_cli.specs.declared.job.Plan.{Plan}
-use Rattle.apei_cli.specs.Plays.{longest_of, HasHardware, TakeEach, Plays, ArePlayable}
-use Rattle.apei_cli.specs.Statuses.{EndsBy, WritesReplies}
 use Rattle.apei_cli.specs.declared.status.Status.{Status}
-use Rattle.apei_cli.specs.declared.status.Status.TheVariants.{Done, BadWords, SourceFault, SinkFault, FlashFault, BadGeometry, TooLong, Memory, NotYet}
-
--- the layout of a plan's numbers
-pub record IsLayoutOf (plan : Plan) (layout : Layout) : Type 0 where
-  pub sector : layout.sector ≡ plan.sector
-  pub per_slot : layout.per_slot ≡ plan.per_slot
-  pub slots : layout.slots ≡ plan.slots
-
--- the length of the longest record of a store of these numbers
-abbrev pub longest_by : Plan → ℕ
-longest_by plan = reach_of (plan.sector * plan.per_slot - 64)
+use Rattle.apei_cli.specs.declared.status.Status.TheVariants.{Done, BadWords, BadLine, SourceFault, SinkFault, FlashFault, BadGeometry, TooLong, Memory, NotYet}
 
 -- the geometry is within its limits, and the flash has its size and its sector size
 pub record HasGeometry (plan : Plan) (flash : FlashState) : Type 0 where
@@ -32,51 +34,97 @@ pub record HasGeometry (plan : Plan) (flash : FlashState) : Type 0 where
   pub size : flash.size ≡ plan.sector * plan.per_slot * plan.slots
   pub sector_size : flash.sector_size ≡ plan.sector
 
--- the commands on a store that was just opened: their lines are those that the status says, and what was written are
--- their replies
-pub record PlaysScript (told_source told_sink told_flash : Type 0) (layout : Layout) (script rest written written_now : List ℕ) (old new : FlashState) (status : Status) : Type 0 where
-  pub commands : List Played
-  pub plays : Plays told_flash None layout 0 old new commands
-  pub lines : told_source → EndsBy (longest_of layout) script rest commands status
-  pub text : told_sink → WritesReplies commands written written_now status
+-- the geometry of a plan
+pub record IsGeometryOf (plan : Plan) (geometry : Geometry) : Type 0 where
+  pub sector : geometry.sector ≡ plan.sector
+  pub per_slot : geometry.per_slot ≡ plan.per_slot
+  pub slots : geometry.slots ≡ plan.slots
 
--- the step at which the opening of a store ends: it takes one for each upright slot that is not the first slot of its
--- identifier's record
-abbrev pub opened_at : Layout → FlashState → ℕ
-opened_at layout old = old.steps + second_copies layout.slot_size layout.slots old.told.image
+-- the player of a machine that was just booted, once a client attached to the machine's own table, which leaves its timings in VALUE
+abbrev pub first_player : Plan → MachineState → PlayerState
+first_player plan booted = player_of (with_value (timings_of booted.device.store.layout) booted) (own_client booted) plan.steps
 
--- a status that comes before the script is read
-abbrev pub ComesFirst : Status → Type 0
-ComesFirst Done = ⊥
-ComesFirst BadWords = Unit {0}
-ComesFirst SourceFault = ⊥
-ComesFirst SinkFault = ⊥
-ComesFirst FlashFault = Unit {0}
-ComesFirst (BadGeometry sector per_slot slots size) = Unit {0}
-ComesFirst (TooLong line) = ⊥
-ComesFirst Memory = Unit {0}
-ComesFirst (NotYet line) = ⊥
+-- in some line a command by the machine's own table was answered that the flash failed
+abbrev pub SomeFailed : PlayerState → List Played → Type 0
+SomeFailed state [] = ⊥
+SomeFailed state (played ∷ rest) = (UsesOwn state × (names_command played.line ≡ true) × SaysHardware played.said) ⊎ SomeFailed played.left rest
 
--- a status that comes before the flash is read or changed
-abbrev pub LeavesFlash : Status → Type 0
-LeavesFlash FlashFault = ⊥
-LeavesFlash status = ComesFirst status
+-- a status that may come before the machine is booted
+abbrev pub MayComeFirst : Status → Type 0
+MayComeFirst BadWords = Unit {0}
+MayComeFirst FlashFault = Unit {0}
+MayComeFirst (BadGeometry sector per_slot slots size) = Unit {0}
+MayComeFirst Memory = Unit {0}
+MayComeFirst status = ⊥
 
--- The commands of a run. They are the history of the flash, their lines are those that the status says, and what was
--- written are their replies. From the opening on each command takes exactly the steps that the map gives it, and those that
--- end the doubt behind a `hardware`, whatever came before it. The last one ended at the flash's last step: nothing is
--- changed behind it. Where the flash's count of faults did not rise no reply says `hardware`.
-pub record IsRun (told_source told_sink told_flash : Type 0) (plan : Plan) (script rest written written_now : List ℕ) (old new : FlashState) (status : Status) : Type 0 where
-  pub commands : List Played
-  pub history : told_flash → (layout : Layout) → IsLayoutOf plan layout → IsHistory layout 0 (records_of layout) old.told new.told commands
-  pub steps : told_flash → (layout : Layout) → IsLayoutOf plan layout
-      → TakeEach layout new.told (opened_at layout old) None commands (records_of layout old.told.image)
-  pub ended : ended_last new.steps commands ≡ new.steps
-  pub opened : told_flash → (layout : Layout) → IsLayoutOf plan layout → ¬ ComesFirst status
-      → ended_last (opened_at layout old) commands ≡ new.steps
-  pub cause : HasHardware commands → Rose old.faults new.faults
-  pub lines : told_source → EndsBy (longest_by plan) script rest commands status
-  pub text : told_sink → WritesReplies commands written written_now status
+-- and one that comes before the flash is touched
+abbrev pub ComesBeforeBoot : Status → Type 0
+ComesBeforeBoot BadWords = Unit {0}
+ComesBeforeBoot (BadGeometry sector per_slot slots size) = Unit {0}
+ComesBeforeBoot status = ⊥
+
+-- No line was played: neither script nor output was touched (`untouched`), and the flash, where the boot was tried, holds its records
+-- whatever power lost on the way left
+pub record HasNotBegun (tells untouched : Type 0) (plan : Plan) (old new : FlashState) (status : Status) : Type 0 where
+  pub first : MayComeFirst status
+  pub untouched_is : untouched
+  pub flash : ComesBeforeBoot status → new ≡ old
+  pub kept : tells → (geometry : Geometry) → IsGeometryOf plan geometry → KeepsRecordsOf geometry old new
+
+-- The machine was booted and lines were played: a chain of players, one a line, each with what was replied. The flash at the end is that of
+-- the last of them, so that nothing is changed behind it. What was written are the replies
+pub record HasPlayed {L : Type 0} (interest : L → ℕ → Bool) (hearings : L → ℕ) (heard_last : L → ℕ → List ℕ → Type 0)
+    (told_source told_sink tells : Type 0) (plan : Plan) (script rest written written_now : List ℕ) (listeners listeners_now : List L) (old new : FlashState) (status : Status) : Type 0 where
+  pub geometry : Geometry
+  pub geometry_of : IsGeometryOf plan geometry
+  pub booted : MachineState
+  pub is_booted : IsBooted geometry booted
+  pub boot_steps : tells → booted.device.store.flash.steps ≡ old.steps + second_copies geometry.slot_size geometry.slots old.told.image
+  pub boot_kept : tells → KeepsRecordsOf geometry old booted.device.store.flash
+  pub played : List Played
+  pub last : PlayerState
+  pub final : MachineState
+  pub history : Follows tells (map interest listeners) (map hearings listeners) (first_player plan booted) played last
+  pub lines : told_source → EndsBy tells script rest played last.machine final status
+  pub text : told_sink → WritesReplies played written written_now status
+  pub behind : LeavesLast last.machine final status
+  pub flash : final.device.store.flash ≡ new
+  -- the listeners were told of the blocks that were taken, each in its place, and of no other
+  pub told : Told interest hearings heard_last (blocks_of played) listeners listeners_now
+  pub heard : map hearings listeners_now ≡ heard_after (map interest listeners) (blocks_of played) (map hearings listeners)
+  -- a command says that the flash failed only where its count of faults rose in the run
+  pub cause : SomeFailed (first_player plan booted) played → Rose old.faults new.faults
+  -- at the step at which each line ended, the image showed the records that it leaves
+  pub later : tells → IsLater old.told new.told
+  pub each : tells → ShowsEach last (first_player plan booted) played
+  -- in a script without lines that run an action or give a table, power lost at any step shows the records after the lines that had ended
+  -- by then, or as the next one leaves them
+  pub crash : tells → AreOwnLines played → (s : ℕ) (image : List ℕ) → length old.told.past ≤ s → CrashImage new.told s image
+      → Shows s (first_player plan booted) played (records_of (layout_of geometry) image)
+  -- in any script, the records after the accesses and restarts that had ended by then, or as the next one leaves them, with a fault or without
+  pub any : tells → (trail : List (Move Event MachineState)) × Trail (Happens tells) (first_player plan booted).machine trail final
+      × ((s : ℕ) (image : List ℕ) → length old.told.past ≤ s → CrashImage new.told s image
+      → ShowsMoves made_by_event s (first_player plan booted).machine trail (records_of (layout_of geometry) image))
+
+-- the lines that a player played from the start of a script on: a chain of players, one a line
+pub record PlaysScript {L : Type 0} (interest : L → ℕ → Bool) (hearings : L → ℕ) (heard_last : L → ℕ → List ℕ → Type 0)
+    (told_source told_sink tells : Type 0) (script rest written written_now : List ℕ) (listeners listeners_now : List L) (old new : PlayerState) (status : Status) : Type 0 where
+  pub played : List Played
+  pub last : PlayerState
+  pub history : Follows tells (map interest listeners) (map hearings listeners) old played last
+  pub lines : told_source → EndsBy tells script rest played last.machine new.machine status
+  pub text : told_sink → WritesReplies played written written_now status
+  pub behind : LeavesLast last.machine new.machine status
+  pub told : Told interest hearings heard_last (blocks_of played) listeners listeners_now
+  pub fault : status ≡ FlashFault → HasHappened tells last.machine new.machine × Rose last.machine.device.store.flash.faults new.machine.device.store.flash.faults
+
+-- a run of a plan
+pub data IsRun {L : Type 0} (interest : L → ℕ → Bool) (hearings : L → ℕ) (heard_last : L → ℕ → List ℕ → Type 0)
+    (told_source told_sink tells untouched : Type 0) (plan : Plan) (script rest written written_now : List ℕ) (listeners listeners_now : List L) (old new : FlashState) (status : Status) : Type 0 where
+  NotBegun : listeners_now ≡ listeners → HasNotBegun tells untouched plan old new status
+      → IsRun interest hearings heard_last told_source told_sink tells untouched plan script rest written written_now listeners listeners_now old new status
+  Begun : HasPlayed interest hearings heard_last told_source told_sink tells plan script rest written written_now listeners listeners_now old new status
+      → IsRun interest hearings heard_last told_source told_sink tells untouched plan script rest written written_now listeners listeners_now old new status
 
 -- a status that says that a fault was met comes only where the count rose, and every other one leaves the count of the
 -- source and of the sink
@@ -95,7 +143,7 @@ HasFlashCause before after status = before ≤ after
 -- the geometry of a plan is refused exactly where it is outside its limits or not the flash's; want of memory aside
 abbrev pub IsOnGeometry : Plan → FlashState → Status → Type 0
 IsOnGeometry plan flash (BadGeometry sector per_slot slots size) =
-    ¬ HasGeometry plan flash × (sector ≡ plan.sector) × (per_slot ≡ plan.per_slot) × (slots ≡ plan.slots) × (size ≡ flash.size)
+    (HasGeometry plan flash → ⊥) × (sector ≡ plan.sector) × (per_slot ≡ plan.per_slot) × (slots ≡ plan.slots) × (size ≡ flash.size)
 IsOnGeometry plan flash BadWords = ⊥
 IsOnGeometry plan flash Memory = Unit {0}
 IsOnGeometry plan flash status = HasGeometry plan flash
@@ -103,14 +151,11 @@ IsOnGeometry plan flash status = HasGeometry plan flash
 -- a run that ends by itself: the script was read to its end, there was no memory, or one of its lines stopped it
 abbrev pub EndsByItself : Status → Type 0
 EndsByItself Done = Unit {0}
-EndsByItself BadWords = ⊥
-EndsByItself SourceFault = ⊥
-EndsByItself SinkFault = ⊥
-EndsByItself FlashFault = ⊥
-EndsByItself (BadGeometry sector per_slot slots size) = ⊥
+EndsByItself (BadLine line column) = Unit {0}
 EndsByItself (TooLong line) = Unit {0}
 EndsByItself Memory = Unit {0}
 EndsByItself (NotYet line) = Unit {0}
+EndsByItself status = ⊥
 
 -- the words are refused exactly where they are not of the program's form, and their geometry where it is not the flash's;
 -- want of memory aside
@@ -123,11 +168,11 @@ IsAdmitted words flash status = (plan : Plan) × (IsPlanOf words plan × IsOnGeo
 -- ends by itself
 abbrev pub IsComplete : List (String Global) → FlashState → Type 0 → Type 0 → Type 0 → Status → Type 0
 IsComplete words flash source_rose sink_rose flash_rose status =
-    (plan : Plan) → IsPlanOf words plan → HasGeometry plan flash → ¬ source_rose → ¬ sink_rose → ¬ flash_rose → EndsByItself status
+    (plan : Plan) → IsPlanOf words plan → HasGeometry plan flash → (source_rose → ⊥) → (sink_rose → ⊥) → (flash_rose → ⊥) → EndsByItself status
 
 -- with such words and geometry, where each line is built and within the lengths, and where no fault was counted, the script
 -- is read to its end
 abbrev pub IsDoneWhere : List (String Global) → FlashState → List ℕ → Type 0 → Type 0 → Type 0 → Status → Type 0
 IsDoneWhere words flash script source_rose sink_rose flash_rose status =
     (plan : Plan) → IsPlanOf words plan → HasGeometry plan flash → ArePlayable (lines_of 0 script)
-    → ¬ source_rose → ¬ sink_rose → ¬ flash_rose → (status ≡ Done) ⊎ (status ≡ Memory)
+    → (source_rose → ⊥) → (sink_rose → ⊥) → (flash_rose → ⊥) → (status ≡ Done) ⊎ (status ≡ Memory)

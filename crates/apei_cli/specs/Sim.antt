@@ -1,6 +1,7 @@
 -- The simulated flash of a plan.
 use Rattle.std.specs.Prelude.{◌≡◌, ℕ, ◌*◌, ◌==◌, if◌then◌else◌, List, [], ◌∷◌, replicate, Option, Some, None, option_to_list}
 use Rattle.flash_model.specs.Simulation.{Simulation, first_power}
+use Rattle.flash_model.specs.declared.cut.Cut.{Cut}
 use Rattle.flash_model.specs.declared.tear.Tear.{Tear}
 use Rattle.flash_model.specs.declared.tear.Tear.TheVariants.{Nothing, Whole, Zeros, Marks}
 use Rattle.apei_cli.specs.declared.job.Plan.{Plan}
@@ -14,12 +15,17 @@ abbrev pub failing_of : Option ℕ → ℕ → List (ℕ × Tear)
 failing_of None torn = []
 failing_of (Some step) torn = (step, tear_numbered torn) ∷ []
 
--- a flash that was not used yet, with a sector size and an image: it fails where the plan says, and power stays
+-- the change in which power is lost
+abbrev pub cut_of : Option ℕ → ℕ → Option Cut
+cut_of None torn = None
+cut_of (Some step) torn = Some (record { step = step; tear = tear_numbered torn })
+
+-- a flash that was not used yet, with a sector size and an image: it fails and loses power where the plan says
 abbrev pub new_flash : Plan → ℕ → List ℕ → Simulation
 new_flash plan sector image = record {
   told = record { past = []; image = image };
   sector_size = sector;
-  power = first_power None;
+  power = first_power (cut_of plan.cut plan.torn);
   failing = failing_of plan.fail plan.torn;
   failing_reads = option_to_list plan.fail_read;
   reads = 0;

@@ -1,64 +1,115 @@
 -- What each status of a run says of its script.
-use Rattle.std.specs.Prelude.{◌≡◌, ℕ, ◌+◌, List, [], ◌∷◌, ◌++◌, length}
-use Rattle.record_model.specs.History.{Played}
+use Rattle.std.specs.Prelude.{◌≡◌, ◌⊎◌, ℕ, ◌+◌, List, [], ◌∷◌, ◌++◌, length}
+use Rattle.line_grammar.specs.Columns.{BreaksAt}
+use Rattle.erst_machine.specs.MachineState.{MachineState}
+use Rattle.script_text.specs.ScriptGrammar.{Line as ScriptLine, IsLine, table}
+use Rattle.apei_script.specs.Players.{PlayerState}
+use Rattle.apei_script.specs.Plays.{IsBuilt, IsCutShort, FailsRestart, PartlySaid, step_of}
+use Rattle.apei_script.specs.History.{Played, text_of}
 use Rattle.apei_cli.specs.Lines.{Line, lines_of, ended_lines_of, IsTooLong}
-use Rattle.apei_cli.specs.Script.{command_in, IsBuilt}
-use Rattle.apei_cli.specs.Replies.{text_of}
-use Rattle.apei_cli.specs.Plays.{AreOf, PartlyWritten}
+use Rattle.apei_cli.specs.Played.{Means, IsPlayable, ArePlayed}
 use Rattle.apei_cli.specs.declared.status.Status.{Status}
-use Rattle.apei_cli.specs.declared.status.Status.TheVariants.{Done, BadWords, SourceFault, SinkFault, FlashFault, BadGeometry, TooLong, Memory, NotYet}
+use Rattle.apei_cli.specs.declared.status.Status.TheVariants.{Done, BadWords, BadLine, SourceFault, SinkFault, FlashFault, BadGeometry, TooLong, Memory, NotYet}
 
 -- the lines before one of the script were played, and what that line is
-pub record StopsAt (reach : ℕ) (script : List ℕ) (commands : List Played) (number : ℕ) (line : Line) : Type 0 where
+pub record StopsAt (script : List ℕ) (played : List Played) (number : ℕ) (line : Line) : Type 0 where
   pub before : List Line
   pub behind : List Line
   pub lines : lines_of 0 script ≡ before ++ line ∷ behind
   pub numbered : number ≡ length before + 1
-  pub played : AreOf reach before commands
+  pub are : ArePlayed before played
 
 -- the script was played to its end
-pub record PlaysAll (reach : ℕ) (script rest : List ℕ) (commands : List Played) : Type 0 where
+pub record PlaysAll (script rest : List ℕ) (played : List Played) : Type 0 where
   pub all_read : rest ≡ []
-  pub played : AreOf reach (lines_of 0 script) commands
+  pub are : ArePlayed (lines_of 0 script) played
 
 -- the lines whose newline was taken from the source were played
-pub record PlaysTaken (reach : ℕ) (script rest : List ℕ) (commands : List Played) : Type 0 where
+pub record PlaysTaken (script rest : List ℕ) (played : List Played) : Type 0 where
   pub taken : List ℕ
   pub source : script ≡ taken ++ rest
-  pub played : AreOf reach (ended_lines_of 0 taken) commands
+  pub are : ArePlayed (ended_lines_of 0 taken) played
 
--- the first lines were played
-pub record PlaysSome (reach : ℕ) (script : List ℕ) (commands : List Played) : Type 0 where
+-- the lines before one of the script were played, and that one too; it may be left after some of its turns
+pub record PlaysUpTo (script : List ℕ) (played : List Played) : Type 0 where
   pub before : List Line
-  pub behind : List Line
-  pub lines : lines_of 0 script ≡ before ++ behind
-  pub played : AreOf reach before commands
-
-pub record StopsTooLong (reach : ℕ) (script : List ℕ) (commands : List Played) (number : ℕ) : Type 0 where
   pub line : Line
-  pub stops : StopsAt reach script commands number line
+  pub behind : List Line
+  pub lines : lines_of 0 script ≡ before ++ line ∷ behind
+  pub first : List Played
+  pub last : Played
+  pub played_is : played ≡ first ++ last ∷ []
+  pub are : ArePlayed before first
+  pub whole : ScriptLine
+  pub is : IsPlayable line whole
+  pub cut : IsCutShort whole last.line
+
+-- a line is too long
+pub record StopsTooLong (script : List ℕ) (played : List Played) (number : ℕ) : Type 0 where
+  pub line : Line
+  pub stops : StopsAt script played number line
   pub too_long : IsTooLong line
 
-pub record StopsNotBuilt (reach : ℕ) (script : List ℕ) (commands : List Played) (number : ℕ) : Type 0 where
+-- a text is no line of a script, from this column on
+pub record StopsBad (script : List ℕ) (played : List Played) (number column : ℕ) : Type 0 where
   pub line : Line
-  pub stops : StopsAt reach script commands number line
-  pub within : ¬ IsTooLong line
-  pub other : ¬ IsBuilt (command_in line.text)
+  pub stops : StopsAt script played number line
+  pub within : IsTooLong line → ⊥
+  pub breaks : BreaksAt IsLine line.text column
 
--- the lines of the script that were played, by the status
-abbrev pub EndsBy : ℕ → List ℕ → List ℕ → List Played → Status → Type 0
-EndsBy reach script rest commands Done = PlaysAll reach script rest commands
-EndsBy reach script rest commands SourceFault = PlaysTaken reach script rest commands
-EndsBy reach script rest commands SinkFault = PlaysSome reach script commands
-EndsBy reach script rest commands (TooLong number) = StopsTooLong reach script commands number
-EndsBy reach script rest commands (NotYet number) = StopsNotBuilt reach script commands number
-EndsBy reach script rest commands BadWords = commands ≡ []
-EndsBy reach script rest commands FlashFault = commands ≡ []
-EndsBy reach script rest commands (BadGeometry sector per_slot slots size) = commands ≡ []
-EndsBy reach script rest commands Memory = commands ≡ []
+-- a line is not built
+pub record StopsNotBuilt (script : List ℕ) (played : List Played) (number : ℕ) : Type 0 where
+  pub line : Line
+  pub stops : StopsAt script played number line
+  pub within : IsTooLong line → ⊥
+  pub asked : ScriptLine
+  pub means : Means line.text asked
+  pub not_built : IsBuilt asked → ⊥
 
--- what was written in a run, by the status: the replies to its commands, and where the sink failed not the whole of the
--- last one
+-- the flash failed in the restart of a line
+pub record StopsInRestart (tells : Type 0) (script : List ℕ) (played : List Played) (last final : MachineState) : Type 0 where
+  pub line : Line
+  pub number : ℕ
+  pub stops : StopsAt script played number line
+  pub asked : ScriptLine
+  pub is : IsPlayable line asked
+  pub fails : FailsRestart tells last asked final
+
+-- there was no memory for the table of a line
+pub record StopsAtTable (script : List ℕ) (played : List Played) : Type 0 where
+  pub line : Line
+  pub number : ℕ
+  pub stops : StopsAt script played number line
+  pub hex : List ℕ
+  pub is : IsPlayable line (table hex)
+
+-- the lines of the script that were played once the machine was booted, by the status; `last` is the machine after them, and `final` the
+-- one that is left
+abbrev pub EndsBy : Type 0 → List ℕ → List ℕ → List Played → MachineState → MachineState → Status → Type 0
+EndsBy tells script rest played last final Done = PlaysAll script rest played
+EndsBy tells script rest played last final BadWords = ⊥
+EndsBy tells script rest played last final (BadLine number column) = StopsBad script played number column
+EndsBy tells script rest played last final SourceFault = PlaysTaken script rest played
+EndsBy tells script rest played last final SinkFault = PlaysUpTo script played
+EndsBy tells script rest played last final FlashFault = StopsInRestart tells script played last final
+EndsBy tells script rest played last final (BadGeometry sector per_slot slots size) = ⊥
+EndsBy tells script rest played last final (TooLong number) = StopsTooLong script played number
+EndsBy tells script rest played last final Memory = StopsAtTable script played
+EndsBy tells script rest played last final (NotYet number) = StopsNotBuilt script played number
+
+-- nothing happens to the machine behind the last line, but where the flash failed in a restart
+abbrev pub LeavesLast : MachineState → MachineState → Status → Type 0
+LeavesLast last final FlashFault = Unit {0}
+LeavesLast last final status = final ≡ last
+
+-- the replies were written, but for the last line: of its replies those up to one, and a part of that one
+pub record PartlyWritten (played : List Played) (written written_now : List ℕ) : Type 0 where
+  pub first : List Played
+  pub last : Played
+  pub played_is : played ≡ first ++ last ∷ []
+  pub text : PartlySaid (step_of last.left) last.said (written ++ text_of first) written_now
+
+-- what was written, by the status: the replies to the lines that were played, and where the sink failed not the whole of them
 abbrev pub WritesReplies : List Played → List ℕ → List ℕ → Status → Type 0
-WritesReplies commands written written_now SinkFault = PartlyWritten commands written written_now
-WritesReplies commands written written_now status = written_now ≡ written ++ text_of commands
+WritesReplies played written written_now SinkFault = PartlyWritten played written written_now
+WritesReplies played written written_now status = written_now ≡ written ++ text_of played

@@ -18,11 +18,15 @@ pub struct Plan {
     /// The sectors of a slot.
     pub per_slot: u64,
     pub slots: u64,
+    /// The steps that each line is given; none for as many as are enough.
+    pub steps: Option<u64>,
+    /// The number of the flash's change in which power is lost, from 0.
+    pub cut: Option<u64>,
     /// The number of the flash's change that fails, from 0.
     pub fail: Option<u64>,
     /// The number of the flash's read that fails, from 0.
     pub fail_read: Option<u64>,
-    /// How the failing change is torn, by number from 0 to 3.
+    /// How the failing change and the one in which power is lost are torn, by number from 0 to 3.
     pub torn: u8,
 }
 

@@ -4,10 +4,7 @@
 mod job;
 mod lines;
 mod number;
-mod player;
 mod program;
-mod reply;
-mod script_line;
 mod sim;
 mod status;
 #[cfg(test)]

@@ -1,34 +1,44 @@
 // The program's top call.
 ghost use Rattle.std.specs.Prelude.{◌≡◌, ℕ, [], false};
 ghost use Rattle.base_model.specs.Faults.{Rose};
-ghost use Rattle.record_store.specs.Store.{IsReady};
+ghost use Rattle.apei_notify.specs.Chains.{members_of};
+ghost use Rattle.apei_script.specs.Desks.{state_of};
 ghost use Rattle.apei_cli.specs.Plan.{IsPlanOf};
-ghost use Rattle.apei_cli.specs.Runs.{PlaysScript, IsRun, IsOnGeometry, IsAdmitted, HasSourceCause, HasSinkCause, HasFlashCause, ComesFirst, LeavesFlash, IsComplete, IsDoneWhere};
+ghost use Rattle.apei_cli.specs.Runs.{PlaysScript, IsRun, IsOnGeometry, IsAdmitted, HasSourceCause, HasSinkCause, HasFlashCause, MayComeFirst, IsComplete, IsDoneWhere};
 
 use crate::job::{Plan, PlanError};
 use crate::lines::{LineReader, LineStop};
-use crate::player::{PlayStop, Player};
 use crate::status::Status;
 use crate::words::plan;
 use apei_bytes::{Sink, Source};
+use apei_notify::{Chain, Listener};
+use apei_script::{PlayStop, Player, PlayerRefused, own_client};
+use erst_machine::{BootError, BootRefused, Machine};
 use flash_model::{Flash, Geometry};
-use record_store::{ScanError, Store, StoreRefused};
+use script_text::ScriptLine;
 use std::alloc::Global;
 
-// Plays the lines of a script, one after another, until it ends or a line stops it.
+/// Whether a line can be played.
+fn is_built(line: &ScriptLine<'_>) -> bool
+    ensures { IsTrue result ↔ IsBuilt (line_of line.now) }
+{
+    !matches!(line, ScriptLine::TableShadow | ScriptLine::Bridge { .. })
+}
+
+/// Plays the lines of a script, one after another, until it ends or a line stops it.
 fn play_script<I: Source, O: Sink, F: Flash>(
     lines: &mut LineReader,
-    player: &mut Player,
-    store: &mut Store<F>,
+    player: &mut Player<F>,
     script: &mut I,
     out: &mut O,
 ) -> Status
     requires start { lines.old ≡ record { line = []; number = 0; end = 0; pending = []; at_end = false } }
-    requires cursor { player.old.cursor ≡ 0 }
-    requires ready { IsReady store.old }
-    ensures played { PlaysScript I.tells O.tells F.tells store.old.layout (I.rest script.old) (I.rest script.new)
-        (O.written out.old) (O.written out.new) store.old.flash store.new.flash result }
-    ensures reads { ComesFirst result → ⊥ }
+    ensures played { PlaysScript
+        (λ b. (⟦<dyn Listener as Listener>⟧ b.vtable).interest b.value)
+        (λ b. (⟦<dyn Listener as Listener>⟧ b.vtable).hearings b.value)
+        (λ b. (⟦<dyn Listener as Listener>⟧ b.vtable).heard_last b.value)
+        I.tells O.tells F.tells (I.rest script.old) (I.rest script.new) (O.written out.old) (O.written out.new)
+        (members_of player.old.chain) (members_of player.new.chain) (state_of player.old.desk) (state_of player.new.desk) result }
     ensures source { HasSourceCause (I.faults script.old) (I.faults script.new) result }
     ensures sink { HasSinkCause (O.faults out.old) (O.faults out.new) result }
 {
@@ -43,32 +53,44 @@ fn play_script<I: Source, O: Sink, F: Flash>(
             }
             Err(LineStop::SourceFault) => return Status::SourceFault,
         }
-        match player.play(store, lines.line(), out) {
-            Ok(()) => {}
-            Err(PlayStop::NotBuilt) => {
-                return Status::NotYet {
-                    line: lines.number(),
+        let number = lines.number();
+        let line = match ScriptLine::parse(lines.line()) {
+            Ok(line) => line,
+            Err(bad) => {
+                return Status::BadLine {
+                    line: number,
+                    column: bad.column,
                 };
             }
+        };
+        if !is_built(&line) {
+            return Status::NotYet { line: number };
+        }
+        match player.play(&line, out) {
+            Ok(()) => {}
             Err(PlayStop::SinkFault) => return Status::SinkFault,
+            Err(PlayStop::FlashFault) => return Status::FlashFault,
+            Err(PlayStop::Memory) => return Status::Memory,
         }
     }
 }
 
-// Plays a script on a flash, by a plan.
+/// Plays a script on a flash, by a plan.
 fn run_plan<I: Source, O: Sink, F: Flash>(
     alloc: Global,
     plan: &Plan,
     script: &mut I,
     out: &mut O,
     flash: F,
-) -> (Status, F)
-    ensures run { IsRun I.tells O.tells F.tells plan.now (I.rest script.old) (I.rest script.new)
-        (O.written out.old) (O.written out.new) (F.state flash) (F.state result.1) result.0 }
+    listeners: Vec<Box<dyn Listener>>,
+) -> (Status, F, Vec<Box<dyn Listener>>)
+    ensures run { IsRun
+        (λ b. (⟦<dyn Listener as Listener>⟧ b.vtable).interest b.value)
+        (λ b. (⟦<dyn Listener as Listener>⟧ b.vtable).hearings b.value)
+        (λ b. (⟦<dyn Listener as Listener>⟧ b.vtable).heard_last b.value)
+        I.tells O.tells F.tells ((script.new ≡ script.old) × (out.new ≡ out.old)) plan.now (I.rest script.old) (I.rest script.new)
+        (O.written out.old) (O.written out.new) listeners.items result.2.items (F.state flash) (F.state result.1) result.0 }
     ensures geometry { IsOnGeometry plan.now (F.state flash) result.0 }
-    ensures script_untouched { ComesFirst result.0 → script.new ≡ script.old }
-    ensures out_untouched { ComesFirst result.0 → out.new ≡ out.old }
-    ensures flash_untouched { LeavesFlash result.0 → F.state result.1 ≡ F.state flash }
     ensures source { HasSourceCause (I.faults script.old) (I.faults script.new) result.0 }
     ensures sink { HasSinkCause (O.faults out.old) (O.faults out.new) result.0 }
     ensures flash { HasFlashCause (F.state flash).faults (F.state result.1).faults result.0 }
@@ -80,47 +102,62 @@ fn run_plan<I: Source, O: Sink, F: Flash>(
         size: flash.size(),
     };
     let Ok(geometry) = Geometry::new(plan.sector, plan.per_slot, plan.slots) else {
-        return (refused, flash);
+        return (refused, flash, listeners);
     };
     let Ok(mut lines) = LineReader::new(alloc) else {
-        return (Status::Memory, flash);
+        return (Status::Memory, flash, listeners);
     };
-    let Ok(mut player) = Player::new(alloc) else {
-        return (Status::Memory, flash);
+    let mut machine = match Machine::boot(alloc, flash, geometry) {
+        Ok(machine) => machine,
+        Err(BootRefused { why, flash }) => {
+            let status = match why {
+                BootError::Size { .. } => refused,
+                BootError::Flash => Status::FlashFault,
+                BootError::Memory => Status::Memory,
+            };
+            return (status, flash, listeners);
+        }
     };
-    let mut store = match Store::attach(alloc, flash, geometry) {
-        Ok(store) => store,
-        Err(StoreRefused { why, flash }) => match why {
-            ScanError::Size { .. } => return (refused, flash),
-            ScanError::Flash => return (Status::FlashFault, flash),
-            ScanError::Memory => return (Status::Memory, flash),
-        },
+    let Ok(own) = own_client(alloc, &mut machine) else {
+        return (Status::Memory, machine.into_flash(), listeners);
     };
-    let status = play_script(&mut lines, &mut player, &mut store, script, out);
-    (status, store.into_flash())
+    let chain = Chain::new(listeners);
+    match Player::new(alloc, machine, own, chain, plan.steps) {
+        Ok(mut player) => {
+            let status = play_script(&mut lines, &mut player, script, out);
+            let (machine, chain) = player.into_parts();
+            (status, machine.into_flash(), chain.into_members())
+        }
+        Err(PlayerRefused { machine, own: _, chain }) => {
+            (Status::Memory, machine.into_flash(), chain.into_members())
+        }
+    }
 }
 
-/// Plays a script on a flash, and writes the replies: the program's top call.
+/// Plays a script on the machine of a flash, and writes the replies: the program's top call.
 ///
-/// The words are tried first, then the limits of their geometry. Then all the memory is taken, and the store of the flash
-/// is opened. Then the lines are played one after another. The flash comes back.
+/// The words are tried first, then the limits of their geometry. Then the machine is booted, and all memory taken but that of tables. Then
+/// the lines are played one after another. The flash comes back, and the listeners in their order.
 pub fn run<I: Source, O: Sink, F: Flash>(
     alloc: Global,
     words: &[String],
     script: &mut I,
     out: &mut O,
     flash: F,
-) -> (Status, F)
-    // The commands that were played are the history of the flash, and their replies are what was written.
-    ensures run { (plan : Plan) → IsPlanOf words.now plan → IsRun I.tells O.tells F.tells plan
-        (I.rest script.old) (I.rest script.new) (O.written out.old) (O.written out.new) (F.state flash) (F.state result.1) result.0 }
+    listeners: Vec<Box<dyn Listener>>,
+) -> (Status, F, Vec<Box<dyn Listener>>)
+    // The lines that were played are a chain of states, and their replies are what was written.
+    ensures run { (plan : Plan) → IsPlanOf words.now plan → IsRun
+        (λ b. (⟦<dyn Listener as Listener>⟧ b.vtable).interest b.value)
+        (λ b. (⟦<dyn Listener as Listener>⟧ b.vtable).hearings b.value)
+        (λ b. (⟦<dyn Listener as Listener>⟧ b.vtable).heard_last b.value)
+        I.tells O.tells F.tells ((script.new ≡ script.old) × (out.new ≡ out.old)) plan (I.rest script.old) (I.rest script.new)
+        (O.written out.old) (O.written out.new) listeners.items result.2.items (F.state flash) (F.state result.1) result.0 }
 
     ensures admitted { IsAdmitted words.now (F.state flash) result.0 }
 
-    // A status that comes before the script is read leaves it and the output as they were, and but for a fault the flash.
-    ensures script_untouched { ComesFirst result.0 → script.new ≡ script.old }
-    ensures out_untouched { ComesFirst result.0 → out.new ≡ out.old }
-    ensures flash_untouched { LeavesFlash result.0 → F.state result.1 ≡ F.state flash }
+    // Words that are refused leave everything as it was.
+    ensures bad_words { result.0 ≡ Status.BadWords → (script.new ≡ script.old) × (out.new ≡ out.old) × (F.state result.1 ≡ F.state flash) × (result.2.items ≡ listeners.items) }
 
     ensures source { HasSourceCause (I.faults script.old) (I.faults script.new) result.0 }
     ensures sink { HasSinkCause (O.faults out.old) (O.faults out.new) result.0 }
@@ -134,8 +171,8 @@ pub fn run<I: Source, O: Sink, F: Flash>(
         (Rose (F.state flash).faults (F.state result.1).faults) result.0 }
 {
     match plan(alloc, words) {
-        Ok(plan) => run_plan(alloc, &plan, script, out, flash),
-        Err(PlanError::BadWords) => (Status::BadWords, flash),
-        Err(PlanError::Memory) => (Status::Memory, flash),
+        Ok(plan) => run_plan(alloc, &plan, script, out, flash, listeners),
+        Err(PlanError::BadWords) => (Status::BadWords, flash, listeners),
+        Err(PlanError::Memory) => (Status::Memory, flash, listeners),
     }
 }

@@ -1,11 +1,11 @@
 // The flash that a `sim` plays on.
 ghost use Rattle.std.specs.Prelude.{◌≡◌, ◌*◌, [], IfOk, replicate, option_to_list};
 ghost use Rattle.flash_model.specs.Limits.{IsGeometry};
-ghost use Rattle.apei_cli.specs.Sim.{tear_numbered, failing_of, IsErasedFlash, IsEmptyFlash};
+ghost use Rattle.apei_cli.specs.Sim.{tear_numbered, cut_of, failing_of, IsErasedFlash, IsEmptyFlash};
 
 use crate::Plan;
 use apei_bytes::Memory;
-use flash_model::{Geometry, SimFlash, Tear, erased};
+use flash_model::{Cut, Geometry, SimFlash, Tear, erased};
 use std::alloc::Global;
 
 // The sector of the flash that stands for a geometry outside its limits.
@@ -23,7 +23,21 @@ pub fn sim_flash(alloc: Global, plan: &Plan) -> Result<SimFlash, Memory>
         Ok(geometry) => (geometry.sector() as u32, erased(alloc, &geometry)?),
         Err(_) => (NO_GEOMETRY_SECTOR, Vec::new(alloc)),
     };
-    Ok(SimFlash::new(alloc, sector, image, None, failing, failing_reads))
+    let cut = lost_power(plan);
+    Ok(SimFlash::new(alloc, sector, image, cut, failing, failing_reads))
+}
+
+// The change in which a plan has power lost.
+fn lost_power(plan: &Plan) -> Option<Cut>
+    ensures { result ≡ cut_of plan.now.cut plan.now.torn }
+{
+    match plan.cut {
+        Some(step) => Some(Cut {
+            step,
+            tear: tear_numbered(plan.torn),
+        }),
+        None => None,
+    }
 }
 
 // The changes that a plan has fail.

@@ -10,11 +10,16 @@ pub enum Status {
     Done,
     /// The words are not of the program's form.
     BadWords,
+    /// The line with this number, from 1, is none of a script: no line begins with its bytes up to this column, from 1.
+    BadLine {
+        line: u64,
+        column: u32,
+    },
     /// A read of the script failed.
     SourceFault,
     /// A write of a reply failed.
     SinkFault,
-    /// The flash failed when the store was opened.
+    /// The flash failed when the machine was booted, reset, or given power again.
     FlashFault,
     /// The geometry is outside its limits, or it is not the flash's, which has this size in bytes.
     BadGeometry {
@@ -45,6 +50,7 @@ impl Status {
         match self {
             Status::Done => 0,
             Status::BadWords => 1,
+            Status::BadLine { .. } => 2,
             Status::SourceFault => 3,
             Status::SinkFault => 4,
             Status::FlashFault => 5,
@@ -62,6 +68,7 @@ impl fmt::Display for Status {
         match self {
             Status::Done => Ok(()),
             Status::BadWords => write!(f, "apei: bad words"),
+            Status::BadLine { line, column } => write!(f, "apei: line {line} column {column}"),
             Status::SourceFault => write!(f, "apei: read failed"),
             Status::SinkFault => write!(f, "apei: write failed"),
             Status::FlashFault => write!(f, "apei: flash failed"),
@@ -94,6 +101,7 @@ mod tests {
         let statuses = [
             (Status::Done, "", 0u8),
             (Status::BadWords, "apei: bad words", 1),
+            (Status::BadLine { line: 2, column: 5 }, "apei: line 2 column 5", 2),
             (Status::SourceFault, "apei: read failed", 3),
             (Status::SinkFault, "apei: write failed", 4),
             (Status::FlashFault, "apei: flash failed", 5),

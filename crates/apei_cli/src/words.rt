@@ -1,7 +1,7 @@
 // The words of the command line.
 ghost use Rattle.std.specs.Prelude.{◌≡◌, ◌↔◌, ℕ, Option, nat_eq, count_by, IsTrue, MatchResult, IfOk};
 ghost use Rattle.std.specs.List.{starts_with, AllPass};
-ghost use Rattle.apei_cli.specs.Plan.{is_job, is_known, texts_of, IsGiven, IsGivenOr, IsTorn, NoneFits, IsPlanOf, AreBad};
+ghost use Rattle.apei_cli.specs.Plan.{is_job, is_known, texts_of, IsGiven, IsGivenOr, IsTorn, IsSteps, NoneFits, IsPlanOf, AreBad};
 ghost use Rattle.apei_cli.specs.declared.job.PlanError.TheVariants.{BadWords};
 
 use crate::number::number;
@@ -14,13 +14,22 @@ const PER_SLOT: &str = "--per-slot=";
 
 const SLOTS: &str = "--slots=";
 
+const STEPS: &str = "--steps=";
+
+const CUT: &str = "--cut=";
+
 const FAIL: &str = "--fail=";
 
 const FAIL_READ: &str = "--fail-read=";
 
 const TORN: &str = "--torn=";
 
-const OPTIONS: [&str; 6] = [SECTOR, PER_SLOT, SLOTS, FAIL, FAIL_READ, TORN];
+const OPTIONS: [&str; 8] = [
+    SECTOR, PER_SLOT, SLOTS, STEPS, CUT, FAIL, FAIL_READ, TORN,
+];
+
+/// The most steps that a line may be given.
+const MOST_STEPS: u64 = 0xFFFF_FFFF;
 
 /// The plan that the words behind the program's name ask for: the word `sim`, and options as `--slots=16`, in any order
 /// and each at most once. Whether the geometry is in its limits is not tried here.
@@ -36,6 +45,8 @@ pub fn plan(_alloc: Global, words: &[String]) -> Result<Plan, PlanError>
         sector: number_or(words, SECTOR, 4096)?,
         per_slot: number_or(words, PER_SLOT, 2)?,
         slots: number_or(words, SLOTS, 32)?,
+        steps: steps(words)?,
+        cut: number_of(words, CUT)?,
         fail: number_of(words, FAIL)?,
         fail_read: number_of(words, FAIL_READ)?,
         torn: torn(words)?,
@@ -86,6 +97,17 @@ fn torn(words: &[String]) -> Result<u8, PlanError>
     }
 }
 
+// The steps that the words give a line.
+fn steps(words: &[String]) -> Result<Option<u64>, PlanError>
+    ensures { MatchResult result (IsSteps (texts_of words.now)) (NoneFits (IsSteps (texts_of words.now))) }
+{
+    match number_of(words, STEPS) {
+        Ok(None) => Ok(None),
+        Ok(Some(steps)) if steps <= MOST_STEPS => Ok(Some(steps)),
+        _ => Err(PlanError::BadWords),
+    }
+}
+
 // The number that the words give an option, or its default where they give it none.
 fn number_or(words: &[String], name: &str, default: u64) -> Result<u64, PlanError>
     ensures { MatchResult result (IsGivenOr default name.now (texts_of words.now)) (NoneFits (IsGivenOr default name.now (texts_of words.now))) }
@@ -122,6 +144,8 @@ mod tests {
         sector: 4096,
         per_slot: 2,
         slots: 32,
+        steps: None,
+        cut: None,
         fail: None,
         fail_read: None,
         torn: 0,
@@ -144,6 +168,8 @@ mod tests {
             sector: 0,
             per_slot: 18446744073709551615,
             slots: 10,
+            steps: Some(4294967295),
+            cut: Some(5),
             fail: Some(7),
             fail_read: Some(0),
             torn: 3,
@@ -152,7 +178,9 @@ mod tests {
             "--fail=7",
             "--torn=3",
             "--per-slot=18446744073709551615",
+            "--cut=5",
             "sim",
+            "--steps=4294967295",
             "--fail-read=0",
             "--slots=10",
             "--sector=0",
@@ -164,7 +192,7 @@ mod tests {
     #[test]
     fn refuses_other_words(rt: HostRuntime) -> Result<(), Fail> {
         let alloc = rt.alloc();
-        for words in [["sim", "--seed=3"], ["sim", "--slots=03"], ["sim", "sim"]] {
+        for words in [["sim", "--seed=3"], ["sim", "--slots=03"], ["sim", "sim"], ["sim", "--steps=4294967296"]] {
             assert_eq!(rt;
                 planned(alloc, &words)?,
                 Err(PlanError::BadWords),

@@ -10,4 +10,7 @@ pub returns-in_err-number_or-3-clause-bad_words : goal.returns-in_err-number_or-
 returns-in_err-number_or-3-clause-bad_words c _ plan is = c.in_err-number_or-3.ensures.1 plan.slots is.slots
 
 pub returns-in_err-number_of-2-clause-bad_words : goal.returns-in_err-number_of-2-clause-bad_words
-returns-in_err-number_of-2-clause-bad_words c _ plan is = c.in_err-number_of-2.ensures.1 plan.fail_read is.fail_read
+returns-in_err-number_of-2-clause-bad_words c _ plan is = c.in_err-number_of-2.ensures.1 plan.fail is.fail
+
+pub returns-in_err-number_of-3-clause-bad_words : goal.returns-in_err-number_of-3-clause-bad_words
+returns-in_err-number_of-3-clause-bad_words c _ plan is = c.in_err-number_of-3.ensures.1 plan.fail_read is.fail_read

@@ -1,0 +1,29 @@
+-- The lines of a script that were played.
+use Rattle.std.specs.Prelude.{◌≡◌, ℕ, List, [], ◌∷◌}
+use Rattle.script_text.specs.ScriptGrammar.{Line as ScriptLine, blank, comment}
+use Rattle.script_text.specs.ScriptText.{IsWritten}
+use Rattle.apei_script.specs.Plays.{IsBuilt}
+use Rattle.apei_script.specs.History.{Played}
+use Rattle.apei_cli.specs.Lines.{Line, IsTooLong}
+
+-- what a text means: the line that is written so; a text that begins with '#' is a blank line
+pub data Means (text : List ℕ) : ScriptLine → Type 0 where
+  IsLine : (line : ScriptLine) → IsWritten text line → Means text line
+  IsComment : (rest : List ℕ) → IsWritten text (comment rest) → Means text blank
+
+-- a line of the script is this line, and can be played
+pub record IsPlayable (text : Line) (line : ScriptLine) : Type 0 where
+  pub within : IsTooLong text → ⊥
+  pub means : Means text.text line
+  pub built : IsBuilt line
+
+-- these lines were played, one after another
+abbrev pub ArePlayed : List Line → List Played → Type 0
+ArePlayed [] [] = Unit {0}
+ArePlayed (text ∷ texts) (played ∷ rest) = IsPlayable text played.line × ArePlayed texts rest
+ArePlayed texts lines = ⊥
+
+-- each line is within the lengths and can be played
+abbrev pub ArePlayable : List Line → Type 0
+ArePlayable [] = Unit {0}
+ArePlayable (text ∷ texts) = ((line : ScriptLine) × IsPlayable text line) × ArePlayable texts
