@@ -14,6 +14,7 @@ pub mod TakenLemmas
 pub mod TurnLemmas
 pub mod ResultLemmas
 pub mod HeardLemmas
+pub mod ListLemmas
 pub mod HexText
 pub mod Lengths
 pub mod Made

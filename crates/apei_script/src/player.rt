@@ -76,7 +76,11 @@ impl<F: Flash> Player<F> {
         ensures listeners_back { IfErr result (λ refused. members_of refused.chain ≡ members_of chain) }
     {
         let Ok(buffers) = Buffers::new(alloc) else {
-            return Err(PlayerRefused { machine, own, chain });
+            return Err(PlayerRefused {
+                machine,
+                own,
+                chain,
+            });
         };
         let desk = Desk {
             machine,
@@ -129,7 +133,14 @@ impl<F: Flash> Player<F> {
         ensures listeners { members_of result.1 ≡ members_of self.chain }
     {
         let Player { desk, chain } = self;
-        let Desk { machine, own: _, other: _, steps: _, buffers: _, alloc: _ } = desk;
+        let Desk {
+            machine,
+            own: _,
+            other: _,
+            steps: _,
+            buffers: _,
+            alloc: _,
+        } = desk;
         (machine, chain)
     }
 }

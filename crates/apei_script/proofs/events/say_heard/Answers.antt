@@ -37,22 +37,22 @@ returns-in_err-write_all-clause-cause g c =
 pub hearing-preserved : goal.hearing-preserved
 hearing-preserved g c =
     let so : ShownSoFar g.O.Sink.tells (g.O.Sink.written c.args.out.now) (g.O.Sink.written c.if-is_full.out) c.if-is_full.reply (words_of_heard (map (λ b. (g.dyn-1.0.entry b.vtable).1.hearings b.value) (take c.hearing.at (members_of c.args.chain.now)))) =
-      elim c.if-is_full.branch [
-        then-is_full+in_ok-write_all w ↦
+    elim c.if-is_full.branch [
+      | then-is_full+in_ok-write_all w ↦
           rw (w.out-is, w.reply-is, w.begin-then-is_full.ensures)
           (shown_flushed _ _ _ _ _ _ c.hearing.invariant.so (λ t. w.in_ok-write_all.ensures.all t ∙ ap (λ (xs : List ℕ). g.O.Sink.written c.hearing.out ++ xs) w.text.ensures))
       | else-is_full w ↦ rw (w.out-is, w.reply-is) c.hearing.invariant.so
-      ] in
+    ] in
     let short : length c.if-is_full.reply ≤ 131200 =
-      elim c.if-is_full.branch [
-        then-is_full+in_ok-write_all w ↦ let n : length c.if-is_full.reply ≡ 0 = ap length (w.reply-is ∙ w.begin-then-is_full.ensures) in omega arith
+    elim c.if-is_full.branch [
+      | then-is_full+in_ok-write_all w ↦ let n : length c.if-is_full.reply ≡ 0 = ap length (w.reply-is ∙ w.begin-then-is_full.ensures) in omega arith
       | else-is_full w ↦ rw w.reply-is (not_full (length c.hearing.reply) c.is_full.result c.is_full.ensures w.if-is_full.false)
-      ] in
+    ] in
     let faults : g.O.Sink.faults c.if-is_full.out ≡ g.O.Sink.faults c.args.out.now =
-      elim c.if-is_full.branch [
-        then-is_full+in_ok-write_all w ↦ rw w.out-is (w.in_ok-write_all.ensures.cause.ok ∙ c.hearing.invariant.faults)
+    elim c.if-is_full.branch [
+      | then-is_full+in_ok-write_all w ↦ rw w.out-is (w.in_ok-write_all.ensures.cause.ok ∙ c.hearing.invariant.faults)
       | else-is_full w ↦ rw w.out-is c.hearing.invariant.faults
-      ] in
+    ] in
     let len : length c.add.new.self ≡ length c.if-is_full.reply + 1 = ap length c.add.ensures ∙ length-append c.if-is_full.reply (codes " ") in
     let more = c.add_number.ensures.short in
     let count = c.len-at-end.ensures in
@@ -74,7 +74,7 @@ returns-clause-all g c =
     let end = codes " @" ++ (decimal (changes_in c.args.desk.now.machine) ++ 10 ∷ []) in
     let reply : c.end.new.self ≡ c.hearing.reply ++ end = c.end.ensures ∙ ap (λ (step : ℕ). reply_at step c.hearing.reply) c.steps-step.ensures in
     let words : words_of_heard (map (λ b. (g.dyn-1.0.entry b.vtable).1.hearings b.value) (members_of c.args.chain.now)) ≡ words_of_heard (map (λ b. (g.dyn-1.0.entry b.vtable).1.hearings b.value) (take c.hearing.at (members_of c.args.chain.now))) =
-      ap (λ xs. words_of_heard (map (λ b. (g.dyn-1.0.entry b.vtable).1.hearings b.value) xs)) (sym (take_all c.hearing.at (members_of c.args.chain.now) few)) in
+    ap (λ xs. words_of_heard (map (λ b. (g.dyn-1.0.entry b.vtable).1.hearings b.value) xs)) (sym (take_all c.hearing.at (members_of c.args.chain.now) few)) in
     on_ok_weaker c.write_all-2.result
     (λ h. shown_all g.O.Sink.tells (g.O.Sink.written c.args.out.now) (g.O.Sink.written c.hearing.out) (g.O.Sink.written c.write_all-2.new.sink) c.end.new.self _
     (shown_more _ _ _ c.hearing.reply c.end.new.self _ _ end c.hearing.invariant.so reply (ap (λ (xs : List ℕ). xs ++ end) words))
@@ -87,7 +87,7 @@ returns-clause-part g c =
     let end = codes " @" ++ (decimal (changes_in c.args.desk.now.machine) ++ 10 ∷ []) in
     let reply : c.end.new.self ≡ c.hearing.reply ++ end = c.end.ensures ∙ ap (λ (step : ℕ). reply_at step c.hearing.reply) c.steps-step.ensures in
     let words : words_of_heard (map (λ b. (g.dyn-1.0.entry b.vtable).1.hearings b.value) (members_of c.args.chain.now)) ≡ words_of_heard (map (λ b. (g.dyn-1.0.entry b.vtable).1.hearings b.value) (take c.hearing.at (members_of c.args.chain.now))) =
-      ap (λ xs. words_of_heard (map (λ b. (g.dyn-1.0.entry b.vtable).1.hearings b.value) xs)) (sym (take_all c.hearing.at (members_of c.args.chain.now) few)) in
+    ap (λ xs. words_of_heard (map (λ b. (g.dyn-1.0.entry b.vtable).1.hearings b.value) xs)) (sym (take_all c.hearing.at (members_of c.args.chain.now) few)) in
     on_err_weaker c.write_all-2.result
     (λ h. shown_part g.O.Sink.tells (g.O.Sink.written c.args.out.now) (g.O.Sink.written c.hearing.out) (g.O.Sink.written c.write_all-2.new.sink) c.end.new.self _ [] _
     (shown_more _ _ _ c.hearing.reply c.end.new.self _ _ end c.hearing.invariant.so reply (ap (λ (xs : List ℕ). xs ++ end) words)) (sym (append-nil _))

@@ -49,26 +49,26 @@ turning-preserved g c =
     let more : c.push.new.self.items ≡ c.turning.desk.buffers.events.items ++ c.turn-event.result ∷ [] = rw c.unwrap.ensures at c.push.ensures.items in
     let count : vec_len c.push.new.self ≡ vec_len c.turning.desk.buffers.events + 1 = rw c.unwrap.ensures at c.push.ensures.len in
     elim c.if-eq.branch [
-      then-eq+in_ok-hear_of_block w ↦
-        let took : c.turn-event.result ≡ Took = same_true the_type (search rules) _ _ (sym c.eq.ensures ∙ w.if-eq.true) in
-        let before = c.turning.invariant.clients in
-        let then = w.hear_of_block.ensures.clients in
-        rw (w.desk-is, w.chain-is, w.out-is) (record {
-          so = step_took _ _ _ _ _ _ _ _ _ _ _ c.args.letters.now c.turning.letter-index _ _ _ _ _ c.turn-event.result (omega arith) c.turning.invariant.so c.turn-event.ensures.turned took
-              (ap (λ (v : Vec Event Global). v.items) w.hear_of_block.ensures.events ∙ more) w.hear_of_block.ensures.machine
-              w.hear_of_block.ensures.told w.in_ok-hear_of_block.ensures.all;
-          count = ap (λ (v : Vec Event Global). vec_len v) w.hear_of_block.ensures.events ∙ count ∙ ap (λ (n : ℕ). n + 1) c.turning.invariant.count;
-          clients = record { own = then.own ∙ before.own; other = then.other ∙ before.other; steps = then.steps ∙ before.steps };
-          faults = w.in_ok-hear_of_block.ensures.cause.ok ∙ c.turning.invariant.faults;
-        })
-    | else-eq w ↦
-        rw (w.desk-is, w.chain-is, w.out-is) (record {
-          so = step_quiet _ _ _ _ _ _ _ _ _ c.args.letters.now c.turning.letter-index _ _ _ _ c.turn-event.result (omega arith) c.turning.invariant.so c.turn-event.ensures.turned
-              (same_false the_type _ _ (sym c.eq.ensures ∙ w.if-eq.false)) more;
-          count = count ∙ ap (λ (n : ℕ). n + 1) c.turning.invariant.count;
-          clients = record { own = c.turning.invariant.clients.own; other = c.turning.invariant.clients.other; steps = c.turning.invariant.clients.steps };
-          faults = c.turning.invariant.faults;
-        })
+      | then-eq+in_ok-hear_of_block w ↦
+          let took : c.turn-event.result ≡ Took = same_true the_type (search rules) _ _ (sym c.eq.ensures ∙ w.if-eq.true) in
+          let before = c.turning.invariant.clients in
+          let then = w.hear_of_block.ensures.clients in
+          rw (w.desk-is, w.chain-is, w.out-is) (record {
+            so = step_took _ _ _ _ _ _ _ _ _ _ _ c.args.letters.now c.turning.letter-index _ _ _ _ _ c.turn-event.result (omega arith) c.turning.invariant.so c.turn-event.ensures.turned took
+                (ap (λ (v : Vec Event Global). v.items) w.hear_of_block.ensures.events ∙ more) w.hear_of_block.ensures.machine
+                w.hear_of_block.ensures.told w.in_ok-hear_of_block.ensures.all;
+            count = ap (λ (v : Vec Event Global). vec_len v) w.hear_of_block.ensures.events ∙ count ∙ ap (λ (n : ℕ). n + 1) c.turning.invariant.count;
+            clients = record { own = then.own ∙ before.own; other = then.other ∙ before.other; steps = then.steps ∙ before.steps };
+            faults = w.in_ok-hear_of_block.ensures.cause.ok ∙ c.turning.invariant.faults;
+          })
+      | else-eq w ↦
+          rw (w.desk-is, w.chain-is, w.out-is) (record {
+            so = step_quiet _ _ _ _ _ _ _ _ _ c.args.letters.now c.turning.letter-index _ _ _ _ c.turn-event.result (omega arith) c.turning.invariant.so c.turn-event.ensures.turned
+                (same_false the_type _ _ (sym c.eq.ensures ∙ w.if-eq.false)) more;
+            count = count ∙ ap (λ (n : ℕ). n + 1) c.turning.invariant.count;
+            clients = record { own = c.turning.invariant.clients.own; other = c.turning.invariant.clients.other; steps = c.turning.invariant.clients.steps };
+            faults = c.turning.invariant.faults;
+          })
     ]
 
 pub say_turns-requires : goal.say_turns-requires
@@ -80,8 +80,8 @@ say_turns-requires g c =
 pub returns-clause-occurred : goal.returns-clause-occurred
 returns-clause-occurred g c =
     let reply : c.text.result.now ≡ reply_at (changes_in c.turning.desk.machine) (words_of_turns c.turning.desk.buffers.events.items) =
-      c.text.ensures ∙ c.end.ensures ∙ ap (λ (step : ℕ). reply_at step c.say_turns.new.reply) c.steps-step.ensures
-          ∙ ap (reply_at (changes_in c.turning.desk.machine)) (c.say_turns.ensures.text ∙ ap words_of_turns c.deref.ensures.value) in
+    c.text.ensures ∙ c.end.ensures ∙ ap (λ (step : ℕ). reply_at step c.say_turns.new.reply) c.steps-step.ensures
+    ∙ ap (reply_at (changes_in c.turning.desk.machine)) (c.say_turns.ensures.text ∙ ap words_of_turns c.deref.ensures.value) in
     on_ok_weaker c.write_all.result
     (λ h. all_turned _ _ _ _ _ _ _ _ _ c.args.letters.now c.turning.desk.buffers.events.items _ _ _
     (of_all _ _ _ _ _ _ _ _ c.args.letters.now c.turning.letter-index _ _ _ (omega arith) c.turning.invariant.so) (λ t. h t ∙ ap (λ (xs : List ℕ). g.O.Sink.written c.turning.out ++ xs) reply)) c.write_all.ensures.all
@@ -89,8 +89,8 @@ returns-clause-occurred g c =
 pub returns-clause-unheard : goal.returns-clause-unheard
 returns-clause-unheard g c =
     let reply : c.text.result.now ≡ reply_at (changes_in c.turning.desk.machine) (words_of_turns c.turning.desk.buffers.events.items) =
-      c.text.ensures ∙ c.end.ensures ∙ ap (λ (step : ℕ). reply_at step c.say_turns.new.reply) c.steps-step.ensures
-          ∙ ap (reply_at (changes_in c.turning.desk.machine)) (c.say_turns.ensures.text ∙ ap words_of_turns c.deref.ensures.value) in
+    c.text.ensures ∙ c.end.ensures ∙ ap (λ (step : ℕ). reply_at step c.say_turns.new.reply) c.steps-step.ensures
+    ∙ ap (reply_at (changes_in c.turning.desk.machine)) (c.say_turns.ensures.text ∙ ap words_of_turns c.deref.ensures.value) in
     on_err_weaker c.write_all.result
     (λ h. all_but_heard _ _ _ _ _ _ _ _ _ c.args.letters.now c.turning.desk.buffers.events.items _ _ _
     (of_all _ _ _ _ _ _ _ _ c.args.letters.now c.turning.letter-index _ _ _ (omega arith) c.turning.invariant.so)
