@@ -9,3 +9,11 @@ pub mod OwnClientLemmas
 pub mod EnoughSteps
 pub mod PlayedLemmas
 pub mod LeavesLemmas
+pub mod HexText
+pub mod Lengths
+pub mod Made
+pub mod Asking
+pub mod Happening
+pub mod Giving
+pub mod Owning
+pub mod DeskLines
