@@ -86,9 +86,7 @@ machine_outline machine = record {
   waited = machine.waited;
 }
 
-abbrev pub AlikeStores : StoreView → StoreView → Type 0
-AlikeStores one other = store_outline one ≡ store_outline other
-
+-- two devices, or machines, are alike: they have one outline
 abbrev pub AlikeDevices : DeviceState → DeviceState → Type 0
 AlikeDevices one other = device_outline one ≡ device_outline other
 
