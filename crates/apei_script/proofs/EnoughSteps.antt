@@ -1,18 +1,16 @@
 -- A command of the machine's own client that has enough steps is not stopped.
-use Rattle.std.proofs.Common.{◌≡◌, ℕ, ◌+◌, ◌≤◌, ◌<◌, Bool, true, false, cond, max, List, length, Option, Some, None, Result, Ok, Err, refl, sym, ap, subst, ◌∙◌, arith}
+use Rattle.std.proofs.Common.{◌≡◌, ℕ, ◌≤◌, Bool, true, false, cond, max, List, length, Option, Some, None, Result, Ok, Err, ap, ◌∙◌, arith}
 use Rattle.std.specs.Prelude.{codes, nat_lt, ◌||◌}
 use Rattle.base_model.specs.Bytes.{number_at}
 use Rattle.base_model.proofs.BytesLemmas.{length-put_at}
 use Rattle.record_model.specs.RecordMap.{Refusal, Write, Clear, changes_of}
 use Rattle.erst_interp.specs.declared.stops.RunStop.TheVariants.{Budget}
 use Rattle.erst_client.specs.declared.errors.ClientError.{ClientError}
-use Rattle.erst_client.specs.declared.errors.ClientError.TheVariants.{Hardware, Stopped}
+use Rattle.erst_client.specs.declared.errors.ClientError.TheVariants.{Stopped}
 use Rattle.erst_client.specs.Commands.{frame_refusal, write_refusal, copy_refusal}
-use Rattle.erst_client.specs.Sequences.{write_requests, read_requests, clear_requests, dummy_requests}
-use Rattle.erst_client.specs.Steps.{steps_needed}
+use Rattle.erst_client.specs.Sequences.{write_requests, clear_requests, dummy_requests}
 use Rattle.erst_client.specs.Timings.{enough_steps}
 use Rattle.erst_machine.specs.MachineState.{MachineState, reach_in, records_of}
-use Rattle.erst_machine.specs.OwnTables.{own_entries}
 use Rattle.erst_commands.specs.Attached.{own_client}
 use Rattle.erst_commands.specs.Changes.{IsErrorOf, OfFailed, OfNoSpace, OfNotFound, OfEmpty, DummyCommand, IsPlayed, IsCut}
 use Rattle.erst_commands.specs.Looks.{AsksOnce, Answers, StopsBehind, StopsAtOnce, CountMade, IsCounted, IsNotCounted, NextMade, IsFound, IsAtEnd, IsNotFound}

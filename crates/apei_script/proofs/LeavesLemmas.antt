@@ -1,5 +1,5 @@
 -- What power lost in a line leaves of the records.
-use Rattle.std.proofs.Common.{◌≡◌, ◌⊎◌, ℕ, Bool, true, false, List, [], ◌∷◌, Option, Some, None, Result, Ok, Err, refl, sym, ap, subst, ◌∙◌, inl, inr}
+use Rattle.std.proofs.Common.{◌≡◌, ◌⊎◌, ℕ, true, List, Option, None, Result, Ok, Err, refl, sym, ap, subst, ◌∙◌, inl}
 use Rattle.std.specs.Prelude.{is_none, if◌then◌else◌}
 use Rattle.flash_words.specs.Flash.{Told, Leaves}
 use Rattle.flash_words.proofs.CrashLemmas.{Leaves-none, Leaves-weaker}
@@ -17,7 +17,7 @@ use Rattle.erst_client.specs.Sequences.{dummy_requests}
 use Rattle.erst_machine.specs.MachineState.{MachineState, reach_in, records_of, told_of}
 use Rattle.erst_machine.specs.Shown.{shown_by}
 use Rattle.erst_machine.specs.Events.{Submits}
-use Rattle.erst_commands.specs.Changes.{ChangeCommand, IsTaken, IsRefused, IsFailed, IsStopped, ChangeLeaves, DummyLeaves, DummyCommand, IsPlayed, IsCut}
+use Rattle.erst_commands.specs.Changes.{ChangeCommand, IsTaken, IsRefused, IsFailed, IsStopped, DummyCommand, IsPlayed, IsCut}
 use Rattle.erst_commands.specs.Looks.{AsksOnce, Answers, StopsBehind, StopsAtOnce, CountMade, IsCounted, IsNotCounted, NextMade, IsFound, IsAtEnd, IsNotFound}
 use Rattle.erst_commands.specs.Reads.{ReadMade, IsRead as read_made, IsRefused as read_refused, IsFailed as read_failed, ReadCommand, Answers as read_answers, StopsBehind as read_behind, StopsBefore as read_before, ReadAnswered, IsNotRead, IsNotCopied, IsCopied}
 use Rattle.erst_commands.specs.Writes.{WriteAnswered, IsNoRecord, IsWritten, marked, id_of}
@@ -177,17 +177,17 @@ plays_leaves : (tells : Type 0) → tells → (counts : List ℕ) (old : PlayerS
     (names_command line ≡ true → MapsTo old line new) → IsOwnLine line → LineLeaves old.machine line new.machine
 plays_leaves tells told counts old line said blocks new plays =
     elim plays as (λ line said blocks new plays. (names_command line ≡ true → MapsTo old line new) → IsOwnLine line → LineLeaves old.machine line new.machine) [
-  | Blank ↦ λ maps own. stays old.machine blank old.machine refl
-  | ByClient line words machine commanded ↦ λ maps own.
-      let mapped = maps (asks_command tells (client_of old) (budget_of old) old.machine line words machine commanded.asked own) in
-      mapped_leaves (budget_of old) old.machine line mapped.0 machine mapped.1
-  | GivenTable hex bytes words machine other decoded gives ↦ λ maps own. absurd own
-  | OwnTable ↦ λ maps own. stays old.machine own_table old.machine refl
-  | OnMachine line said blocks machine happened ↦ λ maps own. stays old.machine line machine (happened_told tells old.machine line said blocks machine happened)
-  | Heard ↦ λ maps own. stays old.machine heard old.machine refl
-  | Reset n machine warms ↦ λ maps own. keeps old.machine reset machine (warms.leaves.kept told)
-  | Power n machine powers ↦ λ maps own. keeps old.machine power machine (powers.restarts.leaves.kept told)
-]
+      | Blank ↦ λ maps own. stays old.machine blank old.machine refl
+      | ByClient line words machine commanded ↦ λ maps own.
+          let mapped = maps (asks_command tells (client_of old) (budget_of old) old.machine line words machine commanded.asked own) in
+          mapped_leaves (budget_of old) old.machine line mapped.0 machine mapped.1
+      | GivenTable hex bytes words machine other decoded gives ↦ λ maps own. absurd own
+      | OwnTable ↦ λ maps own. stays old.machine own_table old.machine refl
+      | OnMachine line said blocks machine happened ↦ λ maps own. stays old.machine line machine (happened_told tells old.machine line said blocks machine happened)
+      | Heard ↦ λ maps own. stays old.machine heard old.machine refl
+      | Reset n machine warms ↦ λ maps own. keeps old.machine reset machine (warms.leaves.kept told)
+      | Power n machine powers ↦ λ maps own. keeps old.machine power machine (powers.restarts.leaves.kept told)
+    ]
 
 -- every line
 pub line_leaves : (tells : Type 0) → tells → (counts : List ℕ) (old : PlayerState) (line : Line) (said blocks : List (List ℕ)) (new : PlayerState) →

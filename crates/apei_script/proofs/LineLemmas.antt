@@ -1,25 +1,20 @@
 -- What one line did to the machine, as one list of what happens.
-use Rattle.std.proofs.Common.{◌≡◌, ℕ, ◌+◌, ◌≤◌, List, [], ◌∷◌, ◌++◌, Option, Result, Ok, Err, refl, sym, ap, subst, ◌∙◌, arith}
+use Rattle.std.proofs.Common.{◌≡◌, ℕ, List, [], ◌∷◌, ◌++◌, Option, Ok, Err, refl}
 use Rattle.base_model.specs.Faults.{Rose}
 use Rattle.apei_space.specs.Calls.{ReadBytes}
-use Rattle.apei_space.specs.Accesses.{Reaches, Move, Trail}
-use Rattle.flash_words.specs.Layout.{Layout}
+use Rattle.apei_space.specs.Accesses.{Move, Trail}
 use Rattle.ghes_ack.specs.declared.events.Event.{Event as TurnEvent}
 use Rattle.erst_client.specs.Commands.{ClientState}
 use Rattle.erst_machine.specs.MachineState.{MachineState, IsMachine}
-use Rattle.erst_machine.specs.Allowed.{Allows}
-use Rattle.erst_machine.specs.Events.{Warms, Powers, Event, Accessed, Warmed, Powered, Submitted, Turned as OneTurn, Laid, Happens}
-use Rattle.erst_machine.specs.Shown.{GoesOn}
+use Rattle.erst_machine.specs.Events.{Event, Accessed, Warmed, Powered, Submitted, Turned as OneTurn, Laid, Happens}
 use Rattle.erst_machine.proofs.CrashTrail.{happens_then, reached_happens}
 use Rattle.erst_machine.proofs.EventLemmas.{events_keep}
 use Rattle.script_text.specs.ScriptGrammar.{Line}
 use Rattle.apei_script.specs.Players.{PlayerState}
-use Rattle.apei_script.specs.Asked.{Asked, Commanded}
 use Rattle.apei_script.specs.Tables.{GivesTable, IsNoTable, IsNotAttached, IsAttached}
 use Rattle.apei_script.specs.Happened.{side_of, Turned, NoTurn, OneMore, Happened, IsGiven, Turn, IsPeeked, IsLaid, IsListed}
-use Rattle.apei_script.specs.Changes.{changes_along}
 use Rattle.apei_script.specs.Plays.{Plays, Blank, ByClient, GivenTable, OwnTable, OnMachine, Heard, Reset, Power, FailsRestart, ResetFails, PowerFails, HasHappened}
-use Rattle.apei_script.proofs.EventChanges.{Takes, along}
+use Rattle.apei_script.proofs.EventChanges.{along}
 
 abbrev Trails : Type 0 → MachineState → MachineState → Type 0
 Trails tells old new = (trail : List (Move Event MachineState)) × Trail (Happens tells) old trail new

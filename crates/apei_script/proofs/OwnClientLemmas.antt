@@ -1,10 +1,7 @@
 -- What a line asks of the client of the machine's own table.
-use Rattle.std.proofs.Common.{◌≡◌, ℕ, ◌+◌, ◌≤◌, ◌<◌, Bool, true, false, max, List, length, Option, Some, None, Result, Ok, Err, refl, sym, ap, subst, ◌∙◌, arith}
-use Rattle.std.specs.Prelude.{codes}
+use Rattle.std.proofs.Common.{◌≡◌, ℕ, true, false, List}
 use Rattle.base_model.specs.Faults.{Rose}
-use Rattle.erst_interp.specs.declared.stops.RunStop.TheVariants.{Budget}
-use Rattle.erst_client.specs.declared.errors.ClientError.{ClientError}
-use Rattle.erst_client.specs.declared.errors.ClientError.TheVariants.{Hardware, Stopped}
+use Rattle.erst_client.specs.declared.errors.ClientError.TheVariants.{Hardware}
 use Rattle.erst_machine.specs.MachineState.{MachineState, IsMachine}
 use Rattle.erst_commands.specs.OwnPrograms.{OwnProgramsRun}
 use Rattle.erst_commands.specs.Attached.{own_client}
@@ -46,14 +43,14 @@ module _ (tells : Type 0) (own : OwnProgramsRun tells) (steps : ℕ) (old : Mach
       words ≡ refused (words_of_client Hardware) → Rose old.device.store.flash.faults new.device.store.flash.faults
   asked_cause line words new asked =
       elim asked as (λ line words new asked. names_command line ≡ true → words ≡ refused (words_of_client Hardware) → Rose old.device.store.flash.faults new.device.store.flash.faults) [
-    | WritesRecord hex bytes result left new decoded writes ↦ λ names says. (client_write_cause tells own bytes steps old result left new writes).hardware (of_write Hardware hardware bytes result says)
-    | ReadsRecord id out after result left new long reads ↦ λ names says.
-        (client_read_cause tells own id out steps old result after left new reads).hardware (of_read Hardware hardware after result says)
-    | ClearsRecord id result left new sequence ↦ λ names says.
-        (clear_cause tells own id (own_client old).timings steps old result left new sequence).hardware (of_clear Hardware hardware id result says)
-    | CountsRecords result left new counts ↦ λ names says. (count_cause tells own steps old result left new counts).hardware (of_count Hardware hardware result says)
-    | FindsNext result left new finds ↦ λ names says. (next_cause tells own steps old result left new finds).hardware (of_next Hardware hardware result says)
-    | WritesDummy result left new sequence ↦ λ names says.
-        (dummy_cause tells own (own_client old).timings steps old result left new sequence).hardware (of_dummy Hardware hardware result says)
-    | RunsAction code value answer left new run ↦ λ names. no_command names
-  ]
+        | WritesRecord hex bytes result left new decoded writes ↦ λ names says. (client_write_cause tells own bytes steps old result left new writes).hardware (of_write Hardware hardware bytes result says)
+        | ReadsRecord id out after result left new long reads ↦ λ names says.
+            (client_read_cause tells own id out steps old result after left new reads).hardware (of_read Hardware hardware after result says)
+        | ClearsRecord id result left new sequence ↦ λ names says.
+            (clear_cause tells own id (own_client old).timings steps old result left new sequence).hardware (of_clear Hardware hardware id result says)
+        | CountsRecords result left new counts ↦ λ names says. (count_cause tells own steps old result left new counts).hardware (of_count Hardware hardware result says)
+        | FindsNext result left new finds ↦ λ names says. (next_cause tells own steps old result left new finds).hardware (of_next Hardware hardware result says)
+        | WritesDummy result left new sequence ↦ λ names says.
+            (dummy_cause tells own (own_client old).timings steps old result left new sequence).hardware (of_dummy Hardware hardware result says)
+        | RunsAction code value answer left new run ↦ λ names. no_command names
+      ]

@@ -1,5 +1,5 @@
 -- One line that was played.
-use Rattle.std.proofs.Common.{◌≡◌, ℕ, ◌≤◌, Bool, true, false, List, [], ◌∷◌, Result, refl, sym, ap, subst, ◌∙◌}
+use Rattle.std.proofs.Common.{◌≡◌, ℕ, ◌≤◌, true, List, [], ◌∷◌, refl, sym, ap, subst, ◌∙◌}
 use Rattle.erst_client.specs.Commands.{ClientState}
 use Rattle.erst_client.specs.Timings.{enough_steps}
 use Rattle.erst_machine.specs.MachineState.{MachineState, IsMachine}
@@ -7,7 +7,7 @@ use Rattle.erst_commands.specs.OwnPrograms.{OwnProgramsRun}
 use Rattle.erst_commands.specs.Attached.{own_client}
 use Rattle.script_text.specs.ScriptGrammar.{Line, IsValid}
 use Rattle.apei_script.specs.Players.{PlayerState, client_of, budget_of, UsesOwn}
-use Rattle.apei_script.specs.Asked.{Asked, Commanded}
+use Rattle.apei_script.specs.Asked.{Asked}
 use Rattle.apei_script.specs.Happened.{Happened, IsGiven, Turn, IsPeeked, IsLaid, IsListed}
 use Rattle.apei_script.specs.Plays.{Plays, Blank, ByClient, GivenTable, OwnTable, OnMachine, Heard, Reset, Power, names_command, LinePlayed}
 use Rattle.apei_script.proofs.LineLemmas.{line_happened}

@@ -1,5 +1,5 @@
 -- What the words of a reply say of the answer.
-use Rattle.std.proofs.Common.{◌≡◌, ℕ, Bool, false, List, [], ◌∷◌, ◌++◌, drop, Option, Some, None, Result, Ok, Err, refl, ap, arith}
+use Rattle.std.proofs.Common.{◌≡◌, ℕ, false, List, [], ◌∷◌, drop, Option, Some, None, Result, Ok, Err, refl, ap, arith}
 use Rattle.std.specs.Prelude.{codes, ◌==◌}
 use Rattle.std.proofs.lemmas.Bool.Decides.{nat_tests}
 use Rattle.erst_interp.specs.declared.stops.RunStop.{RunStop}
