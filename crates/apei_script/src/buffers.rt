@@ -22,8 +22,7 @@ pub struct Buffers {
 
 impl Buffers {
     /// All the memory that lines need, but for that of tables.
-    pub fn new(alloc: Global) -> Result<Buffers, Memory>
-    {
+    pub fn new(alloc: Global) -> Result<Buffers, Memory> {
         Ok(Buffers {
             bytes: vec![in alloc; 0u8; LONGEST_HEX]?,
             reply: Reply::new(alloc)?,
@@ -31,4 +30,3 @@ impl Buffers {
         })
     }
 }
-

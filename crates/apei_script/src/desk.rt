@@ -236,7 +236,9 @@ fn ask<F: Flash>(
         ScriptLine::Count => count_records(client, machine, steps, reply),
         ScriptLine::Next => show_next(client, machine, steps, reply),
         ScriptLine::Dummy => write_dummy(client, machine, steps, reply),
-        ScriptLine::Action { code, value } => run_action(client, machine, steps, *code, *value, reply),
+        ScriptLine::Action { code, value } => run_action(
+            client, machine, steps, *code, *value, reply,
+        ),
         _ => unreachable!(),
     }
 }
