@@ -1,17 +1,14 @@
 -- What is seen of a desk.
 use Rattle.std.specs.Prelude.{◌≡◌, ℕ, List, [], ◌∷◌, ◌++◌}
 use Rattle.std.specs.declared.alloc.Global.{Global}
-use Rattle.base_model.specs.Faults.{Rose}
-use Rattle.script_text.specs.ScriptGrammar.{Line, bert, table}
+use Rattle.script_text.specs.ScriptGrammar.{Line, bert}
 use Rattle.apei_script.specs.declared.desk.Desk.{Desk}
-use Rattle.apei_script.specs.declared.player.PlayStop.{PlayStop}
-use Rattle.apei_script.specs.declared.player.PlayStop.TheVariants.{SinkFault, FlashFault, Memory}
-use Rattle.apei_script.specs.Players.{PlayerState, with_machine}
+use Rattle.apei_script.specs.Players.{PlayerState}
 use Rattle.apei_script.specs.Replies.{IsMade}
 use Rattle.erst_machine.specs.MachineState.{MachineState}
 use Rattle.apei_script.specs.Words.{reply_at, replies_at}
 use Rattle.apei_script.specs.Happened.{Happened}
-use Rattle.apei_script.specs.Plays.{Plays, PartlySaid, FailsRestart, changes_in, step_of}
+use Rattle.apei_script.specs.Plays.{Plays, PartlySaid, changes_in, step_of}
 
 abbrev pub state_of : {F : Type 0} → Desk F → PlayerState
 state_of desk = record { machine = desk.machine; own = desk.own; other = desk.other; steps = desk.steps }
@@ -27,19 +24,6 @@ pub record MakesReply (tells : Type 0) (old : PlayerState) (line : Line) (new : 
   pub words : List ℕ
   pub plays : (counts : List ℕ) → Plays tells counts old line (words ∷ []) [] new
   pub made : IsMade reply words
-
--- the flash failed a restart, by a fault that it counted, and the clients are as they were
-pub record FailsToRestart (tells : Type 0) (old : PlayerState) (line : Line) (new : PlayerState) : Type 0 where
-  pub machine : MachineState
-  pub fails : FailsRestart tells old.machine line machine
-  pub rose : Rose old.machine.device.store.flash.faults machine.device.store.flash.faults
-  pub others : new ≡ with_machine machine old
-
--- why a line of one reply was stopped, and what it left
-abbrev pub StopsAt : Type 0 → PlayerState → Line → PlayerState → PlayStop → Type 0
-StopsAt tells old line new SinkFault = ⊥
-StopsAt tells old line new FlashFault = FailsToRestart tells old line new
-StopsAt tells old line new Memory = (new ≡ old) × ((hex : List ℕ) × (line ≡ table hex))
 
 -- the clients and their steps are as they were
 pub record SameClients {F : Type 0} (old new : Desk F) : Type 0 where

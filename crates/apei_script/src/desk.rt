@@ -1,13 +1,12 @@
 // Lines of one reply that the listeners have no part in.
-ghost use Rattle.std.specs.Prelude.{◌≡◌, ◌+◌, ◌*◌, ◌≤◌, ℕ, List, length, vec_len, vec_capacity, map, true, IfOk, OnOk, IfErr};
+ghost use Rattle.std.specs.Prelude.{◌≡◌, ◌≤◌, ℕ, List, length, true, OnOk, IfErr};
 ghost use Rattle.line_grammar.specs.Parts.{IsPairs};
 ghost use Rattle.script_text.specs.ScriptGrammar.{IsValid, text_of, table, own_table, error, peek, fatal, reset, power};
 ghost use Rattle.script_text.specs.ScriptText.{line_of};
-ghost use Rattle.apei_script.specs.declared.player.PlayStop.TheVariants.{FlashFault as TheFlashFault, Memory as TheMemory};
 ghost use Rattle.apei_script.specs.Players.{budget_by};
-ghost use Rattle.apei_script.specs.Plays.{asks_client, has_one_reply};
+ghost use Rattle.apei_script.specs.Plays.{asks_client, has_one_reply, Stops};
 ghost use Rattle.apei_script.specs.Asked.{Answers};
-ghost use Rattle.apei_script.specs.Desks.{state_of, AnswersLine, MakesReply, FailsToRestart, StopsAt};
+ghost use Rattle.apei_script.specs.Desks.{state_of, AnswersLine, MakesReply};
 
 use crate::blocks::{give_block, lay_block, show_bytes};
 use crate::buffers::Buffers;
@@ -43,7 +42,7 @@ impl<F: Flash> Desk<F> {
         requires one { has_one_reply (line_of line.now) ≡ true }
         requires fits { length (text_of (line_of line.now)) ≤ 140_000 }
         ensures answered { OnOk result ((counts : List ℕ) → AnswersLine F.tells counts (state_of self.old) (line_of line.now) (state_of self.new) self.new.buffers.reply) }
-        ensures stopped { IfErr result (λ stop. StopsAt F.tells (state_of self.old) (line_of line.now) (state_of self.new) stop) }
+        ensures stopped { IfErr result (λ stop. Stops F.tells (state_of self.old) (line_of line.now) (state_of self.new) stop) }
     {
         self.make_reply(line)?;
         self.buffers.reply.end(self.machine.steps());
@@ -56,7 +55,7 @@ impl<F: Flash> Desk<F> {
         requires one { has_one_reply (line_of line.now) ≡ true }
         requires fits { length (text_of (line_of line.now)) ≤ 140_000 }
         ensures made { OnOk result (MakesReply F.tells (state_of self.old) (line_of line.now) (state_of self.new) self.new.buffers.reply) }
-        ensures stopped { IfErr result (λ stop. StopsAt F.tells (state_of self.old) (line_of line.now) (state_of self.new) stop) }
+        ensures stopped { IfErr result (λ stop. Stops F.tells (state_of self.old) (line_of line.now) (state_of self.new) stop) }
     {
         match line {
             ScriptLine::Table { hex } => self.give_table(hex),
@@ -159,7 +158,7 @@ impl<F: Flash> Desk<F> {
         requires pairs { IsPairs hex.now }
         requires fits { length hex.now ≤ 140_000 }
         ensures made { OnOk result (MakesReply F.tells (state_of self.old) (table hex.now) (state_of self.new) self.new.buffers.reply) }
-        ensures stopped { IfErr result (λ stop. (stop ≡ TheMemory) × (state_of self.new ≡ state_of self.old)) }
+        ensures stopped { IfErr result (λ stop. Stops F.tells (state_of self.old) (table hex.now) (state_of self.new) stop) }
     {
         let len = decode(hex, &mut self.buffers.bytes);
         match give_table(
@@ -186,7 +185,7 @@ impl<F: Flash> Desk<F> {
     /// Restarts the machine.
     fn reset(&mut self) -> Result<(), PlayStop>
         ensures made { OnOk result (MakesReply F.tells (state_of self.old) reset (state_of self.new) self.new.buffers.reply) }
-        ensures stopped { IfErr result (λ stop. (stop ≡ TheFlashFault) × FailsToRestart F.tells (state_of self.old) reset (state_of self.new)) }
+        ensures stopped { IfErr result (λ stop. Stops F.tells (state_of self.old) reset (state_of self.new) stop) }
     {
         let Ok(records) = self.machine.warm() else {
             return Err(PlayStop::FlashFault);
@@ -200,7 +199,7 @@ impl<F: Flash> Desk<F> {
     /// Ends a loss of power.
     fn power(&mut self) -> Result<(), PlayStop>
         ensures made { OnOk result (MakesReply F.tells (state_of self.old) power (state_of self.new) self.new.buffers.reply) }
-        ensures stopped { IfErr result (λ stop. (stop ≡ TheFlashFault) × FailsToRestart F.tells (state_of self.old) power (state_of self.new)) }
+        ensures stopped { IfErr result (λ stop. Stops F.tells (state_of self.old) power (state_of self.new) stop) }
     {
         let Ok(records) = self.machine.power() else {
             return Err(PlayStop::FlashFault);
@@ -237,7 +236,9 @@ fn ask<F: Flash>(
         ScriptLine::Count => count_records(client, machine, steps, reply),
         ScriptLine::Next => show_next(client, machine, steps, reply),
         ScriptLine::Dummy => write_dummy(client, machine, steps, reply),
-        ScriptLine::Action { code, value } => run_action(client, machine, steps, *code, *value, reply),
+        ScriptLine::Action { code, value } => run_action(
+            client, machine, steps, *code, *value, reply,
+        ),
         _ => unreachable!(),
     }
 }
