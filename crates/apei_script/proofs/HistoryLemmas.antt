@@ -14,13 +14,18 @@ use Rattle.erst_machine.specs.Shown.{changes_of, shown_by, made_by_event, GoesOn
 use Rattle.erst_machine.proofs.CrashTrail.{events_are_shown, happens_then}
 use Rattle.erst_machine.proofs.EventLemmas.{events_keep}
 use Rattle.erst_commands.specs.Attached.{own_client}
+use Rattle.erst_twins.specs.Alike.{FailedNothing}
+use Rattle.erst_twins.proofs.Dialogues.{quiet_first, quiet_second}
 use Rattle.script_text.specs.ScriptGrammar.{Line}
-use Rattle.apei_script.specs.Players.{PlayerState, in_use}
-use Rattle.apei_script.specs.Plays.{Plays, Blank, ByClient, GivenTable, OwnTable, OnMachine, Heard, Reset, Power, HasHappened, LinePlayed}
-use Rattle.apei_script.specs.History.{Played, heard_after, Follows, EndInOrder, Shows, ShowsEach, IsOwnLine, AreOwnLines}
+use Rattle.apei_script.specs.Players.{PlayerState, in_use, UsesOwn}
+use Rattle.apei_script.specs.Plays.{Plays, Blank, ByClient, GivenTable, OwnTable, OnMachine, Heard, Reset, Power, HasHappened, LinePlayed, names_command}
+use Rattle.apei_script.specs.History.{Played, heard_after, Follows, EndInOrder, Shows, ShowsEach, IsOwnLine, AreOwnLines, IsMapped, AreMapped, NoneSaysHardware, AlwaysUsesOwn}
 use Rattle.apei_script.proofs.EventChanges.{along}
-use Rattle.apei_script.proofs.LineLemmas.{line_own}
+use Rattle.apei_script.proofs.LineLemmas.{line_divides, line_own}
 use Rattle.apei_script.proofs.LeavesLemmas.{line_leaves}
+
+abbrev faults_of : MachineState → ℕ
+faults_of state = state.device.store.flash.faults
 
 abbrev Moves : Type 0
 Moves = List (Move Event MachineState)
@@ -35,10 +40,6 @@ on_true false P Q e p = absurd (cc)
 on_false : (b : Bool) (P Q : Type 0) → b ≡ false → Q → MatchBool b P Q
 on_false true P Q e q = absurd (cc)
 on_false false P Q e q = q
-
--- an own client depends on the layout alone
-own_client-alike : (old new : MachineState) → DividesAlike old.device.store new.device.store → own_client new ≡ own_client old
-own_client-alike old new alike = ap (λ (l : Layout). own_client (record old { device = record old.device { store = record old.device.store { layout = l } } })) alike.layout
 
 module _ (tells : Type 0) where
   -- only a table gives another client
@@ -88,7 +89,49 @@ module _ (tells : Type 0) where
       let takes = along tells first.machine last.machine all.0 all.1 in
       record { trail = all.0; happens = all.1; never_falls = takes.never_falls; exact = takes.exact }
 
+  -- each line
+
+  -- an own client depends on the layout alone
+  own_client-kept : (old new : MachineState) → new.device.store.layout ≡ old.device.store.layout → own_client new ≡ own_client old
+  own_client-kept old new same = ap (λ (l : Layout). own_client (record old { device = record old.device { store = record old.device.store { layout = l } } })) same
+
+  pub history_uses_own : (wants : List (ℕ → Bool)) (counts : List ℕ) (first : PlayerState) (played : List Played) (last : PlayerState)
+      → first.own ≡ own_client first.machine → first.other ≡ None → AreOwnLines played → Follows tells wants counts first played last → AlwaysUsesOwn first played
+  history_uses_own wants counts first [] last own none lines is = ap (in_use first.own) none ∙ own
+  history_uses_own wants counts first (line ∷ rest) last own none lines is =
+      let plays = is.0.plays in
+      let stay = line_own tells counts first line.line line.said line.blocks line.left plays in
+      let divides = line_divides tells counts first line.line line.said line.blocks line.left plays in (
+        ap (in_use first.own) none ∙ own,
+        history_uses_own wants (heard_after wants line.blocks counts) line.left rest last
+            (stay.0 ∙ own ∙ sym (own_client-kept first.machine line.left.machine divides))
+            (no_other counts first line.line line.said line.blocks line.left plays lines.0 none) lines.1 is.1,
+      )
+
+  pub history_says_no_hardware : (wants : List (ℕ → Bool)) (counts : List ℕ) (first : PlayerState) (played : List Played) (last : PlayerState)
+      → Follows tells wants counts first played last → FailedNothing first.machine last.machine → NoneSaysHardware first played
+  history_says_no_hardware wants counts first [] last is quiet = tt
+  history_says_no_hardware wants counts first (line ∷ rest) last is quiet =
+      let step = is.0.happened.never_falls in
+      let more = (history_happens wants (heard_after wants line.blocks counts) line.left rest last is.1).never_falls in (
+        λ uses names says. quiet_first (faults_of first.machine) (faults_of line.left.machine) (faults_of last.machine) step more quiet (is.0.cause uses names says),
+        history_says_no_hardware wants (heard_after wants line.blocks counts) line.left rest last is.1
+            (quiet_second (faults_of first.machine) (faults_of line.left.machine) (faults_of last.machine) step more quiet),
+      )
+
   module _ (told : tells) where
+    is_mapped : (counts : List ℕ) (old : PlayerState) (played : Played) → LinePlayed tells counts old played.line played.said played.blocks played.left → UsesOwn old → names_command played.line ≡ true
+        → IsMapped old played
+    is_mapped counts old played line uses names =
+        let by_map = line.by_map told uses names in
+        record { words = by_map.0; said = by_map.1; mapped = by_map.2; cause = line.cause uses names; enough = line.enough told uses names }
+
+    pub history_is_mapped : (wants : List (ℕ → Bool)) (counts : List ℕ) (first : PlayerState) (played : List Played) (last : PlayerState) → Follows tells wants counts first played last
+        → AreMapped first played
+    history_is_mapped wants counts first [] last is = tt
+    history_is_mapped wants counts first (line ∷ rest) last is =
+        (is_mapped counts first line is.0, history_is_mapped wants (heard_after wants line.blocks counts) line.left rest last is.1)
+
     pub history_is_shown : (wants : List (ℕ → Bool)) (counts : List ℕ) (first : PlayerState) (played : List Played) (last : PlayerState) → Follows tells wants counts first played last
         → (trail : Moves) × Trail (Happens tells) first.machine trail last.machine × IsShown made_by_event first.machine trail last.machine
     history_is_shown wants counts first played last is =
@@ -146,6 +189,6 @@ module _ (tells : Type 0) where
               on_true (nat_le (changes_of left) s) _ _ (le-leb (changes_of left) s after)
               (subst (λ (m : Stored). Shows s line.left rest m) (shown_alike first.machine left image one.alike)
               (history_shows wants (heard_after wants line.blocks counts) line.left rest last
-              (stay.0 ∙ own ∙ sym (own_client-alike first.machine left one.alike))
+              (stay.0 ∙ own ∙ sym (own_client-kept first.machine left one.alike.layout))
               (no_other counts first line.line line.said line.blocks line.left is.0.plays lines.0 none) lines.1 is.1 s image after crash))
         ]

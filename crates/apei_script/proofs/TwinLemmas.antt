@@ -1,8 +1,16 @@
 -- The same lines of two players that are alike.
-use Rattle.std.proofs.Common.{◌≡◌, ℕ, Bool, List, [], ◌∷◌, ◌++◌, length, map, Option, Some, None, Result, Ok, Err, refl, sym, ap, subst, ◌∙◌}
+use Rattle.std.proofs.Common.{◌≡◌, ℕ, ◌+◌, ◌*◌, Bool, List, [], ◌∷◌, ◌++◌, length, map, Option, Some, None, Result, Ok, Err, refl, sym, ap, subst, ◌∙◌}
 use Rattle.std.proofs.lemmas.Option.{none-some, same_Some}
 use Rattle.base_model.specs.Faults.{Rose}
 use Rattle.hex.specs.Hex.{decode_of}
+use Rattle.flash_words.specs.Flash.{FlashState}
+use Rattle.flash_words.specs.Layout.{Layout, room_of, reach_of}
+use Rattle.flash_model.specs.declared.geometry.Geometry.{Geometry}
+use Rattle.flash_model.specs.Layouts.{layout_of}
+use Rattle.record_model.specs.Records.{second_copies}
+use Rattle.record_store.specs.Store.{records_of as records_in}
+use Rattle.erst_device.specs.declared.device.TheConstants.{LOG_RANGE}
+use Rattle.erst_device.specs.Timings.{most_changes, timings_of}
 use Rattle.hex.specs.declared.error.FromHexError.{FromHexError}
 use Rattle.apei_notify.specs.Telling.{wanted}
 use Rattle.apei_space.specs.declared.faults.SpaceFault.{SpaceFault}
@@ -22,7 +30,10 @@ use Rattle.erst_machine.specs.MachineState.{MachineState, IsMachine}
 use Rattle.erst_machine.specs.Allowed.{Allows}
 use Rattle.erst_machine.specs.Events.{Submits, LaysFatal, Warmed, Powered}
 use Rattle.erst_machine.proofs.EventLemmas.{events_keep}
-use Rattle.erst_twins.specs.Alike.{MachineOutline, machine_outline, AlikeMachines, FailedNothing, record_in, bytes_shown}
+use Rattle.erst_twins.specs.Alike.{MachineOutline, machine_outline, AlikeMachines, FailedNothing, BootsFrom, record_in, bytes_shown}
+use Rattle.erst_machine.specs.OwnTables.{own_erst}
+use Rattle.erst_commands.specs.OwnPrograms.{with_value}
+use Rattle.erst_twins.proofs.TrailOutlines.{boots_from_alike}
 use Rattle.erst_twins.proofs.Dialogues.{quiet_first, quiet_second}
 use Rattle.erst_twins.proofs.MachineDialogues.{done_alike}
 use Rattle.erst_twins.proofs.RunDialogues.{run_of, run_held}
@@ -37,7 +48,7 @@ use Rattle.apei_script.specs.Words.{words_of_write, words_of_read, words_of_clea
 use Rattle.apei_script.specs.Tables.{ATTACH_STEPS, BeginsWith}
 use Rattle.apei_script.specs.Plays.{Plays, restarted, step_of}
 use Rattle.apei_script.specs.History.{Played, heard_of, heard_after, Follows, text_of, reply_of}
-use Rattle.apei_script.specs.Alike.{AlikePlayers, WantAlike, lines_of, said_in, taken_in, PlayedAlike}
+use Rattle.apei_script.specs.Alike.{AlikePlayers, own_player, WantAlike, lines_of, said_in, taken_in, PlayedAlike}
 use Rattle.apei_script.proofs.HistoryLemmas.{history_goes_on}
 use Rattle.apei_script.proofs.TurnsAlike.{turned_alike}
 use Rattle.apei_script.proofs.LineKinds.{Left, AskedBy, HappenedBy, words_of_given, other_after, Given, NoTable, Tried, ByItsClient, ByItself, PlaysBy, plays_by}
@@ -68,6 +79,15 @@ begins_once a b bytes first second = second.only a first.table_bytes first.behin
 
 not_both : (erst : Erst) (bytes : List ℕ) (why : ErstError) → BeginsWith erst bytes → refusal bytes ≡ Some why → ⊥
 not_both erst bytes why begins refused = none-some why (sym begins.sound ∙ refused)
+
+-- an own client, by how the flash is divided
+abbrev client_by : Layout → ClientState
+client_by layout = record {
+  table = own_erst;
+  address = LOG_RANGE;
+  range = reach_of (room_of layout);
+  timings = Some (10 * most_changes layout, 10 * (layout.per_slot + 4));
+}
 
 record Ends (words also_words : List ℕ) (new also_new : MachineState) : Type 0 where
   same : words ≡ also_words
@@ -337,3 +357,32 @@ module _ (tells : Type 0) (told : tells) (wants wants_too : List (ℕ → Bool))
       }
   histories_alike counts one also [] (y ∷ second) one_last also_last players machine lines follows quiet follows_too also_quiet = absurd (let e = lines in cc)
   histories_alike counts one also (x ∷ first) [] one_last also_last players machine lines follows quiet follows_too also_quiet = absurd (let e = lines in cc)
+
+-- Players of the machines' own clients
+
+pub own_players_alike : (one also : MachineState) (steps : Option ℕ) → AlikeMachines one also → AlikePlayers (own_player one steps) (own_player also steps)
+own_players_alike one also steps alike = record {
+  machines = ap (λ (o : MachineOutline). record o { device = record o.device { value = timings_of o.device.store.layout } }) alike;
+  own = ap (λ (o : MachineOutline). client_by o.device.store.layout) alike;
+  other = refl;
+  steps = refl;
+}
+
+-- listeners want what they want
+same_wants : (wants : List (ℕ → Bool)) → WantAlike wants wants
+same_wants [] = tt
+same_wants (want ∷ wants) = ((λ severity. refl), same_wants wants)
+
+with_value_is_machine : (state : MachineState) (value : ℕ) → IsMachine state → IsMachine (with_value value state)
+with_value_is_machine state value machine = record { sizes = machine.sizes; laid = machine.laid; map = machine.map; stands = machine.stands }
+
+pub booted_alike : (tells : Type 0) → tells → (geometry : Geometry) (flash flash_too : FlashState) (one also : MachineState)
+    → records_in (layout_of geometry) flash.told.image ≡ records_in (layout_of geometry) flash_too.told.image → flash.steps ≡ flash_too.steps
+    → second_copies geometry.slot_size geometry.slots flash.told.image ≡ second_copies geometry.slot_size geometry.slots flash_too.told.image → BootsFrom geometry flash one → BootsFrom geometry flash_too also
+    → (wants : List (ℕ → Bool)) (counts : List ℕ) (steps : Option ℕ) (first second : List Played) (one_last also_last : PlayerState) → lines_of first ≡ lines_of second
+    → Follows tells wants counts (own_player one steps) first one_last → FailedNothing one one_last.machine → Follows tells wants counts (own_player also steps) second also_last → FailedNothing also also_last.machine
+    → PlayedAlike first second one_last also_last
+booted_alike tells told geometry flash flash_too one also records changes copies boots boots_too wants counts steps first second one_last also_last lines follows quiet follows_too also_quiet =
+    let alike = boots_from_alike geometry flash flash_too one also records changes copies boots boots_too in
+    histories_alike tells told wants wants (same_wants wants) counts (own_player one steps) (own_player also steps) first second one_last also_last (own_players_alike one also steps alike)
+    (with_value_is_machine one (timings_of one.device.store.layout) boots.booted.machine) lines follows quiet follows_too also_quiet

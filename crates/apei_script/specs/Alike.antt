@@ -1,10 +1,13 @@
 -- Two players that are alike, and what they play of the same lines.
-use Rattle.std.specs.Prelude.{◌≡◌, ℕ, Bool, List, map}
+use Rattle.std.specs.Prelude.{◌≡◌, ℕ, Bool, List, map, Option}
 use Rattle.std.specs.List.{AllZip}
-use Rattle.erst_machine.specs.MachineState.{records_of}
+use Rattle.erst_device.specs.Timings.{timings_of}
+use Rattle.erst_machine.specs.MachineState.{MachineState, records_of}
+use Rattle.erst_commands.specs.Attached.{own_client}
+use Rattle.erst_commands.specs.OwnPrograms.{with_value}
 use Rattle.erst_twins.specs.Alike.{AlikeMachines}
 use Rattle.script_text.specs.ScriptGrammar.{Line}
-use Rattle.apei_script.specs.Players.{PlayerState}
+use Rattle.apei_script.specs.Players.{PlayerState, player_of}
 use Rattle.apei_script.specs.History.{Played, text_of}
 
 -- their machines are alike, and they have the same clients and the same steps
@@ -13,6 +16,10 @@ pub record AlikePlayers (one also : PlayerState) : Type 0 where
   pub own : one.own ≡ also.own
   pub other : one.other ≡ also.other
   pub steps : one.steps ≡ also.steps
+
+-- a player of the client that was just attached to the machine's own table
+abbrev pub own_player : MachineState → Option ℕ → PlayerState
+own_player machine steps = player_of (with_value (timings_of machine.device.store.layout) machine) (own_client machine) steps
 
 -- as many listeners as others, and each wants the severities that the one of its place wants
 abbrev pub WantAlike : List (ℕ → Bool) → List (ℕ → Bool) → Type 0
