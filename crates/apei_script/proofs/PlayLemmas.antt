@@ -2,17 +2,14 @@
 use Rattle.std.proofs.Common.{◌≡◌, ◌∙◌, ℕ, ◌≤◌, Bool, true, false, List, [], ◌∷◌, ◌++◌, length, take, map, Option, Some, None, Result, Ok, Err, OnOk, OnErr, IfErr, refl, sym, ap, subst}
 use Rattle.std.proofs.lemmas.List.{append-nil}
 use Rattle.std.proofs.lemmas.Bool.{false≢true}
-use Rattle.base_model.specs.Faults.{Rose}
 use Rattle.erst_client.specs.Commands.{ClientState}
 use Rattle.erst_machine.specs.MachineState.{MachineState, IsMachine}
 use Rattle.script_text.specs.ScriptGrammar.{Line, IsValid, blank, turns, bert, heard}
-use Rattle.apei_script.specs.declared.player.PlayStop.{PlayStop}
-use Rattle.apei_script.specs.declared.player.PlayStop.TheVariants.{SinkFault, FlashFault, Memory}
 use Rattle.apei_script.specs.declared.desk.Desk.{Desk}
 use Rattle.apei_script.specs.Players.{PlayerState, with_machine}
 use Rattle.apei_script.specs.Words.{words_of_heard, reply_at, replies_at}
-use Rattle.apei_script.specs.Plays.{Plays, Blank, OnMachine, Heard, LinePlayed, HasHappened, FailsRestart, Stops, PlaysLine, PlaysUnheard, Occurred, OccurredUnheard, PartlySaid, IsCutShort, Whole, SomeTurns, names_command, changes_in, step_of, Told}
-use Rattle.apei_script.specs.Desks.{state_of, SameClients, Lists, ListsUnheard, AnswersLine, StopsAt}
+use Rattle.apei_script.specs.Plays.{Plays, Blank, OnMachine, Heard, LinePlayed, PlaysLine, PlaysUnheard, Occurred, OccurredUnheard, PartlySaid, IsCutShort, Whole, SomeTurns, names_command, changes_in, step_of, Told}
+use Rattle.apei_script.specs.Desks.{state_of, SameClients, Lists, ListsUnheard}
 use Rattle.apei_script.proofs.LineLemmas.{line_happened}
 use Rattle.apei_script.proofs.ToldLemmas.{told_none}
 
@@ -156,16 +153,3 @@ module _ {L : Type 0} (interest : L → ℕ → Bool) (hearings : L → ℕ) (he
   heard_unheard old new members written written_now same text =
       one_unheard old new members heard (words_of_heard (map hearings members)) written written_now (heard_line old new members same)
       (λ t. let some = text t in (some.0, some.1 ∙ ap (λ (s : PlayerState). written ++ take some.0 (reply_at (step_of s) (words_of_heard (map hearings members)))) (sym same)))
-
--- why a line was stopped
-pub stopped : (tells : Type 0) (old : PlayerState) (line : Line) (new : PlayerState) (stop : PlayStop)
-    → ((machine : MachineState) → FailsRestart tells old.machine line machine → HasHappened tells old.machine machine × Rose old.machine.device.store.flash.faults machine.device.store.flash.faults)
-    → StopsAt tells old line new stop → Stops tells old line new stop
-stopped tells old line new SinkFault happened h = h
-stopped tells old line new FlashFault happened h =
-    let b = happened h.machine h.fails in
-    (h.machine, h.fails, b.0, h.rose, h.others)
-stopped tells old line new Memory happened h = h
-
-pub no_sink : (tells : Type 0) (old : PlayerState) (line : Line) (new : PlayerState) (stop : PlayStop) → StopsAt tells old line new stop → stop ≡ SinkFault → ⊥
-no_sink tells old line new stop h is = subst (λ (s : PlayStop). StopsAt tells old line new s) is h

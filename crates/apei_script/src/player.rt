@@ -12,7 +12,7 @@ ghost use Rattle.apei_script.specs.Desks.{state_of};
 use crate::buffers::Buffers;
 use crate::desk::Desk;
 use crate::events::{list_blocks, say_heard, turns};
-use crate::laws::{a_failed_restart_has_happened, a_line_is_the_maps};
+use crate::laws::a_line_is_the_maps;
 use apei_bytes::{Memory, Sink, SinkFault, write_all};
 use apei_notify::{Chain, Listener};
 use erst_client::Client;
@@ -205,7 +205,6 @@ impl<F: Flash> Player<F> {
         ensures no_fault { result ≢ Err PlayStop.SinkFault → O.faults out.new ≡ O.faults out.old }
     {
         a_line_is_the_maps::<F>();
-        a_failed_restart_has_happened::<F>();
         let _ = self.desk.machine.reach();
         self.desk.answer(line)?;
         write_all(out, self.desk.buffers.reply.text())?;

@@ -5,14 +5,13 @@ use Rattle.apei_script.specs.Desks.{state_of}
 use Rattle.apei_script.specs.Plays.{step_of}
 use Rattle.apei_script.specs.Words.{reply_at}
 use Rattle.script_text.specs.ScriptText.{line_of}
-use Rattle.apei_script.proofs.PlayLemmas.{one_played, one_unheard, stopped}
+use Rattle.apei_script.proofs.PlayLemmas.{one_played, one_unheard}
 use Rattle.apei_script.proofs.player.Player.play_answer.Goals as goal
 
 pub returns-in_err-answer-clause-stopped : goal.returns-in_err-answer-clause-stopped
 returns-in_err-answer-clause-stopped g c =
     let p = err_from_is_err_and c.from_residual.result c.from_residual.ensures.1 in
-    rw (p.1, p.2) (λ other. (stopped g.F.Flash.tells (state_of c.args.self.now.desk) (line_of c.args.line.now) (state_of c.answer.new.self) c.in_err-answer.field-0.0
-      (λ machine fails. c.a_failed_restart_has_happened.ensures (state_of c.args.self.now.desk).machine (line_of c.args.line.now) machine fails) c.in_err-answer.ensures.stopped, refl, refl))
+    rw (p.1, p.2) (λ other. (c.in_err-answer.ensures.stopped, refl, refl))
 
 pub returns-in_err-write_all-clause-unheard : goal.returns-in_err-write_all-clause-unheard
 returns-in_err-write_all-clause-unheard g c = λ is.
