@@ -1,5 +1,5 @@
 -- Replies to what a line asks of the client in use.
-use Rattle.std.proofs.Common.{◌≡◌, ℕ, List, length, Option, Some, None, Result, Ok, Err, subst}
+use Rattle.std.proofs.Common.{◌≡◌, ℕ, List, length, Option, Result, Ok, subst}
 use Rattle.hex.specs.Hex.{decode_of}
 use Rattle.apei_space.specs.Accesses.{Reaches}
 use Rattle.erst_entries.specs.Programs.{Listed, program_of}

@@ -1,5 +1,5 @@
 -- Lines of one reply, as a desk carries them out.
-use Rattle.std.proofs.Common.{◌≡◌, ℕ, ◌≤◌, List, [], ◌∷◌, ◌++◌, length, Option, Some, None, Result, Ok, Err, refl, sym, ap, subst, ◌∙◌}
+use Rattle.std.proofs.Common.{◌≡◌, ℕ, ◌≤◌, List, [], ◌∷◌, length, Option, Some, None, Ok, Err, refl, sym, subst}
 use Rattle.hex.specs.Hex.{decode_of}
 use Rattle.base_model.specs.Faults.{Rose}
 use Rattle.erst_client.specs.Commands.{ClientState}
@@ -9,7 +9,7 @@ use Rattle.erst_machine.specs.Events.{Event, Warmed, Powered, Warms, Powers, Hap
 use Rattle.script_text.specs.ScriptGrammar.{Line, table, own_table, reset, power}
 use Rattle.apei_script.specs.declared.player.PlayStop.TheVariants.{FlashFault}
 use Rattle.apei_script.specs.Replies.{IsMade}
-use Rattle.apei_script.specs.Players.{PlayerState, client_of, budget_of, budget_by, with_machine}
+use Rattle.apei_script.specs.Players.{PlayerState, budget_by}
 use Rattle.apei_script.specs.Words.{words_of_table, words_of_reset, words_of_power}
 use Rattle.apei_script.specs.Asked.{Answers}
 use Rattle.apei_script.specs.Happened.{Occurs}

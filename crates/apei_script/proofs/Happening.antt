@@ -1,5 +1,5 @@
 -- Replies to what a line asks of the machine itself.
-use Rattle.std.proofs.Common.{◌≡◌, ℕ, List, length, Result, Ok, Err}
+use Rattle.std.proofs.Common.{◌≡◌, ℕ, List, length, Result, Ok}
 use Rattle.hex.specs.Hex.{decode_of}
 use Rattle.apei_space.specs.declared.faults.SpaceFault.{SpaceFault}
 use Rattle.apei_space.specs.Calls.{ReadBytes}

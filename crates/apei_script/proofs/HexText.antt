@@ -1,12 +1,12 @@
 -- Pairs of hexadecimal digits stand for bytes.
-use Rattle.std.proofs.Common.{◌≡◌, ℕ, ◌+◌, ◌*◌, ◌/◌, ◌%◌, ◌≤◌, Bool, true, List, [], ◌∷◌, ◌++◌, length, take, Result, Ok, Err, refl, sym, ap, ◌∙◌, arith}
-use Rattle.std.specs.Prelude.{All, IsTrue, MatchResult}
+use Rattle.std.proofs.Common.{◌≡◌, ℕ, ◌*◌, true, List, length, Result, Ok, Err, arith}
+use Rattle.std.specs.Prelude.{MatchResult}
 use Rattle.std.specs.Char.{is_ascii_hexdigit}
 use Rattle.std.proofs.lemmas.Bool.Decides.{nat_tests}
 use Rattle.std.proofs.lemmas.List.Elements.{All-weaker}
 use Rattle.hex.specs.Hex.{decode_of, decode_sized, is_hex_digit}
 use Rattle.hex.specs.declared.error.FromHexError.{FromHexError}
-use Rattle.hex.proofs.HexLemmas.{decode_of-digits, decode_of-ok, decode_sized-twice}
+use Rattle.hex.proofs.HexLemmas.{decode_of-digits, decode_sized-twice}
 use Rattle.line_grammar.specs.Parts.{IsPairs}
 
 -- a digit of either case is one

@@ -23,3 +23,4 @@ pub mod Happening
 pub mod Giving
 pub mod Owning
 pub mod DeskLines
+pub mod PlayLemmas

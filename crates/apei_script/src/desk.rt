@@ -1,5 +1,5 @@
 // Lines of one reply that the listeners have no part in.
-ghost use Rattle.std.specs.Prelude.{◌≡◌, ◌+◌, ◌*◌, ◌≤◌, ℕ, List, length, vec_len, vec_capacity, map, true, IfOk, OnOk, IfErr};
+ghost use Rattle.std.specs.Prelude.{◌≡◌, ◌≤◌, ℕ, List, length, true, OnOk, IfErr};
 ghost use Rattle.line_grammar.specs.Parts.{IsPairs};
 ghost use Rattle.script_text.specs.ScriptGrammar.{IsValid, text_of, table, own_table, error, peek, fatal, reset, power};
 ghost use Rattle.script_text.specs.ScriptText.{line_of};
@@ -236,7 +236,9 @@ fn ask<F: Flash>(
         ScriptLine::Count => count_records(client, machine, steps, reply),
         ScriptLine::Next => show_next(client, machine, steps, reply),
         ScriptLine::Dummy => write_dummy(client, machine, steps, reply),
-        ScriptLine::Action { code, value } => run_action(client, machine, steps, *code, *value, reply),
+        ScriptLine::Action { code, value } => run_action(
+            client, machine, steps, *code, *value, reply,
+        ),
         _ => unreachable!(),
     }
 }

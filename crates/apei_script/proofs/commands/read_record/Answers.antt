@@ -1,4 +1,4 @@
-use Rattle.std.proofs.Common.{◌≡◌, ◌≤◌, length, take, Ok, Err, sym}
+use Rattle.std.proofs.Common.{Ok, Err, sym}
 use Rattle.std.proofs.lemmas.List.{length-take-le}
 use Rattle.apei_script.proofs.Asking.{reads}
 use Rattle.apei_script.proofs.Lengths.{fits_out, within_out, read_length}

@@ -1,4 +1,4 @@
-use Rattle.std.proofs.Common.{◌≡◌, [], sym, ◌∙◌}
+use Rattle.std.proofs.Common.{[], sym, ◌∙◌}
 use Rattle.std.proofs.lemmas.List.{append-nil}
 use Rattle.erst_machine.specs.OwnTables.{own_erst}
 use Rattle.apei_script.proofs.Owning.{never_fails, is_own}

@@ -1,4 +1,4 @@
-use Rattle.std.proofs.Common.{Ok, Err, arith, rules}
+use Rattle.std.proofs.Common.{arith, rules}
 use Rattle.script_text.specs.TableWords.{ErstHasWords}
 use Rattle.apei_script.proofs.Made.{made_number}
 use Rattle.apei_script.proofs.Giving.{refused_for, begins_with, no_table, not_attached, attached}

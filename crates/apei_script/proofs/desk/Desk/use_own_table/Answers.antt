@@ -1,4 +1,4 @@
-use Rattle.std.proofs.Common.{◌≡◌, ap, ◌∙◌, length, arith}
+use Rattle.std.proofs.Common.{ap, ◌∙◌, length, arith}
 use Rattle.erst_entries.specs.Layout.{Erst}
 use Rattle.apei_script.proofs.Made.{made_number}
 use Rattle.apei_script.proofs.DeskLines.{by_own_table}
