@@ -1,4 +1,5 @@
 pub mod LineLemmas
+pub mod ReadLemmas
 pub mod DecimalLemmas
 pub mod ToldLemmas
 pub mod RunLemmas

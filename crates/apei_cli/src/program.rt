@@ -1,10 +1,12 @@
 // The program's top call.
-ghost use Rattle.std.specs.Prelude.{◌≡◌, ℕ, [], false};
+ghost use Rattle.std.specs.Prelude.{◌≡◌, ◌↔◌, [], false, IsTrue};
 ghost use Rattle.base_model.specs.Faults.{Rose};
 ghost use Rattle.apei_notify.specs.Chains.{members_of};
+ghost use Rattle.script_text.specs.ScriptText.{line_of};
+ghost use Rattle.apei_script.specs.Plays.{IsBuilt};
 ghost use Rattle.apei_script.specs.Desks.{state_of};
 ghost use Rattle.apei_cli.specs.Plan.{IsPlanOf};
-ghost use Rattle.apei_cli.specs.Runs.{PlaysScript, IsRun, IsOnGeometry, IsAdmitted, HasSourceCause, HasSinkCause, HasFlashCause, MayComeFirst, IsComplete, IsDoneWhere};
+ghost use Rattle.apei_cli.specs.Runs.{PlaysScript, IsRun, IsOnGeometry, IsAdmitted, HasSourceCause, HasSinkCause, HasFlashCause, ComesBeforeBoot, IsComplete, IsDoneWhere};
 
 use crate::job::{Plan, PlanError};
 use crate::lines::{LineReader, LineStop};
@@ -39,6 +41,7 @@ fn play_script<I: Source, O: Sink, F: Flash>(
         (λ b. (⟦<dyn Listener as Listener>⟧ b.vtable).heard_last b.value)
         I.tells O.tells F.tells (I.rest script.old) (I.rest script.new) (O.written out.old) (O.written out.new)
         (members_of player.old.chain) (members_of player.new.chain) (state_of player.old.desk) (state_of player.new.desk) result }
+    ensures begun { ComesBeforeBoot result → ⊥ }
     ensures source { HasSourceCause (I.faults script.old) (I.faults script.new) result }
     ensures sink { HasSinkCause (O.faults out.old) (O.faults out.new) result }
 {
