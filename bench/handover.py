@@ -1,6 +1,6 @@
 #!/usr/bin/env python3
 """Times a handover of a block of 4,096 bytes, all turns of both sides, beside two copies of its bytes, and beside copies into
-memory and out of it by accesses of 64 bytes each.
+memory and out of it by accesses of 64 bytes each, all in one loop, and each in a call of its own.
 
     bench/handover.py [PROGRAM]
 
@@ -31,7 +31,8 @@ def nanoseconds(job, times):
 handover = nanoseconds("handover", 100_000)
 copies = nanoseconds("copies", 1_000_000)
 pieces = nanoseconds("pieces", 500_000)
+apart = nanoseconds("apart", 500_000)
 print(
     f"handover: {handover:.0f} ns a block; two copies: {copies:.0f} ns, ratio {handover / copies:.1f}; "
-    f"by pieces: {pieces:.0f} ns, ratio {handover / pieces:.1f}"
+    f"by pieces: {pieces:.0f} ns, ratio {handover / pieces:.1f}; each in a call: {apart:.0f} ns, ratio {handover / apart:.1f}"
 )

@@ -1,5 +1,5 @@
 // A handover of error status blocks, and plain copies of as many bytes.
-ghost use Rattle.std.specs.Prelude.{◌≡◌, IfOk, IfSome};
+ghost use Rattle.std.specs.Prelude.{◌≡◌, ◌<◌, IfOk, IfSome};
 ghost use Rattle.ghes_ack.specs.Maps.{HasWindows};
 ghost use Rattle.ghes_ack.specs.Sides.{Stands};
 
@@ -141,6 +141,44 @@ pub fn copy_by_pieces(alloc: Global, times: u64) -> Option<u64> {
             let at = MAP.block + 64 * piece as u64;
             ram.look_bytes(at, &mut other[64 * piece..64 * piece + 64])
                 .ok()?;
+        }
+        sum = sum.wrapping_add(u64::from(other[(k / 7 % 4096) as usize]));
+    }
+    Some(sum)
+}
+
+// Puts a piece of 64 bytes into memory.
+#[inline(never)]
+fn put_piece(ram: &mut Ram, piece: usize, bytes: &[u8; BLOCK])
+    requires { piece < 64 }
+{
+    let at = MAP.block + 64 * piece as u64;
+    let _ = ram.write_bytes(at, &bytes[64 * piece..64 * piece + 64]);
+}
+
+// Takes a piece of 64 bytes out of memory.
+#[inline(never)]
+fn take_piece(ram: &Ram, piece: usize, bytes: &mut [u8; BLOCK])
+    requires { piece < 64 }
+{
+    let at = MAP.block + 64 * piece as u64;
+    let _ = ram.look_bytes(at, &mut bytes[64 * piece..64 * piece + 64]);
+}
+
+/// The same, each access by a call of its own, so that no two of them share the look-up of their window. It answers the sum
+/// of one byte of each.
+pub fn copy_by_calls(alloc: Global, times: u64) -> Option<u64> {
+    let mut ram = memory(alloc)?;
+    let mut one = block();
+    let mut other = [0; BLOCK];
+    let mut sum = 0u64;
+    for k in 0..times {
+        one[(k % 4096) as usize] = (k % 256) as u8;
+        for piece in 0..64usize {
+            put_piece(&mut ram, piece, &one);
+        }
+        for piece in 0..64usize {
+            take_piece(&ram, piece, &mut other);
         }
         sum = sum.wrapping_add(u64::from(other[(k / 7 % 4096) as usize]));
     }

@@ -41,6 +41,7 @@ fn done(alloc: Global, job: &str, times: u64) -> Option<u64> {
         "handover" => handovers::hand_over(alloc, times),
         "copies" => handovers::copy_twice(times),
         "pieces" => handovers::copy_by_pieces(alloc, times),
+        "apart" => handovers::copy_by_calls(alloc, times),
         "writes" => machines::write_by_programs(alloc, times),
         "calls" => machines::write_by_calls(alloc, times),
         "accesses" => machines::use_memory(alloc, times),

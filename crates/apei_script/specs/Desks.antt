@@ -4,6 +4,7 @@ use Rattle.std.specs.declared.alloc.Global.{Global}
 use Rattle.script_text.specs.ScriptGrammar.{Line, bert}
 use Rattle.apei_script.specs.declared.desk.Desk.{Desk}
 use Rattle.apei_script.specs.Players.{PlayerState}
+use Rattle.apei_script.specs.Replies.{IsMade}
 use Rattle.erst_machine.specs.MachineState.{MachineState}
 use Rattle.apei_script.specs.Words.{reply_at, replies_at}
 use Rattle.apei_script.specs.Happened.{Happened}
@@ -17,6 +18,12 @@ pub record AnswersLine (tells : Type 0) (counts : List ℕ) (old : PlayerState) 
   pub words : List ℕ
   pub plays : Plays tells counts old line (words ∷ []) [] new
   pub text : reply ≡ reply_at (step_of new) words
+
+-- the same, but for the step behind the reply
+pub record MakesReply (tells : Type 0) (old : PlayerState) (line : Line) (new : PlayerState) (reply : List ℕ) : Type 0 where
+  pub words : List ℕ
+  pub plays : (counts : List ℕ) → Plays tells counts old line (words ∷ []) [] new
+  pub made : IsMade reply words
 
 -- the clients and their steps are as they were
 pub record SameClients {F : Type 0} (old new : Desk F) : Type 0 where

@@ -1,16 +1,18 @@
 -- The history of a run: a chain of states, one a line.
-use Rattle.std.specs.Prelude.{◌≡◌, ◌⊎◌, ℕ, ◌+◌, ◌-◌, ◌^◌, ◌==◌, nat_le, min, if◌then◌else◌, Bool, MatchBool, List, [], ◌∷◌}
+use Rattle.std.specs.Prelude.{◌≡◌, ◌⊎◌, ℕ, ◌+◌, ◌-◌, ◌^◌, ◌==◌, ◌≤◌, nat_le, min, if◌then◌else◌, Bool, true, MatchBool, List, [], ◌∷◌}
 use Rattle.std.specs.List.{flat_map}
-use Rattle.flash_words.specs.Flash.{CrashImage, image_at}
+use Rattle.base_model.specs.Faults.{Rose}
+use Rattle.flash_words.specs.Flash.{image_at}
 use Rattle.record_model.specs.Records.{Stored}
 use Rattle.apei_notify.specs.Telling.{wanted}
-use Rattle.erst_machine.specs.MachineState.{MachineState, records_of, told_of}
+use Rattle.erst_client.specs.Timings.{enough_steps}
+use Rattle.erst_machine.specs.MachineState.{records_of, told_of}
 use Rattle.erst_machine.specs.Shown.{shown_by, changes_of}
-use Rattle.script_text.specs.ScriptGrammar.{Line}
-use Rattle.apei_script.specs.Players.{PlayerState}
+use Rattle.script_text.specs.ScriptGrammar.{Line, action, table}
+use Rattle.apei_script.specs.Players.{PlayerState, client_of, budget_of, UsesOwn}
 use Rattle.apei_script.specs.Words.{replies_at}
-use Rattle.apei_script.specs.Mapped.{after_line}
-use Rattle.apei_script.specs.Plays.{LinePlayed, step_of}
+use Rattle.apei_script.specs.Mapped.{Mapped, after_line}
+use Rattle.apei_script.specs.Plays.{LinePlayed, step_of, names_command, SaysHardware, SaysStopped}
 
 -- a line that was played: the words of its replies, the blocks of which the listeners were told, and the player afterwards
 pub record Played : Type 0 where
@@ -46,6 +48,11 @@ reply_of played = replies_at (step_of played.left) played.said
 abbrev pub text_of : List Played → List ℕ
 text_of lines = flat_map reply_of lines
 
+-- the lines end one after another, between these numbers of flash changes
+abbrev pub EndInOrder : ℕ → List Played → ℕ → Type 0
+EndInOrder from [] to = from ≤ to
+EndInOrder from (played ∷ rest) to = (from ≤ changes_of played.left.machine) × EndInOrder (changes_of played.left.machine) rest to
+
 -- what power lost at step s may show: the records after the lines that had ended by s, or as the next one leaves them where nothing fails
 abbrev pub Shows : ℕ → PlayerState → List Played → Stored → Type 0
 Shows s state [] shown = shown ≡ records_of state.machine
@@ -59,3 +66,38 @@ abbrev pub ShowsEach : PlayerState → PlayerState → List Played → Type 0
 ShowsEach last state [] = Unit {0}
 ShowsEach last state (played ∷ rest) =
     (shown_by state.machine (image_at (told_of last.machine) (changes_of played.left.machine)) ≡ records_of played.left.machine) × ShowsEach last played.left rest
+
+-- a line that neither runs an action nor gives a table
+abbrev pub IsOwnLine : Line → Type 0
+IsOwnLine (action code value) = ⊥
+IsOwnLine (table hex) = ⊥
+IsOwnLine line = Unit {0}
+
+-- scripts without lines that run an action or give a table
+abbrev pub AreOwnLines : List Played → Type 0
+AreOwnLines [] = Unit {0}
+AreOwnLines (played ∷ rest) = IsOwnLine played.line × AreOwnLines rest
+
+-- a line is the record map's, in one reply. It says that the flash failed only where its count of faults rose in this very line, and is
+-- never stopped where its steps are enough
+pub record IsMapped (state : PlayerState) (played : Played) : Type 0 where
+  pub words : List ℕ
+  pub said : played.said ≡ words ∷ []
+  pub mapped : Mapped (budget_of state) state.machine played.line words played.left.machine
+  pub cause : SaysHardware played.said → Rose state.machine.device.store.flash.faults played.left.machine.device.store.flash.faults
+  pub enough : enough_steps (client_of state).timings ≤ budget_of state → SaysStopped played.said → ⊥
+
+-- so is each line that asks the machine's own client for a command on records
+abbrev pub AreMapped : PlayerState → List Played → Type 0
+AreMapped state [] = Unit {0}
+AreMapped state (played ∷ rest) = (UsesOwn state → names_command played.line ≡ true → IsMapped state played) × AreMapped played.left rest
+
+-- none of these lines says that the flash failed
+abbrev pub NoneSaysHardware : PlayerState → List Played → Type 0
+NoneSaysHardware state [] = Unit {0}
+NoneSaysHardware state (played ∷ rest) = (UsesOwn state → names_command played.line ≡ true → SaysHardware played.said → ⊥) × NoneSaysHardware played.left rest
+
+-- before each line, and at the end, the machine's own client is in use
+abbrev pub AlwaysUsesOwn : PlayerState → List Played → Type 0
+AlwaysUsesOwn state [] = UsesOwn state
+AlwaysUsesOwn state (played ∷ rest) = UsesOwn state × AlwaysUsesOwn played.left rest

@@ -9,3 +9,4 @@ pub mod Changes
 pub mod Plays
 pub mod Desks
 pub mod History
+pub mod Alike

@@ -1,5 +1,5 @@
 -- A line that gives a table. `tells` says whether the flash tells its content.
-use Rattle.std.specs.Prelude.{◌≡◌, ℕ, List, ◌++◌, length, Option, Some, Result, Ok, Err}
+use Rattle.std.specs.Prelude.{◌≡◌, ℕ, List, ◌++◌, length, Option, Some, None, Ok, Err}
 use Rattle.apei_space.specs.Accesses.{Reaches}
 use Rattle.erst_entries.specs.declared.tables.ErstError.{ErstError}
 use Rattle.erst_entries.specs.Layout.{Erst, FitsErst}
@@ -16,13 +16,15 @@ use Rattle.apei_script.specs.Replies.{IsMade}
 abbrev pub ATTACH_STEPS : ℕ
 ATTACH_STEPS = 64
 
--- some bytes begin with a table
+-- some bytes begin with a table, and with no other one
 pub record BeginsWith (erst : Erst) (bytes : List ℕ) : Type 0 where
   pub table_bytes : List ℕ
   pub behind : List ℕ
   pub split : bytes ≡ table_bytes ++ behind
   pub fits : FitsErst erst
   pub is : IsErst erst table_bytes
+  pub sound : refusal bytes ≡ None
+  pub only : (other : Erst) (table rest : List ℕ) → bytes ≡ table ++ rest → FitsErst other → IsErst other table → other ≡ erst
 
 -- the machine before, the client that a line gave before, the bytes of this line, the words of its reply, and machine and client
 -- afterwards. Bytes that begin with no table are refused, and where no client attaches to it, the client stays

@@ -1,5 +1,5 @@
 // The memory in which lines are carried out.
-ghost use Rattle.std.specs.Prelude.{◌≡◌, ◌≤◌, vec_len, vec_capacity};
+ghost use Rattle.std.specs.Prelude.{◌≡◌, ◌≤◌, [], vec_len, vec_capacity, IfOk};
 
 use crate::commands::LONGEST_HEX;
 use crate::reply::Reply;
@@ -23,6 +23,7 @@ pub struct Buffers {
 impl Buffers {
     /// All the memory that lines need, but for that of tables.
     pub fn new(alloc: Global) -> Result<Buffers, Memory>
+        ensures { IfOk result (λ buffers. buffers.reply ≡ []) }
     {
         Ok(Buffers {
             bytes: vec![in alloc; 0u8; LONGEST_HEX]?,
@@ -31,4 +32,3 @@ impl Buffers {
         })
     }
 }
-

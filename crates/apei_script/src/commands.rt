@@ -18,6 +18,7 @@ use hex::decode_to_slice;
 
 /// The bytes that the longest line stands for, and those of the longest record that is read.
 pub const LONGEST_HEX: usize = 70_000;
+
 const READ_BUFFER: usize = 65_536;
 
 /// The offset of a record's identifier, and the bytes of its header.

@@ -1,10 +1,15 @@
 // Lines that the listeners have a part in, and that of the boot error region: they have more than one reply, or one of any length.
-ghost use Rattle.std.specs.Prelude.{◌≡◌, ◌≤◌, ◌++◌, ◌∷◌, [], ℕ, List, length, map, take, true, false, IsTrue, OnOk, OnErr};
+ghost use Rattle.std.specs.Prelude.{◌≡◌, ◌≤◌, ◌++◌, ◌∷◌, [], ℕ, List, length, map, take, true, false, IsTrue, OnOk, OnErr, IfSome, Some, None, Ok, ◌+◌, ◌-◌, ◌<◌};
+ghost use Rattle.base_model.specs.Bytes.{part};
 ghost use Rattle.base_model.specs.Faults.{HasCause};
+ghost use Rattle.bert_region.specs.Region.{next_from};
+ghost use Rattle.ghes_ack.specs.Machine.{Fits};
+ghost use Rattle.erst_machine.specs.Events.{Turns};
 ghost use Rattle.script_text.specs.ScriptGrammar.{turns};
 ghost use Rattle.apei_notify.specs.Chains.{members_of};
 ghost use Rattle.apei_script.specs.Replies.{IsMade};
-ghost use Rattle.apei_script.specs.Words.{words_of_turns, words_of_heard, words_of_block, reply_at};
+ghost use Rattle.apei_script.specs.Happened.{side_of};
+ghost use Rattle.apei_script.specs.Words.{words_of_turns, words_of_heard, words_of_block, words_of_bert, reply_at};
 ghost use Rattle.apei_script.specs.Plays.{Occurred, OccurredUnheard, Told, changes_in};
 ghost use Rattle.apei_script.specs.Desks.{state_of, SameClients, Lists, ListsUnheard};
 
@@ -14,6 +19,7 @@ use crate::reply::Reply;
 use apei_bytes::{Sink, SinkFault, get_u32, write_all};
 use apei_notify::{Chain, Listener};
 use apei_space::Space;
+use erst_machine::Machine;
 use flash_model::Flash;
 use ghes_ack::Event;
 
@@ -41,7 +47,7 @@ pub fn turns<F: Flash, O: Sink>(
 {
     desk.buffers.events.clear();
     'turning: for letter in letters {
-        let event = desk.machine.turn(side_of(*letter));
+        let event = turn(&mut desk.machine, *letter);
         desk.buffers.events.push(event).unwrap();
         if event == Event::Took {
             hear_of_block(desk, chain, out)?;
@@ -54,6 +60,15 @@ pub fn turns<F: Flash, O: Sink>(
     write_all(out, reply.text())
 }
 
+/// A turn of the side of a letter. A block that it took is one that the handover's window takes.
+fn turn<F: Flash>(machine: &mut Machine<F>, letter: u8) -> Event
+    ensures turned { Turns (side_of letter) machine.old result machine.new }
+    ensures took { result ≡ Event.Took → Fits 4096 machine.new.handover.last }
+{
+    let _ = machine.reach();
+    machine.turn(side_of(letter))
+}
+
 /// The offset of a block's severity.
 const SEVERITY: usize = 16;
 
@@ -63,8 +78,7 @@ fn hear_of_block<F: Flash, O: Sink>(
     chain: &mut Chain,
     out: &mut O,
 ) -> Result<(), SinkFault>
-    requires head { 20 ≤ length desk.old.machine.handover.last }
-    requires fits { length desk.old.machine.handover.last ≤ 4096 }
+    requires { Fits 4096 desk.old.machine.handover.last }
     ensures told { Told
         (λ b. (⟦<dyn Listener as Listener>⟧ b.vtable).interest b.value)
         (λ b. (⟦<dyn Listener as Listener>⟧ b.vtable).hearings b.value)
@@ -98,9 +112,6 @@ fn say_turns(events: &[Event], reply: &mut Reply)
     }
 }
 
-/// Where the boot error region begins.
-const REGION: u64 = 0x40_0000;
-
 /// Shows each block of the boot error region, and then how many there are.
 pub fn list_blocks<F: Flash, O: Sink>(desk: &mut Desk<F>, out: &mut O) -> Result<(), SinkFault>
     ensures listed { OnOk result (Lists F.tells O.tells desk.old.machine (O.written out.old) (O.written out.new)) }
@@ -109,19 +120,102 @@ pub fn list_blocks<F: Flash, O: Sink>(desk: &mut Desk<F>, out: &mut O) -> Result
     ensures clients { SameClients desk.old desk.new }
     ensures cause { HasCause (O.faults out.old) (O.faults out.new) result }
 {
-    let step = desk.machine.steps();
+    let _ = desk.machine.reach();
     let mut at = 0;
     let mut count = 0u64;
-    'listing: while let Ok(Some((_, next))) = desk.machine.bert_at(at) {
-        let block = &mut desk.buffers.bytes[..(next - at) as usize];
-        let _ = desk.machine.read_bytes(REGION + u64::from(at), block);
-        let reply = &mut desk.buffers.reply;
-        reply.block(block);
-        reply.end(step);
-        write_all(out, reply.text())?;
+    'listing: while let Some(next) = next_block(&desk.machine, at) {
+        show_block(desk, at, next, out)?;
         at = next;
         count += 1;
     }
+    end_list(desk, count, out)
+}
+
+/// The place behind the block that stands at a place of the boot error region, `None` where none begins there.
+fn next_block<F: Flash>(machine: &Machine<F>, at: u32) -> Option<u32>
+    requires { at ≤ 16384 }
+    ensures found { IfSome result (λ next. next_from machine.now.memory.region at ≡ Ok (Some next)) }
+    ensures none { result ≡ None → (next : ℕ) → next_from machine.now.memory.region at ≡ Ok (Some next) → ⊥ }
+{
+    match machine.bert_at(at) {
+        Ok(Some((_, next))) => Some(next),
+        Ok(None) => None,
+        Err(_) => None,
+    }
+}
+
+/// Where the boot error region begins.
+const REGION: u64 = 0x40_0000;
+
+/// Shows the block from one place of the boot error region to another.
+fn show_block<F: Flash, O: Sink>(
+    desk: &mut Desk<F>,
+    at: u32,
+    next: u32,
+    out: &mut O,
+) -> Result<(), SinkFault>
+    requires head { at + 20 ≤ next }
+    requires within { next ≤ 16384 }
+    ensures all { OnOk result (O.tells → O.written out.new ≡ O.written out.old
+        ++ reply_at (changes_in desk.old.machine) (words_of_block (part desk.old.machine.memory.region at (next - at)))) }
+    ensures part { OnErr result (O.tells → (n : ℕ) × (O.written out.new ≡ O.written out.old
+        ++ take n (reply_at (changes_in desk.old.machine) (words_of_block (part desk.old.machine.memory.region at (next - at)))))) }
+    ensures machine { desk.new.machine ≡ desk.old.machine }
+    ensures clients { SameClients desk.old desk.new }
+    ensures cause { HasCause (O.faults out.old) (O.faults out.new) result }
+{
+    let step = desk.machine.steps();
+    make_block(
+        &mut desk.machine,
+        at,
+        next,
+        &mut desk.buffers.bytes,
+        &mut desk.buffers.reply,
+    );
+    desk.buffers.reply.end(step);
+    write_all(out, desk.buffers.reply.text())
+}
+
+/// The reply to a block from one place of the boot error region to another.
+fn make_block<F: Flash>(
+    machine: &mut Machine<F>,
+    at: u32,
+    next: u32,
+    bytes: &mut [u8],
+    reply: &mut Reply,
+)
+    requires head { at + 20 ≤ next }
+    requires within { next ≤ 16384 }
+    requires room { 16384 ≤ length bytes.old }
+    ensures made { IsMade reply.new (words_of_block (part machine.old.memory.region at (next - at))) }
+    ensures machine { machine.new ≡ machine.old }
+    ensures size { length bytes.new ≡ length bytes.old }
+{
+    let block = &mut bytes[..(next - at) as usize];
+    region_bytes(machine, at, block);
+    reply.block(block);
+}
+
+/// The bytes from a place of the boot error region on.
+fn region_bytes<F: Flash>(machine: &mut Machine<F>, at: u32, out: &mut [u8])
+    requires some { 0 < length out.old }
+    requires within { at + length out.old ≤ 16384 }
+    ensures bytes { out.new ≡ part machine.old.memory.region at (length out.old) }
+    ensures machine { machine.new ≡ machine.old }
+{
+    let _ = machine.reach();
+    let _ = machine.read_bytes(REGION + u64::from(at), out);
+}
+
+/// Shows how many blocks there are.
+fn end_list<F: Flash, O: Sink>(desk: &mut Desk<F>, count: u64, out: &mut O) -> Result<(), SinkFault>
+    ensures all { OnOk result (O.tells → O.written out.new ≡ O.written out.old ++ reply_at (changes_in desk.old.machine) (words_of_bert count)) }
+    ensures part { OnErr result (O.tells → (n : ℕ) × (O.written out.new ≡ O.written out.old ++ take n (reply_at (changes_in desk.old.machine) (words_of_bert count)))) }
+    ensures machine { desk.new.machine ≡ desk.old.machine }
+    ensures clients { SameClients desk.old desk.new }
+    ensures cause { HasCause (O.faults out.old) (O.faults out.new) result }
+{
+    let step = desk.machine.steps();
     let reply = &mut desk.buffers.reply;
     reply.begin(b"bert ");
     reply.add_number(count);
@@ -130,7 +224,11 @@ pub fn list_blocks<F: Flash, O: Sink>(desk: &mut Desk<F>, out: &mut O) -> Result
 }
 
 /// Shows how often each listener has heard of an error. However many they are, their counts take no memory.
-pub fn say_heard<F: Flash, O: Sink>(desk: &mut Desk<F>, chain: &Chain, out: &mut O) -> Result<(), SinkFault>
+pub fn say_heard<F: Flash, O: Sink>(
+    desk: &mut Desk<F>,
+    chain: &Chain,
+    out: &mut O,
+) -> Result<(), SinkFault>
     ensures desk { state_of desk.new ≡ state_of desk.old }
     ensures all { OnOk result (O.tells → O.written out.new ≡ O.written out.old
         ++ reply_at (changes_in desk.old.machine) (words_of_heard (map (λ b. (⟦<dyn Listener as Listener>⟧ b.vtable).hearings b.value) (members_of chain.now)))) }

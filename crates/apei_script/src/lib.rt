@@ -6,11 +6,21 @@ mod buffers;
 mod commands;
 mod desk;
 mod events;
+mod history;
+mod laws;
 mod own;
 mod player;
 mod refusals;
 mod reply;
 mod tables;
 
+pub use history::{
+    alike_machines_make_alike_players, booted_scripts_play_alike, each_line_is_the_maps,
+    lines_are_one_list, lines_are_shown, lines_keep_a_machine, scripts_play_alike,
+};
+pub use laws::{
+    a_failed_restart_has_happened, a_line_is_the_maps, a_line_keeps_a_machine,
+    a_line_leaves_its_records, events_take_their_changes,
+};
 pub use own::own_client;
 pub use player::{PlayStop, Player, PlayerRefused};

@@ -1,17 +1,18 @@
 // The player.
-ghost use Rattle.std.specs.Prelude.{◌≡◌, ◌≢◌, ◌++◌, Ok, Err, OnOk, OnErr, IfOk, IfErr};
+ghost use Rattle.std.specs.Prelude.{◌≡◌, ◌≢◌, ◌≤◌, ◌++◌, length, true, Ok, Err, OnOk, OnErr, IfOk, IfErr};
 ghost use Rattle.base_model.specs.Faults.{Rose, HasCause};
-ghost use Rattle.script_text.specs.ScriptGrammar.{IsValid, turns, bert, heard};
+ghost use Rattle.script_text.specs.ScriptGrammar.{IsValid, text_of, turns, bert, heard};
 ghost use Rattle.script_text.specs.ScriptText.{line_of};
 ghost use Rattle.apei_notify.specs.Chains.{members_of};
 ghost use Rattle.apei_script.specs.declared.player.PlayStop.TheVariants.{SinkFault as TheSinkFault, Memory as TheMemory};
 ghost use Rattle.apei_script.specs.Players.{player_of};
-ghost use Rattle.apei_script.specs.Plays.{IsBuilt, Stops, PlaysLine, PlaysUnheard, Occurred, OccurredUnheard};
+ghost use Rattle.apei_script.specs.Plays.{IsBuilt, has_one_reply, Stops, PlaysLine, PlaysUnheard};
 ghost use Rattle.apei_script.specs.Desks.{state_of};
 
 use crate::buffers::Buffers;
 use crate::desk::Desk;
 use crate::events::{list_blocks, say_heard, turns};
+use crate::laws::a_line_is_the_maps;
 use apei_bytes::{Memory, Sink, SinkFault, write_all};
 use apei_notify::{Chain, Listener};
 use erst_client::Client;
@@ -19,6 +20,7 @@ use erst_machine::Machine;
 use flash_model::Flash;
 use script_text::ScriptLine;
 use std::alloc::Global;
+
 /// Why a line was not played to its end. The player may only be taken apart then.
 #[derive(Clone, Copy, Debug, PartialEq, Eq)]
 pub enum PlayStop {
@@ -76,7 +78,11 @@ impl<F: Flash> Player<F> {
         ensures listeners_back { IfErr result (λ refused. members_of refused.chain ≡ members_of chain) }
     {
         let Ok(buffers) = Buffers::new(alloc) else {
-            return Err(PlayerRefused { machine, own, chain });
+            return Err(PlayerRefused {
+                machine,
+                own,
+                chain,
+            });
         };
         let desk = Desk {
             machine,
@@ -93,6 +99,7 @@ impl<F: Flash> Player<F> {
     pub fn play<O: Sink>(&mut self, line: &ScriptLine<'_>, out: &mut O) -> Result<(), PlayStop>
         requires valid { IsValid (line_of line.now) }
         requires built { IsBuilt (line_of line.now) }
+        requires fits { length (text_of (line_of line.now)) ≤ 140_000 }
         ensures played { OnOk result (PlaysLine
             (λ b. (⟦<dyn Listener as Listener>⟧ b.vtable).interest b.value)
             (λ b. (⟦<dyn Listener as Listener>⟧ b.vtable).hearings b.value)
@@ -112,14 +119,95 @@ impl<F: Flash> Player<F> {
     {
         match line {
             ScriptLine::Blank => {}
-            ScriptLine::Turns { letters } => turns(&mut self.desk, &mut self.chain, letters, out)?,
-            ScriptLine::Bert => list_blocks(&mut self.desk, out)?,
-            ScriptLine::Heard => say_heard(&mut self.desk, &self.chain, out)?,
-            line => {
-                self.desk.answer(line)?;
-                write_all(out, self.desk.buffers.reply.text())?;
-            }
+            ScriptLine::Turns { letters } => self.play_turns(letters, out)?,
+            ScriptLine::Bert => self.play_bert(out)?,
+            ScriptLine::Heard => self.play_heard(out)?,
+            line => self.play_answer(line, out)?,
         }
+        Ok(())
+    }
+
+    fn play_turns<O: Sink>(&mut self, letters: &[u8], out: &mut O) -> Result<(), SinkFault>
+        requires { length letters.now ≤ 4096 }
+        ensures played { OnOk result (PlaysLine
+            (λ b. (⟦<dyn Listener as Listener>⟧ b.vtable).interest b.value)
+            (λ b. (⟦<dyn Listener as Listener>⟧ b.vtable).hearings b.value)
+            (λ b. (⟦<dyn Listener as Listener>⟧ b.vtable).heard_last b.value)
+            F.tells O.tells (state_of self.old.desk) (state_of self.new.desk) (members_of self.old.chain) (members_of self.new.chain) (turns letters.now)
+            (O.written out.old) (O.written out.new)) }
+        ensures unheard { OnErr result (PlaysUnheard
+            (λ b. (⟦<dyn Listener as Listener>⟧ b.vtable).interest b.value)
+            (λ b. (⟦<dyn Listener as Listener>⟧ b.vtable).hearings b.value)
+            (λ b. (⟦<dyn Listener as Listener>⟧ b.vtable).heard_last b.value)
+            F.tells O.tells (state_of self.old.desk) (state_of self.new.desk) (members_of self.old.chain) (members_of self.new.chain) (turns letters.now)
+            (O.written out.old) (O.written out.new)) }
+        ensures cause { HasCause (O.faults out.old) (O.faults out.new) result }
+    {
+        turns(&mut self.desk, &mut self.chain, letters, out)
+    }
+
+    fn play_bert<O: Sink>(&mut self, out: &mut O) -> Result<(), SinkFault>
+        ensures played { OnOk result (PlaysLine
+            (λ b. (⟦<dyn Listener as Listener>⟧ b.vtable).interest b.value)
+            (λ b. (⟦<dyn Listener as Listener>⟧ b.vtable).hearings b.value)
+            (λ b. (⟦<dyn Listener as Listener>⟧ b.vtable).heard_last b.value)
+            F.tells O.tells (state_of self.old.desk) (state_of self.new.desk) (members_of self.old.chain) (members_of self.new.chain) bert
+            (O.written out.old) (O.written out.new)) }
+        ensures unheard { OnErr result (PlaysUnheard
+            (λ b. (⟦<dyn Listener as Listener>⟧ b.vtable).interest b.value)
+            (λ b. (⟦<dyn Listener as Listener>⟧ b.vtable).hearings b.value)
+            (λ b. (⟦<dyn Listener as Listener>⟧ b.vtable).heard_last b.value)
+            F.tells O.tells (state_of self.old.desk) (state_of self.new.desk) (members_of self.old.chain) (members_of self.new.chain) bert
+            (O.written out.old) (O.written out.new)) }
+        ensures cause { HasCause (O.faults out.old) (O.faults out.new) result }
+    {
+        list_blocks(&mut self.desk, out)
+    }
+
+    fn play_heard<O: Sink>(&mut self, out: &mut O) -> Result<(), SinkFault>
+        ensures played { OnOk result (PlaysLine
+            (λ b. (⟦<dyn Listener as Listener>⟧ b.vtable).interest b.value)
+            (λ b. (⟦<dyn Listener as Listener>⟧ b.vtable).hearings b.value)
+            (λ b. (⟦<dyn Listener as Listener>⟧ b.vtable).heard_last b.value)
+            F.tells O.tells (state_of self.old.desk) (state_of self.new.desk) (members_of self.old.chain) (members_of self.new.chain) heard
+            (O.written out.old) (O.written out.new)) }
+        ensures unheard { OnErr result (PlaysUnheard
+            (λ b. (⟦<dyn Listener as Listener>⟧ b.vtable).interest b.value)
+            (λ b. (⟦<dyn Listener as Listener>⟧ b.vtable).hearings b.value)
+            (λ b. (⟦<dyn Listener as Listener>⟧ b.vtable).heard_last b.value)
+            F.tells O.tells (state_of self.old.desk) (state_of self.new.desk) (members_of self.old.chain) (members_of self.new.chain) heard
+            (O.written out.old) (O.written out.new)) }
+        ensures cause { HasCause (O.faults out.old) (O.faults out.new) result }
+    {
+        say_heard(&mut self.desk, &self.chain, out)
+    }
+
+    /// Plays a line of one reply that the listeners have no part in.
+    fn play_answer<O: Sink>(&mut self, line: &ScriptLine<'_>, out: &mut O) -> Result<(), PlayStop>
+        requires valid { IsValid (line_of line.now) }
+        requires one { has_one_reply (line_of line.now) ≡ true }
+        requires fits { length (text_of (line_of line.now)) ≤ 140_000 }
+        ensures played { OnOk result (PlaysLine
+            (λ b. (⟦<dyn Listener as Listener>⟧ b.vtable).interest b.value)
+            (λ b. (⟦<dyn Listener as Listener>⟧ b.vtable).hearings b.value)
+            (λ b. (⟦<dyn Listener as Listener>⟧ b.vtable).heard_last b.value)
+            F.tells O.tells (state_of self.old.desk) (state_of self.new.desk) (members_of self.old.chain) (members_of self.new.chain) (line_of line.now)
+            (O.written out.old) (O.written out.new)) }
+        ensures unheard { result ≡ Err PlayStop.SinkFault → PlaysUnheard
+            (λ b. (⟦<dyn Listener as Listener>⟧ b.vtable).interest b.value)
+            (λ b. (⟦<dyn Listener as Listener>⟧ b.vtable).hearings b.value)
+            (λ b. (⟦<dyn Listener as Listener>⟧ b.vtable).heard_last b.value)
+            F.tells O.tells (state_of self.old.desk) (state_of self.new.desk) (members_of self.old.chain) (members_of self.new.chain) (line_of line.now)
+            (O.written out.old) (O.written out.new) }
+        ensures stopped { IfErr result (λ stop. stop ≢ PlayStop.SinkFault → Stops F.tells (state_of self.old.desk) (line_of line.now) (state_of self.new.desk) stop
+            × (members_of self.new.chain ≡ members_of self.old.chain) × (out.new ≡ out.old)) }
+        ensures fault { result ≡ Err PlayStop.SinkFault → Rose (O.faults out.old) (O.faults out.new) }
+        ensures no_fault { result ≢ Err PlayStop.SinkFault → O.faults out.new ≡ O.faults out.old }
+    {
+        a_line_is_the_maps::<F>();
+        let _ = self.desk.machine.reach();
+        self.desk.answer(line)?;
+        write_all(out, self.desk.buffers.reply.text())?;
         Ok(())
     }
 
@@ -129,7 +217,14 @@ impl<F: Flash> Player<F> {
         ensures listeners { members_of result.1 ≡ members_of self.chain }
     {
         let Player { desk, chain } = self;
-        let Desk { machine, own: _, other: _, steps: _, buffers: _, alloc: _ } = desk;
+        let Desk {
+            machine,
+            own: _,
+            other: _,
+            steps: _,
+            buffers: _,
+            alloc: _,
+        } = desk;
         (machine, chain)
     }
 }

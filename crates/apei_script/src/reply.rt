@@ -3,7 +3,6 @@ ghost use Rattle.std.specs.Prelude.{◌≡◌, ◌+◌, ◌*◌, ◌<◌, ◌≤
 ghost use Rattle.hex.specs.Hex.{encode_lower};
 ghost use Rattle.apei_script.specs.Words.{words_of_record, words_of_block, reply_at};
 
-
 use apei_bytes::{Memory, get_u32, get_u64};
 use hex::encode_to_slice;
 use itoa::Buffer;
@@ -15,6 +14,7 @@ const LONGEST: usize = 131_264;
 
 /// The offset of a record's identifier, and that of a block's severity.
 const ID: usize = 96;
+
 const SEVERITY: usize = 16;
 
 /// A reply.

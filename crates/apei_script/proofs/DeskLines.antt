@@ -1,0 +1,81 @@
+-- Lines of one reply, as a desk carries them out.
+use Rattle.std.proofs.Common.{◌≡◌, ℕ, ◌≤◌, List, [], ◌∷◌, length, Option, Some, None, Ok, Err, refl, sym, subst}
+use Rattle.hex.specs.Hex.{decode_of}
+use Rattle.base_model.specs.Faults.{Rose}
+use Rattle.erst_client.specs.Commands.{ClientState}
+use Rattle.erst_machine.specs.declared.errors.BootError.{BootError}
+use Rattle.erst_machine.specs.MachineState.{MachineState}
+use Rattle.erst_machine.specs.Events.{Event, Warmed, Powered, Warms, Powers, Happens}
+use Rattle.script_text.specs.ScriptGrammar.{Line, table, own_table, reset, power}
+use Rattle.apei_script.specs.declared.player.PlayStop.TheVariants.{FlashFault}
+use Rattle.apei_script.specs.Replies.{IsMade}
+use Rattle.apei_script.specs.Players.{PlayerState, budget_by}
+use Rattle.apei_script.specs.Words.{words_of_table, words_of_reset, words_of_power}
+use Rattle.apei_script.specs.Asked.{Answers}
+use Rattle.apei_script.specs.Happened.{Occurs}
+use Rattle.apei_script.specs.Tables.{IsGiven}
+use Rattle.apei_script.specs.Plays.{ByClient, GivenTable, OwnTable, OnMachine, Reset, Power, ResetFails, PowerFails, HasHappened, Stops}
+use Rattle.apei_script.specs.Desks.{MakesReply}
+
+-- what a player is made of
+abbrev player : MachineState → ClientState → Option ClientState → Option ℕ → PlayerState
+player machine own other steps = record { machine = machine; own = own; other = other; steps = steps }
+
+module _ (tells : Type 0) (old : MachineState) (own : ClientState) (steps : Option ℕ) where
+  -- one thing happened, and the flash counted a fault
+  failed : (event : Event) (new : MachineState) → Happens tells old event new → old.device.store.flash.faults ≤ new.device.store.flash.faults
+      → Rose old.device.store.flash.faults new.device.store.flash.faults → HasHappened tells old new
+  failed event new happens rises rose = record {
+    trail = record { event = event; left = new } ∷ [];
+    happens = (happens, refl);
+    never_falls = rises;
+    exact = λ told none. absurd (none rose);
+  }
+
+  pub by_other : (client : ClientState) (other new_other : Option ClientState) (line : Line) (new : MachineState) (reply : List ℕ) → other ≡ Some client → new_other ≡ Some client
+      → Answers tells client (budget_by steps client) old line new reply → MakesReply tells (player old own other steps) line (player new own new_other steps) reply
+  by_other client other new_other line new reply was is answers =
+      subst (λ (o : Option ClientState). MakesReply tells (player old own o steps) line (player new own new_other steps) reply) (sym was)
+      (subst (λ (o : Option ClientState). MakesReply tells (player old own (Some client) steps) line (player new own o steps) reply) (sym is)
+      (record { words = answers.words; plays = λ counts. ByClient line answers.words new answers.commanded; made = answers.made }))
+
+  pub by_own : (new_own : ClientState) (other new_other : Option ClientState) (line : Line) (new : MachineState) (reply : List ℕ) → other ≡ None → new_other ≡ None → new_own ≡ own
+      → Answers tells own (budget_by steps own) old line new reply → MakesReply tells (player old own other steps) line (player new new_own new_other steps) reply
+  by_own new_own other new_other line new reply was is same answers =
+      subst (λ (o : Option ClientState). MakesReply tells (player old own o steps) line (player new new_own new_other steps) reply) (sym was)
+      (subst (λ (o : Option ClientState). MakesReply tells (player old own None steps) line (player new new_own o steps) reply) (sym is)
+      (subst (λ (client : ClientState). MakesReply tells (player old own None steps) line (player new client None steps) reply) (sym same)
+      (record { words = answers.words; plays = λ counts. ByClient line answers.words new answers.commanded; made = answers.made })))
+
+  pub on_machine : (other : Option ClientState) (line : Line) (new : MachineState) (reply : List ℕ) → Occurs tells old line new reply
+      → MakesReply tells (player old own other steps) line (player new own other steps) reply
+  on_machine other line new reply occurs = record { words = occurs.words; plays = λ counts. OnMachine line (occurs.words ∷ []) [] new occurs.happened; made = occurs.made }
+
+  pub by_table : (other : Option ClientState) (hex bytes : List ℕ) (new : MachineState) (new_other : Option ClientState) (reply : List ℕ) → decode_of hex ≡ Ok bytes
+      → IsGiven tells old other bytes new new_other reply → MakesReply tells (player old own other steps) (table hex) (player new own new_other steps) reply
+  by_table other hex bytes new new_other reply decoded given =
+      record { words = given.words; plays = λ counts. GivenTable hex bytes given.words new new_other decoded given.gives; made = given.made }
+
+  pub by_own_table : (other : Option ClientState) (n : ℕ) (reply : List ℕ) → n ≡ length own.table.entries → IsMade reply (words_of_table n)
+      → MakesReply tells (player old own other steps) own_table (player old own None steps) reply
+  by_own_table other n reply many made = record {
+    words = words_of_table (length own.table.entries);
+    plays = λ counts. OwnTable;
+    made = subst (λ (k : ℕ). IsMade reply (words_of_table k)) many made;
+  }
+
+  pub by_reset : (other : Option ClientState) (n : ℕ) (new : MachineState) (reply : List ℕ) → Warms tells old (Ok n) new → IsMade reply (words_of_reset n)
+      → MakesReply tells (player old own other steps) reset (player new own None steps) reply
+  by_reset other n new reply warms made = record { words = words_of_reset n; plays = λ counts. Reset n new warms; made = made }
+
+  pub by_power : (other : Option ClientState) (n : ℕ) (new : MachineState) (reply : List ℕ) → Powers tells old (Ok n) new → IsMade reply (words_of_power n)
+      → MakesReply tells (player old own other steps) power (player new own None steps) reply
+  by_power other n new reply powers made = record { words = words_of_power n; plays = λ counts. Power n new powers; made = made }
+
+  pub no_reset : (other : Option ClientState) (why : BootError) (new : MachineState) → Warms tells old (Err why) new → Stops tells (player old own other steps) reset (player new own other steps) FlashFault
+  no_reset other why new warms = (new, ResetFails why new warms, failed (Warmed (Err why)) new warms warms.leaves.cause.0 warms.leaves.cause.1, warms.leaves.cause.1, refl)
+
+  pub no_power : (other : Option ClientState) (why : BootError) (new : MachineState) → Powers tells old (Err why) new → Stops tells (player old own other steps) power (player new own other steps) FlashFault
+  no_power other why new powers =
+      let cause = powers.restarts.leaves.cause in
+      (new, PowerFails why new powers, failed (Powered (Err why)) new powers cause.0 cause.1, cause.1, refl)

@@ -1,0 +1,58 @@
+-- Replies to a line that gives a table.
+use Rattle.std.proofs.Common.{◌≡◌, ℕ, ◌≤◌, List, ◌++◌, length, take, drop, Option, Some, None, Result, Ok, Err, sym, subst}
+use Rattle.std.proofs.lemmas.List.{take-append-drop}
+use Rattle.apei_space.specs.Accesses.{Reaches}
+use Rattle.erst_entries.specs.declared.tables.ErstError.{ErstError}
+use Rattle.erst_entries.specs.declared.tables.ErstError.TheVariants.{Table, HeaderSize, Count, Memory}
+use Rattle.erst_entries.specs.Layout.{Erst, FitsErst}
+use Rattle.erst_entries.specs.Tables.{IsErst, IsRefusal, refusal}
+use Rattle.erst_client.specs.declared.errors.AttachError.{AttachError}
+use Rattle.erst_client.specs.Attaching.{Attaches}
+use Rattle.erst_client.specs.Commands.{ClientState}
+use Rattle.erst_machine.specs.MachineState.{MachineState}
+use Rattle.erst_machine.specs.Allowed.{Allows}
+use Rattle.script_text.specs.TableWords.{ErstHasWords}
+use Rattle.apei_script.specs.Replies.{IsMade}
+use Rattle.apei_script.specs.Words.{words_of_table, words_of_no_table, words_of_no_client}
+use Rattle.apei_script.specs.Tables.{ATTACH_STEPS, BeginsWith, IsNoTable, IsNotAttached, IsAttached, IsGiven}
+
+-- the reason of a refusal that is not want of memory
+pub refused_for : (bytes : List ℕ) (why : ErstError) → ErstHasWords why → IsRefusal bytes why → refusal bytes ≡ Some why
+refused_for bytes (Table error) has is = is
+refused_for bytes (HeaderSize found) has is = is
+refused_for bytes (Count found size) has is = is
+refused_for bytes Memory has is = absurd has
+
+-- a table that was read stands first, and no other one does
+pub begins_with : (erst : Erst) (bytes : List ℕ) (size : ℕ) → IsErst erst (take size bytes) → FitsErst erst → refusal bytes ≡ None
+    → ((other : Erst) (table rest : List ℕ) → bytes ≡ table ++ rest → FitsErst other → IsErst other table → (erst ≡ other) × (size ≡ length table)) → BeginsWith erst bytes
+begins_with erst bytes size is fits sound only = record {
+  table_bytes = take size bytes;
+  behind = drop size bytes;
+  split = sym (take-append-drop size bytes);
+  fits = fits;
+  is = is;
+  sound = sound;
+  only = λ other table rest split fits_too is_too. sym (only other table rest split fits_too is_too).0;
+}
+
+module _ (tells : Type 0) (old : MachineState) (other : Option ClientState) (bytes : List ℕ) where
+  pub no_table : (why : ErstError) (reply : List ℕ) → refusal bytes ≡ Some why → IsMade reply (words_of_no_table why) → IsGiven tells old other bytes old other reply
+  no_table why reply is made = record { words = words_of_no_table why; gives = IsNoTable why is; made = made }
+
+  pub not_attached : (erst : Erst) (why : AttachError) (budget left : ℕ) (new : MachineState) (reply : List ℕ) → BeginsWith erst bytes → budget ≡ ATTACH_STEPS
+      → Attaches (Allows tells) erst budget old (Err why) left new → Reaches (Allows tells) old new → IsMade reply (words_of_no_client why) → IsGiven tells old other bytes new other reply
+  not_attached erst why budget left new reply begins given attaches reaches made = record {
+    words = words_of_no_client why;
+    gives = IsNotAttached erst why left new begins (subst (λ (n : ℕ). Attaches (Allows tells) erst n old (Err why) left new) given attaches) reaches;
+    made = made;
+  }
+
+  pub attached : (erst : Erst) (client : ClientState) (budget left : ℕ) (new : MachineState) (entries : ℕ) (reply : List ℕ) → BeginsWith erst bytes → budget ≡ ATTACH_STEPS
+      → Attaches (Allows tells) erst budget old (Ok client) left new → Reaches (Allows tells) old new → entries ≡ length erst.entries → IsMade reply (words_of_table entries)
+      → IsGiven tells old other bytes new (Some client) reply
+  attached erst client budget left new entries reply begins given attaches reaches many made = record {
+    words = words_of_table (length erst.entries);
+    gives = IsAttached erst client left new begins (subst (λ (n : ℕ). Attaches (Allows tells) erst n old (Ok client) left new) given attaches) reaches;
+    made = subst (λ (n : ℕ). IsMade reply (words_of_table n)) many made;
+  }

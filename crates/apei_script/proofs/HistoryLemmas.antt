@@ -1,0 +1,194 @@
+-- Lines one after another.
+use Rattle.std.proofs.Common.{◌≡◌, ℕ, ◌≤◌, Bool, true, false, List, [], ◌∷◌, ◌++◌, length, None, refl, sym, ap, subst, ◌∙◌, arith, inl, inr}
+use Rattle.std.specs.Prelude.{nat_le, MatchBool}
+use Rattle.std.proofs.lemmas.Bool.{cases_lt, le-leb, lt-leb}
+use Rattle.flash_words.specs.Flash.{CrashImage, IsLater, image_at}
+use Rattle.flash_words.specs.Layout.{Layout}
+use Rattle.flash_words.proofs.CrashLemmas.{past_grows, image_at-later, image_at-now, CrashImage-earlier, CrashImage-now}
+use Rattle.record_model.specs.Records.{Stored}
+use Rattle.record_store.specs.Store.{DividesAlike, records_of as records_in}
+use Rattle.apei_space.specs.Accesses.{Move, Trail}
+use Rattle.erst_machine.specs.MachineState.{MachineState, IsMachine, told_of}
+use Rattle.erst_machine.specs.Events.{Event, Happens}
+use Rattle.erst_machine.specs.Shown.{changes_of, shown_by, made_by_event, GoesOn, IsShown}
+use Rattle.erst_machine.proofs.CrashTrail.{events_are_shown, happens_then}
+use Rattle.erst_machine.proofs.EventLemmas.{events_keep}
+use Rattle.erst_commands.specs.Attached.{own_client}
+use Rattle.erst_twins.specs.Alike.{FailedNothing}
+use Rattle.erst_twins.proofs.Dialogues.{quiet_first, quiet_second}
+use Rattle.script_text.specs.ScriptGrammar.{Line}
+use Rattle.apei_script.specs.Players.{PlayerState, in_use, UsesOwn}
+use Rattle.apei_script.specs.Plays.{Plays, Blank, ByClient, GivenTable, OwnTable, OnMachine, Heard, Reset, Power, HasHappened, LinePlayed, names_command}
+use Rattle.apei_script.specs.History.{Played, heard_after, Follows, EndInOrder, Shows, ShowsEach, IsOwnLine, AreOwnLines, IsMapped, AreMapped, NoneSaysHardware, AlwaysUsesOwn}
+use Rattle.apei_script.proofs.EventChanges.{along}
+use Rattle.apei_script.proofs.LineLemmas.{line_divides, line_own}
+use Rattle.apei_script.proofs.LeavesLemmas.{line_leaves}
+
+abbrev faults_of : MachineState → ℕ
+faults_of state = state.device.store.flash.faults
+
+abbrev Moves : Type 0
+Moves = List (Move Event MachineState)
+
+shown_alike : (old new : MachineState) (image : List ℕ) → DividesAlike old.device.store new.device.store → shown_by new image ≡ shown_by old image
+shown_alike old new image alike = ap (λ (l : Layout). records_in l image) alike.layout
+
+on_true : (b : Bool) (P Q : Type 0) → b ≡ true → P → MatchBool b P Q
+on_true true P Q e p = p
+on_true false P Q e p = absurd (cc)
+
+on_false : (b : Bool) (P Q : Type 0) → b ≡ false → Q → MatchBool b P Q
+on_false true P Q e q = absurd (cc)
+on_false false P Q e q = q
+
+module _ (tells : Type 0) where
+  -- only a table gives another client
+  pub no_other : (counts : List ℕ) (old : PlayerState) (line : Line) (said blocks : List (List ℕ)) (new : PlayerState) → Plays tells counts old line said blocks new
+      → IsOwnLine line → old.other ≡ None → new.other ≡ None
+  no_other counts old line said blocks new plays = elim plays as (λ line said blocks new plays. IsOwnLine line → old.other ≡ None → new.other ≡ None) [
+    | Blank ↦ λ own none. none
+    | ByClient line words machine commanded ↦ λ own none. none
+    | GivenTable hex bytes words machine other decoded gives ↦ λ own none. absurd own
+    | OwnTable ↦ λ own none. refl
+    | OnMachine line said blocks machine happened ↦ λ own none. none
+    | Heard ↦ λ own none. none
+    | Reset n machine warms ↦ λ own none. refl
+    | Power n machine powers ↦ λ own none. refl
+  ]
+
+  pub one_list : (wants : List (ℕ → Bool)) (counts : List ℕ) (first : PlayerState) (played : List Played) (last : PlayerState) → Follows tells wants counts first played last
+      → (trail : Moves) × Trail (Happens tells) first.machine trail last.machine
+  one_list wants counts first [] last is = ([], ap (λ (s : PlayerState). s.machine) is)
+  one_list wants counts first (line ∷ rest) last is =
+      let head = is.0.happened in
+      let tail = one_list wants (heard_after wants line.blocks counts) line.left rest last is.1 in
+      (head.trail ++ tail.0, happens_then tells first.machine line.left.machine last.machine head.trail tail.0 head.happens tail.1)
+
+  pub history_keeps : (wants : List (ℕ → Bool)) (counts : List ℕ) (first : PlayerState) (played : List Played) (last : PlayerState) → Follows tells wants counts first played last
+      → IsMachine first.machine → IsMachine last.machine
+  history_keeps wants counts first played last is machine =
+      let all = one_list wants counts first played last is in events_keep tells first.machine last.machine all.0 all.1 machine
+
+  pub history_divides : (wants : List (ℕ → Bool)) (counts : List ℕ) (first : PlayerState) (played : List Played) (last : PlayerState) → Follows tells wants counts first played last
+      → last.machine.device.store.layout ≡ first.machine.device.store.layout
+  history_divides wants counts first played last is =
+      let all = one_list wants counts first played last is in (along tells first.machine last.machine all.0 all.1).layout
+
+  pub history_own : (wants : List (ℕ → Bool)) (counts : List ℕ) (first : PlayerState) (played : List Played) (last : PlayerState) → Follows tells wants counts first played last
+      → (last.own ≡ first.own) × (last.steps ≡ first.steps)
+  history_own wants counts first [] last is = (ap (λ (p : PlayerState). p.own) is, ap (λ (p : PlayerState). p.steps) is)
+  history_own wants counts first (line ∷ rest) last is =
+      let one = line_own tells counts first line.line line.said line.blocks line.left is.0.plays in
+      let more = history_own wants (heard_after wants line.blocks counts) line.left rest last is.1 in
+      (more.0 ∙ one.0, more.1 ∙ one.1)
+
+  pub history_happens : (wants : List (ℕ → Bool)) (counts : List ℕ) (first : PlayerState) (played : List Played) (last : PlayerState) → Follows tells wants counts first played last
+      → HasHappened tells first.machine last.machine
+  history_happens wants counts first played last is =
+      let all = one_list wants counts first played last is in
+      let takes = along tells first.machine last.machine all.0 all.1 in
+      record { trail = all.0; happens = all.1; never_falls = takes.never_falls; exact = takes.exact }
+
+  -- each line
+
+  -- an own client depends on the layout alone
+  own_client-kept : (old new : MachineState) → new.device.store.layout ≡ old.device.store.layout → own_client new ≡ own_client old
+  own_client-kept old new same = ap (λ (l : Layout). own_client (record old { device = record old.device { store = record old.device.store { layout = l } } })) same
+
+  pub history_uses_own : (wants : List (ℕ → Bool)) (counts : List ℕ) (first : PlayerState) (played : List Played) (last : PlayerState)
+      → first.own ≡ own_client first.machine → first.other ≡ None → AreOwnLines played → Follows tells wants counts first played last → AlwaysUsesOwn first played
+  history_uses_own wants counts first [] last own none lines is = ap (in_use first.own) none ∙ own
+  history_uses_own wants counts first (line ∷ rest) last own none lines is =
+      let plays = is.0.plays in
+      let stay = line_own tells counts first line.line line.said line.blocks line.left plays in
+      let divides = line_divides tells counts first line.line line.said line.blocks line.left plays in (
+        ap (in_use first.own) none ∙ own,
+        history_uses_own wants (heard_after wants line.blocks counts) line.left rest last
+            (stay.0 ∙ own ∙ sym (own_client-kept first.machine line.left.machine divides))
+            (no_other counts first line.line line.said line.blocks line.left plays lines.0 none) lines.1 is.1,
+      )
+
+  pub history_says_no_hardware : (wants : List (ℕ → Bool)) (counts : List ℕ) (first : PlayerState) (played : List Played) (last : PlayerState)
+      → Follows tells wants counts first played last → FailedNothing first.machine last.machine → NoneSaysHardware first played
+  history_says_no_hardware wants counts first [] last is quiet = tt
+  history_says_no_hardware wants counts first (line ∷ rest) last is quiet =
+      let step = is.0.happened.never_falls in
+      let more = (history_happens wants (heard_after wants line.blocks counts) line.left rest last is.1).never_falls in (
+        λ uses names says. quiet_first (faults_of first.machine) (faults_of line.left.machine) (faults_of last.machine) step more quiet (is.0.cause uses names says),
+        history_says_no_hardware wants (heard_after wants line.blocks counts) line.left rest last is.1
+            (quiet_second (faults_of first.machine) (faults_of line.left.machine) (faults_of last.machine) step more quiet),
+      )
+
+  module _ (told : tells) where
+    is_mapped : (counts : List ℕ) (old : PlayerState) (played : Played) → LinePlayed tells counts old played.line played.said played.blocks played.left → UsesOwn old → names_command played.line ≡ true
+        → IsMapped old played
+    is_mapped counts old played line uses names =
+        let by_map = line.by_map told uses names in
+        record { words = by_map.0; said = by_map.1; mapped = by_map.2; cause = line.cause uses names; enough = line.enough told uses names }
+
+    pub history_is_mapped : (wants : List (ℕ → Bool)) (counts : List ℕ) (first : PlayerState) (played : List Played) (last : PlayerState) → Follows tells wants counts first played last
+        → AreMapped first played
+    history_is_mapped wants counts first [] last is = tt
+    history_is_mapped wants counts first (line ∷ rest) last is =
+        (is_mapped counts first line is.0, history_is_mapped wants (heard_after wants line.blocks counts) line.left rest last is.1)
+
+    pub history_is_shown : (wants : List (ℕ → Bool)) (counts : List ℕ) (first : PlayerState) (played : List Played) (last : PlayerState) → Follows tells wants counts first played last
+        → (trail : Moves) × Trail (Happens tells) first.machine trail last.machine × IsShown made_by_event first.machine trail last.machine
+    history_is_shown wants counts first played last is =
+        let all = one_list wants counts first played last is in (all.0, all.1, events_are_shown tells told first.machine last.machine all.0 all.1)
+
+    pub history_goes_on : (wants : List (ℕ → Bool)) (counts : List ℕ) (first : PlayerState) (played : List Played) (last : PlayerState) → Follows tells wants counts first played last
+        → (n : ℕ) × GoesOn n first.machine last.machine
+    history_goes_on wants counts first played last is =
+        let all = one_list wants counts first played last is in (length all.0, (events_are_shown tells told first.machine last.machine all.0 all.1).goes_on)
+
+    line_goes_on : (counts : List ℕ) (old : PlayerState) (line : Line) (said blocks : List (List ℕ)) (new : PlayerState) → LinePlayed tells counts old line said blocks new
+        → (n : ℕ) × GoesOn n old.machine new.machine
+    line_goes_on counts old line said blocks new played =
+        let happened = played.happened in (length happened.trail, (events_are_shown tells told old.machine new.machine happened.trail happened.happens).goes_on)
+
+    pub history_ends : (wants : List (ℕ → Bool)) (counts : List ℕ) (first : PlayerState) (played : List Played) (last : PlayerState) → Follows tells wants counts first played last
+        → ShowsEach last first played
+    history_ends wants counts first [] last is = tt
+    history_ends wants counts first (line ∷ rest) last is =
+        let left = line.left.machine in
+        let one = (line_goes_on counts first line.line line.said line.blocks line.left is.0).1 in
+        let more = (history_goes_on wants (heard_after wants line.blocks counts) line.left rest last is.1).1 in
+        let image : image_at (told_of last.machine) (changes_of left) ≡ (told_of left).image =
+        image_at-later (told_of left) (told_of last.machine) (changes_of left) more.later (omega arith) ∙ image_at-now (told_of left) (changes_of left) (omega arith) in
+        (ap (shown_by first.machine) image ∙ sym (shown_alike first.machine left (told_of left).image one.alike), history_ends wants (heard_after wants line.blocks counts) line.left rest last is.1)
+
+    pub history_in_order : (wants : List (ℕ → Bool)) (counts : List ℕ) (first : PlayerState) (played : List Played) (last : PlayerState) → Follows tells wants counts first played last
+        → EndInOrder (changes_of first.machine) played (changes_of last.machine)
+    history_in_order wants counts first [] last is = let same = ap (λ (p : PlayerState). changes_of p.machine) is in omega arith
+    history_in_order wants counts first (line ∷ rest) last is =
+        let one = (line_goes_on counts first line.line line.said line.blocks line.left is.0).1 in
+        (past_grows (told_of first.machine) (told_of line.left.machine) one.later, history_in_order wants (heard_after wants line.blocks counts) line.left rest last is.1)
+
+    pub history_ends_later : (wants : List (ℕ → Bool)) (counts : List ℕ) (first : PlayerState) (played : List Played) (last : PlayerState) → Follows tells wants counts first played last
+        → ShowsEach last first played × IsLater (told_of first.machine) (told_of last.machine)
+    history_ends_later wants counts first played last is =
+        (history_ends wants counts first played last is, (history_goes_on wants counts first played last is).1.later)
+
+    pub history_shows : (wants : List (ℕ → Bool)) (counts : List ℕ) (first : PlayerState) (played : List Played) (last : PlayerState)
+        → first.own ≡ own_client first.machine → first.other ≡ None → AreOwnLines played → Follows tells wants counts first played last
+        → (s : ℕ) (image : List ℕ) → changes_of first.machine ≤ s → CrashImage (told_of last.machine) s image → Shows s first played (shown_by first.machine image)
+    history_shows wants counts first [] last own none lines is s image from crash =
+        ap (shown_by first.machine) (CrashImage-now (told_of first.machine) s image from (subst (λ (p : PlayerState). CrashImage (told_of p.machine) s image) is crash))
+    history_shows wants counts first (line ∷ rest) last own none lines is s image from crash =
+        let left = line.left.machine in
+        let one = (line_goes_on counts first line.line line.said line.blocks line.left is.0).1 in
+        let more = (history_goes_on wants (heard_after wants line.blocks counts) line.left rest last is.1).1 in
+        let leaves = line_leaves tells told counts first line.line line.said line.blocks line.left is.0 (λ _. ap (in_use first.own) none ∙ own) lines.0 in
+        let stay = line_own tells counts first line.line line.said line.blocks line.left is.0.plays in
+        elim (cases_lt s (changes_of left)) [
+          | inl before ↦
+              on_false (nat_le (changes_of left) s) _ _ (lt-leb (changes_of left) s before)
+              (leaves.each s image from (CrashImage-earlier (told_of left) (told_of last.machine) s image more.later before crash))
+          | inr after ↦
+              on_true (nat_le (changes_of left) s) _ _ (le-leb (changes_of left) s after)
+              (subst (λ (m : Stored). Shows s line.left rest m) (shown_alike first.machine left image one.alike)
+              (history_shows wants (heard_after wants line.blocks counts) line.left rest last
+              (stay.0 ∙ own ∙ sym (own_client-kept first.machine left one.alike.layout))
+              (no_other counts first line.line line.said line.blocks line.left is.0.plays lines.0 none) lines.1 is.1 s image after crash))
+        ]

@@ -1,0 +1,197 @@
+-- What power lost in a line leaves of the records.
+use Rattle.std.proofs.Common.{◌≡◌, ◌⊎◌, ℕ, true, List, Option, None, Result, Ok, Err, refl, sym, ap, subst, ◌∙◌, inl}
+use Rattle.std.specs.Prelude.{is_none, if◌then◌else◌}
+use Rattle.flash_words.specs.Flash.{Told, Leaves}
+use Rattle.flash_words.proofs.CrashLemmas.{Leaves-none, Leaves-weaker}
+use Rattle.hex.specs.Hex.{decode_of}
+use Rattle.record_model.specs.Records.{Stored}
+use Rattle.record_model.specs.RecordMap.{Command, Write, Clear, after}
+use Rattle.record_store.specs.Store.{StoreView, KeepsMap, IsBeforeOrAfter}
+use Rattle.ghes_ack.specs.declared.events.Event.{Event as TurnEvent}
+use Rattle.ghes_ack.specs.declared.submission.SubmitError.{SubmitError}
+use Rattle.erst_device.specs.DeviceState.{DeviceState}
+use Rattle.erst_client.specs.declared.errors.ClientError.{ClientError}
+use Rattle.erst_client.specs.declared.requests.Request.{Request}
+use Rattle.erst_client.specs.Commands.{ClientState, write_refusal}
+use Rattle.erst_client.specs.Sequences.{dummy_requests}
+use Rattle.erst_machine.specs.MachineState.{MachineState, reach_in, records_of, told_of}
+use Rattle.erst_machine.specs.Shown.{shown_by}
+use Rattle.erst_machine.specs.Events.{Submits}
+use Rattle.erst_commands.specs.Changes.{ChangeCommand, IsTaken, IsRefused, IsFailed, IsStopped, DummyCommand, IsPlayed, IsCut}
+use Rattle.erst_commands.specs.Looks.{AsksOnce, Answers, StopsBehind, StopsAtOnce, CountMade, IsCounted, IsNotCounted, NextMade, IsFound, IsAtEnd, IsNotFound}
+use Rattle.erst_commands.specs.Reads.{ReadMade, IsRead as read_made, IsRefused as read_refused, IsFailed as read_failed, ReadCommand, Answers as read_answers, StopsBehind as read_behind, StopsBefore as read_before, ReadAnswered, IsNotRead, IsNotCopied, IsCopied}
+use Rattle.erst_commands.specs.Writes.{WriteAnswered, IsNoRecord, IsWritten, marked, id_of}
+use Rattle.script_text.specs.ScriptGrammar.{Line, blank, write, read, clear, count, next, dummy, own_table, heard, reset, power}
+use Rattle.apei_script.specs.Players.{PlayerState, budget_of, client_of, UsesOwn}
+use Rattle.apei_script.specs.Asked.{Asked, WritesRecord, ReadsRecord, ClearsRecord, CountsRecords, FindsNext, WritesDummy, RunsAction}
+use Rattle.apei_script.specs.Happened.{Turned, NoTurn, OneMore, Happened, IsGiven, Turn, IsPeeked, IsLaid, IsListed}
+use Rattle.apei_script.specs.Mapped.{Mapped, IsWrite, IsRead, IsClear, IsCount, IsNext, IsDummy, after_write, after_line, LineLeaves}
+use Rattle.apei_script.specs.Plays.{Plays, Blank, ByClient, GivenTable, OwnTable, OnMachine, Heard, Reset, Power, names_command, LinePlayed}
+use Rattle.apei_script.specs.History.{IsOwnLine}
+
+-- the flash tells what it told
+stays : (old : MachineState) (line : Line) (new : MachineState) → told_of new ≡ told_of old → LineLeaves old line new
+stays old line new same = subst
+    (λ (told : Told). Leaves (told_of old) told (λ image. (shown_by old image ≡ records_of old) ⊎ (shown_by old image ≡ after_line old line))) (sym same)
+    (Leaves-none (told_of old) _ (inl refl))
+
+-- the records are kept
+keeps : (old : MachineState) (line : Line) (new : MachineState) → KeepsMap old.device.store new.device.store → LineLeaves old line new
+keeps old line new kept = Leaves-weaker (told_of old) (told_of new) _ _ kept (λ image same. inl same)
+
+-- the records are kept, or those of a command
+makes : (old : MachineState) (line : Line) (command : Command) (new : MachineState) → after_line old line ≡ after old.device.store.layout command (records_of old) →
+    IsBeforeOrAfter old.device.store new.device.store command → LineLeaves old line new
+makes old line command new is crash =
+    subst (λ (made : Stored). Leaves (told_of old) (told_of new) (λ image. (shown_by old image ≡ records_of old) ⊎ (shown_by old image ≡ made))) (sym is) crash
+
+changed : (first last : MachineState) (id : ℕ) (command : Command) (requests : List Request) (budget : ℕ) (result : Result (Unit {0}) ClientError) (left : ℕ) →
+    ChangeCommand first last id command requests budget result left → IsBeforeOrAfter first.device.store last.device.store command
+changed first last id command requests budget result left made = elim made as (λ result left made. IsBeforeOrAfter first.device.store last.device.store command) [
+  | IsTaken pauses left taken now made spent ↦ made.leaves.crash
+  | IsRefused refusal error left refused is now made spent ↦ made.leaves.crash
+  | IsFailed pauses left usable rose either leaves few spent ↦ leaves.crash
+  | IsStopped pauses leaves few short ↦ leaves.crash
+]
+
+-- a write
+
+after_record : (old : MachineState) (hex bytes : List ℕ) → decode_of hex ≡ Ok bytes → write_refusal bytes (reach_in old.device) ≡ None →
+    after_line old (write hex) ≡ after old.device.store.layout (Write (id_of bytes) (marked bytes)) (records_of old)
+after_record old hex bytes decoded fits =
+    ap (after_write old) decoded
+    ∙ ap (λ (refusal : Option ClientError). if is_none refusal then after old.device.store.layout (Write (id_of bytes) (marked bytes)) (records_of old) else records_of old) fits
+
+write_leaves : (old : MachineState) (hex bytes : List ℕ) (steps : ℕ) (result : Result (Unit {0}) ClientError) (left : ℕ) (new : MachineState) → decode_of hex ≡ Ok bytes →
+    WriteAnswered bytes steps old result left new → LineLeaves old (write hex) new
+write_leaves old hex bytes steps result left new decoded answered = elim answered as (λ result left new answered. LineLeaves old (write hex) new) [
+  | IsNoRecord error refused ↦ stays old (write hex) old refl
+  | IsWritten result left last fits made ↦
+      makes old (write hex) (Write (id_of bytes) (marked bytes)) last (after_record old hex bytes decoded fits) (changed _ last _ _ _ steps result left made)
+]
+
+-- a read
+
+read_keeps : (old new : MachineState) (id : ℕ) (result : Result (Unit {0}) ClientError) → ReadMade old new id result → KeepsMap old.device.store new.device.store
+read_keeps old new id result made = elim made as (λ result made. KeepsMap old.device.store new.device.store) [
+  | read_made found body generation asked named stored fits shown cursor ↦ asked.leaves.kept
+  | read_refused refusal error asked refused is range cursor ↦ asked.leaves.kept
+  | read_failed leaves rose range cursor ↦ leaves.kept
+]
+
+command_keeps : (old new : MachineState) (id budget : ℕ) (result : Result (Unit {0}) ClientError) (left : ℕ) → ReadCommand old new id budget result left → KeepsMap old.device.store new.device.store
+command_keeps old new id budget result left command = elim command as (λ result left command. KeepsMap old.device.store new.device.store) [
+  | read_answers result left made spent ↦ read_keeps old new id result made
+  | read_behind result made short ↦ read_keeps old new id result made
+  | read_before leaves range cursor short ↦ leaves.kept
+]
+
+answer_keeps : (old : MachineState) (id : ℕ) (out : List ℕ) (budget : ℕ) (result : Result ℕ ClientError) (after : List ℕ) (left : ℕ) (new : MachineState) →
+    ReadAnswered id out budget old result after left new → KeepsMap old.device.store new.device.store
+answer_keeps old id out budget result after left new answered = elim answered as (λ result after left new answered. KeepsMap old.device.store new.device.store) [
+  | IsNotRead error left last command ↦ command_keeps old last id budget (Err error) left command
+  | IsNotCopied error left last command refused ↦ command_keeps old last id budget (Ok tt) left command
+  | IsCopied left last command fits ↦ command_keeps old last id budget (Ok tt) left command
+]
+
+-- count and next
+
+once_leaves : {T : Type 0} (Made : Result T ClientError → Type 0) (line : Line) (steps : ℕ) (old new : MachineState) (result : Result T ClientError) (left : ℕ) →
+    ((result : Result T ClientError) → Made result → KeepsMap old.device.store new.device.store) → AsksOnce Made steps old new result left → LineLeaves old line new
+once_leaves {T} Made line steps old new result left kept asks = elim asks as (λ result left asks. LineLeaves old line new) [
+  | Answers result left made spent ↦ keeps old line new (kept result made)
+  | StopsBehind result made short ↦ keeps old line new (kept result made)
+  | StopsAtOnce none same ↦ stays old line new (ap told_of same)
+]
+
+count_keeps : (old new : MachineState) (result : Result ℕ ClientError) → CountMade old new result → KeepsMap old.device.store new.device.store
+count_keeps old new result made = elim made as (λ result made. KeepsMap old.device.store new.device.store) [
+  | IsCounted asked cursor ↦ asked.looked.kept
+  | IsNotCounted failed ↦ failed.looked.kept
+]
+
+next_keeps : (old new : MachineState) (result : Result (Option ℕ) ClientError) → NextMade old new result → KeepsMap old.device.store new.device.store
+next_keeps old new result made = elim made as (λ result made. KeepsMap old.device.store new.device.store) [
+  | IsFound id asked least cursor ↦ asked.looked.kept
+  | IsAtEnd asked last cursor ↦ asked.looked.kept
+  | IsNotFound failed ↦ failed.looked.kept
+]
+
+-- a dummy write
+
+dummy_told : (old new : MachineState) (budget : ℕ) (result : Result (Unit {0}) ClientError) (left : ℕ) → DummyCommand old new dummy_requests budget result left → told_of new ≡ told_of old
+dummy_told old new budget result left command = elim command as (λ result left command. told_of new ≡ told_of old) [
+  | IsPlayed left leaves spent ↦ ap (λ (store : StoreView). store.flash.told) leaves.store
+  | IsCut leaves short ↦ ap (λ (store : StoreView). store.flash.told) leaves.store
+]
+
+mapped_leaves : (steps : ℕ) (old : MachineState) (line : Line) (words : List ℕ) (new : MachineState) → Mapped steps old line words new → LineLeaves old line new
+mapped_leaves steps old line words new mapped = elim mapped as (λ line words new mapped. LineLeaves old line new) [
+  | IsWrite hex bytes result left new decoded answered ↦ write_leaves old hex bytes steps result left new decoded answered
+  | IsRead id out after result left new long answered ↦ keeps old (read id) new (answer_keeps old id out steps result after left new answered)
+  | IsClear id result left new command ↦ makes old (clear id) (Clear id) new refl (changed old new id (Clear id) _ steps result left command)
+  | IsCount result left new asks ↦ once_leaves (CountMade old new) count steps old new result left (count_keeps old new) asks
+  | IsNext result left new asks ↦ once_leaves (NextMade old new) next steps old new result left (next_keeps old new) asks
+  | IsDummy result left new command ↦ stays old dummy new (dummy_told old new steps result left command)
+]
+
+-- the machine's own lines leave the flash alone
+
+submits_told : (old : MachineState) (block : List ℕ) (result : Result ℕ SubmitError) (new : MachineState) → Submits old block result new → told_of new ≡ told_of old
+submits_told old block (Ok n) new submits = ap told_of submits.added
+submits_told old block (Err error) new submits = ap told_of submits.refused
+
+turned_told : (old : MachineState) (letters : List ℕ) (events : List TurnEvent) (blocks : List (List ℕ)) (new : MachineState) → Turned old letters events blocks new → told_of new ≡ told_of old
+turned_told old letters events blocks new turns = elim turns as (λ letters events blocks new turns. told_of new ≡ told_of old) [
+  | NoTurn ↦ refl
+  | OneMore letters events blocks mid letter event new (before → same) turn ↦ ap (λ (device : DeviceState). device.store.flash.told) turn.device ∙ same
+]
+
+happened_told : (tells : Type 0) (old : MachineState) (line : Line) (said blocks : List (List ℕ)) (new : MachineState) → Happened tells old line said blocks new → told_of new ≡ told_of old
+happened_told tells old line said blocks new happened = elim happened as (λ line said blocks new happened. told_of new ≡ told_of old) [
+  | IsGiven hex block result new decoded submits ↦ submits_told old block result new submits
+  | Turn letters events blocks new turns ↦ turned_told old letters events blocks new turns
+  | IsPeeked at len before after answer new long allowed ↦ ap told_of allowed.2
+  | IsLaid hex block result new decoded lays ↦ ap told_of lays.others
+  | IsListed blocks left laid ↦ refl
+]
+
+-- whatever a line without an action asks is a command on records
+asks_command : (tells : Type 0) (client : ClientState) (steps : ℕ) (old : MachineState) (line : Line) (words : List ℕ) (new : MachineState) → Asked tells client steps old line words new →
+    IsOwnLine line → names_command line ≡ true
+asks_command tells client steps old line words new asked = elim asked as (λ line words new asked. IsOwnLine line → names_command line ≡ true) [
+  | WritesRecord hex bytes result left new decoded writes ↦ λ own. refl
+  | ReadsRecord id out after result left new long reads ↦ λ own. refl
+  | ClearsRecord id result left new sequence ↦ λ own. refl
+  | CountsRecords result left new counts ↦ λ own. refl
+  | FindsNext result left new finds ↦ λ own. refl
+  | WritesDummy result left new sequence ↦ λ own. refl
+  | RunsAction code value answer left new run ↦ λ own. absurd own
+]
+
+-- a command's place in the record map, with some reply
+abbrev MapsTo : PlayerState → Line → PlayerState → Type 0
+MapsTo old line new = (words : List ℕ) × Mapped (budget_of old) old.machine line words new.machine
+
+plays_leaves : (tells : Type 0) → tells → (counts : List ℕ) (old : PlayerState) (line : Line) (said blocks : List (List ℕ)) (new : PlayerState) → Plays tells counts old line said blocks new →
+    (names_command line ≡ true → MapsTo old line new) → IsOwnLine line → LineLeaves old.machine line new.machine
+plays_leaves tells told counts old line said blocks new plays =
+    elim plays as (λ line said blocks new plays. (names_command line ≡ true → MapsTo old line new) → IsOwnLine line → LineLeaves old.machine line new.machine) [
+      | Blank ↦ λ maps own. stays old.machine blank old.machine refl
+      | ByClient line words machine commanded ↦ λ maps own.
+          let mapped = maps (asks_command tells (client_of old) (budget_of old) old.machine line words machine commanded.asked own) in
+          mapped_leaves (budget_of old) old.machine line mapped.0 machine mapped.1
+      | GivenTable hex bytes words machine other decoded gives ↦ λ maps own. absurd own
+      | OwnTable ↦ λ maps own. stays old.machine own_table old.machine refl
+      | OnMachine line said blocks machine happened ↦ λ maps own. stays old.machine line machine (happened_told tells old.machine line said blocks machine happened)
+      | Heard ↦ λ maps own. stays old.machine heard old.machine refl
+      | Reset n machine warms ↦ λ maps own. keeps old.machine reset machine (warms.leaves.kept told)
+      | Power n machine powers ↦ λ maps own. keeps old.machine power machine (powers.restarts.leaves.kept told)
+    ]
+
+-- every line
+pub line_leaves : (tells : Type 0) → tells → (counts : List ℕ) (old : PlayerState) (line : Line) (said blocks : List (List ℕ)) (new : PlayerState) →
+    LinePlayed tells counts old line said blocks new → (names_command line ≡ true → UsesOwn old) → IsOwnLine line → LineLeaves old.machine line new.machine
+line_leaves tells told counts old line said blocks new played uses own =
+    plays_leaves tells told counts old line said blocks new played.plays
+    (λ names. let mapped = played.by_map told (uses names) names in (mapped.0, mapped.2)) own

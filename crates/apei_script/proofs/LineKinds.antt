@@ -1,0 +1,162 @@
+-- What was played, by the line.
+use Rattle.std.proofs.Common.{◌≡◌, ℕ, List, [], ◌∷◌, ◌++◌, length, map, Option, Some, None, Result, Ok, Err, refl}
+use Rattle.hex.specs.Hex.{decode_of}
+use Rattle.apei_space.specs.declared.faults.SpaceFault.{SpaceFault}
+use Rattle.apei_space.specs.Calls.{ReadBytes}
+use Rattle.bert_region.specs.Region.{IsLaidOut}
+use Rattle.ghes_ack.specs.declared.events.Event.{Event}
+use Rattle.ghes_ack.specs.declared.submission.SubmitError.{SubmitError}
+use Rattle.erst_entries.specs.declared.tables.ErstError.{ErstError}
+use Rattle.erst_entries.specs.Layout.{Erst}
+use Rattle.erst_entries.specs.Programs.{program_of}
+use Rattle.erst_entries.specs.Tables.{refusal}
+use Rattle.erst_interp.specs.declared.stops.RunStop.{RunStop}
+use Rattle.erst_interp.specs.Runs.{Run}
+use Rattle.erst_client.specs.declared.errors.AttachError.{AttachError}
+use Rattle.erst_client.specs.declared.errors.ClientError.{ClientError}
+use Rattle.erst_client.specs.Attaching.{Attaches}
+use Rattle.erst_client.specs.Commands.{ClientState, Writes, Reads, Counts, Names}
+use Rattle.erst_client.specs.Sequences.{Sequence, clear_requests, dummy_requests}
+use Rattle.erst_machine.specs.declared.errors.FatalError.{FatalError}
+use Rattle.erst_machine.specs.MachineState.{MachineState}
+use Rattle.erst_machine.specs.Allowed.{Allows}
+use Rattle.erst_machine.specs.Events.{Submits, LaysFatal, Warms, Powers}
+use Rattle.script_text.specs.ScriptGrammar.{Line, blank, write, read, clear, count, next, dummy, action, table, own_table, error, turns, peek, fatal, bert, heard, reset, power}
+use Rattle.apei_script.specs.Players.{PlayerState, client_of, budget_of, with_machine}
+use Rattle.apei_script.specs.Words.{words_of_write, words_of_read, words_of_clear, words_of_count, words_of_next, words_of_dummy, words_of_action, words_of_table, words_of_no_table, words_of_no_client, words_of_submission, words_of_turns, words_of_block, words_of_peek, words_of_laid, words_of_bert, words_of_heard, words_of_reset, words_of_power}
+use Rattle.apei_script.specs.Asked.{READ_BUFFER, Asked, WritesRecord, ReadsRecord, ClearsRecord, CountsRecords, FindsNext, WritesDummy, RunsAction}
+use Rattle.apei_script.specs.Tables.{ATTACH_STEPS, BeginsWith, GivesTable, IsNoTable, IsNotAttached, IsAttached}
+use Rattle.apei_script.specs.Happened.{Happened, IsGiven, Turn, IsPeeked, IsLaid, IsListed}
+use Rattle.apei_script.specs.Plays.{Plays, Blank, ByClient, GivenTable, OwnTable, OnMachine, Heard, Reset, Power, restarted}
+use Rattle.apei_script.proofs.TurnsAlike.{TurnsBy, turns_by}
+
+-- what a line left
+pub record Left (said blocks : List (List ℕ)) (new : PlayerState) (words taken : List (List ℕ)) (player : PlayerState) : Type 0 where
+  pub said_is : said ≡ words
+  pub blocks_are : blocks ≡ taken
+  pub new_is : new ≡ player
+
+module _ (tells : Type 0) where
+  -- what was asked of a client
+  abbrev pub AskedBy : ClientState → ℕ → MachineState → Line → List ℕ → MachineState → Type 0
+  AskedBy client steps old (write hex) words new =
+      (bytes : List ℕ) × (result : Result (Unit {0}) ClientError) × (left : ℕ) × (decode_of hex ≡ Ok bytes) × (words ≡ words_of_write bytes result) × Writes (Allows tells) client bytes steps old result left new
+  AskedBy client steps old (read id) words new =
+      (out : List ℕ) × (after : List ℕ) × (result : Result ℕ ClientError) × (left : ℕ) × (length out ≡ READ_BUFFER) × (words ≡ words_of_read after result) × Reads (Allows tells) client id out steps old result after left new
+  AskedBy client steps old (clear id) words new =
+      (result : Result (Unit {0}) ClientError) × (left : ℕ) × (words ≡ words_of_clear id result) × Sequence (Allows tells) client.table.entries client.timings (clear_requests id) steps old result left new
+  AskedBy client steps old count words new =
+      (result : Result ℕ ClientError) × (left : ℕ) × (words ≡ words_of_count result) × Counts (Allows tells) client.table.entries steps old result left new
+  AskedBy client steps old next words new =
+      (result : Result (Option ℕ) ClientError) × (left : ℕ) × (words ≡ words_of_next result) × Names (Allows tells) client.table.entries steps old result left new
+  AskedBy client steps old dummy words new =
+      (result : Result (Unit {0}) ClientError) × (left : ℕ) × (words ≡ words_of_dummy result) × Sequence (Allows tells) client.table.entries client.timings dummy_requests steps old result left new
+  AskedBy client steps old (action code value) words new =
+      (answer : Result ℕ RunStop) × (left : ℕ) × (words ≡ words_of_action answer) × Run (Allows tells) (program_of code client.table.entries) value steps old answer left new
+  AskedBy client steps old line words new = ⊥
+
+  -- what happened to the machine
+  abbrev pub HappenedBy : MachineState → Line → List (List ℕ) → List (List ℕ) → MachineState → Type 0
+  HappenedBy old (error hex) said blocks new =
+      (block : List ℕ) × (result : Result ℕ SubmitError) × (decode_of hex ≡ Ok block) × (said ≡ words_of_submission result ∷ []) × (blocks ≡ []) × Submits old block result new
+  HappenedBy old (turns letters) said blocks new =
+      (events : List Event) × (said ≡ map words_of_block blocks ++ words_of_turns events ∷ []) × TurnsBy old letters events blocks new
+  HappenedBy old (peek at len) said blocks new =
+      (before : List ℕ) × (after : List ℕ) × (answer : Result (Unit {0}) SpaceFault) × (length before ≡ len) × (said ≡ words_of_peek after answer ∷ []) × (blocks ≡ [])
+      × Allows tells old (ReadBytes at before after answer) new
+  HappenedBy old (fatal hex) said blocks new =
+      (block : List ℕ) × (result : Result ℕ FatalError) × (decode_of hex ≡ Ok block) × (said ≡ words_of_laid result ∷ []) × (blocks ≡ []) × LaysFatal old block result new
+  HappenedBy old bert said blocks new =
+      (listed : List (List ℕ)) × (left : ℕ) × (said ≡ map words_of_block listed ++ words_of_bert (length listed) ∷ []) × (blocks ≡ []) × (new ≡ old) × IsLaidOut listed left old.memory.region
+  HappenedBy old line said blocks new = ⊥
+
+  -- a table that was given, and what it came to
+  abbrev pub words_of_given : Erst → Result ClientState AttachError → List ℕ
+  words_of_given erst (Ok client) = words_of_table (length erst.entries)
+  words_of_given erst (Err why) = words_of_no_client why
+
+  abbrev pub other_after : Option ClientState → Result ClientState AttachError → Option ClientState
+  other_after other (Ok client) = Some client
+  other_after other (Err why) = other
+
+  pub data Given (old : MachineState) (other : Option ClientState) (bytes words : List ℕ) (new : MachineState) (other_now : Option ClientState) : Type 0 where
+    NoTable : (why : ErstError) → refusal bytes ≡ Some why → words ≡ words_of_no_table why → new ≡ old → other_now ≡ other → Given old other bytes words new other_now
+    Tried : (erst : Erst) (result : Result ClientState AttachError) (left : ℕ) → BeginsWith erst bytes → Attaches (Allows tells) erst ATTACH_STEPS old result left new
+        → words ≡ words_of_given erst result → other_now ≡ other_after other result → Given old other bytes words new other_now
+
+  pub given_by : (old : MachineState) (other : Option ClientState) (bytes words : List ℕ) (new : MachineState) (other_now : Option ClientState) → GivesTable tells old other bytes words new other_now
+      → Given old other bytes words new other_now
+  given_by old other bytes words new other_now gives = elim gives as (λ words new other_now gives. Given old other bytes words new other_now) [
+    | IsNoTable why refused ↦ NoTable why refused refl refl refl
+    | IsNotAttached erst why left new begins attaches reaches ↦ Tried erst (Err why) left begins attaches refl refl
+    | IsAttached erst client left new begins attaches reaches ↦ Tried erst (Ok client) left begins attaches refl refl
+  ]
+
+  abbrev pub ByItsClient : PlayerState → Line → List (List ℕ) → List (List ℕ) → PlayerState → Type 0
+  ByItsClient old line said blocks new =
+      (words : List ℕ) × (machine : MachineState) × AskedBy (client_of old) (budget_of old) old.machine line words machine × Left said blocks new (words ∷ []) [] (with_machine machine old)
+
+  abbrev pub ByItself : PlayerState → Line → List (List ℕ) → List (List ℕ) → PlayerState → Type 0
+  ByItself old line said blocks new =
+      (words : List (List ℕ)) × (taken : List (List ℕ)) × (machine : MachineState) × HappenedBy old.machine line words taken machine × Left said blocks new words taken (with_machine machine old)
+
+  abbrev pub PlaysBy : List ℕ → PlayerState → Line → List (List ℕ) → List (List ℕ) → PlayerState → Type 0
+  PlaysBy counts old blank said blocks new = Left said blocks new [] [] old
+  PlaysBy counts old (write hex) said blocks new = ByItsClient old (write hex) said blocks new
+  PlaysBy counts old (read id) said blocks new = ByItsClient old (read id) said blocks new
+  PlaysBy counts old (clear id) said blocks new = ByItsClient old (clear id) said blocks new
+  PlaysBy counts old count said blocks new = ByItsClient old count said blocks new
+  PlaysBy counts old next said blocks new = ByItsClient old next said blocks new
+  PlaysBy counts old dummy said blocks new = ByItsClient old dummy said blocks new
+  PlaysBy counts old (action code value) said blocks new = ByItsClient old (action code value) said blocks new
+  PlaysBy counts old (table hex) said blocks new =
+      (bytes : List ℕ) × (words : List ℕ) × (machine : MachineState) × (other : Option ClientState) × (decode_of hex ≡ Ok bytes) × Given old.machine old.other bytes words machine other
+      × Left said blocks new (words ∷ []) [] (record old { machine = machine; other = other })
+  PlaysBy counts old own_table said blocks new = Left said blocks new (words_of_table (length old.own.table.entries) ∷ []) [] (record old { other = None })
+  PlaysBy counts old (error hex) said blocks new = ByItself old (error hex) said blocks new
+  PlaysBy counts old (turns letters) said blocks new = ByItself old (turns letters) said blocks new
+  PlaysBy counts old (peek at len) said blocks new = ByItself old (peek at len) said blocks new
+  PlaysBy counts old (fatal hex) said blocks new = ByItself old (fatal hex) said blocks new
+  PlaysBy counts old bert said blocks new = ByItself old bert said blocks new
+  PlaysBy counts old heard said blocks new = Left said blocks new (words_of_heard counts ∷ []) [] old
+  PlaysBy counts old reset said blocks new = (n : ℕ) × (machine : MachineState) × Warms tells old.machine (Ok n) machine × Left said blocks new (words_of_reset n ∷ []) [] (restarted machine old)
+  PlaysBy counts old power said blocks new = (n : ℕ) × (machine : MachineState) × Powers tells old.machine (Ok n) machine × Left said blocks new (words_of_power n ∷ []) [] (restarted machine old)
+  PlaysBy counts old line said blocks new = ⊥
+
+  as_it_is : (said blocks : List (List ℕ)) (new : PlayerState) → Left said blocks new said blocks new
+  as_it_is said blocks new = record { said_is = refl; blocks_are = refl; new_is = refl }
+
+  by_its_client : (counts : List ℕ) (old : PlayerState) (line : Line) (words : List ℕ) (machine : MachineState) → Asked tells (client_of old) (budget_of old) old.machine line words machine
+      → PlaysBy counts old line (words ∷ []) [] (with_machine machine old)
+  by_its_client counts old line words machine asked = elim asked as (λ line words machine asked. PlaysBy counts old line (words ∷ []) [] (with_machine machine old)) [
+    | WritesRecord hex bytes result left new decoded writes ↦ (words_of_write bytes result, new, (bytes, result, left, decoded, refl, writes), as_it_is _ _ _)
+    | ReadsRecord id out after result left new room reads ↦ (words_of_read after result, new, (out, after, result, left, room, refl, reads), as_it_is _ _ _)
+    | ClearsRecord id result left new ran ↦ (words_of_clear id result, new, (result, left, refl, ran), as_it_is _ _ _)
+    | CountsRecords result left new counts ↦ (words_of_count result, new, (result, left, refl, counts), as_it_is _ _ _)
+    | FindsNext result left new names ↦ (words_of_next result, new, (result, left, refl, names), as_it_is _ _ _)
+    | WritesDummy result left new ran ↦ (words_of_dummy result, new, (result, left, refl, ran), as_it_is _ _ _)
+    | RunsAction code value answer left new ran ↦ (words_of_action answer, new, (answer, left, refl, ran), as_it_is _ _ _)
+  ]
+
+  by_itself : (counts : List ℕ) (old : PlayerState) (line : Line) (said blocks : List (List ℕ)) (machine : MachineState) → Happened tells old.machine line said blocks machine
+      → PlaysBy counts old line said blocks (with_machine machine old)
+  by_itself counts old line said blocks machine happened = elim happened as (λ line said blocks machine happened. PlaysBy counts old line said blocks (with_machine machine old)) [
+    | IsGiven hex block result new decoded submits ↦ (words_of_submission result ∷ [], [], new, (block, result, decoded, refl, refl, submits), as_it_is _ _ _)
+    | Turn letters events blocks new turned ↦
+        (map words_of_block blocks ++ words_of_turns events ∷ [], blocks, new, (events, refl, turns_by old.machine letters events blocks new turned), as_it_is _ _ _)
+    | IsPeeked at len before after answer new long allowed ↦ (words_of_peek after answer ∷ [], [], new, (before, after, answer, long, refl, refl, allowed), as_it_is _ _ _)
+    | IsLaid hex block result new decoded lays ↦ (words_of_laid result ∷ [], [], new, (block, result, decoded, refl, refl, lays), as_it_is _ _ _)
+    | IsListed blocks left laid ↦ (map words_of_block blocks ++ words_of_bert (length blocks) ∷ [], [], old.machine, (blocks, left, refl, refl, refl, laid), as_it_is _ _ _)
+  ]
+
+  pub plays_by : (counts : List ℕ) (old : PlayerState) (line : Line) (said blocks : List (List ℕ)) (new : PlayerState) → Plays tells counts old line said blocks new → PlaysBy counts old line said blocks new
+  plays_by counts old line said blocks new plays = elim plays as (λ line said blocks new plays. PlaysBy counts old line said blocks new) [
+    | Blank ↦ as_it_is _ _ _
+    | ByClient line words machine commanded ↦ by_its_client counts old line words machine commanded.asked
+    | GivenTable hex bytes words machine other decoded gives ↦ (bytes, words, machine, other, decoded, given_by old.machine old.other bytes words machine other gives, as_it_is _ _ _)
+    | OwnTable ↦ as_it_is _ _ _
+    | OnMachine line said blocks machine happened ↦ by_itself counts old line said blocks machine happened
+    | Heard ↦ as_it_is _ _ _
+    | Reset n machine warms ↦ (n, machine, warms, as_it_is _ _ _)
+    | Power n machine powers ↦ (n, machine, powers, as_it_is _ _ _)
+  ]

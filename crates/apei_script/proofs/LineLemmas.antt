@@ -1,0 +1,109 @@
+-- What one line did to the machine, as one list of what happens.
+use Rattle.std.proofs.Common.{◌≡◌, ℕ, List, [], ◌∷◌, ◌++◌, Option, Ok, Err, refl}
+use Rattle.base_model.specs.Faults.{Rose}
+use Rattle.apei_space.specs.Calls.{ReadBytes}
+use Rattle.apei_space.specs.Accesses.{Move, Trail}
+use Rattle.ghes_ack.specs.declared.events.Event.{Event as TurnEvent}
+use Rattle.erst_client.specs.Commands.{ClientState}
+use Rattle.erst_machine.specs.MachineState.{MachineState, IsMachine}
+use Rattle.erst_machine.specs.Events.{Event, Accessed, Warmed, Powered, Submitted, Turned as OneTurn, Laid, Happens}
+use Rattle.erst_machine.proofs.CrashTrail.{happens_then, reached_happens}
+use Rattle.erst_machine.proofs.EventLemmas.{events_keep}
+use Rattle.script_text.specs.ScriptGrammar.{Line}
+use Rattle.apei_script.specs.Players.{PlayerState}
+use Rattle.apei_script.specs.Tables.{GivesTable, IsNoTable, IsNotAttached, IsAttached}
+use Rattle.apei_script.specs.Happened.{side_of, Turned, NoTurn, OneMore, Happened, IsGiven, Turn, IsPeeked, IsLaid, IsListed}
+use Rattle.apei_script.specs.Plays.{Plays, Blank, ByClient, GivenTable, OwnTable, OnMachine, Heard, Reset, Power, FailsRestart, ResetFails, PowerFails, HasHappened}
+use Rattle.apei_script.proofs.EventChanges.{along}
+
+abbrev Trails : Type 0 → MachineState → MachineState → Type 0
+Trails tells old new = (trail : List (Move Event MachineState)) × Trail (Happens tells) old trail new
+
+module _ (tells : Type 0) where
+  none : (old : MachineState) → Trails tells old old
+  none old = ([], refl)
+
+  one : (old : MachineState) (event : Event) (new : MachineState) → Happens tells old event new → Trails tells old new
+  one old event new happens = ((record { event = event; left = new }) ∷ [], (happens, refl))
+
+  more : (old mid new : MachineState) → Trails tells old mid → Trails tells mid new → Trails tells old new
+  more old mid new before behind = (before.0 ++ behind.0, happens_then tells old mid new before.0 behind.0 before.1 behind.1)
+
+  turned : (old : MachineState) (letters : List ℕ) (events : List TurnEvent) (blocks : List (List ℕ)) (new : MachineState) → Turned old letters events blocks new → Trails tells old new
+  turned old letters events blocks new turns = elim turns as (λ letters events blocks new turns. Trails tells old new) [
+    | NoTurn ↦ none old
+    | OneMore letters events blocks mid letter event new (before → trails) turns ↦ more old mid new trails (one mid (OneTurn (side_of letter) event) new turns)
+  ]
+
+  of_happened : (old : MachineState) (line : Line) (said blocks : List (List ℕ)) (new : MachineState) → Happened tells old line said blocks new → Trails tells old new
+  of_happened old line said blocks new happened = elim happened as (λ line said blocks new happened. Trails tells old new) [
+    | IsGiven hex block result new decoded submits ↦ one old (Submitted block result) new submits
+    | Turn letters events blocks new turns ↦ turned old letters events blocks new turns
+    | IsPeeked at len before after answer new long allowed ↦ one old (Accessed (ReadBytes at before after answer)) new allowed
+    | IsLaid hex block result new decoded lays ↦ one old (Laid block result) new lays
+    | IsListed blocks left laid ↦ none old
+  ]
+
+  of_table : (old : MachineState) (other : Option ClientState) (bytes words : List ℕ) (new : MachineState) (other_now : Option ClientState) →
+      GivesTable tells old other bytes words new other_now → Trails tells old new
+  of_table old other bytes words new other_now gives = elim gives as (λ words new other_now gives. Trails tells old new) [
+    | IsNoTable why refused ↦ none old
+    | IsNotAttached erst why left new begins attaches reaches ↦ reached_happens tells old new reaches
+    | IsAttached erst client left new begins attaches reaches ↦ reached_happens tells old new reaches
+  ]
+
+  -- every line
+  pub of_line : (counts : List ℕ) (old : PlayerState) (line : Line) (said blocks : List (List ℕ)) (new : PlayerState) → Plays tells counts old line said blocks new → Trails tells old.machine new.machine
+  of_line counts old line said blocks new plays = elim plays as (λ line said blocks new plays. Trails tells old.machine new.machine) [
+    | Blank ↦ none old.machine
+    | ByClient line words machine commanded ↦ reached_happens tells old.machine machine commanded.reaches
+    | GivenTable hex bytes words machine other decoded gives ↦ of_table old.machine old.other bytes words machine other gives
+    | OwnTable ↦ none old.machine
+    | OnMachine line said blocks machine happened ↦ of_happened old.machine line said blocks machine happened
+    | Heard ↦ none old.machine
+    | Reset n machine warms ↦ one old.machine (Warmed (Ok n)) machine warms
+    | Power n machine powers ↦ one old.machine (Powered (Ok n)) machine powers
+  ]
+
+  has_happened : (old new : MachineState) → Trails tells old new → HasHappened tells old new
+  has_happened old new trails =
+      let takes = along tells old new trails.0 trails.1 in
+      record { trail = trails.0; happens = trails.1; never_falls = takes.never_falls; exact = takes.exact }
+
+  pub line_happened : (counts : List ℕ) (old : PlayerState) (line : Line) (said blocks : List (List ℕ)) (new : PlayerState) → Plays tells counts old line said blocks new →
+      HasHappened tells old.machine new.machine
+  line_happened counts old line said blocks new plays = has_happened old.machine new.machine (of_line counts old line said blocks new plays)
+
+  pub failed_restart : (old : MachineState) (line : Line) (new : MachineState) → FailsRestart tells old line new →
+      HasHappened tells old new × Rose old.device.store.flash.faults new.device.store.flash.faults
+  failed_restart old line new fails = elim fails as (λ line new fails. HasHappened tells old new × Rose old.device.store.flash.faults new.device.store.flash.faults) [
+    | ResetFails error new warms ↦ (has_happened old new (one old (Warmed (Err error)) new warms), warms.leaves.cause.1)
+    | PowerFails error new powers ↦ (has_happened old new (one old (Powered (Err error)) new powers), powers.restarts.leaves.cause.1)
+  ]
+
+  -- the machine stays one, its flash divided as it was
+  pub line_keeps : (counts : List ℕ) (old : PlayerState) (line : Line) (said blocks : List (List ℕ)) (new : PlayerState) → IsMachine old.machine →
+      Plays tells counts old line said blocks new → IsMachine new.machine
+  line_keeps counts old line said blocks new machine plays =
+      let trails = of_line counts old line said blocks new plays in
+      events_keep tells old.machine new.machine trails.0 trails.1 machine
+
+  pub line_divides : (counts : List ℕ) (old : PlayerState) (line : Line) (said blocks : List (List ℕ)) (new : PlayerState) → Plays tells counts old line said blocks new →
+      new.machine.device.store.layout ≡ old.machine.device.store.layout
+  line_divides counts old line said blocks new plays =
+      let trails = of_line counts old line said blocks new plays in
+      (along tells old.machine new.machine trails.0 trails.1).layout
+
+  -- the player's own client and steps stay
+  pub line_own : (counts : List ℕ) (old : PlayerState) (line : Line) (said blocks : List (List ℕ)) (new : PlayerState) → Plays tells counts old line said blocks new →
+      (new.own ≡ old.own) × (new.steps ≡ old.steps)
+  line_own counts old line said blocks new plays = elim plays as (λ line said blocks new plays. (new.own ≡ old.own) × (new.steps ≡ old.steps)) [
+    | Blank ↦ (refl, refl)
+    | ByClient line words machine commanded ↦ (refl, refl)
+    | GivenTable hex bytes words machine other decoded gives ↦ (refl, refl)
+    | OwnTable ↦ (refl, refl)
+    | OnMachine line said blocks machine happened ↦ (refl, refl)
+    | Heard ↦ (refl, refl)
+    | Reset n machine warms ↦ (refl, refl)
+    | Power n machine powers ↦ (refl, refl)
+  ]

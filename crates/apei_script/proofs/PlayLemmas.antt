@@ -1,0 +1,155 @@
+-- A line that was played, from what its parts say.
+use Rattle.std.proofs.Common.{◌≡◌, ◌∙◌, ℕ, ◌≤◌, Bool, true, false, List, [], ◌∷◌, ◌++◌, length, take, map, Option, Some, None, Result, Ok, Err, OnOk, OnErr, IfErr, refl, sym, ap, subst}
+use Rattle.std.proofs.lemmas.List.{append-nil}
+use Rattle.std.proofs.lemmas.Bool.{false≢true}
+use Rattle.erst_client.specs.Commands.{ClientState}
+use Rattle.erst_machine.specs.MachineState.{MachineState, IsMachine}
+use Rattle.script_text.specs.ScriptGrammar.{Line, IsValid, blank, turns, bert, heard}
+use Rattle.apei_script.specs.declared.desk.Desk.{Desk}
+use Rattle.apei_script.specs.Players.{PlayerState, with_machine}
+use Rattle.apei_script.specs.Words.{words_of_heard, reply_at, replies_at}
+use Rattle.apei_script.specs.Plays.{Plays, Blank, OnMachine, Heard, LinePlayed, PlaysLine, PlaysUnheard, Occurred, OccurredUnheard, PartlySaid, IsCutShort, Whole, SomeTurns, names_command, changes_in, step_of, Told}
+use Rattle.apei_script.specs.Desks.{state_of, SameClients, Lists, ListsUnheard}
+use Rattle.apei_script.proofs.LineLemmas.{line_happened}
+use Rattle.apei_script.proofs.ToldLemmas.{told_none}
+
+-- a line that is no command on records
+quiet : (tells : Type 0) (counts : List ℕ) (old : PlayerState) (line : Line) (said blocks : List (List ℕ)) (new : PlayerState) → names_command line ≡ false → Plays tells counts old line said blocks new
+    → LinePlayed tells counts old line said blocks new
+quiet tells counts old line said blocks new none plays = record {
+  plays = plays;
+  happened = line_happened tells counts old line said blocks new plays;
+  by_map = λ told uses names. absurd (false≢true (sym none ∙ names));
+  cause = λ uses names says. absurd (false≢true (sym none ∙ names));
+  enough = λ told uses names steps says. absurd (false≢true (sym none ∙ names));
+}
+
+same_state : (machine : MachineState) (own own_now : ClientState) (other other_now : Option ClientState) (steps steps_now : Option ℕ) → own_now ≡ own → other_now ≡ other → steps_now ≡ steps
+    → ◌≡◌ {A = PlayerState} (record { machine = machine; own = own_now; other = other_now; steps = steps_now }) (record { machine = machine; own = own; other = other; steps = steps })
+same_state machine own own_now other other_now steps steps_now a b c =
+    ap (λ (x : ClientState). let s : PlayerState = record { machine = machine; own = x; other = other_now; steps = steps_now } in s) a
+    ∙ ap (λ (x : Option ClientState). let s : PlayerState = record { machine = machine; own = own; other = x; steps = steps_now } in s) b
+    ∙ ap (λ (x : Option ℕ). let s : PlayerState = record { machine = machine; own = own; other = other; steps = x } in s) c
+
+-- only the machine is another
+pub other_machine : {F : Type 0} (old new : Desk F) → SameClients old new → state_of new ≡ with_machine new.machine (state_of old)
+other_machine old new same = same_state new.machine old.own new.own old.other new.other old.steps new.steps same.own same.other same.steps
+
+pub same_desk : {F : Type 0} (old new : Desk F) → SameClients old new → new.machine ≡ old.machine → state_of new ≡ state_of old
+same_desk old new same machine = other_machine old new same ∙ ap (λ (m : MachineState). with_machine m (state_of old)) machine
+
+cut_quiet : (line made : Line) → IsCutShort line made → names_command line ≡ false → names_command made ≡ false
+cut_quiet line made cut = elim cut as (λ line made cut. names_command line ≡ false → names_command made ≡ false) [ Whole line ↦ λ h. h | SomeTurns letters behind ↦ λ h. refl ]
+
+module _ {L : Type 0} (interest : L → ℕ → Bool) (hearings : L → ℕ) (heard_last : L → ℕ → List ℕ → Type 0) (tells told_sink : Type 0) where
+  pub blank_played : (old : PlayerState) (members : List L) (written : List ℕ) → PlaysLine interest hearings heard_last tells told_sink old old members members blank written written
+  blank_played old members written = record {
+    said = [];
+    blocks = [];
+    played = quiet tells (map hearings members) old blank [] [] old refl Blank;
+    told = told_none interest hearings heard_last members;
+    text = λ t. sym (append-nil written);
+  }
+
+  pub occurred_played : (old new : PlayerState) (members members_now : List L) (line : Line) (written written_now : List ℕ) → names_command line ≡ false → new ≡ with_machine new.machine old
+      → Occurred interest hearings heard_last tells told_sink old.machine new.machine members members_now line written written_now
+      → PlaysLine interest hearings heard_last tells told_sink old new members members_now line written written_now
+  occurred_played old new members members_now line written written_now none same h = record {
+    said = h.said;
+    blocks = h.blocks;
+    played = quiet tells (map hearings members) old line h.said h.blocks new none
+        (subst (λ (s : PlayerState). Plays tells (map hearings members) old line h.said h.blocks s) (sym same) (OnMachine line h.said h.blocks new.machine h.happened));
+    told = h.told;
+    text = h.text;
+  }
+
+  pub occurred_unheard : (old new : PlayerState) (members members_now : List L) (line : Line) (written written_now : List ℕ) → names_command line ≡ false → new ≡ with_machine new.machine old
+      → OccurredUnheard interest hearings heard_last tells told_sink old.machine new.machine members members_now line written written_now
+      → PlaysUnheard interest hearings heard_last tells told_sink old new members members_now line written written_now
+  occurred_unheard old new members members_now line written written_now none same h = record {
+    made = h.made;
+    cut = h.cut;
+    said = h.said;
+    blocks = h.blocks;
+    played = quiet tells (map hearings members) old h.made h.said h.blocks new (cut_quiet line h.made h.cut none)
+        (subst (λ (s : PlayerState). Plays tells (map hearings members) old h.made h.said h.blocks s) (sym same) (OnMachine h.made h.said h.blocks new.machine h.happened));
+    told = h.told;
+    text = h.text;
+  }
+
+  pub listed_played : (old new : PlayerState) (members : List L) (written written_now : List ℕ) → new ≡ old → Lists tells told_sink old.machine written written_now
+      → PlaysLine interest hearings heard_last tells told_sink old new members members bert written written_now
+  listed_played old new members written written_now same h = record {
+    said = h.said;
+    blocks = [];
+    played = quiet tells (map hearings members) old bert h.said [] new refl
+        (subst (λ (s : PlayerState). Plays tells (map hearings members) old bert h.said [] s) (sym same) (OnMachine bert h.said [] old.machine h.happened));
+    told = told_none interest hearings heard_last members;
+    text = λ t. h.text t ∙ ap (λ (s : PlayerState). written ++ replies_at (step_of s) h.said) (sym same);
+  }
+
+  pub listed_unheard : (old new : PlayerState) (members : List L) (written written_now : List ℕ) → new ≡ old → ListsUnheard tells told_sink old.machine written written_now
+      → PlaysUnheard interest hearings heard_last tells told_sink old new members members bert written written_now
+  listed_unheard old new members written written_now same h = record {
+    made = bert;
+    cut = Whole bert;
+    said = h.said;
+    blocks = [];
+    played = quiet tells (map hearings members) old bert h.said [] new refl
+        (subst (λ (s : PlayerState). Plays tells (map hearings members) old bert h.said [] s) (sym same) (OnMachine bert h.said [] old.machine h.happened));
+    told = told_none interest hearings heard_last members;
+    text = λ t. subst (λ (s : PlayerState). PartlySaid (step_of s) h.said written written_now) (sym same) (h.text t);
+  }
+
+  -- a line of one reply that changes no listener
+  one_text : (step : ℕ) (words written : List ℕ) → written ++ reply_at step words ≡ written ++ replies_at step (words ∷ [])
+  one_text step words written = ap (λ (xs : List ℕ). written ++ xs) (sym (append-nil (reply_at step words)))
+
+  pub one_played : (old new : PlayerState) (members : List L) (line : Line) (words written written_now : List ℕ) → LinePlayed tells (map hearings members) old line (words ∷ []) [] new
+      → (told_sink → written_now ≡ written ++ reply_at (step_of new) words)
+      → PlaysLine interest hearings heard_last tells told_sink old new members members line written written_now
+  one_played old new members line words written written_now played text = record {
+    said = words ∷ [];
+    blocks = [];
+    played = played;
+    told = told_none interest hearings heard_last members;
+    text = λ t. text t ∙ one_text (step_of new) words written;
+  }
+
+  pub one_unheard : (old new : PlayerState) (members : List L) (line : Line) (words written written_now : List ℕ) → LinePlayed tells (map hearings members) old line (words ∷ []) [] new
+      → (told_sink → (n : ℕ) × (written_now ≡ written ++ take n (reply_at (step_of new) words)))
+      → PlaysUnheard interest hearings heard_last tells told_sink old new members members line written written_now
+  one_unheard old new members line words written written_now played text = record {
+    made = line;
+    cut = Whole line;
+    said = words ∷ [];
+    blocks = [];
+    played = played;
+    told = told_none interest hearings heard_last members;
+    text = λ t. let some = text t in record {
+      before = [];
+      last = words;
+      behind = [];
+      said_is = refl;
+      count = some.0;
+      text = some.1 ∙ ap (λ (xs : List ℕ). xs ++ take some.0 (reply_at (step_of new) words)) (sym (append-nil written));
+    };
+  }
+
+  heard_line : (old new : PlayerState) (members : List L) → new ≡ old → LinePlayed tells (map hearings members) old heard (words_of_heard (map hearings members) ∷ []) [] new
+  heard_line old new members same = quiet tells (map hearings members) old heard (words_of_heard (map hearings members) ∷ []) [] new refl
+      (subst (λ (s : PlayerState). Plays tells (map hearings members) old heard (words_of_heard (map hearings members) ∷ []) [] s) (sym same) Heard)
+
+  pub heard_played : (old new : PlayerState) (members : List L) (written written_now : List ℕ) → new ≡ old
+      → (told_sink → written_now ≡ written ++ reply_at (step_of old) (words_of_heard (map hearings members)))
+      → PlaysLine interest hearings heard_last tells told_sink old new members members heard written written_now
+  heard_played old new members written written_now same text =
+      one_played old new members heard (words_of_heard (map hearings members)) written written_now (heard_line old new members same)
+      (λ t. text t ∙ ap (λ (s : PlayerState). written ++ reply_at (step_of s) (words_of_heard (map hearings members))) (sym same))
+
+  pub heard_unheard : (old new : PlayerState) (members : List L) (written written_now : List ℕ) → new ≡ old
+      → (told_sink → (n : ℕ) × (written_now ≡ written ++ take n (reply_at (step_of old) (words_of_heard (map hearings members)))))
+      → PlaysUnheard interest hearings heard_last tells told_sink old new members members heard written written_now
+  heard_unheard old new members written written_now same text =
+      one_unheard old new members heard (words_of_heard (map hearings members)) written written_now (heard_line old new members same)
+      (λ t. let some = text t in (some.0, some.1 ∙ ap (λ (s : PlayerState). written ++ take some.0 (reply_at (step_of s) (words_of_heard (map hearings members)))) (sym same)))

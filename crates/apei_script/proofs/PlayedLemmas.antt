@@ -1,0 +1,73 @@
+-- One line that was played.
+use Rattle.std.proofs.Common.{◌≡◌, ℕ, ◌≤◌, true, List, [], ◌∷◌, refl, sym, ap, subst, ◌∙◌}
+use Rattle.erst_client.specs.Commands.{ClientState}
+use Rattle.erst_client.specs.Timings.{enough_steps}
+use Rattle.erst_machine.specs.MachineState.{MachineState, IsMachine}
+use Rattle.erst_commands.specs.OwnPrograms.{OwnProgramsRun}
+use Rattle.erst_commands.specs.Attached.{own_client}
+use Rattle.script_text.specs.ScriptGrammar.{Line, IsValid}
+use Rattle.apei_script.specs.Players.{PlayerState, client_of, budget_of, UsesOwn}
+use Rattle.apei_script.specs.Asked.{Asked}
+use Rattle.apei_script.specs.Happened.{Happened, IsGiven, Turn, IsPeeked, IsLaid, IsListed}
+use Rattle.apei_script.specs.Plays.{Plays, Blank, ByClient, GivenTable, OwnTable, OnMachine, Heard, Reset, Power, names_command, LinePlayed}
+use Rattle.apei_script.proofs.LineLemmas.{line_happened}
+use Rattle.apei_script.proofs.OwnClientLemmas.{no_command, asked_by_map, asked_cause}
+use Rattle.apei_script.proofs.EnoughSteps.{mapped_runs}
+
+-- the first of some replies
+abbrev first_of : List (List ℕ) → List ℕ
+first_of [] = []
+first_of (words ∷ rest) = words
+
+-- a command on records was asked of the client in use, and has one reply
+record AsksClient (tells : Type 0) (old : PlayerState) (line : Line) (said : List (List ℕ)) (new : PlayerState) : Type 0 where
+  words : List ℕ
+  said_is : said ≡ words ∷ []
+  asked : Asked tells (client_of old) (budget_of old) old.machine line words new.machine
+
+module _ (tells : Type 0) where
+  no_happening : {Goal : Type 0} (old : MachineState) (line : Line) (said blocks : List (List ℕ)) (new : MachineState) → Happened tells old line said blocks new → names_command line ≡ true → Goal
+  no_happening {Goal} old line said blocks new happened = elim happened as (λ line said blocks new happened. names_command line ≡ true → Goal) [
+    | IsGiven hex block result new decoded submits ↦ λ names. no_command names
+    | Turn letters events blocks new turns ↦ λ names. no_command names
+    | IsPeeked at len before after answer new long allowed ↦ λ names. no_command names
+    | IsLaid hex block result new decoded lays ↦ λ names. no_command names
+    | IsListed blocks left laid ↦ λ names. no_command names
+  ]
+
+  asks : (counts : List ℕ) (old : PlayerState) (line : Line) (said blocks : List (List ℕ)) (new : PlayerState) → Plays tells counts old line said blocks new → names_command line ≡ true →
+      AsksClient tells old line said new
+  asks counts old line said blocks new plays = elim plays as (λ line said blocks new plays. names_command line ≡ true → AsksClient tells old line said new) [
+    | Blank ↦ λ names. no_command names
+    | ByClient line words machine commanded ↦ λ names. record { words = words; said_is = refl; asked = commanded.asked }
+    | GivenTable hex bytes words machine other decoded gives ↦ λ names. no_command names
+    | OwnTable ↦ λ names. no_command names
+    | OnMachine line said blocks machine happened ↦ λ names. no_happening old.machine line said blocks machine happened names
+    | Heard ↦ λ names. no_command names
+    | Reset n machine warms ↦ λ names. no_command names
+    | Power n machine powers ↦ λ names. no_command names
+  ]
+
+  by_own : (old : PlayerState) (line : Line) (said : List (List ℕ)) (new : PlayerState) → UsesOwn old → (asks : AsksClient tells old line said new) →
+      Asked tells (own_client old.machine) (budget_of old) old.machine line asks.words new.machine
+  by_own old line said new uses asks = subst (λ (client : ClientState). Asked tells client (budget_of old) old.machine line asks.words new.machine) uses asks.asked
+
+  pub line_played : OwnProgramsRun tells → (counts : List ℕ) (old : PlayerState) (line : Line) (said blocks : List (List ℕ)) (new : PlayerState) → IsMachine old.machine → IsValid line →
+      Plays tells counts old line said blocks new → LinePlayed tells counts old line said blocks new
+  line_played own counts old line said blocks new machine valid plays =
+      let asks_own = asks counts old line said blocks new plays in
+      record {
+        plays = plays;
+        happened = line_happened tells counts old line said blocks new plays;
+        by_map = λ told uses names.
+            let a = asks_own names in
+            (a.words, a.said_is, asked_by_map tells own (budget_of old) old.machine told machine line a.words new.machine (by_own old line said new uses a) valid names);
+        cause = λ uses names says.
+            let a = asks_own names in
+            asked_cause tells own (budget_of old) old.machine line a.words new.machine (by_own old line said new uses a) names (ap first_of (sym a.said_is ∙ says));
+        enough = λ told uses names steps says.
+            let a = asks_own names in
+            mapped_runs (budget_of old) old.machine (subst (λ (client : ClientState). enough_steps client.timings ≤ budget_of old) uses steps) line a.words new.machine
+            (asked_by_map tells own (budget_of old) old.machine told machine line a.words new.machine (by_own old line said new uses a) valid names)
+            (ap first_of (sym a.said_is ∙ says));
+      }

@@ -1,0 +1,388 @@
+-- The same lines of two players that are alike.
+use Rattle.std.proofs.Common.{◌≡◌, ℕ, ◌+◌, ◌*◌, Bool, List, [], ◌∷◌, ◌++◌, length, map, Option, Some, None, Result, Ok, Err, refl, sym, ap, subst, ◌∙◌}
+use Rattle.std.proofs.lemmas.Option.{none-some, same_Some}
+use Rattle.base_model.specs.Faults.{Rose}
+use Rattle.hex.specs.Hex.{decode_of}
+use Rattle.flash_words.specs.Flash.{FlashState}
+use Rattle.flash_words.specs.Layout.{Layout, room_of, reach_of}
+use Rattle.flash_model.specs.declared.geometry.Geometry.{Geometry}
+use Rattle.flash_model.specs.Layouts.{layout_of}
+use Rattle.record_model.specs.Records.{second_copies}
+use Rattle.record_store.specs.Store.{records_of as records_in}
+use Rattle.erst_device.specs.declared.device.TheConstants.{LOG_RANGE}
+use Rattle.erst_device.specs.Timings.{most_changes, timings_of}
+use Rattle.hex.specs.declared.error.FromHexError.{FromHexError}
+use Rattle.apei_notify.specs.Telling.{wanted}
+use Rattle.apei_space.specs.declared.faults.SpaceFault.{SpaceFault}
+use Rattle.bert_region.specs.Region.{IsLaidOut}
+use Rattle.ghes_ack.specs.declared.events.Event.{Event}
+use Rattle.ghes_ack.specs.declared.submission.SubmitError.{SubmitError}
+use Rattle.erst_entries.specs.declared.tables.ErstError.{ErstError}
+use Rattle.erst_entries.specs.Layout.{Erst}
+use Rattle.erst_entries.specs.Programs.{program_of}
+use Rattle.erst_entries.specs.Tables.{refusal}
+use Rattle.erst_client.specs.declared.errors.ClientError.{ClientError}
+use Rattle.erst_client.specs.Attaching.{Attaches}
+use Rattle.erst_client.specs.Commands.{ClientState, Writes}
+use Rattle.erst_client.specs.Sequences.{clear_requests, dummy_requests}
+use Rattle.erst_machine.specs.declared.errors.FatalError.{FatalError}
+use Rattle.erst_machine.specs.MachineState.{MachineState, IsMachine}
+use Rattle.erst_machine.specs.Allowed.{Allows}
+use Rattle.erst_machine.specs.Events.{Submits, LaysFatal, Warmed, Powered}
+use Rattle.erst_machine.proofs.EventLemmas.{events_keep}
+use Rattle.erst_twins.specs.Alike.{MachineOutline, machine_outline, AlikeMachines, FailedNothing, BootsFrom, record_in, bytes_shown}
+use Rattle.erst_machine.specs.OwnTables.{own_erst}
+use Rattle.erst_commands.specs.OwnPrograms.{with_value}
+use Rattle.erst_twins.proofs.TrailOutlines.{boots_from_alike}
+use Rattle.erst_twins.proofs.Dialogues.{quiet_first, quiet_second}
+use Rattle.erst_twins.proofs.MachineDialogues.{done_alike}
+use Rattle.erst_twins.proofs.RunDialogues.{run_of, run_held}
+use Rattle.erst_twins.proofs.ClientDialogues as dialogues
+use Rattle.erst_twins.proofs.ReadLemmas.{record_alike}
+use Rattle.erst_twins.proofs.MachineOutlines.{fill_both}
+use Rattle.erst_twins.proofs.EventOutlines.{submits_alike, lays_alike, happens_alike}
+use Rattle.erst_twins.proofs.OneLemmas.{one_list}
+use Rattle.script_text.specs.ScriptGrammar.{Line, blank, write, read, clear, count, next, dummy, action, table, own_table, error, turns, peek, fatal, bert, heard, reset, power}
+use Rattle.apei_script.specs.Players.{PlayerState, client_of, budget_of, with_machine}
+use Rattle.apei_script.specs.Words.{words_of_write, words_of_read, words_of_clear, words_of_count, words_of_next, words_of_dummy, words_of_action, words_of_table, words_of_no_table, words_of_record, words_of_submission, words_of_turns, words_of_block, words_of_peek, words_of_laid, words_of_bert, words_of_heard, words_of_reset, words_of_power, replies_at}
+use Rattle.apei_script.specs.Tables.{ATTACH_STEPS, BeginsWith}
+use Rattle.apei_script.specs.Plays.{Plays, restarted, step_of}
+use Rattle.apei_script.specs.History.{Played, heard_of, heard_after, Follows, text_of, reply_of}
+use Rattle.apei_script.specs.Alike.{AlikePlayers, own_player, WantAlike, lines_of, said_in, taken_in, PlayedAlike}
+use Rattle.apei_script.proofs.HistoryLemmas.{history_goes_on}
+use Rattle.apei_script.proofs.TurnsAlike.{turned_alike}
+use Rattle.apei_script.proofs.LineKinds.{Left, AskedBy, HappenedBy, words_of_given, other_after, Given, NoTable, Tried, ByItsClient, ByItself, PlaysBy, plays_by}
+
+abbrev faults_of : MachineState → ℕ
+faults_of state = state.device.store.flash.faults
+
+-- The same words
+
+same_bytes : (hex bytes others : List ℕ) → decode_of hex ≡ Ok bytes → decode_of hex ≡ Ok others → bytes ≡ others
+same_bytes hex bytes others first second = let both : ◌≡◌ {A = Result (List ℕ) FromHexError} (Ok bytes) (Ok others) = sym first ∙ second in cc
+
+same_read_words : (result also : Result ℕ ClientError) (after afterwards : List ℕ) → result ≡ also → record_in result after ≡ record_in also afterwards → words_of_read after result ≡ words_of_read afterwards also
+same_read_words (Ok size) (Ok len) after afterwards same bytes = ap words_of_record bytes
+same_read_words (Ok size) (Err why) after afterwards same bytes = absurd (cc)
+same_read_words (Err found) (Ok len) after afterwards same bytes = absurd (cc)
+same_read_words (Err found) (Err why) after afterwards same bytes = ap (words_of_read after) same
+
+same_peek_words : (answer also : Result (Unit {0}) SpaceFault) (after afterwards : List ℕ) → answer ≡ also → bytes_shown answer after ≡ bytes_shown also afterwards → words_of_peek after answer ≡ words_of_peek afterwards also
+same_peek_words (Ok done) (Ok well) after afterwards same bytes = ap (λ (bs : List ℕ). words_of_peek bs (Ok done)) bytes
+same_peek_words (Ok done) (Err why) after afterwards same bytes = absurd (cc)
+same_peek_words (Err fault) (Ok well) after afterwards same bytes = absurd (cc)
+same_peek_words (Err fault) (Err why) after afterwards same bytes = ap (words_of_peek after) same
+
+-- the table that some bytes begin with is one
+begins_once : (a b : Erst) (bytes : List ℕ) → BeginsWith a bytes → BeginsWith b bytes → a ≡ b
+begins_once a b bytes first second = second.only a first.table_bytes first.behind first.split first.fits first.is
+
+not_both : (erst : Erst) (bytes : List ℕ) (why : ErstError) → BeginsWith erst bytes → refusal bytes ≡ Some why → ⊥
+not_both erst bytes why begins refused = none-some why (sym begins.sound ∙ refused)
+
+-- an own client, by how the flash is divided
+abbrev client_by : Layout → ClientState
+client_by layout = record {
+  table = own_erst;
+  address = LOG_RANGE;
+  range = reach_of (room_of layout);
+  timings = Some (10 * most_changes layout, 10 * (layout.per_slot + 4));
+}
+
+record Ends (words also_words : List ℕ) (new also_new : MachineState) : Type 0 where
+  same : words ≡ also_words
+  alike : AlikeMachines new also_new
+
+module _ (tells : Type 0) (told : tells) where
+  -- what is asked of one client
+  asked_alike : (client : ClientState) (steps : ℕ) (one also : MachineState) → AlikeMachines one also → IsMachine one → (line : Line) (words also_words : List ℕ) (new also_new : MachineState)
+      → AskedBy tells client steps one line words new → FailedNothing one new → AskedBy tells client steps also line also_words also_new → FailedNothing also also_new → Ends words also_words new also_new
+  asked_alike client steps one also alike machine (write hex) words also_words new also_new first quiet second also_quiet =
+      let bytes : second.0 ≡ first.0 = same_bytes hex second.0 first.0 second.3 first.3 in
+      let writes = subst (λ (bs : List ℕ). Writes (Allows tells) client bs steps also second.1 second.2 also_new) bytes second.5 in
+      let both = done_alike tells told _ (dialogues.write client first.0 steps) (dialogues.writes_held (Allows tells) client first.0 steps)
+      one also first.1 second.1 first.2 second.2 new also_new alike first.5 quiet writes also_quiet in
+      record {
+        same = first.4 ∙ ap (words_of_write first.0) both.same_answer ∙ ap (λ (bs : List ℕ). words_of_write bs second.1) (sym bytes) ∙ sym second.4;
+        alike = both.alike;
+      }
+  asked_alike client steps one also alike machine (read id) words also_words new also_new first quiet second also_quiet =
+      let both = record_alike tells told client id steps one also alike first.0 second.0 first.2 second.2 first.1 second.1 first.3 second.3 new also_new machine (first.4 ∙ sym second.4) first.6 quiet second.6 also_quiet in
+      record { same = first.5 ∙ same_read_words first.2 second.2 first.1 second.1 both.0.same_answer both.1 ∙ sym second.5; alike = both.0.alike }
+  asked_alike client steps one also alike machine (clear id) words also_words new also_new first quiet second also_quiet =
+      let both = done_alike tells told _ (dialogues.sequence client.table.entries client.timings (clear_requests id) steps)
+      (dialogues.sequence_held (Allows tells) client.table.entries client.timings (clear_requests id) steps)
+      one also first.0 second.0 first.1 second.1 new also_new alike first.3 quiet second.3 also_quiet in
+      record { same = first.2 ∙ ap (words_of_clear id) both.same_answer ∙ sym second.2; alike = both.alike }
+  asked_alike client steps one also alike machine count words also_words new also_new first quiet second also_quiet =
+      let both = done_alike tells told _ (dialogues.count client.table.entries steps) (dialogues.counts_held (Allows tells) client.table.entries steps)
+      one also first.0 second.0 first.1 second.1 new also_new alike first.3 quiet second.3 also_quiet in
+      record { same = first.2 ∙ ap words_of_count both.same_answer ∙ sym second.2; alike = both.alike }
+  asked_alike client steps one also alike machine next words also_words new also_new first quiet second also_quiet =
+      let both = done_alike tells told _ (dialogues.name client.table.entries steps) (dialogues.names_held (Allows tells) client.table.entries steps)
+      one also first.0 second.0 first.1 second.1 new also_new alike first.3 quiet second.3 also_quiet in
+      record { same = first.2 ∙ ap words_of_next both.same_answer ∙ sym second.2; alike = both.alike }
+  asked_alike client steps one also alike machine dummy words also_words new also_new first quiet second also_quiet =
+      let both = done_alike tells told _ (dialogues.sequence client.table.entries client.timings dummy_requests steps)
+      (dialogues.sequence_held (Allows tells) client.table.entries client.timings dummy_requests steps)
+      one also first.0 second.0 first.1 second.1 new also_new alike first.3 quiet second.3 also_quiet in
+      record { same = first.2 ∙ ap words_of_dummy both.same_answer ∙ sym second.2; alike = both.alike }
+  asked_alike client steps one also alike machine (action code value) words also_words new also_new first quiet second also_quiet =
+      let both = done_alike tells told _ (run_of (program_of code client.table.entries) value steps) (run_held (Allows tells) (program_of code client.table.entries) value steps)
+      one also first.0 second.0 first.1 second.1 new also_new alike first.3 quiet second.3 also_quiet in
+      record { same = first.2 ∙ ap words_of_action both.same_answer ∙ sym second.2; alike = both.alike }
+  asked_alike client steps one also alike machine line words also_words new also_new first quiet second also_quiet = absurd first
+
+  record EndsAll (said also_said blocks also_blocks : List (List ℕ)) (new also_new : MachineState) : Type 0 where
+    same : said ≡ also_said
+    taken : blocks ≡ also_blocks
+    alike : AlikeMachines new also_new
+
+  happened_alike : (one also : MachineState) → AlikeMachines one also → IsMachine one → (line : Line) (said also_said blocks also_blocks : List (List ℕ)) (new also_new : MachineState)
+      → HappenedBy tells one line said blocks new → HappenedBy tells also line also_said also_blocks also_new → EndsAll said also_said blocks also_blocks new also_new
+  happened_alike one also alike machine (error hex) said also_said blocks also_blocks new also_new first second =
+      let block : second.0 ≡ first.0 = same_bytes hex second.0 first.0 second.2 first.2 in
+      let submits = subst (λ (bs : List ℕ). Submits also bs second.1 also_new) block second.5 in
+      let both = submits_alike one also alike first.0 first.1 second.1 new also_new first.5 submits in
+      record { same = first.3 ∙ ap (λ (r : Result ℕ SubmitError). words_of_submission r ∷ []) both.0 ∙ sym second.3; taken = first.4 ∙ sym second.4; alike = both.1 }
+  happened_alike one also alike machine (turns letters) said also_said blocks also_blocks new also_new first second =
+      let both = turned_alike letters one also first.0 second.0 blocks also_blocks new also_new alike first.2 second.2 in
+      record {
+        same = first.1 ∙ ap (λ (bs : List (List ℕ)). map words_of_block bs ++ words_of_turns first.0 ∷ []) both.blocks_are
+            ∙ ap (λ (es : List Event). map words_of_block also_blocks ++ words_of_turns es ∷ []) both.events_are ∙ sym second.1;
+        taken = both.blocks_are;
+        alike = both.alike;
+      }
+  happened_alike one also alike machine (peek at len) said also_said blocks also_blocks new also_new first second =
+      let both = fill_both tells told one also alike at first.0 second.0 first.1 second.1 first.2 second.2 new also_new (first.3 ∙ sym second.3) first.6 second.6 in
+      record {
+        same = first.4 ∙ ap (λ (ws : List ℕ). ws ∷ []) (same_peek_words first.2 second.2 first.1 second.1 both.0 both.1) ∙ sym second.4;
+        taken = first.5 ∙ sym second.5;
+        alike = both.2;
+      }
+  happened_alike one also alike machine (fatal hex) said also_said blocks also_blocks new also_new first second =
+      let block : second.0 ≡ first.0 = same_bytes hex second.0 first.0 second.2 first.2 in
+      let lays = subst (λ (bs : List ℕ). LaysFatal also bs second.1 also_new) block second.5 in
+      let both = lays_alike one also alike machine first.0 first.1 second.1 new also_new first.5 lays in
+      record { same = first.3 ∙ ap (λ (r : Result ℕ FatalError). words_of_laid r ∷ []) both.0 ∙ sym second.3; taken = first.4 ∙ sym second.4; alike = both.1 }
+  happened_alike one also alike machine bert said also_said blocks also_blocks new also_new first second =
+      let bytes : also.memory.region ≡ one.memory.region = sym (ap (λ (o : MachineOutline). o.memory.region) alike) in
+      let laid = subst (λ (r : List ℕ). IsLaidOut second.0 second.1 r) bytes second.5 in
+      let blocks_are = (one_list first.0 second.0 first.1 second.1 one.memory.region first.5 laid).0 in
+      record {
+        same = first.2 ∙ ap (λ (bs : List (List ℕ)). map words_of_block bs ++ words_of_bert (length bs) ∷ []) blocks_are ∙ sym second.2;
+        taken = first.3 ∙ sym second.3;
+        alike = ap machine_outline first.4 ∙ alike ∙ sym (ap machine_outline second.4);
+      }
+  happened_alike one also alike machine line said also_said blocks also_blocks new also_new first second = absurd first
+
+  record EndsTable (words also_words : List ℕ) (new also_new : MachineState) (other also_other : Option ClientState) : Type 0 where
+    same : words ≡ also_words
+    alike : AlikeMachines new also_new
+    others : other ≡ also_other
+
+  given_alike : (one also : MachineState) → AlikeMachines one also → (other : Option ClientState) (bytes words also_words : List ℕ) (new also_new : MachineState) (now also_now : Option ClientState)
+      → Given tells one other bytes words new now → FailedNothing one new → Given tells also other bytes also_words also_new also_now → FailedNothing also also_new
+      → EndsTable words also_words new also_new now also_now
+  given_alike one also alike other bytes words also_words new also_new now also_now (NoTable why refused words_are still other_is) quiet (NoTable reason refuses spoken stays kept) also_quiet = record {
+    same = words_are ∙ ap words_of_no_table (same_Some why reason (sym refused ∙ refuses)) ∙ sym spoken;
+    alike = ap machine_outline still ∙ alike ∙ sym (ap machine_outline stays);
+    others = other_is ∙ sym kept;
+  }
+  given_alike one also alike other bytes words also_words new also_new now also_now (NoTable why refused words_are still other_is) quiet (Tried erst result left begins attaches spoken kept) also_quiet =
+      absurd (not_both erst bytes why begins refused)
+  given_alike one also alike other bytes words also_words new also_new now also_now (Tried erst result left begins attaches words_are other_is) quiet (NoTable reason refuses spoken stays kept) also_quiet =
+      absurd (not_both erst bytes reason begins refuses)
+  given_alike one also alike other bytes words also_words new also_new now also_now (Tried erst result left begins attaches words_are other_is) quiet (Tried same_table found rest starts joins spoken kept) also_quiet =
+      let table_is : same_table ≡ erst = begins_once same_table erst bytes starts begins in
+      let joins_it = subst (λ (e : Erst). Attaches (Allows tells) e ATTACH_STEPS also found rest also_new) table_is joins in
+      let both = done_alike tells told _ (dialogues.attach erst ATTACH_STEPS) (dialogues.attaches_held (Allows tells) erst ATTACH_STEPS)
+      one also result found left rest new also_new alike attaches quiet joins_it also_quiet in
+      record {
+        same = words_are ∙ ap (words_of_given tells erst) both.same_answer ∙ ap (λ (e : Erst). words_of_given tells e found) (sym table_is) ∙ sym spoken;
+        alike = both.alike;
+        others = other_is ∙ ap (other_after tells other) both.same_answer ∙ sym kept;
+      }
+
+  quiet_at : (old : MachineState) (machine : MachineState) (new player : PlayerState) → player.machine ≡ machine → new ≡ player → FailedNothing old new.machine → FailedNothing old machine
+  quiet_at old machine new player is new_is quiet rose =
+      quiet (subst (λ (p : PlayerState). Rose (faults_of old) (faults_of p.machine)) (sym new_is) (subst (λ (m : MachineState). Rose (faults_of old) (faults_of m)) (sym is) rose))
+
+  record LineAlike (said also_said blocks also_blocks : List (List ℕ)) (new also_new : PlayerState) : Type 0 where
+    same : said ≡ also_said
+    taken : blocks ≡ also_blocks
+    players : AlikePlayers new also_new
+
+  close : (said also_said blocks also_blocks words also_words taken also_taken : List (List ℕ)) (new also_new player also_player : PlayerState) → Left said blocks new words taken player → Left also_said also_blocks also_new also_words also_taken also_player
+      → words ≡ also_words → taken ≡ also_taken → AlikePlayers player also_player → LineAlike said also_said blocks also_blocks new also_new
+  close said also_said blocks also_blocks words also_words taken also_taken new also_new player also_player first second same blocks_are players = record {
+    same = first.said_is ∙ same ∙ sym second.said_is;
+    taken = first.blocks_are ∙ blocks_are ∙ sym second.blocks_are;
+    players = subst (λ (p : PlayerState). AlikePlayers p also_new) (sym first.new_is) (subst (λ (p : PlayerState). AlikePlayers player p) (sym second.new_is) players);
+  }
+
+  -- one line of one player, and of the same player with another machine
+  module _ (counts : List ℕ) (old : PlayerState) (machine_too : MachineState) (alike : AlikeMachines old.machine machine_too) (machine : IsMachine old.machine) where
+    abbrev twin : PlayerState
+    twin = with_machine machine_too old
+
+    players_with : (other also_other : Option ClientState) (one also : MachineState) → AlikeMachines one also → other ≡ also_other → AlikePlayers (record old { machine = one; other = other }) (record twin { machine = also; other = also_other })
+    players_with other also_other one also machines others = record { machines = machines; own = refl; other = others; steps = refl }
+
+    by_client_alike : (line : Line) (said also_said blocks also_blocks : List (List ℕ)) (new also_new : PlayerState) → ByItsClient tells old line said blocks new → FailedNothing old.machine new.machine
+        → ByItsClient tells twin line also_said also_blocks also_new → FailedNothing machine_too also_new.machine → LineAlike said also_said blocks also_blocks new also_new
+    by_client_alike line said also_said blocks also_blocks new also_new first quiet second also_quiet =
+        let ends = asked_alike (client_of old) (budget_of old) old.machine machine_too alike machine line first.0 second.0 first.1 second.1
+        first.2 (quiet_at old.machine first.1 new (with_machine first.1 old) refl first.3.new_is quiet)
+        second.2 (quiet_at machine_too second.1 also_new (with_machine second.1 twin) refl second.3.new_is also_quiet) in
+        close said also_said blocks also_blocks (first.0 ∷ []) (second.0 ∷ []) [] [] new also_new (with_machine first.1 old) (with_machine second.1 twin) first.3 second.3
+        (ap (λ (ws : List ℕ). ws ∷ []) ends.same) refl (players_with old.other old.other first.1 second.1 ends.alike refl)
+
+    by_itself_alike : (line : Line) (said also_said blocks also_blocks : List (List ℕ)) (new also_new : PlayerState) → ByItself tells old line said blocks new
+        → ByItself tells twin line also_said also_blocks also_new → LineAlike said also_said blocks also_blocks new also_new
+    by_itself_alike line said also_said blocks also_blocks new also_new first second =
+        let ends = happened_alike old.machine machine_too alike machine line first.0 second.0 first.1 second.1 first.2 second.2 first.3 second.3 in
+        close said also_said blocks also_blocks first.0 second.0 first.1 second.1 new also_new (with_machine first.2 old) (with_machine second.2 twin) first.4 second.4
+        ends.same ends.taken (players_with old.other old.other first.2 second.2 ends.alike refl)
+
+    line_alike : (line : Line) (said also_said blocks also_blocks : List (List ℕ)) (new also_new : PlayerState) → PlaysBy tells counts old line said blocks new → FailedNothing old.machine new.machine
+        → PlaysBy tells counts twin line also_said also_blocks also_new → FailedNothing machine_too also_new.machine → LineAlike said also_said blocks also_blocks new also_new
+    line_alike blank said also_said blocks also_blocks new also_new first quiet second also_quiet =
+        close said also_said blocks also_blocks [] [] [] [] new also_new old twin first second refl refl (players_with old.other old.other old.machine machine_too alike refl)
+    line_alike (write hex) said also_said blocks also_blocks new also_new first quiet second also_quiet = by_client_alike (write hex) said also_said blocks also_blocks new also_new first quiet second also_quiet
+    line_alike (read id) said also_said blocks also_blocks new also_new first quiet second also_quiet = by_client_alike (read id) said also_said blocks also_blocks new also_new first quiet second also_quiet
+    line_alike (clear id) said also_said blocks also_blocks new also_new first quiet second also_quiet = by_client_alike (clear id) said also_said blocks also_blocks new also_new first quiet second also_quiet
+    line_alike count said also_said blocks also_blocks new also_new first quiet second also_quiet = by_client_alike count said also_said blocks also_blocks new also_new first quiet second also_quiet
+    line_alike next said also_said blocks also_blocks new also_new first quiet second also_quiet = by_client_alike next said also_said blocks also_blocks new also_new first quiet second also_quiet
+    line_alike dummy said also_said blocks also_blocks new also_new first quiet second also_quiet = by_client_alike dummy said also_said blocks also_blocks new also_new first quiet second also_quiet
+    line_alike (action code value) said also_said blocks also_blocks new also_new first quiet second also_quiet = by_client_alike (action code value) said also_said blocks also_blocks new also_new first quiet second also_quiet
+    line_alike (table hex) said also_said blocks also_blocks new also_new first quiet second also_quiet =
+        let bytes : second.0 ≡ first.0 = same_bytes hex second.0 first.0 second.4 first.4 in
+        let given = subst (λ (bs : List ℕ). Given tells machine_too old.other bs second.1 second.2 second.3) bytes second.5 in
+        let ends = given_alike old.machine machine_too alike old.other first.0 first.1 second.1 first.2 second.2 first.3 second.3
+        first.5 (quiet_at old.machine first.2 new (record old { machine = first.2; other = first.3 }) refl first.6.new_is quiet)
+        given (quiet_at machine_too second.2 also_new (record twin { machine = second.2; other = second.3 }) refl second.6.new_is also_quiet) in
+        close said also_said blocks also_blocks (first.1 ∷ []) (second.1 ∷ []) [] [] new also_new (record old { machine = first.2; other = first.3 }) (record twin { machine = second.2; other = second.3 })
+        first.6 second.6 (ap (λ (ws : List ℕ). ws ∷ []) ends.same) refl (players_with first.3 second.3 first.2 second.2 ends.alike ends.others)
+    line_alike own_table said also_said blocks also_blocks new also_new first quiet second also_quiet =
+        close said also_said blocks also_blocks (words_of_table (length old.own.table.entries) ∷ []) (words_of_table (length old.own.table.entries) ∷ []) [] [] new also_new
+        (record old { other = None }) (record twin { other = None }) first second refl refl (players_with None None old.machine machine_too alike refl)
+    line_alike (error hex) said also_said blocks also_blocks new also_new first quiet second also_quiet = by_itself_alike (error hex) said also_said blocks also_blocks new also_new first second
+    line_alike (turns letters) said also_said blocks also_blocks new also_new first quiet second also_quiet = by_itself_alike (turns letters) said also_said blocks also_blocks new also_new first second
+    line_alike (peek at len) said also_said blocks also_blocks new also_new first quiet second also_quiet = by_itself_alike (peek at len) said also_said blocks also_blocks new also_new first second
+    line_alike (fatal hex) said also_said blocks also_blocks new also_new first quiet second also_quiet = by_itself_alike (fatal hex) said also_said blocks also_blocks new also_new first second
+    line_alike bert said also_said blocks also_blocks new also_new first quiet second also_quiet = by_itself_alike bert said also_said blocks also_blocks new also_new first second
+    line_alike heard said also_said blocks also_blocks new also_new first quiet second also_quiet =
+        close said also_said blocks also_blocks (words_of_heard counts ∷ []) (words_of_heard counts ∷ []) [] [] new also_new old twin first second refl refl (players_with old.other old.other old.machine machine_too alike refl)
+    line_alike reset said also_said blocks also_blocks new also_new first quiet second also_quiet =
+        let both = happens_alike old.machine machine_too alike tells told machine (Warmed (Ok first.0)) (Warmed (Ok second.0)) first.1 second.1 refl
+        first.2 (quiet_at old.machine first.1 new (restarted first.1 old) refl first.3.new_is quiet)
+        second.2 (quiet_at machine_too second.1 also_new (restarted second.1 twin) refl second.3.new_is also_quiet) in
+        let n : first.0 ≡ second.0 = let e = both.0 in cc in
+        close said also_said blocks also_blocks (words_of_reset first.0 ∷ []) (words_of_reset second.0 ∷ []) [] [] new also_new (restarted first.1 old) (restarted second.1 twin) first.3 second.3
+        (ap (λ (k : ℕ). words_of_reset k ∷ []) n) refl (players_with None None first.1 second.1 both.1 refl)
+    line_alike power said also_said blocks also_blocks new also_new first quiet second also_quiet =
+        let both = happens_alike old.machine machine_too alike tells told machine (Powered (Ok first.0)) (Powered (Ok second.0)) first.1 second.1 refl
+        first.2 (quiet_at old.machine first.1 new (restarted first.1 old) refl first.3.new_is quiet)
+        second.2 (quiet_at machine_too second.1 also_new (restarted second.1 twin) refl second.3.new_is also_quiet) in
+        let n : first.0 ≡ second.0 = let e = both.0 in cc in
+        close said also_said blocks also_blocks (words_of_power first.0 ∷ []) (words_of_power second.0 ∷ []) [] [] new also_new (restarted first.1 old) (restarted second.1 twin) first.3 second.3
+        (ap (λ (k : ℕ). words_of_power k ∷ []) n) refl (players_with None None first.1 second.1 both.1 refl)
+    line_alike line said also_said blocks also_blocks new also_new first quiet second also_quiet = absurd first
+
+  -- two players that are alike, as one player with two machines
+  is_twin : (one also : PlayerState) → AlikePlayers one also → also ≡ with_machine also.machine one
+  is_twin one also players =
+      let own = sym players.own in
+      let other = sym players.other in
+      let steps = sym players.steps in
+      λ i. record { machine = also.machine; own = own i; other = other i; steps = steps i }
+
+  played_alike : (counts : List ℕ) (one also : PlayerState) → AlikePlayers one also → IsMachine one.machine → (line : Line) (said also_said blocks also_blocks : List (List ℕ)) (new also_new : PlayerState)
+      → Plays tells counts one line said blocks new → FailedNothing one.machine new.machine → Plays tells counts also line also_said also_blocks also_new → FailedNothing also.machine also_new.machine
+      → LineAlike said also_said blocks also_blocks new also_new
+  played_alike counts one also players machine line said also_said blocks also_blocks new also_new first quiet second also_quiet =
+      line_alike counts one also.machine players.machines machine line said also_said blocks also_blocks new also_new
+      (plays_by tells counts one line said blocks new first) quiet
+      (plays_by tells counts (with_machine also.machine one) line also_said also_blocks also_new (subst (λ (p : PlayerState). Plays tells counts p line also_said also_blocks also_new) (is_twin one also players) second)) also_quiet
+
+  same_reply : (said also_said : List (List ℕ)) (one also : PlayerState) → said ≡ also_said → AlikePlayers one also → replies_at (step_of one) said ≡ replies_at (step_of also) also_said
+  same_reply said also_said one also same players =
+      ap (replies_at (step_of one)) same ∙ ap (λ (o : MachineOutline). replies_at o.device.store.steps also_said) players.machines
+
+-- the listeners hear the same
+same_wanted : (want wants_too : ℕ → Bool) (blocks : List (List ℕ)) → ((severity : ℕ) → want severity ≡ wants_too severity) → wanted want blocks ≡ wanted wants_too blocks
+same_wanted want wants_too blocks same = ap (λ (f : ℕ → Bool). wanted f blocks) (λ i severity. same severity i)
+
+same_heard : (wants wants_too : List (ℕ → Bool)) (blocks : List (List ℕ)) (counts : List ℕ) → WantAlike wants wants_too → heard_after wants blocks counts ≡ heard_after wants_too blocks counts
+same_heard [] [] blocks counts same = refl
+same_heard [] (want ∷ wants_too) blocks counts same = absurd same
+same_heard (want ∷ wants) [] blocks counts same = absurd same
+same_heard (want ∷ wants) (want_too ∷ wants_too) blocks [] same = refl
+same_heard (want ∷ wants) (want_too ∷ wants_too) blocks (heard_so_far ∷ counts) same =
+    ap (λ (n : ℕ). heard_of heard_so_far n ∷ heard_after wants blocks counts) (same_wanted want want_too blocks same.0)
+    ∙ ap (λ (ns : List ℕ). heard_of heard_so_far (wanted want_too blocks) ∷ ns) (same_heard wants wants_too blocks counts same.1)
+
+module _ (tells : Type 0) (told : tells) (wants wants_too : List (ℕ → Bool)) (want_alike : WantAlike wants wants_too) where
+  pub histories_alike : (counts : List ℕ) (one also : PlayerState) (first second : List Played) (one_last also_last : PlayerState) → AlikePlayers one also → IsMachine one.machine → lines_of first ≡ lines_of second
+      → Follows tells wants counts one first one_last → FailedNothing one.machine one_last.machine → Follows tells wants_too counts also second also_last → FailedNothing also.machine also_last.machine
+      → PlayedAlike first second one_last also_last
+  histories_alike counts one also [] [] one_last also_last players machine lines follows quiet follows_too also_quiet =
+      let at_end : AlikePlayers one_last also_last = subst (λ (p : PlayerState). AlikePlayers p also_last) (sym follows) (subst (λ (p : PlayerState). AlikePlayers one p) (sym follows_too) players) in
+      record { said = refl; text = refl; blocks = refl; players = at_end; records = ap (λ (o : MachineOutline). o.device.store.records) at_end.machines }
+  histories_alike counts one also (x ∷ first) (y ∷ second) one_last also_last players machine lines follows quiet follows_too also_quiet =
+      let line : x.line ≡ y.line = let e = lines in cc in
+      let rest : lines_of first ≡ lines_of second = let e = lines in cc in
+      let one_step = follows.0.happened.never_falls in
+      let one_rest = (history_goes_on tells told wants (heard_after wants x.blocks counts) x.left first one_last follows.1).1.never_falls in
+      let also_step = follows_too.0.happened.never_falls in
+      let also_rest = (history_goes_on tells told wants_too (heard_after wants_too y.blocks counts) y.left second also_last follows_too.1).1.never_falls in
+      let plays_too = subst (λ (l : Line). Plays tells counts also l y.said y.blocks y.left) (sym line) follows_too.0.plays in
+      let both = played_alike tells told counts one also players machine x.line x.said y.said x.blocks y.blocks x.left y.left
+      follows.0.plays (quiet_first (faults_of one.machine) (faults_of x.left.machine) (faults_of one_last.machine) one_step one_rest quiet)
+      plays_too (quiet_first (faults_of also.machine) (faults_of y.left.machine) (faults_of also_last.machine) also_step also_rest also_quiet) in
+      let heard : heard_after wants_too y.blocks counts ≡ heard_after wants x.blocks counts =
+      ap (λ (bs : List (List ℕ)). heard_after wants_too bs counts) (sym both.taken) ∙ sym (same_heard wants wants_too x.blocks counts want_alike) in
+      let more = histories_alike (heard_after wants x.blocks counts) x.left y.left first second one_last also_last both.players
+      (events_keep tells one.machine x.left.machine follows.0.happened.trail follows.0.happened.happens machine) rest
+      follows.1 (quiet_second (faults_of one.machine) (faults_of x.left.machine) (faults_of one_last.machine) one_step one_rest quiet)
+      (subst (λ (ns : List ℕ). Follows tells wants_too ns y.left second also_last) heard follows_too.1)
+      (quiet_second (faults_of also.machine) (faults_of y.left.machine) (faults_of also_last.machine) also_step also_rest also_quiet) in
+      record {
+        said = ap (λ (s : List (List ℕ)). s ∷ said_in first) both.same ∙ ap (λ (s : List (List (List ℕ))). y.said ∷ s) more.said;
+        text = ap (λ (t : List ℕ). t ++ text_of first) (same_reply tells told x.said y.said x.left y.left both.same both.players) ∙ ap (λ (t : List ℕ). reply_of y ++ t) more.text;
+        blocks = ap (λ (s : List (List ℕ)). s ∷ taken_in first) both.taken ∙ ap (λ (s : List (List (List ℕ))). y.blocks ∷ s) more.blocks;
+        players = more.players;
+        records = more.records;
+      }
+  histories_alike counts one also [] (y ∷ second) one_last also_last players machine lines follows quiet follows_too also_quiet = absurd (let e = lines in cc)
+  histories_alike counts one also (x ∷ first) [] one_last also_last players machine lines follows quiet follows_too also_quiet = absurd (let e = lines in cc)
+
+-- Players of the machines' own clients
+
+pub own_players_alike : (one also : MachineState) (steps : Option ℕ) → AlikeMachines one also → AlikePlayers (own_player one steps) (own_player also steps)
+own_players_alike one also steps alike = record {
+  machines = ap (λ (o : MachineOutline). record o { device = record o.device { value = timings_of o.device.store.layout } }) alike;
+  own = ap (λ (o : MachineOutline). client_by o.device.store.layout) alike;
+  other = refl;
+  steps = refl;
+}
+
+-- listeners want what they want
+same_wants : (wants : List (ℕ → Bool)) → WantAlike wants wants
+same_wants [] = tt
+same_wants (want ∷ wants) = ((λ severity. refl), same_wants wants)
+
+with_value_is_machine : (state : MachineState) (value : ℕ) → IsMachine state → IsMachine (with_value value state)
+with_value_is_machine state value machine = record { sizes = machine.sizes; laid = machine.laid; map = machine.map; stands = machine.stands }
+
+pub booted_alike : (tells : Type 0) → tells → (geometry : Geometry) (flash flash_too : FlashState) (one also : MachineState)
+    → records_in (layout_of geometry) flash.told.image ≡ records_in (layout_of geometry) flash_too.told.image → flash.steps ≡ flash_too.steps
+    → second_copies geometry.slot_size geometry.slots flash.told.image ≡ second_copies geometry.slot_size geometry.slots flash_too.told.image → BootsFrom geometry flash one → BootsFrom geometry flash_too also
+    → (wants : List (ℕ → Bool)) (counts : List ℕ) (steps : Option ℕ) (first second : List Played) (one_last also_last : PlayerState) → lines_of first ≡ lines_of second
+    → Follows tells wants counts (own_player one steps) first one_last → FailedNothing one one_last.machine → Follows tells wants counts (own_player also steps) second also_last → FailedNothing also also_last.machine
+    → PlayedAlike first second one_last also_last
+booted_alike tells told geometry flash flash_too one also records changes copies boots boots_too wants counts steps first second one_last also_last lines follows quiet follows_too also_quiet =
+    let alike = boots_from_alike geometry flash flash_too one also records changes copies boots boots_too in
+    histories_alike tells told wants wants (same_wants wants) counts (own_player one steps) (own_player also steps) first second one_last also_last (own_players_alike one also steps alike)
+    (with_value_is_machine one (timings_of one.device.store.layout) boots.booted.machine) lines follows quiet follows_too also_quiet

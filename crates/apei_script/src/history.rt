@@ -1,0 +1,99 @@
+// Laws on whole histories: the functions do nothing, and their clauses are the laws.
+ghost use Rattle.std.specs.Prelude.{◌≡◌, ℕ, ◌≤◌, Bool, List, Option, None};
+ghost use Rattle.flash_words.specs.Flash.{CrashImage, IsLater, FlashState};
+ghost use Rattle.flash_model.specs.declared.geometry.Geometry.{Geometry as AnyGeometry};
+ghost use Rattle.flash_model.specs.Layouts.{layout_of};
+ghost use Rattle.record_model.specs.Records.{second_copies};
+ghost use Rattle.record_store.specs.Store.{records_of as records_in};
+ghost use Rattle.apei_space.specs.Accesses.{Move, Trail};
+ghost use Rattle.erst_machine.specs.MachineState.{MachineState, IsMachine, told_of};
+ghost use Rattle.erst_machine.specs.Events.{Event, Happens};
+ghost use Rattle.erst_machine.specs.Shown.{IsShown, made_by_event, changes_of, shown_by};
+ghost use Rattle.erst_commands.specs.Attached.{own_client};
+ghost use Rattle.erst_twins.specs.Alike.{AlikeMachines, FailedNothing, BootsFrom};
+ghost use Rattle.apei_script.specs.Players.{PlayerState};
+ghost use Rattle.apei_script.specs.Plays.{HasHappened};
+ghost use Rattle.apei_script.specs.Alike.{AlikePlayers, own_player, WantAlike, lines_of, PlayedAlike};
+ghost use Rattle.apei_script.specs.History.{Played, Follows, EndInOrder, Shows, ShowsEach, AreOwnLines, AreMapped, NoneSaysHardware, AlwaysUsesOwn};
+
+use flash_model::Flash;
+
+/// Whatever the lines of a script do to the machine is one list of accesses, restarts, calls of the handover and fatal blocks, in their
+/// order, with the flash changes that the definitions give them where no fault was counted. So power lost at any flash step shows the
+/// records after those that had ended by then, or as the next one leaves them: for every script, whatever its tables and actions.
+pub fn lines_are_one_list<F: Flash>()
+    ensures happened { (wants : List (ℕ → Bool)) (counts : List ℕ) (first : PlayerState) (played : List Played) (last : PlayerState)
+        → Follows F.tells wants counts first played last → HasHappened F.tells first.machine last.machine }
+    ensures shown { F.tells → (wants : List (ℕ → Bool)) (counts : List ℕ) (first : PlayerState) (played : List Played) (last : PlayerState)
+        → Follows F.tells wants counts first played last
+        → (trail : List (Move Event MachineState)) × Trail (Happens F.tells) first.machine trail last.machine × IsShown made_by_event first.machine trail last.machine }
+{}
+
+/// Lines lead from a machine's state to a machine's state, and keep how the flash is divided, the first client and the steps of a line.
+pub fn lines_keep_a_machine<F: Flash>()
+    ensures machine { (wants : List (ℕ → Bool)) (counts : List ℕ) (first : PlayerState) (played : List Played) (last : PlayerState)
+        → Follows F.tells wants counts first played last → IsMachine first.machine → IsMachine last.machine }
+    ensures layout { (wants : List (ℕ → Bool)) (counts : List ℕ) (first : PlayerState) (played : List Played) (last : PlayerState)
+        → Follows F.tells wants counts first played last → last.machine.device.store.layout ≡ first.machine.device.store.layout }
+    ensures own { (wants : List (ℕ → Bool)) (counts : List ℕ) (first : PlayerState) (played : List Played) (last : PlayerState)
+        → Follows F.tells wants counts first played last → last.own ≡ first.own }
+    ensures steps { (wants : List (ℕ → Bool)) (counts : List ℕ) (first : PlayerState) (played : List Played) (last : PlayerState)
+        → Follows F.tells wants counts first played last → last.steps ≡ first.steps }
+{}
+
+/// Lines end one after another. At the step at which each one ended the flash's image showed the records that it leaves, and past images
+/// stay. In a script of the machine's own client, power lost at any flash step shows the records after the lines that had ended by then, or
+/// as the next one leaves them where nothing fails.
+pub fn lines_are_shown<F: Flash>()
+    ensures ends { F.tells → (wants : List (ℕ → Bool)) (counts : List ℕ) (first : PlayerState) (played : List Played) (last : PlayerState)
+        → Follows F.tells wants counts first played last
+        → ShowsEach last first played × IsLater (told_of first.machine) (told_of last.machine) }
+    ensures in_order { F.tells → (wants : List (ℕ → Bool)) (counts : List ℕ) (first : PlayerState) (played : List Played) (last : PlayerState)
+        → Follows F.tells wants counts first played last → EndInOrder (changes_of first.machine) played (changes_of last.machine) }
+    ensures crash { F.tells → (wants : List (ℕ → Bool)) (counts : List ℕ) (first : PlayerState) (played : List Played) (last : PlayerState)
+        → first.own ≡ own_client first.machine → first.other ≡ None → AreOwnLines played
+        → Follows F.tells wants counts first played last
+        → (s : ℕ) (image : List ℕ) → changes_of first.machine ≤ s → CrashImage (told_of last.machine) s image
+        → Shows s first played (shown_by first.machine image) }
+{}
+
+/// Each line that asks the machine's own client for a command on records is the record map's; where no fault was counted none says that
+/// the flash failed; and a script that neither runs an action nor gives a table never leaves the machine's own client.
+pub fn each_line_is_the_maps<F: Flash>()
+    ensures mapped { F.tells → (wants : List (ℕ → Bool)) (counts : List ℕ) (first : PlayerState) (played : List Played) (last : PlayerState)
+        → Follows F.tells wants counts first played last → AreMapped first played }
+    ensures no_fault { (wants : List (ℕ → Bool)) (counts : List ℕ) (first : PlayerState) (played : List Played) (last : PlayerState)
+        → Follows F.tells wants counts first played last → FailedNothing first.machine last.machine → NoneSaysHardware first played }
+    ensures own { (wants : List (ℕ → Bool)) (counts : List ℕ) (first : PlayerState) (played : List Played) (last : PlayerState)
+        → first.own ≡ own_client first.machine → first.other ≡ None → AreOwnLines played
+        → Follows F.tells wants counts first played last → AlwaysUsesOwn first played }
+{}
+
+/// Players of the machines' own clients are alike where the machines are.
+pub fn alike_machines_make_alike_players()
+    ensures { (one also : MachineState) (steps : Option ℕ) → AlikeMachines one also → AlikePlayers (own_player one steps) (own_player also steps) }
+{}
+
+/// The same lines of two players that are alike, over flashes that fail nothing: the replies are the same, at the same flash steps, and so
+/// are the blocks that the operating system takes and the records at the end. Where the records stand plays no part in it.
+pub fn scripts_play_alike<F: Flash>()
+    ensures { F.tells → (wants wants_too : List (ℕ → Bool)) (counts : List ℕ) (one also : PlayerState) (first second : List Played) (one_last also_last : PlayerState)
+        → WantAlike wants wants_too → AlikePlayers one also → IsMachine one.machine → lines_of first ≡ lines_of second
+        → Follows F.tells wants counts one first one_last → FailedNothing one.machine one_last.machine
+        → Follows F.tells wants_too counts also second also_last → FailedNothing also.machine also_last.machine
+        → PlayedAlike first second one_last also_last }
+{}
+
+/// So the replies to a script tell of a flash only the records that it holds, with their generations, how many changes it has made, and
+/// how many second copies the boot ends: two flashes with the same of these, each with a machine booted over it and a player of its own
+/// client, play the same lines alike where nothing fails.
+pub fn booted_scripts_play_alike<F: Flash>()
+    ensures { F.tells → (geometry : AnyGeometry) (flash flash_too : FlashState) (one also : MachineState)
+        → records_in (layout_of geometry) flash.told.image ≡ records_in (layout_of geometry) flash_too.told.image → flash.steps ≡ flash_too.steps
+        → second_copies geometry.slot_size geometry.slots flash.told.image ≡ second_copies geometry.slot_size geometry.slots flash_too.told.image
+        → BootsFrom geometry flash one → BootsFrom geometry flash_too also
+        → (wants : List (ℕ → Bool)) (counts : List ℕ) (steps : Option ℕ) (first second : List Played) (one_last also_last : PlayerState) → lines_of first ≡ lines_of second
+        → Follows F.tells wants counts (own_player one steps) first one_last → FailedNothing one one_last.machine
+        → Follows F.tells wants counts (own_player also steps) second also_last → FailedNothing also also_last.machine
+        → PlayedAlike first second one_last also_last }
+{}

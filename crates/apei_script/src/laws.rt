@@ -1,0 +1,58 @@
+// Laws on one line of a script: the functions do nothing, and their clauses are the laws.
+ghost use Rattle.std.specs.Prelude.{◌≡◌, ℕ, ◌+◌, ◌≤◌, true, List};
+ghost use Rattle.base_model.specs.Faults.{Rose};
+ghost use Rattle.apei_space.specs.Accesses.{Move, Trail};
+ghost use Rattle.erst_machine.specs.MachineState.{MachineState, IsMachine};
+ghost use Rattle.erst_machine.specs.Events.{Event, Happens};
+ghost use Rattle.script_text.specs.ScriptGrammar.{Line, IsValid};
+ghost use Rattle.apei_script.specs.Players.{PlayerState, UsesOwn};
+ghost use Rattle.apei_script.specs.Changes.{changes_along};
+ghost use Rattle.apei_script.specs.Mapped.{LineLeaves};
+ghost use Rattle.apei_script.specs.Plays.{Plays, FailsRestart, HasHappened, LinePlayed, names_command};
+ghost use Rattle.apei_script.specs.History.{IsOwnLine};
+
+use erst_commands::own_programs_run_through;
+use flash_model::Flash;
+
+/// Where no fault was counted, whatever happened to a machine took exactly the flash changes that the definitions give it, one after
+/// another; and the count of faults never falls.
+pub fn events_take_their_changes<F: Flash>()
+    ensures never_falls { (first last : MachineState) (trail : List (Move Event MachineState)) → Trail (Happens F.tells) first trail last
+        → first.device.store.flash.faults ≤ last.device.store.flash.faults }
+    ensures exact { F.tells → (first last : MachineState) (trail : List (Move Event MachineState)) → Trail (Happens F.tells) first trail last
+        → (Rose first.device.store.flash.faults last.device.store.flash.faults → ⊥)
+        → last.device.store.flash.steps ≡ first.device.store.flash.steps + changes_along first trail }
+{}
+
+/// Whatever was played of a line is all that `LinePlayed` says of it.
+pub fn a_line_is_the_maps<F: Flash>()
+    ensures { (counts : List ℕ) (old : PlayerState) (line : Line) (said blocks : List (List ℕ)) (new : PlayerState)
+        → IsMachine old.machine → IsValid line → Plays F.tells counts old line said blocks new → LinePlayed F.tells counts old line said blocks new }
+{
+    own_programs_run_through::<F>();
+}
+
+/// A restart that the flash failed is among what happens too, and the flash counted a fault in it.
+pub fn a_failed_restart_has_happened<F: Flash>()
+    ensures { (old : MachineState) (line : Line) (new : MachineState) → FailsRestart F.tells old line new
+        → HasHappened F.tells old new × Rose old.device.store.flash.faults new.device.store.flash.faults }
+{}
+
+/// A line leads from a machine's state to a machine's state, and keeps how the flash is divided, the first client and the steps of lines.
+pub fn a_line_keeps_a_machine<F: Flash>()
+    ensures machine { (counts : List ℕ) (old : PlayerState) (line : Line) (said blocks : List (List ℕ)) (new : PlayerState)
+        → IsMachine old.machine → Plays F.tells counts old line said blocks new → IsMachine new.machine }
+    ensures layout { (counts : List ℕ) (old : PlayerState) (line : Line) (said blocks : List (List ℕ)) (new : PlayerState)
+        → Plays F.tells counts old line said blocks new → new.machine.device.store.layout ≡ old.machine.device.store.layout }
+    ensures own { (counts : List ℕ) (old : PlayerState) (line : Line) (said blocks : List (List ℕ)) (new : PlayerState)
+        → Plays F.tells counts old line said blocks new → new.own ≡ old.own }
+    ensures steps { (counts : List ℕ) (old : PlayerState) (line : Line) (said blocks : List (List ℕ)) (new : PlayerState)
+        → Plays F.tells counts old line said blocks new → new.steps ≡ old.steps }
+{}
+
+/// Power lost in a line that neither runs an action nor gives a table leaves the records from before it, or as it leaves them where
+/// nothing fails.
+pub fn a_line_leaves_its_records<F: Flash>()
+    ensures { F.tells → (counts : List ℕ) (old : PlayerState) (line : Line) (said blocks : List (List ℕ)) (new : PlayerState)
+        → LinePlayed F.tells counts old line said blocks new → (names_command line ≡ true → UsesOwn old) → IsOwnLine line → LineLeaves old.machine line new.machine }
+{}

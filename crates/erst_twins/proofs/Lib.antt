@@ -1,0 +1,11 @@
+pub mod StoreOutlines
+pub mod DeviceOutlines
+pub mod MachineOutlines
+pub mod Dialogues
+pub mod RunDialogues
+pub mod ClientDialogues
+pub mod MachineDialogues
+pub mod EventOutlines
+pub mod TrailOutlines
+pub mod ReadLemmas
+pub mod OneLemmas
