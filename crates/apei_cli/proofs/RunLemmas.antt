@@ -246,7 +246,7 @@ module _ {L : Type 0} (interest : L → ℕ → Bool) (hearings : L → ℕ) (he
   as_so_far : (script rest rest_now written middle now : List ℕ) (first members : List L) (old new : PlayerState) (a : Reading) (status : Status)
       → (so_far : SoFar script rest written middle first members old new a)
       → (told_source → EndsBy tells script rest_now so_far.played new.machine new.machine status)
-      → (told_sink → WritesReplies so_far.played written now status) → LeavesLast new.machine new.machine status → (status ≡ FlashFault → ⊥)
+      → (told_sink → WritesReplies so_far.played written now status) → LeavesLast tells new.machine new.machine status → (status ≡ FlashFault → ⊥)
       → PlaysScript interest hearings heard_last told_source told_sink tells script rest_now written now first members old new status
   as_so_far script rest rest_now written middle now first members old new a status so_far lines text behind other = record {
     played = so_far.played;
@@ -395,7 +395,7 @@ module _ {L : Type 0} (interest : L → ℕ → Bool) (hearings : L → ℕ) (he
       fails = subst (FailsRestart tells mid.machine line) left failed.1;
     };
     text = λ told. said ∙ so_far.text told;
-    behind = tt;
+    behind = (line, subst (FailsRestart tells mid.machine line) left failed.1);
     told = subst (Told interest hearings heard_last (blocks_of so_far.played) first) (sym quiet) so_far.told;
     fault = λ e. subst (λ (m : MachineState). HasHappened tells mid.machine m × Rose mid.machine.device.store.flash.faults m.device.store.flash.faults) left (failed.2, failed.3);
   }
