@@ -1,5 +1,5 @@
 -- Replies to a line that gives a table.
-use Rattle.std.proofs.Common.{◌≡◌, ℕ, List, length, take, drop, Option, Some, Ok, Err, sym, subst}
+use Rattle.std.proofs.Common.{◌≡◌, ℕ, ◌≤◌, List, ◌++◌, length, take, drop, Option, Some, None, Result, Ok, Err, sym, subst}
 use Rattle.std.proofs.lemmas.List.{take-append-drop}
 use Rattle.apei_space.specs.Accesses.{Reaches}
 use Rattle.erst_entries.specs.declared.tables.ErstError.{ErstError}
@@ -23,9 +23,18 @@ refused_for bytes (HeaderSize found) has is = is
 refused_for bytes (Count found size) has is = is
 refused_for bytes Memory has is = absurd has
 
--- a table that was read stands first
-pub begins_with : (erst : Erst) (bytes : List ℕ) (size : ℕ) → IsErst erst (take size bytes) → FitsErst erst → BeginsWith erst bytes
-begins_with erst bytes size is fits = record { table_bytes = take size bytes; behind = drop size bytes; split = sym (take-append-drop size bytes); fits = fits; is = is }
+-- a table that was read stands first, and no other one does
+pub begins_with : (erst : Erst) (bytes : List ℕ) (size : ℕ) → IsErst erst (take size bytes) → FitsErst erst → refusal bytes ≡ None
+    → ((other : Erst) (table rest : List ℕ) → bytes ≡ table ++ rest → FitsErst other → IsErst other table → (erst ≡ other) × (size ≡ length table)) → BeginsWith erst bytes
+begins_with erst bytes size is fits sound only = record {
+  table_bytes = take size bytes;
+  behind = drop size bytes;
+  split = sym (take-append-drop size bytes);
+  fits = fits;
+  is = is;
+  sound = sound;
+  only = λ other table rest split fits_too is_too. sym (only other table rest split fits_too is_too).0;
+}
 
 module _ (tells : Type 0) (old : MachineState) (other : Option ClientState) (bytes : List ℕ) where
   pub no_table : (why : ErstError) (reply : List ℕ) → refusal bytes ≡ Some why → IsMade reply (words_of_no_table why) → IsGiven tells old other bytes old other reply

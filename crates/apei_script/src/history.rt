@@ -84,9 +84,9 @@ pub fn scripts_play_alike<F: Flash>()
         → PlayedAlike first second one_last also_last }
 {}
 
-/// So the replies to a script tell of a flash only the records that it holds, how many changes it has made, and how many second copies the
-/// boot ends: two flashes with the same of these, each with a machine booted over it and a player of its own client, play the same lines
-/// alike where nothing fails.
+/// So the replies to a script tell of a flash only the records that it holds, with their generations, how many changes it has made, and
+/// how many second copies the boot ends: two flashes with the same of these, each with a machine booted over it and a player of its own
+/// client, play the same lines alike where nothing fails.
 pub fn booted_scripts_play_alike<F: Flash>()
     ensures { F.tells → (geometry : AnyGeometry) (flash flash_too : FlashState) (one also : MachineState)
         → records_in (layout_of geometry) flash.told.image ≡ records_in (layout_of geometry) flash_too.told.image → flash.steps ≡ flash_too.steps

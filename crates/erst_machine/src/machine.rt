@@ -20,6 +20,7 @@ ghost use Rattle.erst_machine.specs.Areas.{place_spot, IsPlaced};
 ghost use Rattle.erst_machine.specs.Memories.{IsLaid};
 ghost use Rattle.erst_machine.specs.MachineState.{MachineState, IsMachine, reach_in, spot_of};
 ghost use Rattle.erst_machine.specs.OwnTables.{own_erst, own_source, own_hest, own_bert, own_bert_bytes};
+ghost use Rattle.erst_machine.specs.Shown.{changes_of};
 ghost use Rattle.erst_machine.specs.Boots.{FitsGeometry, RefusesBoot, IsBooted};
 ghost use Rattle.erst_machine.specs.Events.{Warms, Powers, Submits, Turns, LaysFatal, fatal_refusal};
 
@@ -140,9 +141,10 @@ impl<F: Flash> Machine<F> {
         self.contents.range.len() as u32
     }
 
-    /// The changes of the flash so far.
+    /// The changes of the flash so far, as it tells them too.
     pub fn steps(&self) -> u64
-        ensures { result ≡ self.now.device.store.flash.steps }
+        ensures value { result ≡ self.now.device.store.flash.steps }
+        ensures told { F.tells → changes_of self.now ≡ result }
     {
         self.device.store().flash().steps()
     }

@@ -80,7 +80,7 @@ say_turns-requires g c =
 pub returns-clause-occurred : goal.returns-clause-occurred
 returns-clause-occurred g c =
     let reply : c.text.result.now ≡ reply_at (changes_in c.turning.desk.machine) (words_of_turns c.turning.desk.buffers.events.items) =
-    c.text.ensures ∙ c.end.ensures ∙ ap (λ (step : ℕ). reply_at step c.say_turns.new.reply) c.steps-step.ensures
+    c.text.ensures ∙ c.end.ensures ∙ ap (λ (step : ℕ). reply_at step c.say_turns.new.reply) c.steps-step.ensures.value
     ∙ ap (reply_at (changes_in c.turning.desk.machine)) (c.say_turns.ensures.text ∙ ap words_of_turns c.deref.ensures.value) in
     on_ok_weaker c.write_all.result
     (λ h. all_turned _ _ _ _ _ _ _ _ _ c.args.letters.now c.turning.desk.buffers.events.items _ _ _
@@ -89,7 +89,7 @@ returns-clause-occurred g c =
 pub returns-clause-unheard : goal.returns-clause-unheard
 returns-clause-unheard g c =
     let reply : c.text.result.now ≡ reply_at (changes_in c.turning.desk.machine) (words_of_turns c.turning.desk.buffers.events.items) =
-    c.text.ensures ∙ c.end.ensures ∙ ap (λ (step : ℕ). reply_at step c.say_turns.new.reply) c.steps-step.ensures
+    c.text.ensures ∙ c.end.ensures ∙ ap (λ (step : ℕ). reply_at step c.say_turns.new.reply) c.steps-step.ensures.value
     ∙ ap (reply_at (changes_in c.turning.desk.machine)) (c.say_turns.ensures.text ∙ ap words_of_turns c.deref.ensures.value) in
     on_err_weaker c.write_all.result
     (λ h. all_but_heard _ _ _ _ _ _ _ _ _ c.args.letters.now c.turning.desk.buffers.events.items _ _ _

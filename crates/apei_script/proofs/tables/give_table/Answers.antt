@@ -11,10 +11,10 @@ returns-in-Err g c =
 
 pub returns-in-Ok-attach-clause-given : goal.returns-in-Ok-attach-clause-given
 returns-in-Ok-attach-clause-given g c =
-    attached g.F.Flash.tells c.args.machine.now c.args.other.now c.args.bytes.now _ c.in-Ok-attach.client _ _ _ _ _ (begins_with _ _ _ c.in-Ok.ensures.found.0 c.in-Ok.ensures.found.1) c.new-budget.ensures
+    attached g.F.Flash.tells c.args.machine.now c.args.other.now c.args.bytes.now _ c.in-Ok-attach.client _ _ _ _ _ (begins_with _ _ _ c.in-Ok.ensures.found.0 c.in-Ok.ensures.found.1 c.in-Ok.ensures.refused c.in-Ok.ensures.only) c.new-budget.ensures
     c.in-Ok-attach.ensures.attaches c.in-Ok-attach.ensures.reaches c.len-entries.ensures (made_number _ _ _ _ (omega arith) c.begin.ensures c.add_number.ensures.text c.add_number.ensures.short)
 
 pub returns-in-Err-attach-clause-given : goal.returns-in-Err-attach-clause-given
 returns-in-Err-attach-clause-given g c =
-    not_attached g.F.Flash.tells c.args.machine.now c.args.other.now c.args.bytes.now _ _ _ _ _ _ (begins_with _ _ _ c.in-Ok.ensures.found.0 c.in-Ok.ensures.found.1) c.new-budget.ensures
+    not_attached g.F.Flash.tells c.args.machine.now c.args.other.now c.args.bytes.now _ _ _ _ _ _ (begins_with _ _ _ c.in-Ok.ensures.found.0 c.in-Ok.ensures.found.1 c.in-Ok.ensures.refused c.in-Ok.ensures.only) c.new-budget.ensures
     c.in-Err-attach.ensures.attaches c.in-Err-attach.ensures.reaches c.refuse.ensures
