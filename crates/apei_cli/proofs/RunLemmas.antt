@@ -15,7 +15,8 @@ use Rattle.apei_script.specs.declared.player.PlayStop.TheVariants.{FlashFault as
 use Rattle.apei_script.specs.Players.{PlayerState, with_machine}
 use Rattle.apei_script.specs.Words.{replies_at}
 use Rattle.apei_script.specs.Plays.{IsBuilt, LinePlayed, HasHappened, FailsRestart, PartlySaid, PlaysLine, PlaysUnheard, Stops, Told, IsCutShort, step_of}
-use Rattle.apei_script.specs.History.{Played, Follows, blocks_of, reply_of, text_of, heard_after}
+use Rattle.erst_machine.specs.Shown.{changes_of}
+use Rattle.apei_script.specs.History.{Played, Follows, AreCounted, blocks_of, reply_of, text_of, heard_after}
 use Rattle.apei_cli.specs.Lines.{Line, Reading, lines_of, ended_lines_of, lines_ahead, IsTooLong, ReadsLine, with_newline, last_one, IsNextLine, IsAtEnd, NextIsTooLong, HasNoLine}
 use Rattle.apei_cli.specs.Played.{Means, IsLine as MeansLine, IsComment, IsPlayable, ArePlayed}
 use Rattle.apei_cli.specs.Statuses.{StopsAt, EndsBy, LeavesLast, WritesReplies}
@@ -120,6 +121,10 @@ pub playable : (tells : Type 0) (a b : Reading) (rest rest_now text : List ℕ) 
     → IsPlayable (line_of b) (meant line)
 playable tells a b rest rest_now text line next is read built = record { within = next.within; means = subst (λ (t : List ℕ). Means t (meant line)) is (means text line read); built = built }
 
+AreCounted-push : (some : List Played) (one : Played) → AreCounted some → changes_of one.left.machine ≡ step_of one.left → AreCounted (some ++ one ∷ [])
+AreCounted-push [] one before is = (is, tt)
+AreCounted-push (played ∷ rest) one before is = (before.0, AreCounted-push rest one before.1 is)
+
 -- one more line
 pub ArePlayed-push : (texts : List Line) (text : Line) (some : List Played) (played : Played) → ArePlayed texts some → IsPlayable text played.line → ArePlayed (texts ++ text ∷ []) (some ++ played ∷ [])
 ArePlayed-push [] text [] played are is = (is, tt)
@@ -167,6 +172,7 @@ module _ {L : Type 0} (interest : L → ℕ → Bool) (hearings : L → ℕ) (he
     pub wants : WantsOf interest hearings heard_last (map interest listeners) listeners_now
     pub told : Told interest hearings heard_last (blocks_of played) listeners listeners_now
     pub text : told_sink → written_now ≡ written ++ text_of played
+    pub counted : tells → AreCounted played
 
   -- nothing was read
   pub SoFar-start : (script written : List ℕ) (listeners : List L) (player : PlayerState) (reading : Reading)
@@ -184,6 +190,7 @@ module _ {L : Type 0} (interest : L → ℕ → Bool) (hearings : L → ℕ) (he
         wants = wants_first interest hearings heard_last listeners;
         told = none_told interest hearings heard_last listeners;
         text = λ told. sym (append-nil written);
+        counted = λ told. tt;
       })
 
   -- the lines before the one that was read, and those behind it
@@ -221,9 +228,9 @@ module _ {L : Type 0} (interest : L → ℕ → Bool) (hearings : L → ℕ) (he
   -- one more line was read and played
   pub SoFar-played : (script rest rest_now written middle now : List ℕ) (first members members_now : List L) (old mid new : PlayerState) (a b : Reading) (line : ScriptLine)
       → SoFar script rest written middle first members old mid a → IsNextLine told_source a b rest rest_now → IsPlayable (line_of b) line
-      → PlaysLine interest hearings heard_last tells told_sink mid new members members_now line middle now
+      → PlaysLine interest hearings heard_last tells told_sink mid new members members_now line middle now → (tells → changes_of new.machine ≡ step_of new)
       → SoFar script rest_now written now first members_now old new b
-  SoFar-played script rest rest_now written middle now first members members_now old mid new a b line so_far next is plays = record {
+  SoFar-played script rest rest_now written middle now first members members_now old mid new a b line so_far next is plays counts = record {
     lines = so_far.lines ++ line_of b ∷ [];
     played = so_far.played ++ played_as line plays.said plays.blocks new ∷ [];
     number = omega (arith, next.number, so_far.number, length-append so_far.lines (line_of b ∷ []));
@@ -240,6 +247,7 @@ module _ {L : Type 0} (interest : L → ℕ → Bool) (hearings : L → ℕ) (he
         ∙ ap (λ (bs : List ℕ). bs ++ replies_at (step_of new) plays.said) (so_far.text told)
         ∙ append_assoc written (text_of so_far.played) (replies_at (step_of new) plays.said)
         ∙ ap (λ (bs : List ℕ). written ++ bs) (sym (text_of-push so_far.played (played_as line plays.said plays.blocks new)));
+    counted = λ told. AreCounted-push so_far.played (played_as line plays.said plays.blocks new) (so_far.counted told) (counts told);
   }
 
   -- a run whose last line was played whole, and whose machine is as that left it
@@ -256,6 +264,7 @@ module _ {L : Type 0} (interest : L → ℕ → Bool) (hearings : L → ℕ) (he
     text = text;
     behind = behind;
     told = so_far.told;
+    counted = so_far.counted;
     fault = λ e. absurd (other e);
   }
 
@@ -347,9 +356,9 @@ module _ {L : Type 0} (interest : L → ℕ → Bool) (hearings : L → ℕ) (he
   -- its reply was refused by the sink
   pub ends_unheard : (script rest rest_now written middle now : List ℕ) (first members members_now : List L) (old mid new : PlayerState) (a b : Reading) (line : ScriptLine)
       → SoFar script rest written middle first members old mid a → IsNextLine told_source a b rest rest_now → IsPlayable (line_of b) line
-      → PlaysUnheard interest hearings heard_last tells told_sink mid new members members_now line middle now
+      → PlaysUnheard interest hearings heard_last tells told_sink mid new members members_now line middle now → (tells → changes_of new.machine ≡ step_of new)
       → PlaysScript interest hearings heard_last told_source told_sink tells script rest_now written now first members_now old new SinkFault
-  ends_unheard script rest rest_now written middle now first members members_now old mid new a b line so_far next is plays = record {
+  ends_unheard script rest rest_now written middle now first members members_now old mid new a b line so_far next is plays counts = record {
     played = so_far.played ++ played_as plays.made plays.said plays.blocks new ∷ [];
     last = new;
     history = history_then script rest written middle first members old mid a so_far plays.made plays.said plays.blocks new members_now plays.played plays.told;
@@ -374,6 +383,7 @@ module _ {L : Type 0} (interest : L → ℕ → Bool) (hearings : L → ℕ) (he
     };
     behind = refl;
     told = told_now script rest written middle first members old mid a so_far plays.made plays.said plays.blocks new members_now plays.played plays.told;
+    counted = λ told. AreCounted-push so_far.played (played_as plays.made plays.said plays.blocks new) (so_far.counted told) (counts told);
     fault = λ e. absurd (cc e);
   }
 
@@ -397,6 +407,7 @@ module _ {L : Type 0} (interest : L → ℕ → Bool) (hearings : L → ℕ) (he
     text = λ told. said ∙ so_far.text told;
     behind = (line, subst (FailsRestart tells mid.machine line) left failed.1);
     told = subst (Told interest hearings heard_last (blocks_of so_far.played) first) (sym quiet) so_far.told;
+    counted = so_far.counted;
     fault = λ e. subst (λ (m : MachineState). HasHappened tells mid.machine m × Rose mid.machine.device.store.flash.faults m.device.store.flash.faults) left (failed.2, failed.3);
   }
     where
@@ -427,5 +438,6 @@ module _ {L : Type 0} (interest : L → ℕ → Bool) (hearings : L → ℕ) (he
         text = λ told. said ∙ so_far.text told;
         behind = ap (λ (p : PlayerState). p.machine) left.0;
         told = subst (Told interest hearings heard_last (blocks_of so_far.played) first) (sym quiet) so_far.told;
+        counted = so_far.counted;
         fault = λ e. absurd (cc e);
       }

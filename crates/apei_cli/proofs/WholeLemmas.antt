@@ -355,6 +355,7 @@ module _ {L : Type 0} (interest : L → ℕ → Bool) (hearings : L → ℕ) (he
       behind = plays.behind;
       flash = same;
       told = plays.told;
+      counted = plays.counted;
       heard = heard_all interest hearings heard_last (map interest listeners) (blocks_of plays.played) listeners listeners_now (wants_first interest hearings heard_last listeners) plays.told;
       cause = λ failed.
           subst (λ (f : FlashState). Rose old.faults f.faults) same
@@ -366,6 +367,10 @@ module _ {L : Type 0} (interest : L → ℕ → Bool) (hearings : L → ℕ) (he
       crash = λ told own s image from crash. all_show told own s image from (subst (λ (f : FlashState). CrashImage f.told s image) (sym same) crash);
       any = λ told. (all_moves.0, all_moves.1, λ s image from crash. any_shows told s image from (subst (λ (f : FlashState). CrashImage f.told s image) (sym same) crash));
     })
+
+-- what happened is one list
+pub list_of : (tells : Type 0) (old new : MachineState) → HasHappened tells old new → (trail : List (Move Event MachineState)) × Trail (Happens tells) old trail new
+list_of tells old new happened = (happened.trail, happened.happens)
 
 -- the same lines, by what the player is made of
 pub plays_from : {L : Type 0} (interest : L → ℕ → Bool) (hearings : L → ℕ) (heard_last : L → ℕ → List ℕ → Type 0) (told_source told_sink tells : Type 0)

@@ -19,7 +19,7 @@ use Rattle.erst_commands.specs.OwnPrograms.{with_value}
 use Rattle.erst_commands.specs.Attached.{own_client}
 use Rattle.apei_script.specs.Players.{PlayerState, UsesOwn, player_of}
 use Rattle.apei_script.specs.Plays.{SaysHardware, Told, HasHappened, names_command}
-use Rattle.apei_script.specs.History.{Played, Follows, Shows, ShowsEach, AreOwnLines, blocks_of, heard_after}
+use Rattle.apei_script.specs.History.{Played, Follows, Shows, ShowsEach, AreOwnLines, AreCounted, blocks_of, heard_after}
 use Rattle.apei_cli.specs.Lines.{lines_of}
 use Rattle.apei_cli.specs.Plan.{IsPlanOf, AreBad}
 use Rattle.apei_cli.specs.Played.{ArePlayable}
@@ -94,7 +94,9 @@ pub record HasPlayed {L : Type 0} (interest : L → ℕ → Bool) (hearings : L 
   pub heard : map hearings listeners_now ≡ heard_after (map interest listeners) (blocks_of played) (map hearings listeners)
   -- a command says that the flash failed only where its count of faults rose in the run
   pub cause : SomeFailed (first_player plan booted) played → Rose old.faults new.faults
-  -- at the step at which each line ended, the image showed the records that it leaves
+  -- the step behind each reply counts the changes that the flash tells; at the step at which each line ended, the image showed the records
+  -- that it leaves
+  pub counted : tells → AreCounted played
   pub later : tells → IsLater old.told new.told
   pub each : tells → ShowsEach last (first_player plan booted) played
   -- in a script without lines that run an action or give a table, power lost at any step shows the records after the lines that had ended
@@ -116,6 +118,8 @@ pub record PlaysScript {L : Type 0} (interest : L → ℕ → Bool) (hearings : 
   pub text : told_sink → WritesReplies played written written_now status
   pub behind : LeavesLast tells last.machine new.machine status
   pub told : Told interest hearings heard_last (blocks_of played) listeners listeners_now
+  -- the step behind each reply counts the changes that the flash tells
+  pub counted : tells → AreCounted played
   pub fault : status ≡ FlashFault → HasHappened tells last.machine new.machine × Rose last.machine.device.store.flash.faults new.machine.device.store.flash.faults
 
 -- a run of a plan

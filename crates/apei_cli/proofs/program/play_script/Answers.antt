@@ -55,7 +55,7 @@ lines-preserved g c =
     let next = on_true c.in-Ok-true.field-0 _ _ c.in-Ok-true.field-0-test c.in-Ok-true.ensures.next in
     let is = playable _ _ _ _ _ _ c.in-Ok.line next c.line.ensures c.in-Ok.ensures (c.is_built.ensures.0 c.if-not-is_built.false) in
     record {
-      so_far = SoFar-played _ _ _ _ _ _ _ _ _ _ _ _ _ _ _ _ _ _ _ _ _ inv.so_far next is c.in-Ok-play.ensures.played;
+      so_far = SoFar-played _ _ _ _ _ _ _ _ _ _ _ _ _ _ _ _ _ _ _ _ _ inv.so_far next is c.in-Ok-play.ensures.played c.in-Ok-play.ensures.counted;
       at_end = c.in-Ok-true.ensures.at_end;
       near = end_small _ _ _ _ _ next;
       source = c.in-Ok-true.ensures.no_fault (λ e. absurd (cc e)) ∙ inv.source;
@@ -67,7 +67,7 @@ returns-in-Err-SinkFault-clause-played g c =
     let inv = c.lines.invariant in
     let next = on_true c.in-Ok-true.field-0 _ _ c.in-Ok-true.field-0-test c.in-Ok-true.ensures.next in
     let is = playable _ _ _ _ _ _ c.in-Ok.line next c.line.ensures c.in-Ok.ensures (c.is_built.ensures.0 c.if-not-is_built.false) in
-    ends_unheard _ _ _ _ _ _ _ _ _ _ _ _ _ _ _ _ _ _ _ _ _ inv.so_far next is (c.in-Err-SinkFault.ensures.unheard (ap Err c.in-Err-SinkFault.field-0-is))
+    ends_unheard _ _ _ _ _ _ _ _ _ _ _ _ _ _ _ _ _ _ _ _ _ inv.so_far next is (c.in-Err-SinkFault.ensures.unheard (ap Err c.in-Err-SinkFault.field-0-is)) c.in-Err-SinkFault.ensures.counted
 
 pub returns-in-Err-FlashFault-clause-played : goal.returns-in-Err-FlashFault-clause-played
 returns-in-Err-FlashFault-clause-played g c =
