@@ -1,4 +1,4 @@
-use Rattle.std.proofs.Common.{◌≡◌, ◌∙◌, ℕ, ◌+◌, ◌<◌, ◌≤◌, List, [], ◌∷◌, ◌++◌, length, take, drop, map, refl, sym, ap, subst, arith, rules, append_assoc}
+use Rattle.std.proofs.Common.{◌≡◌, ◌∙◌, ℕ, ◌+◌, ◌≤◌, List, [], ◌∷◌, ◌++◌, length, take, drop, map, refl, sym, ap, arith, append_assoc}
 use Rattle.std.specs.Prelude.{codes, decimal}
 use Rattle.std.specs.List.{flat_map}
 use Rattle.std.proofs.lemmas.List.{take_all, append-nil, length-append}
@@ -72,7 +72,7 @@ returns-clause-all g c =
     let count = c.len-at-end.ensures in
     let few : length (members_of c.args.chain.now) ≤ c.hearing.at = omega arith in
     let end = codes " @" ++ (decimal (changes_in c.args.desk.now.machine) ++ 10 ∷ []) in
-    let reply : c.end.new.self ≡ c.hearing.reply ++ end = c.end.ensures ∙ ap (λ (step : ℕ). reply_at step c.hearing.reply) c.steps-step.ensures in
+    let reply : c.end.new.self ≡ c.hearing.reply ++ end = c.end.ensures ∙ ap (λ (step : ℕ). reply_at step c.hearing.reply) c.steps-step.ensures.value in
     let words : words_of_heard (map (λ b. (g.dyn-1.0.entry b.vtable).1.hearings b.value) (members_of c.args.chain.now)) ≡ words_of_heard (map (λ b. (g.dyn-1.0.entry b.vtable).1.hearings b.value) (take c.hearing.at (members_of c.args.chain.now))) =
     ap (λ xs. words_of_heard (map (λ b. (g.dyn-1.0.entry b.vtable).1.hearings b.value) xs)) (sym (take_all c.hearing.at (members_of c.args.chain.now) few)) in
     on_ok_weaker c.write_all-2.result
@@ -85,7 +85,7 @@ returns-clause-part g c =
     let count = c.len-at-end.ensures in
     let few : length (members_of c.args.chain.now) ≤ c.hearing.at = omega arith in
     let end = codes " @" ++ (decimal (changes_in c.args.desk.now.machine) ++ 10 ∷ []) in
-    let reply : c.end.new.self ≡ c.hearing.reply ++ end = c.end.ensures ∙ ap (λ (step : ℕ). reply_at step c.hearing.reply) c.steps-step.ensures in
+    let reply : c.end.new.self ≡ c.hearing.reply ++ end = c.end.ensures ∙ ap (λ (step : ℕ). reply_at step c.hearing.reply) c.steps-step.ensures.value in
     let words : words_of_heard (map (λ b. (g.dyn-1.0.entry b.vtable).1.hearings b.value) (members_of c.args.chain.now)) ≡ words_of_heard (map (λ b. (g.dyn-1.0.entry b.vtable).1.hearings b.value) (take c.hearing.at (members_of c.args.chain.now))) =
     ap (λ xs. words_of_heard (map (λ b. (g.dyn-1.0.entry b.vtable).1.hearings b.value) xs)) (sym (take_all c.hearing.at (members_of c.args.chain.now) few)) in
     on_err_weaker c.write_all-2.result

@@ -1,14 +1,13 @@
-use Rattle.std.proofs.Common.{◌≡◌, ◌∙◌, ℕ, ◌+◌, ◌<◌, ◌≤◌, Bool, true, false, List, [], ◌∷◌, ◌++◌, length, take, refl, sym, ap, subst, arith, rules, Vec, Global, vec_len}
+use Rattle.std.proofs.Common.{◌≡◌, ◌∙◌, ℕ, ◌+◌, List, [], ◌∷◌, ◌++◌, take, refl, sym, ap, arith, rules, Vec, Global, vec_len}
 use Rattle.std.proofs.lemmas.Result.{err_from_is_err_and, on_ok_weaker, on_err_weaker}
 use denote.Enum.Bare.{same_true, same_false}
 use Rattle.ghes_ack.specs.declared.events.Event.{Event}
 use Rattle.ghes_ack.specs.declared.events.Event.TheVariants.{Took}
 use Rattle.ghes_ack.specs.contracts.events.Event.{the_type}
-use Rattle.erst_machine.specs.MachineState.{MachineState}
 use Rattle.apei_script.specs.Words.{words_of_turns, reply_at}
 use Rattle.apei_script.specs.Plays.{changes_in}
 use Rattle.apei_script.proofs.ResultLemmas.{on_err, has_cause, same_cause}
-use Rattle.apei_script.proofs.TurnLemmas.{TurnedSoFar, no_turn, step_quiet, step_took, step_cut, of_all, all_turned, all_but_heard}
+use Rattle.apei_script.proofs.TurnLemmas.{no_turn, step_quiet, step_took, step_cut, of_all, all_turned, all_but_heard}
 use Rattle.apei_script.proofs.events.turns.Goals as goal
 use Rattle.apei_script.proofs.events.turns.Goals.{then-eq+in_ok-hear_of_block, else-eq}
 
@@ -80,7 +79,7 @@ say_turns-requires g c =
 pub returns-clause-occurred : goal.returns-clause-occurred
 returns-clause-occurred g c =
     let reply : c.text.result.now ≡ reply_at (changes_in c.turning.desk.machine) (words_of_turns c.turning.desk.buffers.events.items) =
-    c.text.ensures ∙ c.end.ensures ∙ ap (λ (step : ℕ). reply_at step c.say_turns.new.reply) c.steps-step.ensures
+    c.text.ensures ∙ c.end.ensures ∙ ap (λ (step : ℕ). reply_at step c.say_turns.new.reply) c.steps-step.ensures.value
     ∙ ap (reply_at (changes_in c.turning.desk.machine)) (c.say_turns.ensures.text ∙ ap words_of_turns c.deref.ensures.value) in
     on_ok_weaker c.write_all.result
     (λ h. all_turned _ _ _ _ _ _ _ _ _ c.args.letters.now c.turning.desk.buffers.events.items _ _ _
@@ -89,7 +88,7 @@ returns-clause-occurred g c =
 pub returns-clause-unheard : goal.returns-clause-unheard
 returns-clause-unheard g c =
     let reply : c.text.result.now ≡ reply_at (changes_in c.turning.desk.machine) (words_of_turns c.turning.desk.buffers.events.items) =
-    c.text.ensures ∙ c.end.ensures ∙ ap (λ (step : ℕ). reply_at step c.say_turns.new.reply) c.steps-step.ensures
+    c.text.ensures ∙ c.end.ensures ∙ ap (λ (step : ℕ). reply_at step c.say_turns.new.reply) c.steps-step.ensures.value
     ∙ ap (reply_at (changes_in c.turning.desk.machine)) (c.say_turns.ensures.text ∙ ap words_of_turns c.deref.ensures.value) in
     on_err_weaker c.write_all.result
     (λ h. all_but_heard _ _ _ _ _ _ _ _ _ c.args.letters.now c.turning.desk.buffers.events.items _ _ _
