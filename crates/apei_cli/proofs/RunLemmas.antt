@@ -6,7 +6,7 @@ use Rattle.std.specs.Prelude.{MatchBool, ◌↔◌}
 use Rattle.base_model.specs.Faults.{Rose}
 use Rattle.line_grammar.specs.Columns.{BreaksAt}
 use Rattle.erst_machine.specs.MachineState.{MachineState}
-use Rattle.script_text.specs.ScriptGrammar.{Line as ScriptLine, IsLine, IsValid, blank, comment, table}
+use Rattle.script_text.specs.ScriptGrammar.{Line as ScriptLine, IsLine, blank, comment, table}
 use Rattle.script_text.specs.ScriptText.{IsText, IsWritten, line_of as meant}
 use Rattle.script_text.specs.declared.script_line.ScriptLine.{ScriptLine as Parsed}
 use Rattle.script_text.specs.declared.script_line.ScriptLine.TheVariants.{Blank, Write, Read, Clear, Count, Next, Dummy, Action, Table, TableOwn, TableShadow, Error, Turns, Peek, Fatal, Bert, Heard, Reset, Power, Bridge}
@@ -100,9 +100,6 @@ means text Heard written = MeansLine _ written
 means text Reset written = MeansLine _ written
 means text Power written = MeansLine _ written
 means text (Bridge id) written = MeansLine _ written
-
-pub means_valid : (text : List ℕ) (line : ScriptLine) → Means text line → IsValid line
-means_valid text line is = elim is as (λ line is. IsValid line) [ MeansLine line written ↦ written.0 | IsComment rest written ↦ tt ]
 
 -- which of two cases it is
 pub on_true : (b : Bool) (P Q : Type 0) → b ≡ true → MatchBool b P Q → P

@@ -20,7 +20,7 @@ use Rattle.erst_machine.specs.declared.errors.BootError.{BootError}
 use Rattle.erst_machine.specs.declared.errors.BootError.TheVariants.{Size}
 use Rattle.erst_machine.specs.Boots.{IsBooted, FitsGeometry, RefusesBoot}
 use Rattle.erst_commands.specs.OwnPrograms.{with_value}
-use Rattle.erst_machine.specs.MachineState.{MachineState, IsMachine, records_of, told_of}
+use Rattle.erst_machine.specs.MachineState.{MachineState, records_of, told_of}
 use Rattle.erst_machine.specs.Events.{Event, Happens}
 use Rattle.erst_machine.specs.Shown.{Shows as ShowsMoves, ShowsEach as ShowsEachMove, GoesOn, changes_of, shown_by, made_by_event}
 use Rattle.erst_machine.proofs.CrashTrail.{events_are_shown, happens_then}
@@ -254,16 +254,16 @@ module _ {L : Type 0} (interest : L → ℕ → Bool) (hearings : L → ℕ) (he
 
   module _ (is_booted : IsBooted geometry booted) (faults_kept : booted.device.store.flash.faults ≡ old.faults) (kept : tells → KeepsRecordsOf geometry old booted.device.store.flash)
       (one_list : (wants : List (ℕ → Bool)) (counts : List ℕ) (first : PlayerState) (played : List Played) (last : PlayerState)
-      → Follows tells wants counts first played last → (trail : List (Move Event MachineState)) × Trail (Happens tells) first.machine trail last.machine)
+      → Follows tells wants counts first played last → HasHappened tells first.machine last.machine)
       (shown_ends : tells → (wants : List (ℕ → Bool)) (counts : List ℕ) (first : PlayerState) (played : List Played) (last : PlayerState)
       → Follows tells wants counts first played last → ShowsEach last first played × IsLater (told_of first.machine) (told_of last.machine))
       (shown_crash : tells → (wants : List (ℕ → Bool)) (counts : List ℕ) (first : PlayerState) (played : List Played) (last : PlayerState)
-      → IsMachine first.machine → first.own ≡ own_client first.machine → first.other ≡ None → AreOwnLines played
+      → first.own ≡ own_client first.machine → first.other ≡ None → AreOwnLines played
       → Follows tells wants counts first played last
       → (s : ℕ) (image : List ℕ) → changes_of first.machine ≤ s → CrashImage (told_of last.machine) s image
       → Shows s first played (shown_by first.machine image)) where
     lines_trail : (trail : List (Move Event MachineState)) × Trail (Happens tells) first.machine trail last.machine
-    lines_trail = one_list (map interest listeners) (map hearings listeners) first plays.played last plays.history
+    lines_trail = let happened = one_list (map interest listeners) (map hearings listeners) first plays.played last plays.history in (happened.trail, happened.happens)
 
     all_moves : (trail : List (Move Event MachineState)) × Trail (Happens tells) first.machine trail final
     all_moves = elim after [
@@ -272,9 +272,6 @@ module _ {L : Type 0} (interest : L → ℕ → Bool) (hearings : L → ℕ) (he
           let more = (plays.fault failed.0).0 in
           (lines_trail.0 ++ more.trail, happens_then tells first.machine last.machine final lines_trail.0 more.trail lines_trail.1 more.happens)
     ]
-
-    machine_is : IsMachine first.machine
-    machine_is = let m = is_booted.machine in record { sizes = m.sizes; laid = m.laid; map = m.map; stands = m.stands }
 
     layout_is : booted.device.store.layout ≡ layout_of geometry
     layout_is = is_booted.opened.layout
@@ -297,7 +294,7 @@ module _ {L : Type 0} (interest : L → ℕ → Bool) (hearings : L → ℕ) (he
       lines_show : AreOwnLines plays.played → (s : ℕ) (image : List ℕ) → changes_of booted ≤ s → CrashImage (told_of last.machine) s image → Shows s first plays.played (records_in (layout_of geometry) image)
       lines_show own s image from crash =
           subst (λ (l : Layout). Shows s first plays.played (records_in l image)) layout_is
-          (shown_crash told (map interest listeners) (map hearings listeners) first plays.played last machine_is refl refl own plays.history s image from crash)
+          (shown_crash told (map interest listeners) (map hearings listeners) first plays.played last refl refl own plays.history s image from crash)
 
       end_shows : AreOwnLines plays.played → (s : ℕ) (image : List ℕ) → changes_of last.machine ≤ s → CrashImage (told_of final) s image → Shows s first plays.played (records_in (layout_of geometry) image)
       end_shows own s image from crash = elim after [

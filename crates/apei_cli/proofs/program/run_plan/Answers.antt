@@ -2,7 +2,7 @@ use Rattle.std.proofs.Common.{List, refl, sym, ap, subst, ◌∙◌}
 use Rattle.flash_words.specs.Flash.{FlashState}
 use Rattle.record_store.specs.Store.{KeepsRecordsOf}
 use Rattle.erst_machine.specs.MachineState.{MachineState}
-use Rattle.apei_cli.proofs.WholeLemmas.{list_of, run_none, run_refused, run_played, plays_from, is_first, refused_size, has_geometry, on_geometry, whole_cause}
+use Rattle.apei_cli.proofs.WholeLemmas.{run_none, run_refused, run_played, plays_from, is_first, refused_size, has_geometry, on_geometry, whole_cause}
 use Rattle.apei_cli.proofs.program.run_plan.Goals as goal
 
 pub returns-in_default-new-clause-run : goal.returns-in_default-new-clause-run
@@ -53,7 +53,7 @@ returns-in-Ok-new-2-clause-run g c =
     let plays = plays_from _ _ _ _ _ _ _ _ _ _ _ _ _ _ _ _ _ _ c.play_script-status.ensures.played (made.listeners ∙ c.new-chain.ensures) (sym (c.into_members.ensures ∙ parts.listeners))
     (is_first c.args.plan.now c.in-Ok-boot.machine _ _ _ made.state c.in-Ok-own_client.ensures.client c.in-Ok-own_client.ensures.machine) in
     run_played _ _ _ _ _ _ _ c.args.plan.now c.in-Ok.geometry _ _ _ _ _ _ (g.F.Flash.state c.args.flash) c.in-Ok-boot.machine _ _ plays boot.booted boot.flash.faults boot.kept
-    (λ wants counts first played last follows. list_of g.F.Flash.tells first.machine last.machine (c.lines_are_one_list.ensures.happened wants counts first played last follows)) c.lines_are_shown.ensures.ends c.lines_are_shown.ensures.crash _
+    c.lines_are_one_list.ensures.happened c.lines_are_shown.ensures.ends c.lines_are_shown.ensures.crash _
     (record { sector = is.sector; per_slot = is.per_slot; slots = is.slots }) boot.steps
     (sym (c.into_flash-in-Ok-new-2.ensures ∙ ap (λ (m : MachineState). m.device.store.flash) parts.machine))
 
