@@ -365,10 +365,6 @@ module _ {L : Type 0} (interest : L → ℕ → Bool) (hearings : L → ℕ) (he
       any = λ told. (all_moves.0, all_moves.1, λ s image from crash. any_shows told s image from (subst (λ (f : FlashState). CrashImage f.told s image) (sym same) crash));
     })
 
--- what happened is one list
-pub list_of : (tells : Type 0) (old new : MachineState) → HasHappened tells old new → (trail : List (Move Event MachineState)) × Trail (Happens tells) old trail new
-list_of tells old new happened = (happened.trail, happened.happens)
-
 -- the same lines, by what the player is made of
 pub plays_from : {L : Type 0} (interest : L → ℕ → Bool) (hearings : L → ℕ) (heard_last : L → ℕ → List ℕ → Type 0) (told_source told_sink tells : Type 0)
     (script rest written written_now : List ℕ) (members listeners members_now listeners_now : List L) (start first end : PlayerState) (status : Status)
