@@ -24,3 +24,4 @@ pub mod Giving
 pub mod Owning
 pub mod DeskLines
 pub mod PlayLemmas
+pub mod LineTexts
