@@ -2,7 +2,7 @@
 use Rattle.std.proofs.Common.{◌≡◌, ℕ, ◌+◌, ◌^◌, ◌<◌, ◌≤◌, inl, inr, Bool, true, false, List, [], ◌∷◌, ◌++◌, length, map, take, refl, sym, ap, subst, ◌∙◌, arith, append_assoc, length-append}
 use Rattle.std.proofs.lemmas.Bool.{cases_lt}
 use Rattle.std.proofs.lemmas.List.{append-nil}
-use Rattle.std.specs.List.{flat_map}
+use Rattle.std.specs.Prelude.{MatchBool, ◌↔◌}
 use Rattle.base_model.specs.Faults.{Rose}
 use Rattle.line_grammar.specs.Columns.{BreaksAt}
 use Rattle.erst_machine.specs.MachineState.{MachineState}
@@ -10,6 +10,7 @@ use Rattle.script_text.specs.ScriptGrammar.{Line as ScriptLine, IsLine, IsValid,
 use Rattle.script_text.specs.ScriptText.{IsText, IsWritten, line_of as meant}
 use Rattle.script_text.specs.declared.script_line.ScriptLine.{ScriptLine as Parsed}
 use Rattle.script_text.specs.declared.script_line.ScriptLine.TheVariants.{Blank, Write, Read, Clear, Count, Next, Dummy, Action, Table, TableOwn, TableShadow, Error, Turns, Peek, Fatal, Bert, Heard, Reset, Power, Bridge}
+use Rattle.apei_script.specs.declared.player.PlayStop.{PlayStop}
 use Rattle.apei_script.specs.declared.player.PlayStop.TheVariants.{FlashFault as RestartFailed, Memory as NoMemory}
 use Rattle.apei_script.specs.Players.{PlayerState, with_machine}
 use Rattle.apei_script.specs.Words.{replies_at}
@@ -101,6 +102,23 @@ means text (Bridge id) written = MeansLine _ written
 
 pub means_valid : (text : List ℕ) (line : ScriptLine) → Means text line → IsValid line
 means_valid text line is = elim is as (λ line is. IsValid line) [ MeansLine line written ↦ written.0 | IsComment rest written ↦ tt ]
+
+-- which of two cases it is
+pub on_true : (b : Bool) (P Q : Type 0) → b ≡ true → MatchBool b P Q → P
+on_true true P Q e p = p
+on_true false P Q e p = absurd (cc e)
+
+pub on_false : (b : Bool) (P Q : Type 0) → b ≡ false → MatchBool b P Q → Q
+on_false true P Q e q = absurd (cc e)
+on_false false P Q e q = q
+
+pub is_not : (b : Bool) (P : Type 0) → (b ≡ true ↔ P) → b ≡ false → P → ⊥
+is_not b P tests e p = let clash : true ≡ false = sym (tests.1 p) ∙ e in absurd (cc clash)
+
+-- the line that was read can be played
+pub playable : (tells : Type 0) (a b : Reading) (rest rest_now text : List ℕ) (line : Parsed) → IsNextLine tells a b rest rest_now → text ≡ b.line → IsText text line → IsBuilt (meant line)
+    → IsPlayable (line_of b) (meant line)
+playable tells a b rest rest_now text line next is read built = record { within = next.within; means = subst (λ (t : List ℕ). Means t (meant line)) is (means text line read); built = built }
 
 -- one more line
 pub ArePlayed-push : (texts : List Line) (text : Line) (some : List Played) (played : Played) → ArePlayed texts some → IsPlayable text played.line → ArePlayed (texts ++ text ∷ []) (some ++ played ∷ [])
@@ -228,7 +246,7 @@ module _ {L : Type 0} (interest : L → ℕ → Bool) (hearings : L → ℕ) (he
   as_so_far : (script rest rest_now written middle now : List ℕ) (first members : List L) (old new : PlayerState) (a : Reading) (status : Status)
       → (so_far : SoFar script rest written middle first members old new a)
       → (told_source → EndsBy tells script rest_now so_far.played new.machine new.machine status)
-      → (told_sink → WritesReplies so_far.played written now status) → LeavesLast new.machine new.machine status → (status ≡ FlashFault → ⊥)
+      → (told_sink → WritesReplies so_far.played written now status) → LeavesLast tells new.machine new.machine status → (status ≡ FlashFault → ⊥)
       → PlaysScript interest hearings heard_last told_source told_sink tells script rest_now written now first members old new status
   as_so_far script rest rest_now written middle now first members old new a status so_far lines text behind other = record {
     played = so_far.played;
@@ -360,11 +378,11 @@ module _ {L : Type 0} (interest : L → ℕ → Bool) (hearings : L → ℕ) (he
   }
 
   -- the flash failed in its restart
-  pub ends_failed : (script rest rest_now written middle now : List ℕ) (first members members_now : List L) (old mid new : PlayerState) (a b : Reading) (line : ScriptLine)
+  pub ends_failed : (script rest rest_now written middle now : List ℕ) (first members members_now : List L) (old mid new : PlayerState) (a b : Reading) (line : ScriptLine) (stop : PlayStop)
       → SoFar script rest written middle first members old mid a → IsNextLine told_source a b rest rest_now → IsPlayable (line_of b) line
-      → Stops tells mid line new RestartFailed → members_now ≡ members → now ≡ middle
+      → Stops tells mid line new stop → stop ≡ RestartFailed → members_now ≡ members → now ≡ middle
       → PlaysScript interest hearings heard_last told_source told_sink tells script rest_now written now first members_now old new FlashFault
-  ends_failed script rest rest_now written middle now first members members_now old mid new a b line so_far next is (machine, fails, happened, rose, same) quiet said = record {
+  ends_failed script rest rest_now written middle now first members members_now old mid new a b line stop so_far next is stops why quiet said = record {
     played = so_far.played;
     last = mid;
     history = so_far.history;
@@ -374,35 +392,40 @@ module _ {L : Type 0} (interest : L → ℕ → Bool) (hearings : L → ℕ) (he
       stops = stops_at script rest rest_now written middle first members old mid a b b.number so_far next refl told;
       asked = line;
       is = is;
-      fails = subst (FailsRestart tells mid.machine line) left fails;
+      fails = subst (FailsRestart tells mid.machine line) left failed.1;
     };
     text = λ told. said ∙ so_far.text told;
-    behind = tt;
+    behind = (line, subst (FailsRestart tells mid.machine line) left failed.1);
     told = subst (Told interest hearings heard_last (blocks_of so_far.played) first) (sym quiet) so_far.told;
-    fault = λ e. subst (λ (m : MachineState). HasHappened tells mid.machine m × Rose mid.machine.device.store.flash.faults m.device.store.flash.faults) left (happened, rose);
+    fault = λ e. subst (λ (m : MachineState). HasHappened tells mid.machine m × Rose mid.machine.device.store.flash.faults m.device.store.flash.faults) left (failed.2, failed.3);
   }
     where
-      left : machine ≡ new.machine
-      left = sym (ap (λ (p : PlayerState). p.machine) same)
+      failed : Stops tells mid line new RestartFailed
+      failed = subst (Stops tells mid line new) why stops
+
+      left : failed.0 ≡ new.machine
+      left = sym (ap (λ (p : PlayerState). p.machine) failed.4)
 
   -- there was no memory for its table
-  pub ends_memory : (script rest rest_now written middle now : List ℕ) (first members members_now : List L) (old mid new : PlayerState) (a b : Reading) (line : ScriptLine)
+  pub ends_memory : (script rest rest_now written middle now : List ℕ) (first members members_now : List L) (old mid new : PlayerState) (a b : Reading) (line : ScriptLine) (stop : PlayStop)
       → SoFar script rest written middle first members old mid a → IsNextLine told_source a b rest rest_now → IsPlayable (line_of b) line
-      → Stops tells mid line new NoMemory → members_now ≡ members → now ≡ middle
+      → Stops tells mid line new stop → stop ≡ NoMemory → members_now ≡ members → now ≡ middle
       → PlaysScript interest hearings heard_last told_source told_sink tells script rest_now written now first members_now old new Memory
-  ends_memory script rest rest_now written middle now first members members_now old mid new a b line so_far next is (same, hex, is_table) quiet said = record {
-    played = so_far.played;
-    last = mid;
-    history = so_far.history;
-    lines = λ told. record {
-      line = line_of b;
-      number = b.number;
-      stops = stops_at script rest rest_now written middle first members old mid a b b.number so_far next refl told;
-      hex = hex;
-      is = subst (IsPlayable (line_of b)) is_table is;
-    };
-    text = λ told. said ∙ so_far.text told;
-    behind = ap (λ (p : PlayerState). p.machine) same;
-    told = subst (Told interest hearings heard_last (blocks_of so_far.played) first) (sym quiet) so_far.told;
-    fault = λ e. absurd (cc e);
-  }
+  ends_memory script rest rest_now written middle now first members members_now old mid new a b line stop so_far next is stops why quiet said =
+      let left : Stops tells mid line new NoMemory = subst (Stops tells mid line new) why stops in
+      record {
+        played = so_far.played;
+        last = mid;
+        history = so_far.history;
+        lines = λ told. record {
+          line = line_of b;
+          number = b.number;
+          stops = stops_at script rest rest_now written middle first members old mid a b b.number so_far next refl told;
+          hex = left.1.0;
+          is = subst (IsPlayable (line_of b)) left.1.1 is;
+        };
+        text = λ told. said ∙ so_far.text told;
+        behind = ap (λ (p : PlayerState). p.machine) left.0;
+        told = subst (Told interest hearings heard_last (blocks_of so_far.played) first) (sym quiet) so_far.told;
+        fault = λ e. absurd (cc e);
+      }

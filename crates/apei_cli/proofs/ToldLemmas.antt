@@ -1,6 +1,7 @@
 -- Telling listeners of some blocks and then of more, and how often each has heard.
 use Rattle.std.proofs.Common.{◌≡◌, ◌∙◌, ℕ, zero, suc, ◌+◌, ◌-◌, ◌<◌, ◌^◌, min, Bool, true, false, cond, List, [], ◌∷◌, ◌++◌, map, refl, sym, ap, subst, arith}
 use Rattle.std.specs.List.{AllZip}
+use Rattle.std.proofs.Math.Dec.{eqb-suc-zero}
 use Rattle.std.proofs.lemmas.List.Recursion.{is_count_by}
 use Rattle.apei_notify.specs.Telling.{IsToldOfAll, severity_of, wanted, one_more}
 use Rattle.apei_script.specs.Plays.{Told}
@@ -17,7 +18,7 @@ wanted_of-is want blocks = is_count_by (wanted_of want) (λ block. want (severit
 
 heard_of-some : (count more : ℕ) → 0 < more → heard_of count more ≡ min (count + more) (2 ^ 64 - 1)
 heard_of-some count zero some = absurd (omega arith)
-heard_of-some count (suc more) some = refl
+heard_of-some count (suc more) some = ap (λ (b : Bool). cond b count (min (count + suc more) (2 ^ 64 - 1))) (eqb-suc-zero more)
 
 -- once more, and then some more
 heard_of-next : (count between more : ℕ) → between ≡ one_more count → heard_of between more ≡ heard_of count (1 + more)

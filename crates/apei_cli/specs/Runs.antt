@@ -1,5 +1,5 @@
 -- What a run of the program over a script leaves.
-use Rattle.std.specs.Prelude.{◌≡◌, ◌≤◌, ◌⊎◌, ℕ, ◌*◌, Bool, true, List, [], ◌∷◌, map, length, String, None}
+use Rattle.std.specs.Prelude.{◌≡◌, ◌≤◌, ◌⊎◌, ℕ, ◌+◌, ◌*◌, Bool, true, List, [], ◌∷◌, map, length, String, None}
 use Rattle.std.specs.declared.alloc.Global.{Global}
 use Rattle.base_model.specs.Faults.{Rose}
 use Rattle.flash_words.specs.Flash.{FlashState, CrashImage, IsLater}
@@ -87,7 +87,7 @@ pub record HasPlayed {L : Type 0} (interest : L → ℕ → Bool) (hearings : L 
   pub history : Follows tells (map interest listeners) (map hearings listeners) (first_player plan booted) played last
   pub lines : told_source → EndsBy tells script rest played last.machine final status
   pub text : told_sink → WritesReplies played written written_now status
-  pub behind : LeavesLast last.machine final status
+  pub behind : LeavesLast tells last.machine final status
   pub flash : final.device.store.flash ≡ new
   -- the listeners were told of the blocks that were taken, each in its place, and of no other
   pub told : Told interest hearings heard_last (blocks_of played) listeners listeners_now
@@ -114,7 +114,7 @@ pub record PlaysScript {L : Type 0} (interest : L → ℕ → Bool) (hearings : 
   pub history : Follows tells (map interest listeners) (map hearings listeners) old played last
   pub lines : told_source → EndsBy tells script rest played last.machine new.machine status
   pub text : told_sink → WritesReplies played written written_now status
-  pub behind : LeavesLast last.machine new.machine status
+  pub behind : LeavesLast tells last.machine new.machine status
   pub told : Told interest hearings heard_last (blocks_of played) listeners listeners_now
   pub fault : status ≡ FlashFault → HasHappened tells last.machine new.machine × Rose last.machine.device.store.flash.faults new.machine.device.store.flash.faults
 

@@ -97,10 +97,10 @@ EndsBy tells script rest played last final (TooLong number) = StopsTooLong scrip
 EndsBy tells script rest played last final Memory = StopsAtTable script played
 EndsBy tells script rest played last final (NotYet number) = StopsNotBuilt script played number
 
--- nothing happens to the machine behind the last line, but where the flash failed in a restart
-abbrev pub LeavesLast : MachineState → MachineState → Status → Type 0
-LeavesLast last final FlashFault = Unit {0}
-LeavesLast last final status = final ≡ last
+-- nothing happens to the machine behind the last line, but a restart that the flash failed
+abbrev pub LeavesLast : Type 0 → MachineState → MachineState → Status → Type 0
+LeavesLast tells last final FlashFault = (line : ScriptLine) × FailsRestart tells last line final
+LeavesLast tells last final status = final ≡ last
 
 -- the replies were written, but for the last line: of its replies those up to one, and a part of that one
 pub record PartlyWritten (played : List Played) (written written_now : List ℕ) : Type 0 where

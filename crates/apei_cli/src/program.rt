@@ -1,10 +1,12 @@
 // The program's top call.
-ghost use Rattle.std.specs.Prelude.{◌≡◌, ℕ, [], false};
+ghost use Rattle.std.specs.Prelude.{◌≡◌, ◌↔◌, ⊤, [], false, IsTrue};
 ghost use Rattle.base_model.specs.Faults.{Rose};
 ghost use Rattle.apei_notify.specs.Chains.{members_of};
+ghost use Rattle.script_text.specs.ScriptText.{line_of};
+ghost use Rattle.apei_script.specs.Plays.{IsBuilt};
 ghost use Rattle.apei_script.specs.Desks.{state_of};
 ghost use Rattle.apei_cli.specs.Plan.{IsPlanOf};
-ghost use Rattle.apei_cli.specs.Runs.{PlaysScript, IsRun, IsOnGeometry, IsAdmitted, HasSourceCause, HasSinkCause, HasFlashCause, MayComeFirst, IsComplete, IsDoneWhere};
+ghost use Rattle.apei_cli.specs.Runs.{PlaysScript, IsRun, IsOnGeometry, IsAdmitted, HasSourceCause, HasSinkCause, HasFlashCause, ComesBeforeBoot, IsComplete, IsDoneWhere};
 
 use crate::job::{Plan, PlanError};
 use crate::lines::{LineReader, LineStop};
@@ -12,7 +14,9 @@ use crate::status::Status;
 use crate::words::plan;
 use apei_bytes::{Sink, Source};
 use apei_notify::{Chain, Listener};
-use apei_script::{PlayStop, Player, PlayerRefused, own_client};
+use apei_script::{
+    PlayStop, Player, PlayerRefused, lines_are_one_list, lines_are_shown, own_client,
+};
 use erst_machine::{BootError, BootRefused, Machine};
 use flash_model::{Flash, Geometry};
 use script_text::ScriptLine;
@@ -39,6 +43,7 @@ fn play_script<I: Source, O: Sink, F: Flash>(
         (λ b. (⟦<dyn Listener as Listener>⟧ b.vtable).heard_last b.value)
         I.tells O.tells F.tells (I.rest script.old) (I.rest script.new) (O.written out.old) (O.written out.new)
         (members_of player.old.chain) (members_of player.new.chain) (state_of player.old.desk) (state_of player.new.desk) result }
+    ensures begun { ComesBeforeBoot result → ⊥ }
     ensures source { HasSourceCause (I.faults script.old) (I.faults script.new) result }
     ensures sink { HasSinkCause (O.faults out.old) (O.faults out.new) result }
 {
@@ -84,6 +89,7 @@ fn run_plan<I: Source, O: Sink, F: Flash>(
     flash: F,
     listeners: Vec<Box<dyn Listener>>,
 ) -> (Status, F, Vec<Box<dyn Listener>>)
+    requires { ⊤ }
     ensures run { IsRun
         (λ b. (⟦<dyn Listener as Listener>⟧ b.vtable).interest b.value)
         (λ b. (⟦<dyn Listener as Listener>⟧ b.vtable).hearings b.value)
@@ -109,14 +115,11 @@ fn run_plan<I: Source, O: Sink, F: Flash>(
     };
     let mut machine = match Machine::boot(alloc, flash, geometry) {
         Ok(machine) => machine,
-        Err(BootRefused { why, flash }) => {
-            let status = match why {
-                BootError::Size { .. } => refused,
-                BootError::Flash => Status::FlashFault,
-                BootError::Memory => Status::Memory,
-            };
-            return (status, flash, listeners);
-        }
+        Err(BootRefused { why, flash }) => match why {
+            BootError::Size { .. } => return (refused, flash, listeners),
+            BootError::Flash => return (Status::FlashFault, flash, listeners),
+            BootError::Memory => return (Status::Memory, flash, listeners),
+        },
     };
     let Ok(own) = own_client(alloc, &mut machine) else {
         return (Status::Memory, machine.into_flash(), listeners);
@@ -124,6 +127,8 @@ fn run_plan<I: Source, O: Sink, F: Flash>(
     let chain = Chain::new(listeners);
     match Player::new(alloc, machine, own, chain, plan.steps) {
         Ok(mut player) => {
+            lines_are_one_list::<F>();
+            lines_are_shown::<F>();
             let status = play_script(&mut lines, &mut player, script, out);
             let (machine, chain) = player.into_parts();
             (status, machine.into_flash(), chain.into_members())
@@ -146,6 +151,7 @@ pub fn run<I: Source, O: Sink, F: Flash>(
     flash: F,
     listeners: Vec<Box<dyn Listener>>,
 ) -> (Status, F, Vec<Box<dyn Listener>>)
+    requires { ⊤ }
     // The lines that were played are a chain of states, and their replies are what was written.
     ensures run { (plan : Plan) → IsPlanOf words.now plan → IsRun
         (λ b. (⟦<dyn Listener as Listener>⟧ b.vtable).interest b.value)

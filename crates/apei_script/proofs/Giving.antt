@@ -1,5 +1,5 @@
 -- Replies to a line that gives a table.
-use Rattle.std.proofs.Common.{◌≡◌, ℕ, ◌≤◌, List, ◌++◌, length, take, drop, Option, Some, None, Result, Ok, Err, sym, subst}
+use Rattle.std.proofs.Common.{◌≡◌, ℕ, List, ◌++◌, length, take, drop, Option, Some, None, Ok, Err, sym, subst}
 use Rattle.std.proofs.lemmas.List.{take-append-drop}
 use Rattle.apei_space.specs.Accesses.{Reaches}
 use Rattle.erst_entries.specs.declared.tables.ErstError.{ErstError}

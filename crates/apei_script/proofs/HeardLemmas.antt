@@ -1,9 +1,9 @@
 -- A reply that is written in pieces while it is made.
 use Rattle.std.proofs.lemmas.Bool.{cases_lt, false≢true}
-use Rattle.std.proofs.Common.{◌≡◌, ◌∙◌, ℕ, zero, suc, ◌+◌, ◌<◌, ◌≤◌, ◌↔◌, inl, inr, Bool, true, false, IsTrue, min, List, [], ◌∷◌, ◌++◌, length, take, drop, map, refl, sym, ap, subst, append_assoc, arith, add-one}
+use Rattle.std.proofs.Common.{◌≡◌, ◌∙◌, ℕ, zero, suc, ◌+◌, ◌<◌, ◌≤◌, ◌↔◌, inl, inr, Bool, true, false, IsTrue, min, List, [], ◌∷◌, ◌++◌, length, take, drop, map, refl, sym, ap, append_assoc, arith, add-one}
 use Rattle.std.specs.Prelude.{codes, decimal, IfSome, slice_get}
 use Rattle.std.specs.List.{flat_map}
-use Rattle.std.proofs.lemmas.List.{append-nil, map-append, take-append-drop, flat_map_more, take_min, length-append, take-append-le}
+use Rattle.std.proofs.lemmas.List.{append-nil, map-append, take-append-drop, flat_map_more, take_min, take-append-le}
 use Rattle.apei_script.specs.Words.{words_of_heard}
 
 -- of some words a part was written, and the others are the reply in hand

@@ -1,5 +1,5 @@
 -- The blocks of the boot error region, one after another.
-use Rattle.std.proofs.Common.{◌≡◌, ◌∙◌, ℕ, zero, suc, ◌+◌, ◌-◌, ◌<◌, ◌≤◌, List, [], ◌∷◌, ◌++◌, length, take, map, All, Option, Some, None, Result, Ok, Err, refl, sym, ap, subst, append_assoc, length-append, arith}
+use Rattle.std.proofs.Common.{◌≡◌, ◌∙◌, ℕ, ◌+◌, ◌-◌, ◌≤◌, List, [], ◌∷◌, ◌++◌, length, take, map, All, Option, Some, None, Result, Ok, refl, sym, ap, subst, append_assoc, length-append, arith}
 use Rattle.std.proofs.lemmas.List.{append-nil, map-append}
 use Rattle.std.proofs.lemmas.List.Elements.{All-head, All-tail}
 use Rattle.base_model.specs.Bytes.{part, joined}
@@ -7,10 +7,9 @@ use Rattle.ghes_block.specs.declared.error.BlockError.{BlockError}
 use Rattle.bert_region.specs.Region.{IsOneBlock, IsLaidOut, FindsNext, next_from, zeros}
 use Rattle.bert_region.proofs.RegionLemmas.{finds_next, laid_is_list, starts}
 use Rattle.erst_machine.specs.MachineState.{MachineState, IsMachine}
-use Rattle.script_text.specs.ScriptGrammar.{bert}
 use Rattle.apei_script.specs.Words.{words_of_block, words_of_bert, reply_at, replies_at}
-use Rattle.apei_script.specs.Happened.{Happened, IsListed}
-use Rattle.apei_script.specs.Plays.{changes_in, PartlySaid}
+use Rattle.apei_script.specs.Happened.{IsListed}
+use Rattle.apei_script.specs.Plays.{changes_in}
 use Rattle.apei_script.specs.Desks.{Lists, ListsUnheard}
 use Rattle.apei_script.proofs.TurnLemmas.{replies-more}
 

@@ -1,7 +1,6 @@
 -- Turns one after another, while their blocks are shown.
 use Rattle.std.proofs.Common.{◌≡◌, ◌∙◌, ℕ, ◌+◌, ◌<◌, ◌≤◌, Bool, List, [], ◌∷◌, ◌++◌, length, take, drop, get_or, map, refl, sym, ap, subst, append_assoc}
 use Rattle.std.proofs.lemmas.List.{append-nil, map-append, take-append-drop, take_more, take_all}
-use Rattle.std.specs.List.{flat_map}
 use Rattle.ghes_ack.specs.declared.events.Event.{Event}
 use Rattle.ghes_ack.specs.declared.events.Event.TheVariants.{Idle, Fill, Publish, Free, Wait, Nothing, Found, Copied, Took, Clear, Ack}
 use Rattle.erst_device.specs.DeviceState.{DeviceState}
@@ -9,8 +8,8 @@ use Rattle.erst_machine.specs.MachineState.{MachineState}
 use Rattle.erst_machine.specs.Events.{Turns}
 use Rattle.script_text.specs.ScriptGrammar.{turns}
 use Rattle.apei_script.specs.Words.{words_of_block, words_of_turns, reply_at, replies_at}
-use Rattle.apei_script.specs.Happened.{Turned, NoTurn, OneMore, Happened, Turn, taken_by, side_of}
-use Rattle.apei_script.specs.Plays.{Told, changes_in, Occurred, OccurredUnheard, PartlySaid, IsCutShort, Whole, SomeTurns}
+use Rattle.apei_script.specs.Happened.{Turned, NoTurn, OneMore, Turn, taken_by, side_of}
+use Rattle.apei_script.specs.Plays.{Told, changes_in, Occurred, OccurredUnheard, IsCutShort, Whole, SomeTurns}
 use Rattle.apei_script.proofs.ToldLemmas.{told_none, told_more}
 
 -- the turns of some letters were made, their blocks told and shown

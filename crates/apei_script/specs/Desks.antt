@@ -1,6 +1,5 @@
 -- What is seen of a desk.
 use Rattle.std.specs.Prelude.{◌≡◌, ℕ, List, [], ◌∷◌, ◌++◌}
-use Rattle.std.specs.declared.alloc.Global.{Global}
 use Rattle.script_text.specs.ScriptGrammar.{Line, bert}
 use Rattle.apei_script.specs.declared.desk.Desk.{Desk}
 use Rattle.apei_script.specs.Players.{PlayerState}

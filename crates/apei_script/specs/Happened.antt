@@ -5,7 +5,7 @@ use Rattle.apei_space.specs.declared.faults.SpaceFault.{SpaceFault}
 use Rattle.apei_space.specs.Calls.{ReadBytes}
 use Rattle.bert_region.specs.Region.{IsLaidOut}
 use Rattle.ghes_ack.specs.declared.events.Event.{Event}
-use Rattle.ghes_ack.specs.declared.events.Event.TheVariants.{Idle, Fill, Publish, Free, Wait, Nothing, Found, Copied, Took, Clear, Ack}
+use Rattle.ghes_ack.specs.declared.events.Event.TheVariants.{Took}
 use Rattle.ghes_ack.specs.declared.events.Side.{Side}
 use Rattle.ghes_ack.specs.declared.events.Side.TheVariants.{Firmware, Reader}
 use Rattle.ghes_ack.specs.declared.submission.SubmitError.{SubmitError}

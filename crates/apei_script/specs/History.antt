@@ -53,6 +53,11 @@ abbrev pub EndInOrder : ℕ → List Played → ℕ → Type 0
 EndInOrder from [] to = from ≤ to
 EndInOrder from (played ∷ rest) to = (from ≤ changes_of played.left.machine) × EndInOrder (changes_of played.left.machine) rest to
 
+-- the flash step behind each reply counts the changes that the flash tells
+abbrev pub AreCounted : List Played → Type 0
+AreCounted [] = Unit {0}
+AreCounted (played ∷ rest) = (changes_of played.left.machine ≡ step_of played.left) × AreCounted rest
+
 -- what power lost at step s may show: the records after the lines that had ended by s, or as the next one leaves them where nothing fails
 abbrev pub Shows : ℕ → PlayerState → List Played → Stored → Type 0
 Shows s state [] shown = shown ≡ records_of state.machine

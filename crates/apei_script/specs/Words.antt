@@ -12,12 +12,11 @@ use Rattle.ghes_ack.specs.declared.events.Event.{Event}
 use Rattle.ghes_ack.specs.declared.events.Event.TheVariants.{Idle, Fill, Publish, Free, Wait, Nothing, Found, Copied, Took, Clear, Ack}
 use Rattle.ghes_ack.specs.declared.submission.SubmitError.{SubmitError}
 use Rattle.ghes_ack.specs.declared.submission.SubmitError.TheVariants.{Long as too_long, Malformed as malformed, Trailing as trailing}
-use Rattle.bert_region.specs.declared.region.RegionFull.{RegionFull}
 use Rattle.erst_machine.specs.declared.errors.FatalError.{FatalError}
 use Rattle.erst_machine.specs.declared.errors.FatalError.TheVariants.{Long, Malformed, Trailing, Region}
 use Rattle.script_text.specs.ClientWords.{words_of_attach, words_of_client}
 use Rattle.script_text.specs.RunWords.{words_of_fault, words_of_stop}
-use Rattle.script_text.specs.SubmitWords.{words_of_submit, words_of_region}
+use Rattle.script_text.specs.SubmitWords.{words_of_submit}
 use Rattle.script_text.specs.TableWords.{words_of_erst}
 use Rattle.erst_commands.specs.Writes.{id_of}
 

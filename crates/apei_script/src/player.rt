@@ -6,7 +6,8 @@ ghost use Rattle.script_text.specs.ScriptText.{line_of};
 ghost use Rattle.apei_notify.specs.Chains.{members_of};
 ghost use Rattle.apei_script.specs.declared.player.PlayStop.TheVariants.{SinkFault as TheSinkFault, Memory as TheMemory};
 ghost use Rattle.apei_script.specs.Players.{player_of};
-ghost use Rattle.apei_script.specs.Plays.{IsBuilt, has_one_reply, Stops, PlaysLine, PlaysUnheard};
+ghost use Rattle.apei_script.specs.Plays.{step_of, IsBuilt, has_one_reply, Stops, PlaysLine, PlaysUnheard};
+ghost use Rattle.erst_machine.specs.Shown.{changes_of};
 ghost use Rattle.apei_script.specs.Desks.{state_of};
 
 use crate::buffers::Buffers;
@@ -97,6 +98,36 @@ impl<F: Flash> Player<F> {
 
     /// Plays one line, and writes its replies.
     pub fn play<O: Sink>(&mut self, line: &ScriptLine<'_>, out: &mut O) -> Result<(), PlayStop>
+        requires valid { IsValid (line_of line.now) }
+        requires built { IsBuilt (line_of line.now) }
+        requires fits { length (text_of (line_of line.now)) ≤ 140_000 }
+        ensures played { OnOk result (PlaysLine
+            (λ b. (⟦<dyn Listener as Listener>⟧ b.vtable).interest b.value)
+            (λ b. (⟦<dyn Listener as Listener>⟧ b.vtable).hearings b.value)
+            (λ b. (⟦<dyn Listener as Listener>⟧ b.vtable).heard_last b.value)
+            F.tells O.tells (state_of self.old.desk) (state_of self.new.desk) (members_of self.old.chain) (members_of self.new.chain) (line_of line.now)
+            (O.written out.old) (O.written out.new)) }
+        ensures unheard { result ≡ Err PlayStop.SinkFault → PlaysUnheard
+            (λ b. (⟦<dyn Listener as Listener>⟧ b.vtable).interest b.value)
+            (λ b. (⟦<dyn Listener as Listener>⟧ b.vtable).hearings b.value)
+            (λ b. (⟦<dyn Listener as Listener>⟧ b.vtable).heard_last b.value)
+            F.tells O.tells (state_of self.old.desk) (state_of self.new.desk) (members_of self.old.chain) (members_of self.new.chain) (line_of line.now)
+            (O.written out.old) (O.written out.new) }
+        ensures stopped { IfErr result (λ stop. stop ≢ PlayStop.SinkFault → Stops F.tells (state_of self.old.desk) (line_of line.now) (state_of self.new.desk) stop
+            × (members_of self.new.chain ≡ members_of self.old.chain) × (out.new ≡ out.old)) }
+        ensures fault { result ≡ Err PlayStop.SinkFault → Rose (O.faults out.old) (O.faults out.new) }
+        ensures no_fault { result ≢ Err PlayStop.SinkFault → O.faults out.new ≡ O.faults out.old }
+
+        // The step behind each reply counts the changes that the flash tells.
+        ensures counted { F.tells → changes_of (state_of self.new.desk).machine ≡ step_of (state_of self.new.desk) }
+    {
+        let played = self.play_line(line, out);
+        let _ = self.desk.machine.steps();
+        played
+    }
+
+    /// The line itself.
+    fn play_line<O: Sink>(&mut self, line: &ScriptLine<'_>, out: &mut O) -> Result<(), PlayStop>
         requires valid { IsValid (line_of line.now) }
         requires built { IsBuilt (line_of line.now) }
         requires fits { length (text_of (line_of line.now)) ≤ 140_000 }

@@ -5,7 +5,9 @@ use Rattle.apei_cli.proofs.WordLemmas.{too_many_steps, no_steps}
 use Rattle.apei_cli.proofs.words.steps.Goals as goal
 
 pub returns-in_default : goal.returns-in_default
-returns-in_default c = (refl, too_many_steps (texts_of c.args.words.now) c.in-Ok-Some.steps c.in-Ok-Some.ensures (λ few. absurd (omega arith)))
+returns-in_default c =
+    let given = subst (IsGiven (codes "--steps=") (texts_of c.args.words.now)) c.in-Ok-Some.field-0-is c.in-Ok-Some.ensures in
+    (refl, too_many_steps (texts_of c.args.words.now) c.in-Ok-Some.steps given (λ few. absurd (omega arith)))
 
 pub returns-in_default-2 : goal.returns-in_default-2
 returns-in_default-2 c =

@@ -1,4 +1,4 @@
-use Rattle.std.proofs.Common.{◌≡◌, ℕ, List, [], ◌∷◌, subst}
+use Rattle.std.proofs.Common.{ℕ, List, [], ◌∷◌, subst}
 use Rattle.apei_notify.specs.Chains.{members_of}
 use Rattle.apei_script.specs.Plays.{Told}
 use Rattle.apei_script.proofs.ToldLemmas.{told_one}

@@ -1,13 +1,12 @@
-use Rattle.std.proofs.Common.{◌≡◌, ◌∙◌, ℕ, ◌+◌, ◌-◌, ◌<◌, ◌≤◌, List, ◌++◌, take, Option, Some, None, Result, Ok, Err, refl, sym, ap, subst, arith}
-use Rattle.std.proofs.lemmas.Result.{err_from_is_err_and, on_ok_weaker, on_err_weaker}
+use Rattle.std.proofs.Common.{◌≡◌, ◌∙◌, ℕ, ◌-◌, ◌++◌, take, Some, Ok, refl, ap, subst, arith}
+use Rattle.std.proofs.lemmas.Result.{on_ok_weaker, on_err_weaker}
 use Rattle.base_model.specs.Bytes.{part}
-use Rattle.ghes_block.specs.declared.error.BlockError.{BlockError}
 use Rattle.bert_region.specs.Region.{next_from}
 use Rattle.erst_machine.specs.MachineState.{MachineState}
 use Rattle.apei_script.specs.Words.{words_of_block, words_of_bert, reply_at}
 use Rattle.apei_script.specs.Plays.{changes_in}
 use Rattle.apei_script.proofs.ResultLemmas.{on_err}
-use Rattle.apei_script.proofs.ListLemmas.{ListedSoFar, listed_none, listed_within, next_within, has_next, listed_more, listed_cut, listed_all, listed_but}
+use Rattle.apei_script.proofs.ListLemmas.{listed_none, listed_within, next_within, has_next, listed_more, listed_cut, listed_all, listed_but}
 use Rattle.apei_script.proofs.events.list_blocks.Goals as goal
 
 pub listing-init : goal.listing-init

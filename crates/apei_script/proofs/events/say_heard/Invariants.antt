@@ -1,4 +1,4 @@
-use Rattle.std.proofs.Common.{◌≡◌, ◌≤◌, ◌+◌, length, take, map}
+use Rattle.std.proofs.Common.{◌≡◌, ◌≤◌, length, take, map}
 use Rattle.apei_notify.specs.Chains.{members_of}
 use Rattle.apei_script.specs.Words.{words_of_heard}
 use Rattle.apei_script.proofs.HeardLemmas.{ShownSoFar}

@@ -1,6 +1,5 @@
-use Rattle.std.proofs.Common.{◌≡◌, subst}
+use Rattle.std.proofs.Common.{subst}
 use Rattle.ghes_ack.specs.declared.events.Event.{Event}
-use Rattle.ghes_ack.specs.declared.events.Event.TheVariants.{Took}
 use Rattle.ghes_ack.specs.declared.events.Side.{Side}
 use Rattle.erst_machine.specs.Events.{Turns}
 use Rattle.apei_script.proofs.TakenLemmas.{took_fits}

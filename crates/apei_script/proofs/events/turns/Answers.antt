@@ -1,14 +1,13 @@
-use Rattle.std.proofs.Common.{◌≡◌, ◌∙◌, ℕ, ◌+◌, ◌<◌, ◌≤◌, Bool, true, false, List, [], ◌∷◌, ◌++◌, length, take, refl, sym, ap, subst, arith, rules, Vec, Global, vec_len}
+use Rattle.std.proofs.Common.{◌≡◌, ◌∙◌, ℕ, ◌+◌, List, [], ◌∷◌, ◌++◌, take, refl, sym, ap, arith, rules, Vec, Global, vec_len}
 use Rattle.std.proofs.lemmas.Result.{err_from_is_err_and, on_ok_weaker, on_err_weaker}
 use denote.Enum.Bare.{same_true, same_false}
 use Rattle.ghes_ack.specs.declared.events.Event.{Event}
 use Rattle.ghes_ack.specs.declared.events.Event.TheVariants.{Took}
 use Rattle.ghes_ack.specs.contracts.events.Event.{the_type}
-use Rattle.erst_machine.specs.MachineState.{MachineState}
 use Rattle.apei_script.specs.Words.{words_of_turns, reply_at}
 use Rattle.apei_script.specs.Plays.{changes_in}
 use Rattle.apei_script.proofs.ResultLemmas.{on_err, has_cause, same_cause}
-use Rattle.apei_script.proofs.TurnLemmas.{TurnedSoFar, no_turn, step_quiet, step_took, step_cut, of_all, all_turned, all_but_heard}
+use Rattle.apei_script.proofs.TurnLemmas.{no_turn, step_quiet, step_took, step_cut, of_all, all_turned, all_but_heard}
 use Rattle.apei_script.proofs.events.turns.Goals as goal
 use Rattle.apei_script.proofs.events.turns.Goals.{then-eq+in_ok-hear_of_block, else-eq}
 

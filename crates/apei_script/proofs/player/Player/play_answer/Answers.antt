@@ -1,9 +1,7 @@
-use Rattle.std.proofs.Common.{◌≡◌, ◌∙◌, ℕ, List, ◌++◌, take, map, refl, sym, ap, subst}
-use Rattle.std.proofs.lemmas.Result.{err_from_is_err_and, on_ok_weaker, on_err_weaker}
+use Rattle.std.proofs.Common.{◌∙◌, ℕ, List, ◌++◌, take, map, refl, ap}
+use Rattle.std.proofs.lemmas.Result.{err_from_is_err_and}
 use Rattle.apei_notify.specs.Chains.{members_of}
 use Rattle.apei_script.specs.Desks.{state_of}
-use Rattle.apei_script.specs.Plays.{step_of}
-use Rattle.apei_script.specs.Words.{reply_at}
 use Rattle.script_text.specs.ScriptText.{line_of}
 use Rattle.apei_script.proofs.PlayLemmas.{one_played, one_unheard}
 use Rattle.apei_script.proofs.player.Player.play_answer.Goals as goal

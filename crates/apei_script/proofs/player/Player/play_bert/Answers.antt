@@ -1,9 +1,6 @@
-use Rattle.std.proofs.Common.{◌≡◌, ◌∙◌, ℕ, List, ◌++◌, take, map, refl, sym, ap, subst}
-use Rattle.std.proofs.lemmas.Result.{err_from_is_err_and, on_ok_weaker, on_err_weaker}
+use Rattle.std.proofs.lemmas.Result.{on_ok_weaker, on_err_weaker}
 use Rattle.apei_notify.specs.Chains.{members_of}
 use Rattle.apei_script.specs.Desks.{state_of}
-use Rattle.apei_script.specs.Plays.{step_of}
-use Rattle.apei_script.specs.Words.{reply_at}
 use Rattle.apei_script.proofs.PlayLemmas.{listed_played, listed_unheard, same_desk}
 use Rattle.apei_script.proofs.player.Player.play_bert.Goals as goal
 

@@ -1,9 +1,7 @@
-use Rattle.std.proofs.Common.{◌≡◌, ◌∙◌, ℕ, List, ◌++◌, take, map, refl, sym, ap, subst}
-use Rattle.std.proofs.lemmas.Result.{err_from_is_err_and, on_ok_weaker, on_err_weaker}
+use Rattle.std.proofs.Common.{refl}
+use Rattle.std.proofs.lemmas.Result.{on_ok_weaker, on_err_weaker}
 use Rattle.apei_notify.specs.Chains.{members_of}
 use Rattle.apei_script.specs.Desks.{state_of}
-use Rattle.apei_script.specs.Plays.{step_of}
-use Rattle.apei_script.specs.Words.{reply_at}
 use Rattle.script_text.specs.ScriptGrammar.{turns}
 use Rattle.apei_script.proofs.PlayLemmas.{occurred_played, occurred_unheard, other_machine}
 use Rattle.apei_script.proofs.player.Player.play_turns.Goals as goal
