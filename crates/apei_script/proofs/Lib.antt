@@ -24,4 +24,3 @@ pub mod Giving
 pub mod Owning
 pub mod DeskLines
 pub mod PlayLemmas
-pub mod LineTexts
