@@ -65,6 +65,7 @@ fn turn<F: Flash>(machine: &mut Machine<F>, letter: u8) -> Event
     ensures turned { Turns (side_of letter) machine.old result machine.new }
     ensures took { result ≡ Event.Took → Fits 4096 machine.new.handover.last }
 {
+    // The handover's map is that of every machine.
     let _ = machine.reach();
     machine.turn(side_of(letter))
 }
@@ -120,6 +121,7 @@ pub fn list_blocks<F: Flash, O: Sink>(desk: &mut Desk<F>, out: &mut O) -> Result
     ensures clients { SameClients desk.old desk.new }
     ensures cause { HasCause (O.faults out.old) (O.faults out.new) result }
 {
+    // The region holds whole blocks.
     let _ = desk.machine.reach();
     let mut at = 0;
     let mut count = 0u64;
@@ -203,6 +205,7 @@ fn region_bytes<F: Flash>(machine: &mut Machine<F>, at: u32, out: &mut [u8])
     ensures bytes { out.new ≡ part machine.old.memory.region at (length out.old) }
     ensures machine { machine.new ≡ machine.old }
 {
+    // The region stands in the map.
     let _ = machine.reach();
     let _ = machine.read_bytes(REGION + u64::from(at), out);
 }

@@ -236,6 +236,7 @@ impl<F: Flash> Player<F> {
         ensures no_fault { result ≢ Err PlayStop.SinkFault → O.faults out.new ≡ O.faults out.old }
     {
         a_line_is_the_maps::<F>();
+        // The law is of machines.
         let _ = self.desk.machine.reach();
         self.desk.answer(line)?;
         write_all(out, self.desk.buffers.reply.text())?;
