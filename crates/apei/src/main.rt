@@ -5,7 +5,6 @@
 use apei_bytes::{StdSink, StdSource};
 use apei_cli::{PlanError, Status, plan, run, sim_flash};
 use apei_notify::{Listener, Tally};
-use std::alloc::{AllocError, Global};
 use std::env;
 use std::io::ErrorKind;
 use std::process::ExitCode;
@@ -33,22 +32,20 @@ fn play(rt: &HostRuntime) -> Status {
     let Ok(flash) = sim_flash(rt.alloc(), &plan) else {
         return Status::Memory;
     };
-    let Ok(listeners) = listeners(rt.alloc()) else {
-        return Status::Memory;
-    };
+    // One hears of all errors, one of the fatal ones, and one of those that were corrected.
+    let mut listeners: Vec<Box<dyn Listener>> = Vec::new(rt.alloc());
+    for severities in [15, 2, 4] {
+        let Ok(listener) = Box::new(rt.alloc(), Tally::new(severities)) else {
+            return Status::Memory;
+        };
+        if listeners.push(listener).is_err() {
+            return Status::Memory;
+        }
+    }
     let mut script = StdSource::new(rt.stdin());
     let mut out = StdSink::new(rt.stdout());
     let (status, _, _) = run(rt.alloc(), &words, &mut script, &mut out, flash, listeners);
     status
-}
-
-// Who is told of errors: one of all of them, one of the fatal ones, and one of those that were corrected.
-fn listeners(alloc: Global) -> Result<Vec<Box<dyn Listener>>, AllocError> {
-    let mut listeners: Vec<Box<dyn Listener>> = Vec::new(alloc);
-    for severities in [15, 2, 4] {
-        listeners.push(Box::new(alloc, Tally::new(severities))?)?;
-    }
-    Ok(listeners)
 }
 
 // The words behind the program's name. One that is not UTF-8 is not of the program's form.
