@@ -272,10 +272,10 @@ module _ {L : Type 0} (interest : L → ℕ → Bool) (hearings : L → ℕ) (he
   ends_done script rest rest_now written now first members old new a b end so_far =
       as_so_far script rest rest_now written now now first members old new a Done so_far
       (λ told.
-          let left = end.nothing_left told in
-          let none : lines_ahead a rest ≡ [] = ap (lines_of a.end) (ap (λ (bs : List ℕ). bs ++ rest) end.pending ∙ left.0) ∙ lines_of-nil a.end in
-          let all : lines_of 0 script ≡ so_far.lines = so_far.ahead told ∙ ap (λ (ls : List Line). so_far.lines ++ ls) none ∙ append-nil so_far.lines in
-          record { all_read = left.1; are = subst (λ (ls : List Line). ArePlayed ls so_far.played) (sym all) so_far.are })
+      let left = end.nothing_left told in
+      let none : lines_ahead a rest ≡ [] = ap (lines_of a.end) (ap (λ (bs : List ℕ). bs ++ rest) end.pending ∙ left.0) ∙ lines_of-nil a.end in
+      let all : lines_of 0 script ≡ so_far.lines = so_far.ahead told ∙ ap (λ (ls : List Line). so_far.lines ++ ls) none ∙ append-nil so_far.lines in
+      record { all_read = left.1; are = subst (λ (ls : List Line). ArePlayed ls so_far.played) (sym all) so_far.are })
       so_far.text refl (λ e. absurd (cc e))
 
   -- the source failed
@@ -285,18 +285,18 @@ module _ {L : Type 0} (interest : L → ℕ → Bool) (hearings : L → ℕ) (he
   ends_fault script rest rest_now written now first members old new a b failed so_far =
       as_so_far script rest rest_now written now now first members old new a SourceFault so_far
       (λ told.
-          let before = so_far.taken told failed.not_at_end in
-          let none : ended_lines_of a.end (a.pending ++ failed.bytes) ≡ [] = ended_lines_of-one_line a.end (a.pending ++ failed.bytes) failed.one_line in
-          let lines : ended_lines_of 0 (before.taken ++ (a.pending ++ failed.bytes)) ≡ so_far.lines =
-          before.ended (a.pending ++ failed.bytes) ∙ ap (λ (ls : List Line). so_far.lines ++ ls) none ∙ append-nil so_far.lines in
-          record {
-            taken = before.taken ++ (a.pending ++ failed.bytes);
-            source =
-                before.source
-                ∙ ap (λ (bs : List ℕ). before.taken ++ bs) (ap (λ (bs : List ℕ). a.pending ++ bs) (failed.given told) ∙ sym (append_assoc a.pending failed.bytes rest_now))
-                ∙ sym (append_assoc before.taken (a.pending ++ failed.bytes) rest_now);
-            are = subst (λ (ls : List Line). ArePlayed ls so_far.played) (sym lines) so_far.are;
-          })
+      let before = so_far.taken told failed.not_at_end in
+      let none : ended_lines_of a.end (a.pending ++ failed.bytes) ≡ [] = ended_lines_of-one_line a.end (a.pending ++ failed.bytes) failed.one_line in
+      let lines : ended_lines_of 0 (before.taken ++ (a.pending ++ failed.bytes)) ≡ so_far.lines =
+      before.ended (a.pending ++ failed.bytes) ∙ ap (λ (ls : List Line). so_far.lines ++ ls) none ∙ append-nil so_far.lines in
+      record {
+        taken = before.taken ++ (a.pending ++ failed.bytes);
+        source =
+            before.source
+            ∙ ap (λ (bs : List ℕ). before.taken ++ bs) (ap (λ (bs : List ℕ). a.pending ++ bs) (failed.given told) ∙ sym (append_assoc a.pending failed.bytes rest_now))
+            ∙ sym (append_assoc before.taken (a.pending ++ failed.bytes) rest_now);
+        are = subst (λ (ls : List Line). ArePlayed ls so_far.played) (sym lines) so_far.are;
+      })
       so_far.text refl (λ e. absurd (cc e))
 
   -- the next line is too long
@@ -306,18 +306,18 @@ module _ {L : Type 0} (interest : L → ℕ → Bool) (hearings : L → ℕ) (he
   ends_too_long script rest rest_now written now first members old new a b number next is so_far =
       as_so_far script rest rest_now written now now first members old new a (TooLong (number + 1)) so_far
       (λ told.
-          let ahead = next.too_long told in
-          record {
-            line = ahead.0;
-            stops = record {
-              before = so_far.lines;
-              behind = ahead.1;
-              lines = so_far.ahead told ∙ ap (λ (ls : List Line). so_far.lines ++ ls) ahead.2;
-              numbered = omega (arith, is, next.number, so_far.number);
-              are = so_far.are;
-            };
-            too_long = ahead.3;
-          })
+      let ahead = next.too_long told in
+      record {
+        line = ahead.0;
+        stops = record {
+          before = so_far.lines;
+          behind = ahead.1;
+          lines = so_far.ahead told ∙ ap (λ (ls : List Line). so_far.lines ++ ls) ahead.2;
+          numbered = omega (arith, is, next.number, so_far.number);
+          are = so_far.are;
+        };
+        too_long = ahead.3;
+      })
       so_far.text refl (λ e. absurd (cc e))
 
   -- the line that was read is none

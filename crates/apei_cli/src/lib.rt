@@ -7,8 +7,6 @@ mod number;
 mod program;
 mod sim;
 mod status;
-#[cfg(test)]
-mod tests;
 mod words;
 
 pub use job::{Job, Plan, PlanError};

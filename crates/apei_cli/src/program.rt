@@ -133,9 +133,13 @@ fn run_plan<I: Source, O: Sink, F: Flash>(
             let (machine, chain) = player.into_parts();
             (status, machine.into_flash(), chain.into_members())
         }
-        Err(PlayerRefused { machine, own: _, chain }) => {
-            (Status::Memory, machine.into_flash(), chain.into_members())
-        }
+        Err(
+            PlayerRefused {
+                machine,
+                own: _,
+                chain,
+            },
+        ) => { (Status::Memory, machine.into_flash(), chain.into_members()) }
     }
 }
 

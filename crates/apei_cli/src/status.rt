@@ -101,7 +101,11 @@ mod tests {
         let statuses = [
             (Status::Done, "", 0u8),
             (Status::BadWords, "apei: bad words", 1),
-            (Status::BadLine { line: 2, column: 5 }, "apei: line 2 column 5", 2),
+            (
+                Status::BadLine { line: 2, column: 5 },
+                "apei: line 2 column 5",
+                2,
+            ),
             (Status::SourceFault, "apei: read failed", 3),
             (Status::SinkFault, "apei: write failed", 4),
             (Status::FlashFault, "apei: flash failed", 5),

@@ -24,9 +24,7 @@ const FAIL_READ: &str = "--fail-read=";
 
 const TORN: &str = "--torn=";
 
-const OPTIONS: [&str; 8] = [
-    SECTOR, PER_SLOT, SLOTS, STEPS, CUT, FAIL, FAIL_READ, TORN,
-];
+const OPTIONS: [&str; 8] = [SECTOR, PER_SLOT, SLOTS, STEPS, CUT, FAIL, FAIL_READ, TORN];
 
 /// The most steps that a line may be given.
 const MOST_STEPS: u64 = 0xFFFF_FFFF;
@@ -192,7 +190,12 @@ mod tests {
     #[test]
     fn refuses_other_words(rt: HostRuntime) -> Result<(), Fail> {
         let alloc = rt.alloc();
-        for words in [["sim", "--seed=3"], ["sim", "--slots=03"], ["sim", "sim"], ["sim", "--steps=4294967296"]] {
+        for words in [
+            ["sim", "--seed=3"],
+            ["sim", "--slots=03"],
+            ["sim", "sim"],
+            ["sim", "--steps=4294967296"],
+        ] {
             assert_eq!(rt;
                 planned(alloc, &words)?,
                 Err(PlanError::BadWords),
