@@ -4,6 +4,8 @@
 #[cfg(test)]
 mod boots;
 #[cfg(test)]
+mod play;
+#[cfg(test)]
 mod prefixes;
 #[cfg(test)]
 mod streams;

@@ -1,7 +1,8 @@
 // Each single read of the source and each single write of the sink fails.
+use crate::play::play_on;
 use apei_bytes::{MemSink, MemSource};
-use apei_cli::{Status, plan, run, sim_flash};
-use apei_notify::Listener;
+use apei_cli::Status;
+use flash_model::{Geometry, SimFlash, erased};
 use std::alloc::Global;
 use std::test::Fail;
 
@@ -9,7 +10,7 @@ const SCRIPT: &[u8] =
     b"count\nnext\n# nothing\ndummy\nread 7\naction 14 0\nturns FR\nbert\nheard\nreset\ncount";
 
 const REPLIES: &[u8] =
-    b"count 0 @0\nnext end @0\ndummy ok @0\nrefused empty @0\nresult 32512 @0\nturns idle nothing @0\nbert 0 @0\nheard @0\nreset 0 @0\ncount 0 @0\n";
+    b"count 0 @0\nnext end @0\ndummy ok @0\nrefused empty @0\nresult 32512 @0\nturns idle nothing @0\nbert 0 @0\nheard 0 @0\nreset 0 @0\ncount 0 @0\n";
 
 /// How many lines a newline ends.
 fn lines_in(text: &[u8]) -> usize {
@@ -27,13 +28,11 @@ fn played(
     failing_reads: Vec<u64>,
     failing_writes: Vec<u64>,
 ) -> Result<(Status, MemSink), Fail> {
-    let mut words = Vec::new(alloc);
-    words.push("sim".to_string(alloc)?)?;
-    let flash = sim_flash(alloc, &plan(alloc, &words)?)?;
+    let image = erased(alloc, &Geometry::new(4096, 2, 32)?)?;
+    let flash = SimFlash::new(alloc, 4096, image, None, Vec::new(alloc), Vec::new(alloc));
     let mut source = MemSource::new(SCRIPT.to_vec(alloc)?, PIECE, failing_reads);
     let mut sink = MemSink::new(alloc, failing_writes);
-    let listeners: Vec<Box<dyn Listener>> = Vec::new(alloc);
-    let (status, _, _) = run(alloc, &words, &mut source, &mut sink, flash, listeners);
+    let (status, _) = play_on(alloc, &mut source, &mut sink, flash)?;
     Ok((status, sink))
 }
 
@@ -49,7 +48,11 @@ fn a_run_ends_at_the_read_or_the_write_that_fails(rt: HostRuntime) -> Result<(),
         let silent = usize::from(taken.len() >= COMMENT_END);
         assert_eq!(rt; status, Status::SourceFault, "{read}");
         assert!(rt; REPLIES.starts_with(sink.bytes()), "{read}");
-        assert_eq!(rt; lines_in(sink.bytes()).saturating_add(silent), lines_in(taken), "{read}");
+        assert_eq!(rt;
+            lines_in(sink.bytes()).saturating_add(silent),
+            lines_in(taken),
+            "{read}"
+        );
     }
     for write in 0..10u64 {
         let (status, sink) = played(alloc, Vec::new(alloc), vec![in alloc; write]?)?;

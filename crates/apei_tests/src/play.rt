@@ -1,0 +1,22 @@
+// Runs of the program over a simulated flash.
+use apei_bytes::{MemSink, MemSource};
+use apei_cli::{Status, run};
+use apei_notify::{Listener, Tally};
+use flash_model::SimFlash;
+use std::alloc::Global;
+use std::test::Fail;
+
+/// Plays a script on a flash with the default geometry, for one listener.
+pub fn play_on(
+    alloc: Global,
+    source: &mut MemSource,
+    sink: &mut MemSink,
+    flash: SimFlash,
+) -> Result<(Status, SimFlash), Fail> {
+    let mut words = Vec::new(alloc);
+    words.push("sim".to_string(alloc)?)?;
+    let mut listeners: Vec<Box<dyn Listener>> = Vec::new(alloc);
+    listeners.push(Box::new(alloc, Tally::new(15))?)?;
+    let (status, flash, _) = run(alloc, &words, source, sink, flash, listeners);
+    Ok((status, flash))
+}
