@@ -17,7 +17,7 @@ use Rattle.apei_space.specs.Accesses.{Move, Trail}
 use Rattle.erst_client.specs.Commands.{ClientState}
 use Rattle.erst_device.specs.Timings.{timings_of}
 use Rattle.erst_machine.specs.declared.errors.BootError.{BootError}
-use Rattle.erst_machine.specs.declared.errors.BootError.TheVariants.{Size}
+use Rattle.erst_machine.specs.declared.errors.BootError.TheVariants.{Size, Memory as NoMemory}
 use Rattle.erst_machine.specs.Boots.{IsBooted, FitsGeometry, RefusesBoot}
 use Rattle.erst_commands.specs.OwnPrograms.{with_value}
 use Rattle.erst_machine.specs.MachineState.{MachineState, records_of, told_of}
@@ -92,6 +92,7 @@ module _ {L : Type 0} (interest : L → ℕ → Bool) (hearings : L → ℕ) (he
   run_none plan script written listeners listeners_now old new status first quiet members same = NotBegun members (record {
     first = first;
     untouched_is = quiet;
+    quiet = λ other. ap (λ (f : FlashState). f.faults) same;
     flash = λ _. same;
     kept = λ told geometry of.
         subst (λ (f : FlashState). KeepsRecordsOf geometry old f) (sym same)
@@ -101,9 +102,11 @@ module _ {L : Type 0} (interest : L → ℕ → Bool) (hearings : L → ℕ) (he
   -- the machine was not booted, or no line was played on it
   pub run_refused : (plan : Plan) (geometry : Geometry) (script written : List ℕ) (listeners listeners_now : List L) (old new : FlashState) (status : Status) → MayComeFirst status → untouched
       → listeners_now ≡ listeners → (ComesBeforeBoot status → new ≡ old) → IsGeometryOf plan geometry → (tells → KeepsRecordsOf geometry old new)
+      → ((status ≡ FlashFault → ⊥) → new.faults ≡ old.faults)
       → IsRun interest hearings heard_last told_source told_sink tells untouched plan script script written written listeners listeners_now old new status
-  run_refused plan geometry script written listeners listeners_now old new status first quiet members same is kept = NotBegun members (record {
+  run_refused plan geometry script written listeners listeners_now old new status first quiet members same is kept none = NotBegun members (record {
     first = first;
+    quiet = none;
     untouched_is = quiet;
     flash = same;
     kept = λ told other of. keeps_alike plan geometry other old new is of (kept told);
@@ -384,6 +387,10 @@ is_first plan booted machine own state is client attached =
 -- a flash that the boot refused by its size is handed back as it was
 pub refused_size : (geometry : Geometry) (old back : FlashState) (why : BootError) (found sector : ℕ) → RefusesBoot geometry old back why → why ≡ Size found sector → back ≡ old
 refused_size geometry old back why found sector refused is = let by_size : RefusesBoot geometry old back (Size found sector) = subst (RefusesBoot geometry old back) is refused in by_size.3
+
+-- and so is one for which there was no memory
+pub refused_memory : (geometry : Geometry) (old back : FlashState) (why : BootError) → RefusesBoot geometry old back why → why ≡ NoMemory → back ≡ old
+refused_memory geometry old back why refused is = subst (RefusesBoot geometry old back) is refused
 
 -- a flash that fits was found by the plan's numbers
 pub has_geometry : (plan : Plan) (geometry : Geometry) (flash : FlashState) → IsGeometryOf plan geometry → IsGeometry plan.sector plan.per_slot plan.slots → FitsGeometry geometry flash → HasGeometry plan flash

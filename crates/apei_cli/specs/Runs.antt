@@ -64,11 +64,12 @@ ComesBeforeBoot (BadGeometry sector per_slot slots size) = Unit {0}
 ComesBeforeBoot status = ⊥
 
 -- No line was played: neither script nor output was touched (`untouched`), and the flash, where the boot was tried, holds its records
--- whatever power lost on the way left
+-- whatever power lost on the way left. Where no fault of the flash is answered, none was counted
 pub record HasNotBegun (tells untouched : Type 0) (plan : Plan) (old new : FlashState) (status : Status) : Type 0 where
   pub first : MayComeFirst status
   pub untouched_is : untouched
   pub flash : ComesBeforeBoot status → new ≡ old
+  pub quiet : (status ≡ FlashFault → ⊥) → new.faults ≡ old.faults
   pub kept : tells → (geometry : Geometry) → IsGeometryOf plan geometry → KeepsRecordsOf geometry old new
 
 -- The machine was booted and lines were played: a chain of players, one a line, each with what was replied. The flash at the end is that of

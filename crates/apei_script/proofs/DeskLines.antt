@@ -3,6 +3,7 @@ use Rattle.std.proofs.Common.{◌≡◌, ℕ, ◌≤◌, List, [], ◌∷◌, le
 use Rattle.hex.specs.Hex.{decode_of}
 use Rattle.base_model.specs.Faults.{Rose}
 use Rattle.erst_client.specs.Commands.{ClientState}
+use Rattle.erst_machine.proofs.CrashTrail.{events_are_shown}
 use Rattle.erst_machine.specs.declared.errors.BootError.{BootError}
 use Rattle.erst_machine.specs.MachineState.{MachineState}
 use Rattle.erst_machine.specs.Events.{Event, Warmed, Powered, Warms, Powers, Happens}
@@ -28,6 +29,7 @@ module _ (tells : Type 0) (old : MachineState) (own : ClientState) (steps : Opti
   failed event new happens rises rose = record {
     trail = record { event = event; left = new } ∷ [];
     happens = (happens, refl);
+    shown = λ told. events_are_shown tells told old new (record { event = event; left = new } ∷ []) (happens, refl);
     never_falls = rises;
     exact = λ told none. absurd (none rose);
   }

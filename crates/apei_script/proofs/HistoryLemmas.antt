@@ -87,7 +87,7 @@ module _ (tells : Type 0) where
   history_happens wants counts first played last is =
       let all = one_list wants counts first played last is in
       let takes = along tells first.machine last.machine all.0 all.1 in
-      record { trail = all.0; happens = all.1; never_falls = takes.never_falls; exact = takes.exact }
+      record { trail = all.0; happens = all.1; shown = λ told. events_are_shown tells told first.machine last.machine all.0 all.1; never_falls = takes.never_falls; exact = takes.exact }
 
   -- each line
 

@@ -7,7 +7,7 @@ use Rattle.ghes_ack.specs.declared.events.Event.{Event as TurnEvent}
 use Rattle.erst_client.specs.Commands.{ClientState}
 use Rattle.erst_machine.specs.MachineState.{MachineState, IsMachine}
 use Rattle.erst_machine.specs.Events.{Event, Accessed, Warmed, Powered, Submitted, Turned as OneTurn, Laid, Happens}
-use Rattle.erst_machine.proofs.CrashTrail.{happens_then, reached_happens}
+use Rattle.erst_machine.proofs.CrashTrail.{events_are_shown, happens_then, reached_happens}
 use Rattle.erst_machine.proofs.EventLemmas.{events_keep}
 use Rattle.script_text.specs.ScriptGrammar.{Line}
 use Rattle.apei_script.specs.Players.{PlayerState}
@@ -68,7 +68,7 @@ module _ (tells : Type 0) where
   has_happened : (old new : MachineState) → Trails tells old new → HasHappened tells old new
   has_happened old new trails =
       let takes = along tells old new trails.0 trails.1 in
-      record { trail = trails.0; happens = trails.1; never_falls = takes.never_falls; exact = takes.exact }
+      record { trail = trails.0; happens = trails.1; shown = λ told. events_are_shown tells told old new trails.0 trails.1; never_falls = takes.never_falls; exact = takes.exact }
 
   pub line_happened : (counts : List ℕ) (old : PlayerState) (line : Line) (said blocks : List (List ℕ)) (new : PlayerState) → Plays tells counts old line said blocks new →
       HasHappened tells old.machine new.machine

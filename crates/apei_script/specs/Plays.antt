@@ -10,6 +10,7 @@ use Rattle.erst_client.specs.Timings.{enough_steps}
 use Rattle.erst_machine.specs.declared.errors.BootError.{BootError}
 use Rattle.erst_machine.specs.MachineState.{MachineState}
 use Rattle.erst_machine.specs.Events.{Event, Warms, Powers, Happens}
+use Rattle.erst_machine.specs.Shown.{IsShown, made_by_event}
 use Rattle.script_text.specs.ScriptGrammar.{Line, blank, comment, write, read, clear, count, next, dummy, action, table, own_table, shadow_table, turns, bert, heard, reset, power, bridge}
 use Rattle.apei_script.specs.declared.player.PlayStop.{PlayStop}
 use Rattle.apei_script.specs.declared.player.PlayStop.TheVariants.{SinkFault, FlashFault, Memory}
@@ -47,11 +48,13 @@ pub data FailsRestart (tells : Type 0) (old : MachineState) : Line → MachineSt
   ResetFails : (error : BootError) (new : MachineState) → Warms tells old (Err error) new → FailsRestart tells old reset new
   PowerFails : (error : BootError) (new : MachineState) → Powers tells old (Err error) new → FailsRestart tells old power new
 
--- What happened to the machine: its accesses, restarts, turns and blocks, one after another. Where no fault was counted the flash took
--- exactly the changes that the definitions give them
+-- What happened to the machine: its accesses, restarts, turns and blocks, one after another. Power lost at any flash step on the way shows
+-- the records after those that had ended by then, or as the next one leaves them, with a fault or without. Where no fault was counted the
+-- flash took exactly the changes that the definitions give them
 pub record HasHappened (tells : Type 0) (old new : MachineState) : Type 0 where
   pub trail : List (Move Event MachineState)
   pub happens : Trail (Happens tells) old trail new
+  pub shown : tells → IsShown made_by_event old trail new
   pub never_falls : old.device.store.flash.faults ≤ new.device.store.flash.faults
   pub exact : tells → (Rose old.device.store.flash.faults new.device.store.flash.faults → ⊥)
       → new.device.store.flash.steps ≡ old.device.store.flash.steps + changes_along old trail

@@ -2,7 +2,7 @@ use Rattle.std.proofs.Common.{List, refl, sym, ap, subst, ◌∙◌}
 use Rattle.flash_words.specs.Flash.{FlashState}
 use Rattle.record_store.specs.Store.{KeepsRecordsOf}
 use Rattle.erst_machine.specs.MachineState.{MachineState}
-use Rattle.apei_cli.proofs.WholeLemmas.{run_none, run_refused, run_played, plays_from, is_first, refused_size, has_geometry, on_geometry, whole_cause}
+use Rattle.apei_cli.proofs.WholeLemmas.{run_none, run_refused, run_played, plays_from, is_first, refused_size, refused_memory, has_geometry, on_geometry, whole_cause}
 use Rattle.apei_cli.proofs.program.run_plan.Goals as goal
 
 pub returns-in_default-new-clause-run : goal.returns-in_default-new-clause-run
@@ -13,18 +13,21 @@ returns-in-Size-clause-run g c =
     let is = c.in-Ok.ensures in
     run_refused _ _ _ _ _ _ _ c.args.plan.now c.in-Ok.geometry _ _ _ _ _ _ _ tt (refl, refl) refl (λ _. refused_size c.in-Ok.geometry _ _ c.in-Err.field-0.why _ _ c.in-Err.ensures.refused c.in-Size.is)
     (record { sector = is.sector; per_slot = is.per_slot; slots = is.slots }) c.in-Err.ensures.back
+    (λ other. ap (λ (f : FlashState). f.faults) (refused_size c.in-Ok.geometry _ _ c.in-Err.field-0.why _ _ c.in-Err.ensures.refused c.in-Size.is))
 
 pub returns-in-Flash-clause-run : goal.returns-in-Flash-clause-run
 returns-in-Flash-clause-run g c =
     let is = c.in-Ok.ensures in
     run_refused _ _ _ _ _ _ _ c.args.plan.now c.in-Ok.geometry _ _ _ _ _ _ _ tt (refl, refl) refl (λ never. absurd never)
     (record { sector = is.sector; per_slot = is.per_slot; slots = is.slots }) c.in-Err.ensures.back
+    (λ other. absurd (other refl))
 
 pub returns-in-Memory-clause-run : goal.returns-in-Memory-clause-run
 returns-in-Memory-clause-run g c =
     let is = c.in-Ok.ensures in
     run_refused _ _ _ _ _ _ _ c.args.plan.now c.in-Ok.geometry _ _ _ _ _ _ _ tt (refl, refl) refl (λ never. absurd never)
     (record { sector = is.sector; per_slot = is.per_slot; slots = is.slots }) c.in-Err.ensures.back
+    (λ other. ap (λ (f : FlashState). f.faults) (refused_memory c.in-Ok.geometry _ _ c.in-Err.field-0.why c.in-Err.ensures.refused c.in-Memory.is))
 
 pub returns-in_default-own_client-clause-run : goal.returns-in_default-own_client-clause-run
 returns-in_default-own_client-clause-run g c =
@@ -33,6 +36,7 @@ returns-in_default-own_client-clause-run g c =
     run_refused _ _ _ _ _ _ _ c.args.plan.now c.in-Ok.geometry _ _ _ _ _ _ _ tt (refl, refl) refl (λ never. absurd never)
     (record { sector = is.sector; per_slot = is.per_slot; slots = is.slots })
     (λ told. subst (KeepsRecordsOf c.in-Ok.geometry (g.F.Flash.state c.args.flash)) (sym flash) (c.in-Ok-boot.ensures.kept told))
+    (λ other. ap (λ (f : FlashState). f.faults) flash ∙ c.in-Ok-boot.ensures.flash.faults)
 
 pub returns-clause-run : goal.returns-clause-run
 returns-clause-run g c =
@@ -43,6 +47,7 @@ returns-clause-run g c =
     (c.into_members-in-Err-new.ensures ∙ c.in-Err-new.ensures.listeners_back ∙ c.new-chain.ensures) (λ never. absurd never)
     (record { sector = is.sector; per_slot = is.per_slot; slots = is.slots })
     (λ told. subst (KeepsRecordsOf c.in-Ok.geometry (g.F.Flash.state c.args.flash)) (sym flash) (c.in-Ok-boot.ensures.kept told))
+    (λ other. ap (λ (f : FlashState). f.faults) flash ∙ c.in-Ok-boot.ensures.flash.faults)
 
 pub returns-in-Ok-new-2-clause-run : goal.returns-in-Ok-new-2-clause-run
 returns-in-Ok-new-2-clause-run g c =
