@@ -1,0 +1,24 @@
+// The line on the whole of an item.
+ghost use Rattle.std.specs.Prelude.{◌≤◌, length, OnOk, OnErr};
+ghost use Rattle.base_model.specs.Faults.{HasCause};
+ghost use Rattle.check_text.specs.Written.{Writes, WritesPart, head_shown};
+
+use crate::line_text::LineText;
+use crate::show::Show;
+use apei_bytes::{Sink, SinkFault};
+
+impl Show {
+    /// Writes the line on the whole item, where it is asked for.
+    pub fn write_head<O: Sink>(self, line: LineText, out: &mut O) -> Result<(), SinkFault>
+        requires { length line ≤ 255 }
+        ensures all { OnOk result (Writes O.tells (head_shown self line) (O.written out.old) (O.written out.new)) }
+        ensures part { OnErr result (WritesPart O.tells (head_shown self line) (O.written out.old) (O.written out.new)) }
+        ensures cause { HasCause (O.faults out.old) (O.faults out.new) result }
+    {
+        if self.head() {
+            line.write_to(out)
+        } else {
+            Ok(())
+        }
+    }
+}
