@@ -1,0 +1,5 @@
+mod Are
+mod One
+mod Parts
+mod Places
+mod Shown
