@@ -1,0 +1,10 @@
+//! The lines of a script, cut from a source while it is read.
+#![tactic(auto)]
+
+mod laws;
+mod lines;
+#[cfg(test)]
+mod tests;
+
+pub use laws::lines_are_read_in_order;
+pub use lines::{LineReader, LineStop, MAX_LINE, MAX_SCRIPT};
