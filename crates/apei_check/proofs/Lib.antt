@@ -1,0 +1,5 @@
+pub mod HexText
+pub mod TextLemmas
+pub mod GrammarLemmas
+pub mod RunLemmas
+pub mod OneText

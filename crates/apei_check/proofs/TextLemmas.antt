@@ -1,0 +1,46 @@
+-- Laws of what was written of the lines of a script.
+use Rattle.std.proofs.Common.{◌≡◌, ℕ, List, [], ◌∷◌, ◌++◌, take, refl, sym, ap, ◌∙◌, append_assoc}
+use Rattle.std.proofs.lemmas.List.{append-nil}
+use Rattle.check_text.specs.Shown.{Shows, ShowsPart, lines_text}
+use Rattle.check_text.specs.declared.show.Show.{Show}
+use Rattle.script_lines.specs.Lines.{Line}
+use Rattle.script_text.specs.CheckGrammar.{CheckedLine}
+use Rattle.apei_check.specs.Texts.{AreShownBy, IsLineOf, IsTextOf, IsTextOfAll}
+use Rattle.apei_check.specs.Checks.{WritesAll, WritesPart}
+
+-- nothing was shown
+pub shows_none : (told : Type 0) (written : List ℕ) → Shows told (λ shown. shown ≡ []) written written
+unfolding lines_text
+shows_none told written = record { lines = []; are = refl; text = λ t. sym (append-nil written) }
+
+-- one more line
+push : (show : Show) (lines : List Line) (line : Line) (text last : List ℕ) → IsTextOfAll show lines text → IsTextOf show line last → IsTextOfAll show (lines ++ line ∷ []) (text ++ last)
+push show [] line text last all is = (last, [], is, refl, ap (λ (bs : List ℕ). bs ++ last) all ∙ sym (append-nil last))
+push show (first ∷ lines) line text last all is =
+    (all.0, all.1 ++ last, all.2, push show lines line all.1 last all.3 is, ap (λ (bs : List ℕ). bs ++ last) all.4 ∙ append_assoc all.0 all.1 last)
+
+pub writes_none : (told : Type 0) (show : Show) (written : List ℕ) → WritesAll told show [] written written
+writes_none told show written = record { text = []; is = refl; wrote = λ t. sym (append-nil written) }
+
+pub writes_next : (told : Type 0) (show : Show) (lines : List Line) (line : Line) (asked : CheckedLine) (written middle now : List ℕ) → WritesAll told show lines written middle
+    → IsLineOf line asked → Shows told (AreShownBy show asked) middle now → WritesAll told show (lines ++ line ∷ []) written now
+writes_next told show lines line asked written middle now before is shows = record {
+  text = before.text ++ lines_text shows.lines;
+  is = push show lines line before.text (lines_text shows.lines) before.is (record { asked = asked; is = is; shown = shows.lines; are = shows.are; text_is = refl });
+  wrote = λ t. shows.text t ∙ ap (λ (bs : List ℕ). bs ++ lines_text shows.lines) (before.wrote t) ∙ append_assoc written before.text (lines_text shows.lines);
+}
+
+-- one more in part
+pub writes_part : (told : Type 0) (show : Show) (lines : List Line) (line : Line) (asked : CheckedLine) (written middle now : List ℕ) → WritesAll told show lines written middle
+    → IsLineOf line asked → ShowsPart told (AreShownBy show asked) middle now → WritesPart told show (lines ++ line ∷ []) written now
+writes_part told show lines line asked written middle now before is shows = record {
+  first = lines;
+  last = line;
+  lines_are = refl;
+  text = before.text;
+  is = before.is;
+  last_text = lines_text shows.lines;
+  last_is = record { asked = asked; is = is; shown = shows.lines; are = shows.are; text_is = refl };
+  count = shows.count;
+  wrote = λ t. shows.text t ∙ ap (λ (bs : List ℕ). bs ++ take shows.count (lines_text shows.lines)) (before.wrote t);
+}

@@ -1,0 +1,69 @@
+-- What a check of a script leaves, by its end.
+use Rattle.std.specs.Prelude.{◌≡◌, ℕ, List, [], ◌∷◌, ◌++◌, take}
+use Rattle.base_model.specs.Faults.{Rose}
+use Rattle.line_grammar.specs.Columns.{BreaksAt}
+use Rattle.script_text.specs.CheckGrammar.{CheckedLine, IsCheckLine}
+use Rattle.script_lines.specs.Lines.{Line, lines_of, IsTooLong}
+use Rattle.script_lines.specs.Reads.{StandsAt, AreTaken}
+use Rattle.check_text.specs.declared.show.Show.{Show}
+use Rattle.apei_check.specs.Texts.{IsLineOf, IsTextOf, IsTextOfAll, TakesMemory}
+use Rattle.apei_check.specs.declared.ending.CheckEnd.{CheckEnd}
+use Rattle.apei_check.specs.declared.ending.CheckEnd.TheVariants.{Done, BadLine, SourceFault, SinkFault, TooLong, Memory}
+
+-- a line is none, from this column on
+pub record IsBadFrom (column : ℕ) (line : Line) : Type 0 where
+  pub within : IsTooLong line → ⊥
+  pub breaks : BreaksAt IsCheckLine line.text column
+
+-- a line gives a table for which memory is taken
+pub record MayWantMemory (line : Line) : Type 0 where
+  pub asked : CheckedLine
+  pub is : IsLineOf line asked
+  pub takes : TakesMemory asked
+
+-- which lines of the script were shown, by the end: all of them; those before one that ended it; those whose newline was taken; or, the
+-- last in part, some from the first on
+abbrev pub EndsBehind : List ℕ → List ℕ → List Line → CheckEnd → Type 0
+EndsBehind script rest lines Done = (lines_of 0 script ≡ lines) × (rest ≡ [])
+EndsBehind script rest lines (BadLine number column) = (line : Line) × StandsAt script lines number line × IsBadFrom column line
+EndsBehind script rest lines SourceFault = AreTaken script rest lines
+EndsBehind script rest lines SinkFault = (behind : List Line) × (lines_of 0 script ≡ lines ++ behind)
+EndsBehind script rest lines (TooLong number) = (line : Line) × StandsAt script lines number line × IsTooLong line
+EndsBehind script rest lines Memory = (line : Line) × (number : ℕ) × StandsAt script lines number line × MayWantMemory line
+
+-- the text of what the lines show was written
+pub record WritesAll (told : Type 0) (show : Show) (lines : List Line) (written written_now : List ℕ) : Type 0 where
+  pub text : List ℕ
+  pub is : IsTextOfAll show lines text
+  pub wrote : told → written_now ≡ written ++ text
+
+-- of the last line's only a beginning
+pub record WritesPart (told : Type 0) (show : Show) (lines : List Line) (written written_now : List ℕ) : Type 0 where
+  pub first : List Line
+  pub last : Line
+  pub lines_are : lines ≡ first ++ last ∷ []
+  pub text : List ℕ
+  pub is : IsTextOfAll show first text
+  pub last_text : List ℕ
+  pub last_is : IsTextOf show last last_text
+  pub count : ℕ
+  pub wrote : told → written_now ≡ written ++ text ++ take count last_text
+
+abbrev pub Writes : Type 0 → Show → List Line → List ℕ → List ℕ → CheckEnd → Type 0
+Writes told show lines written written_now SinkFault = WritesPart told show lines written written_now
+Writes told show lines written written_now ending = WritesAll told show lines written written_now
+
+-- lines of a script were shown, each once and in order, and what was written is what they show
+pub record ChecksScript (told_source told_sink : Type 0) (show : Show) (script rest written written_now : List ℕ) (ending : CheckEnd) : Type 0 where
+  pub lines : List Line
+  pub ends : told_source → EndsBehind script rest lines ending
+  pub writes : Writes told_sink show lines written written_now ending
+
+-- a fault comes only where its count rose, and every other end leaves the count
+abbrev pub HasSourceCause : ℕ → ℕ → CheckEnd → Type 0
+HasSourceCause before after SourceFault = Rose before after
+HasSourceCause before after ending = after ≡ before
+
+abbrev pub HasSinkCause : ℕ → ℕ → CheckEnd → Type 0
+HasSinkCause before after SinkFault = Rose before after
+HasSinkCause before after ending = after ≡ before

@@ -1,0 +1,55 @@
+-- What the lines of a script show.
+use Rattle.std.specs.Prelude.{◌≡◌, ℕ, List, [], ◌∷◌, ◌++◌, Ok}
+use Rattle.hex.specs.Hex.{decode_of}
+use Rattle.script_lines.specs.Lines.{Line, IsTooLong}
+use Rattle.script_text.specs.CheckGrammar.{CheckedLine, IsCheckLine, blank, comment, erst, hest, bert, one_record, block}
+use Rattle.script_text.specs.CheckText.{IsCheckWritten}
+use Rattle.check_text.specs.Shown.{lines_text}
+use Rattle.check_text.specs.declared.show.Show.{Show}
+use Rattle.check_tables.specs.Tables.{AreErstLines, AreHestLines, AreBertLines}
+use Rattle.check_frames.specs.Frames.{AreRecordLines, AreBlockLines}
+
+-- digits stand for bytes that show these lines
+pub record ShowsBytes (Are : List ℕ → List (List ℕ) → Type 0) (hex : List ℕ) (shown : List (List ℕ)) : Type 0 where
+  pub bytes : List ℕ
+  pub decoded : decode_of hex ≡ Ok bytes
+  pub are : Are bytes shown
+
+-- the lines that a line of a script shows
+abbrev pub AreShownBy : Show → CheckedLine → List (List ℕ) → Type 0
+AreShownBy show blank shown = shown ≡ []
+AreShownBy show (comment rest) shown = shown ≡ []
+AreShownBy show (erst hex) shown = ShowsBytes (AreErstLines show) hex shown
+AreShownBy show (hest hex) shown = ShowsBytes (AreHestLines show) hex shown
+AreShownBy show (bert hex) shown = ShowsBytes (AreBertLines show) hex shown
+AreShownBy show (one_record hex) shown = ShowsBytes (AreRecordLines show) hex shown
+AreShownBy show (block hex) shown = ShowsBytes (AreBlockLines show) hex shown
+
+-- memory is taken for the parts of these tables alone
+abbrev pub TakesMemory : CheckedLine → Type 0
+TakesMemory (erst hex) = Unit {0}
+TakesMemory (hest hex) = Unit {0}
+TakesMemory line = ⊥
+
+-- a line of a script is this one, within the lengths
+pub record IsLineOf (line : Line) (asked : CheckedLine) : Type 0 where
+  pub within : IsTooLong line → ⊥
+  pub written : IsCheckWritten line.text asked
+
+-- and this is the text of what it shows
+pub record IsTextOf (show : Show) (line : Line) (text : List ℕ) : Type 0 where
+  pub asked : CheckedLine
+  pub is : IsLineOf line asked
+  pub shown : List (List ℕ)
+  pub are : AreShownBy show asked shown
+  pub text_is : text ≡ lines_text shown
+
+-- the text of what some lines show, one after another
+abbrev pub IsTextOfAll : Show → List Line → List ℕ → Type 0
+IsTextOfAll show [] text = text ≡ []
+IsTextOfAll show (line ∷ lines) text = (first : List ℕ) × (rest : List ℕ) × IsTextOf show line first × IsTextOfAll show lines rest × (text ≡ first ++ rest)
+
+-- each line is in the grammar, and within the lengths
+abbrev pub AreInGrammar : List Line → Type 0
+AreInGrammar [] = Unit {0}
+AreInGrammar (line ∷ lines) = (IsTooLong line → ⊥) × IsCheckLine line.text × AreInGrammar lines
