@@ -1,0 +1,5 @@
+pub mod DecimalLemmas
+pub mod CommandLemmas
+pub mod TakesLemmas
+pub mod GivenLemmas
+pub mod WordLemmas

@@ -1,0 +1,68 @@
+// What the words of the command line ask for.
+ghost use Rattle.apei_words.specs.declared.job.PlanError.TheVariants.{Memory as NoMemory};
+ghost use Rattle.std.specs.Prelude.{◌≡◌};
+
+use check_text::Show;
+use std::alloc::AllocError;
+use thiserror::Error;
+
+/// What the program does.
+#[derive(Clone, Copy, Debug, PartialEq, Eq)]
+pub enum Job {
+    /// It plays a script on the flash of an image file.
+    Play,
+    /// It plays a script on a simulated flash.
+    Sim,
+    /// It shows tables, records and blocks.
+    Check,
+    /// It plays generated commands on a simulated flash.
+    Gen,
+}
+
+/// What the words ask for. An option that they don't give has its default.
+#[derive(Debug, PartialEq, Eq, Drop)]
+pub struct Plan {
+    pub job: Job,
+    /// The path of the flash's image.
+    pub image: Option<String>,
+    /// The size of a sector in bytes.
+    pub sector: u64,
+    /// The sectors of a slot.
+    pub per_slot: u64,
+    pub slots: u64,
+    /// The steps that each line is given; none for as many as are enough.
+    pub steps: Option<u64>,
+    /// The number of the flash's change in which power is lost, from 0.
+    pub cut: Option<u64>,
+    /// The number of the flash's change that fails, from 0.
+    pub fail: Option<u64>,
+    /// The number of the flash's read that fails, from 0.
+    pub fail_read: Option<u64>,
+    /// How the failing change and the one in which power is lost are torn, by number from 0 to 3.
+    pub torn: u8,
+    /// How many commands are generated; 0 for the jobs that generate none.
+    pub count: u64,
+    /// The number that the commands are generated from.
+    pub seed: u64,
+    /// What is shown of a checked item.
+    pub show: Show,
+}
+
+/// Why there is no plan.
+#[derive(Clone, Copy, Debug, PartialEq, Eq, Error)]
+pub enum PlanError {
+    /// The words are not of the program's form.
+    #[error("bad words")]
+    BadWords,
+    /// There was no memory.
+    #[error("out of memory")]
+    Memory,
+}
+
+impl From<AllocError> for PlanError {
+    ghost from_gives = { λ _ error. error ≡ NoMemory };
+
+    fn from(_: AllocError) -> Self {
+        PlanError::Memory
+    }
+}
