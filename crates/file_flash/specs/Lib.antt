@@ -1,0 +1,2 @@
+pub mod Mediums
+pub mod States
