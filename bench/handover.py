@@ -4,35 +4,42 @@ memory and out of it by accesses of 64 bytes each, all in one loop, and each in 
 
     bench/handover.py [PROGRAM]
 
-PROGRAM is the built program, by default crates/apei_bench/out/apei_bench; build it by `rt run` in crates/apei_bench. It
-prints the least time of five runs for each, and their ratios.
+PROGRAM is the built program, by default crates/apei_bench/out/apei_bench; build it by `rt run` in crates/apei_bench. The
+turns are made by three calls, and each by a call of its own; what it takes to submit the block, which copies it once more, is
+timed alone and taken off. It prints the median of eleven rounds for each, in nanoseconds of processor time, and ratios.
 """
 
 import os
-import subprocess
+import statistics
 import sys
-import time
 
 TOP = os.path.dirname(os.path.dirname(os.path.abspath(__file__)))
 program = sys.argv[1] if len(sys.argv) > 1 else os.path.join(TOP, "crates/apei_bench/out/apei_bench")
+TIMES = {"handover": 100_000, "turns": 30_000, "submits": 2_000, "copies": 200_000, "pieces": 50_000, "apart": 50_000}
+nowhere = os.open(os.devnull, os.O_WRONLY)
 
 
 def seconds(job, times):
-    start = time.perf_counter()
-    subprocess.run([program, job, str(times)], check=True, stdout=subprocess.DEVNULL)
-    return time.perf_counter() - start
+    """The processor time of a run."""
+    to_nowhere = [(os.POSIX_SPAWN_DUP2, nowhere, 1)]
+    child = os.posix_spawn(program, [program, job, str(times)], os.environ, file_actions=to_nowhere)
+    _, status, used = os.wait4(child, 0)
+    if status:
+        sys.exit(f"{program} {job} {times}: status {status}")
+    return used.ru_utime + used.ru_stime
 
 
-def nanoseconds(job, times):
-    rest = min(seconds(job, 0) for _ in range(5))
-    return max(min(seconds(job, times) for _ in range(5)) - rest, 1e-9) * 1e9 / times
-
-
-handover = nanoseconds("handover", 100_000)
-copies = nanoseconds("copies", 1_000_000)
-pieces = nanoseconds("pieces", 500_000)
-apart = nanoseconds("apart", 500_000)
-print(
-    f"handover: {handover:.0f} ns a block; two copies: {copies:.0f} ns, ratio {handover / copies:.1f}; "
-    f"by pieces: {pieces:.0f} ns, ratio {handover / pieces:.1f}; each in a call: {apart:.0f} ns, ratio {handover / apart:.1f}"
-)
+rest = min(seconds("copies", 0) for _ in range(11))
+rounds = {job: [] for job in TIMES}
+for _ in range(11):
+    for job, times in TIMES.items():
+        rounds[job].append((seconds(job, times) - rest) * 1e9 / times)
+took = {job: statistics.median(each) for job, each in rounds.items()}
+submit = took["submits"] / 64
+print(f"two copies: {took['copies']:.0f} ns; by pieces: {took['pieces']:.0f} ns; each in a call: {took['apart']:.0f} ns; a submission: {submit:.0f} ns")
+for name, job in [("three calls", "handover"), ("a call for each turn", "turns")]:
+    turns = took[job] - submit
+    print(
+        f"all turns by {name}: {turns:.0f} ns, {turns / took['copies']:.2f} times two copies, {turns / took['pieces']:.1f} times by pieces, "
+        f"{turns / took['apart']:.1f} times each in a call; with the submission {took[job]:.0f} ns, {took[job] / took['copies']:.1f} times two copies"
+    )

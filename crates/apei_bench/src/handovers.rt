@@ -12,9 +12,9 @@ use std::alloc::Global;
 const BLOCK: usize = 4096;
 
 /// The turns of the firmware that fill and publish a block, those of the reader that find, copy, clear and acknowledge it.
-const FIRMWARE: u32 = 65;
+const FIRMWARE: usize = 65;
 
-const READER: u32 = 67;
+const READER: usize = 67;
 
 const MAP: HandoverMap = HandoverMap {
     status: 0x30_0000,
@@ -80,8 +80,46 @@ fn turn(handover: &mut Handover, ram: &mut Ram, side: Side) -> Event
     handover.turn(side, ram)
 }
 
-// So many turns of a side. It answers the event of the last one.
-fn turns(handover: &mut Handover, ram: &mut Ram, side: Side, count: u32) -> Event
+fn turns(handover: &mut Handover, ram: &mut Ram, side: Side, events: &mut [Event])
+    requires { Stands handover.old ram.old }
+    ensures { Stands handover.new ram.new }
+{
+    handover.turns(side, events, ram);
+}
+
+fn restart(handover: &mut Handover, ram: &mut Ram)
+    requires { Stands handover.old ram.old }
+    ensures { Stands handover.new ram.new }
+{
+    handover.restart(ram);
+}
+
+/// Hands a block of 4,096 bytes over so many times, by three calls that make all turns of both sides. It answers how many were
+/// acknowledged.
+pub fn hand_over(alloc: Global, times: u64) -> Option<u64> {
+    let mut ram = memory(alloc)?;
+    let mut handover = begun(alloc, &mut ram)?;
+    let mut block = block();
+    let mut filled = [Event::Idle; FIRMWARE];
+    let mut read = [Event::Idle; READER];
+    let mut freed = [Event::Idle; 1];
+    let mut acknowledged = 0u64;
+    for k in 0..times {
+        block[(k % 2048) as usize + 1024] = (k % 256) as u8;
+        let _ = submit(&mut handover, &ram, &block);
+        turns(&mut handover, &mut ram, Side::Firmware, &mut filled);
+        turns(&mut handover, &mut ram, Side::Reader, &mut read);
+        if read[READER - 1] == Event::Ack {
+            acknowledged = acknowledged.wrapping_add(1);
+        }
+        turns(&mut handover, &mut ram, Side::Firmware, &mut freed);
+    }
+    handover.end();
+    Some(acknowledged)
+}
+
+// So many turns of a side, each by a call of its own. It answers the event of the last one.
+fn turns_apart(handover: &mut Handover, ram: &mut Ram, side: Side, count: usize) -> Event
     requires { Stands handover.old ram.old }
     ensures { Stands handover.new ram.new }
 {
@@ -92,22 +130,42 @@ fn turns(handover: &mut Handover, ram: &mut Ram, side: Side, count: u32) -> Even
     last
 }
 
-/// Hands a block of 4,096 bytes over so many times, by the turns of both sides. It answers how many were acknowledged.
-pub fn hand_over(alloc: Global, times: u64) -> Option<u64> {
+/// The same, each turn by a call of its own.
+pub fn hand_over_by_turns(alloc: Global, times: u64) -> Option<u64> {
     let mut ram = memory(alloc)?;
     let mut handover = begun(alloc, &mut ram)?;
-    let block = block();
+    let mut block = block();
     let mut acknowledged = 0u64;
-    for _ in 0..times {
+    for k in 0..times {
+        block[(k % 2048) as usize + 1024] = (k % 256) as u8;
         let _ = submit(&mut handover, &ram, &block);
-        turns(&mut handover, &mut ram, Side::Firmware, FIRMWARE);
-        if turns(&mut handover, &mut ram, Side::Reader, READER) == Event::Ack {
+        turns_apart(&mut handover, &mut ram, Side::Firmware, FIRMWARE);
+        if turns_apart(&mut handover, &mut ram, Side::Reader, READER) == Event::Ack {
             acknowledged = acknowledged.wrapping_add(1);
         }
-        turns(&mut handover, &mut ram, Side::Firmware, 1);
+        turns_apart(&mut handover, &mut ram, Side::Firmware, 1);
     }
     handover.end();
     Some(acknowledged)
+}
+
+/// Submits 64 such blocks and begins anew, so many times. It answers how many blocks were taken over.
+pub fn submit_blocks(alloc: Global, times: u64) -> Option<u64> {
+    let mut ram = memory(alloc)?;
+    let mut handover = begun(alloc, &mut ram)?;
+    let mut block = block();
+    let mut accepted = 0u64;
+    for k in 0..times {
+        block[(k % 2048) as usize + 1024] = (k % 256) as u8;
+        for _ in 0..64u8 {
+            if submit(&mut handover, &ram, &block).is_ok() {
+                accepted = accepted.wrapping_add(1);
+            }
+        }
+        restart(&mut handover, &mut ram);
+    }
+    handover.end();
+    Some(accepted)
 }
 
 /// Copies a block of 4,096 bytes twice, so many times. It answers the sum of one byte of each.

@@ -39,6 +39,8 @@ fn done(alloc: Global, job: &str, times: u64) -> Option<u64> {
         "records" => frames::read_records(alloc, times),
         "blocks" => frames::walk_blocks(times),
         "handover" => handovers::hand_over(alloc, times),
+        "turns" => handovers::hand_over_by_turns(alloc, times),
+        "submits" => handovers::submit_blocks(alloc, times),
         "copies" => handovers::copy_twice(times),
         "pieces" => handovers::copy_by_pieces(alloc, times),
         "apart" => handovers::copy_by_calls(alloc, times),

@@ -1,5 +1,5 @@
 -- Lists of calls, and what others write between them.
-use Rattle.std.proofs.Common.{◌≡◌, ◌∙◌, ℕ, ◌+◌, ◌≤◌, List, [], ◌∷◌, ◌++◌, length, take, drop, All, refl, sym, ap, subst, arith, length-append, length-drop, bit_and}
+use Rattle.std.proofs.Common.{◌≡◌, ◌∙◌, ℕ, zero, suc, replicate, ◌+◌, ◌≤◌, List, [], ◌∷◌, ◌++◌, length, take, drop, All, refl, sym, ap, subst, arith, length-append, length-drop, bit_and}
 use Rattle.std.proofs.lemmas.List.{get_or_at}
 use Rattle.base_model.specs.Bytes.{little, spelled, put_at}
 use Rattle.base_model.proofs.BytesLemmas.{length-spelled}
@@ -9,12 +9,13 @@ use Rattle.apei_space.specs.RamState.{RamState}
 use Rattle.apei_space.specs.Mapped.{AreMapped}
 use Rattle.apei_gas.specs.declared.registers.Place.TheVariants.{Memory}
 use Rattle.ghes_ack.specs.declared.maps.HandoverMap.{HandoverMap}
+use Rattle.ghes_ack.specs.declared.events.Side.{Side}
 use Rattle.ghes_ack.specs.declared.events.Event.{Event}
-use Rattle.ghes_ack.specs.Machine.{Machine, Situation, Filling, Published, Reading, Cleared, Acknowledged, Fits, with_status, turned, started, submitted, IsState}
+use Rattle.ghes_ack.specs.Machine.{Machine, Situation, Filling, Published, Reading, Cleared, Acknowledged, Fits, with_status, turned, turned_times, events_of_times, started, submitted, IsState}
 use Rattle.ghes_ack.specs.Maps.{HasWindows, ack_bytes, ack_mask, ack_read}
 use Rattle.ghes_ack.specs.Elsewhere.{SameInMap}
-use Rattle.ghes_ack.specs.Handovers.{HandoverState, AcksAre, StandsFor, IsTurned}
-use Rattle.ghes_ack.specs.Schedules.{Submit, Turn, Watched, after, run, from_start, events_of, AreFitting, Call, Submits, Turns, OthersWrite, Held, DoAll, steps_of, answers_of, HandsOver}
+use Rattle.ghes_ack.specs.Handovers.{HandoverState, AcksAre, StandsFor, IsTurned, AreTurned}
+use Rattle.ghes_ack.specs.Schedules.{Step, Submit, Turn, Watched, after, run, from_start, events_of, AreFitting, Call, Submits, Turns, ManyTurns, OthersWrite, Held, DoAll, steps_of, answers_of, HandsOver}
 use Rattle.ghes_ack.proofs.StepLemmas.{turn_keeps}
 use Rattle.ghes_ack.proofs.ScheduleLemmas.{watched_machine, run_taken, run_order, run_blocks}
 
@@ -59,6 +60,36 @@ record Goes (calls : List Call) (last : Held) (w : Watched) (len : ℕ) : Type 0
   events : answers_of calls ≡ events_of w (steps_of calls)
   fitting : AreFitting len (steps_of calls)
 
+-- so many turns of a side
+abbrev after_times : Side → ℕ → Watched → Watched
+after_times side zero w = w
+after_times side (suc k) w = after_times side k (after w (Turn side))
+
+after_machine : (side : Side) (w : Watched) → (after w (Turn side)).machine ≡ (turned side w.machine).1
+after_machine side w = watched_machine w (turned side w.machine).0 (turned side w.machine).1
+
+times_run : (side : Side) (k : ℕ) (w : Watched) (steps : List Step) → run w (replicate k (Turn side) ++ steps) ≡ run (after_times side k w) steps
+times_run side zero w steps = refl
+times_run side (suc k) w steps = times_run side k (after w (Turn side)) steps
+
+times_machine : (side : Side) (k : ℕ) (w : Watched) → (after_times side k w).machine ≡ turned_times side k w.machine
+times_machine side zero w = refl
+times_machine side (suc k) w = times_machine side k (after w (Turn side)) ∙ ap (turned_times side k) (after_machine side w)
+
+times_events : (side : Side) (k : ℕ) (w : Watched) (steps : List Step) → events_of w (replicate k (Turn side) ++ steps) ≡ events_of_times side k w.machine ++ events_of (after_times side k w) steps
+times_events side zero w steps = refl
+times_events side (suc k) w steps =
+    ap (λ (es : List Event). (turned side w.machine).0 ∷ es)
+    (times_events side k (after w (Turn side)) steps ∙ ap (λ (m : Machine). events_of_times side k m ++ events_of (after_times side k (after w (Turn side))) steps) (after_machine side w))
+
+times_fitting : (side : Side) (k len : ℕ) (steps : List Step) → AreFitting len steps → AreFitting len (replicate k (Turn side) ++ steps)
+times_fitting side zero len steps all = all
+times_fitting side (suc k) len steps all = times_fitting side k len steps all
+
+times_keep : (side : Side) (k len : ℕ) (m : Machine) → IsState len m → IsState len (turned_times side k m)
+times_keep side zero len m h = h
+times_keep side (suc k) len m h = times_keep side k len (turned side m).1 (turn_keeps len side m h)
+
 last_fits : (len : ℕ) (blocks : List (List ℕ)) (block : List ℕ) → All (Fits len) (blocks ++ block ∷ []) → Fits len block
 last_fits len blocks block all =
     let n = length-append blocks (block ∷ []) in
@@ -87,6 +118,18 @@ goes (Turns side event ∷ calls) first last w len n st (between, does, later) =
       stands = rest.stands;
       events = ap (λ (e : Event). e ∷ answers_of calls) t.event_is ∙ ap (λ (es : List Event). (turned side w.machine).0 ∷ es) rest.events;
       fitting = rest.fitting;
+    }
+goes (ManyTurns side events ∷ calls) first last w len n st (between, does, later) =
+    let t : AreTurned side (length events) events between.0 between.1 w.machine = does w.machine st in
+    let is : (after_times side (length events) w).machine ≡ turned_times side (length events) w.machine = times_machine side (length events) w in
+    let kept : IsState first.0.map.len (turned_times side (length events) w.machine) = times_keep side (length events) first.0.map.len w.machine st.state in
+    let wide : length (after_times side (length events) w).machine.window ≡ len = ap (λ (m : Machine). length m.window) is ∙ kept.window ∙ sym st.state.window ∙ n in
+    let here : StandsFor between.0 between.1 (after_times side (length events) w).machine = subst (StandsFor between.0 between.1) (sym is) t.stands in
+    let rest = goes calls between last (after_times side (length events) w) len wide here later in
+    record {
+      stands = subst (λ (x : Watched). StandsFor last.0 last.1 x.machine) (sym (times_run side (length events) w (steps_of calls))) rest.stands;
+      events = ap (λ (es : List Event). es ++ answers_of calls) t.events_are ∙ ap (λ (es : List Event). events_of_times side (length events) w.machine ++ es) rest.events ∙ sym (times_events side (length events) w (steps_of calls));
+      fitting = times_fitting side (length events) len (steps_of calls) rest.fitting;
     }
 goes (OthersWrite ∷ calls) first last w len n st (between, does, later) =
     let same : StandsFor first.0 between.1 w.machine = StandsFor-others first.0 first.1 between.1 w.machine does.1 st in

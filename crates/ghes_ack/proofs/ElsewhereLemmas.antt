@@ -18,10 +18,10 @@ use Rattle.ghes_ack.specs.Elsewhere.{IsOffBlock, IsOffMap, SameWhere}
 use Rattle.ghes_ack.proofs.MemoryLemmas.{ack_some, block_some, block_placed, ack_placed, status_placed, fits_in, stored_placed, bytes-stored_apart, disjoint_sym, length-window, HasWindows-with_ack, HasWindows-with_address}
 use Rattle.ghes_ack.proofs.EffectLemmas.{length-status}
 
-SameWhere-refl : (is_far : Place → ℕ → Type 0) (ram : RamState) → SameWhere is_far ram ram
+pub SameWhere-refl : (is_far : Place → ℕ → Type 0) (ram : RamState) → SameWhere is_far ram ram
 SameWhere-refl is_far ram = record { windows = refl; size = refl; waited = refl; bytes = λ at n far. refl }
 
-SameWhere-then : (is_far : Place → ℕ → Type 0) (a b c : RamState) → SameWhere is_far a b → SameWhere is_far b c → SameWhere is_far a c
+pub SameWhere-then : (is_far : Place → ℕ → Type 0) (a b c : RamState) → SameWhere is_far a b → SameWhere is_far b c → SameWhere is_far a c
 SameWhere-then is_far a b c x y = record {
   windows = y.windows ∙ x.windows;
   size = y.size ∙ x.size;

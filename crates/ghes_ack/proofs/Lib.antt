@@ -6,6 +6,8 @@ pub mod CallLemmas
 pub mod EffectLemmas
 pub mod RoomLemmas
 pub mod TurnLemmas
+pub mod RunLemmas
 pub mod SideLemmas
 pub mod ElsewhereLemmas
 pub mod StartLemmas
+pub mod WriteLemmas

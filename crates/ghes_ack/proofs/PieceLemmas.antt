@@ -138,24 +138,28 @@ hidden_behind block at n four le =
     part-append_right (zeros (min 4 (length block))) (drop 4 block) at (at - 4) n (omega (arith, z4, four))
     ∙ ap (take n) (drop-drop (at - 4) 4 block ∙ ap (λ (k : ℕ). drop k block) sum)
 
--- the first piece: zeros in the place of the status word, and the bytes behind it
-pub hidden_front : (block : List ℕ) (end word : ℕ) → end ≡ min (length block) 64 → word ≡ min end 4 →
-    zeros word ++ part block word (end - word) ≡ part (hidden block) 0 64
+-- the first bytes: zeros in the place of the status word, and the bytes behind it
+pub hidden_start : (block : List ℕ) (p end word : ℕ) → 4 ≤ p → end ≡ min (length block) p → word ≡ min end 4 →
+    zeros word ++ part block word (end - word) ≡ part (hidden block) 0 p
 unfolding part
-hidden_front block end word is_end is_word =
-    let same : word ≡ min 4 (length block) = omega arith in
+hidden_start block p end word four is_end is_word =
+    let same : word ≡ min 4 (length block) = omega (arith, four, is_end, is_word) in
     let n = length-hidden block in
-    let all : end ≡ min 64 (length (hidden block)) = omega (arith, n) in
+    let all : end ≡ min p (length (hidden block)) = omega (arith, n, is_end) in
     let long : length (zeros (min 4 (length block))) ≡ word = length-zeros (min 4 (length block)) ∙ sym same in
-    let sum : length (zeros (min 4 (length block))) + (end - word) ≡ end = omega (arith, long) in
+    let sum : length (zeros (min 4 (length block))) + (end - word) ≡ end = omega (arith, long, is_word) in
     ap (λ (k : ℕ). zeros k ++ take (end - word) (drop word block)) same
     ∙ ap (λ (x : List ℕ). zeros (min 4 (length block)) ++ x) (behind (cases_lt (length block) 4))
     ∙ sym (take-append-add (zeros (min 4 (length block))) (drop 4 block) (end - word))
     ∙ ap (λ (k : ℕ). take k (hidden block)) (sum ∙ all)
-    ∙ take_min 64 (hidden block) where
+    ∙ take_min p (hidden block) where
       behind : (length block < 4) ⊎ (4 ≤ length block) → take (end - word) (drop word block) ≡ take (end - word) (drop 4 block)
-      behind (inl short) = let none : end - word ≡ 0 = omega (arith, is_end, is_word) in rw none refl
-      behind (inr long) = let four : word ≡ 4 = omega (arith, is_end, is_word) in ap (λ (k : ℕ). take (end - word) (drop k block)) four
+      behind (inl short) = let none : end - word ≡ 0 = omega (arith, four, is_end, is_word) in rw none refl
+      behind (inr long) = let four : word ≡ 4 = omega (arith, four, is_end, is_word) in ap (λ (k : ℕ). take (end - word) (drop k block)) four
+
+pub hidden_front : (block : List ℕ) (end word : ℕ) → end ≡ min (length block) 64 → word ≡ min end 4 →
+    zeros word ++ part block word (end - word) ≡ part (hidden block) 0 64
+hidden_front block end word is_end is_word = hidden_start block 64 end word (omega arith) is_end is_word
 
 -- a copy of the first piece, with zeros over the status word
 pub hidden_copy : (block copy low : List ℕ) (end word : ℕ) → end ≡ min (length block) 64 → word ≡ min end 4 → copy ≡ take end block → low ≡ zeros (length (take word copy)) →

@@ -18,15 +18,15 @@ use Rattle.ghes_ack.specs.Maps.{HasAckBits, HasWindows, address_in, ack_read, wi
 use Rattle.ghes_ack.specs.Handovers.{HandoverState, fresh, StandsFor, reason, refusal}
 use Rattle.ghes_ack.specs.declared.submission.SubmitError.TheVariants.{Long, Trailing, Full}
 use Rattle.std.specs.VecDeque.{deque_len}
-use Rattle.ghes_ack.specs.Sides.{IsEmpty, Adds, AreConsistent, situation_of, state_of, whole_of, in_work}
+use Rattle.ghes_ack.specs.Sides.{IsEmpty, Adds, IsConsistent, situation_of, state_of, in_work}
 use Rattle.ghes_ack.proofs.StepLemmas.{start_is, submit_keeps}
 use Rattle.ghes_ack.proofs.ScheduleLemmas.{state_in_order}
 use Rattle.ghes_ack.proofs.MemoryLemmas.{length-window, window-with_window, address-with_window, address-with_ack, address-with_address, HasWindows-with_ack, HasWindows-with_address}
 use Rattle.ghes_ack.proofs.EffectLemmas.{windows_window, length-status}
 
 -- the two sides of a start, with no block
-pub fresh_is : (firm os : HandoverMap) (b : Blocks) → IsEmpty b → state_of (FirmHolds firm os) b ≡ fresh b.map
-fresh_is firm os b e =
+pub fresh_is : (b : Blocks) → IsEmpty b → state_of FirmHolds b ≡ fresh b.map
+fresh_is b e =
     let waiting : map (λ v. v.items) b.waiting.items ≡ [] = ap (map (λ v. v.items)) e.waiting in
     let work : in_work Filling b.at_work b.last ≡ None = ap (λ (o : Option (Vec ℕ Global)). in_work Filling o b.last) e.at_work in
     let filled = e.filled in
@@ -61,9 +61,9 @@ pub record IsBegun (at : HandoverMap) (h : HandoverState) (ram new : RamState) :
   pub fresh_is : h ≡ fresh at
   pub stands : StandsFor h new (started (window at ram))
 
-pub begun : (at firm os : HandoverMap) (b : Blocks) (ram new : RamState) → b.map ≡ at → IsEmpty b → HasWindows at ram → new ≡ memory_started at ram → IsSet at new → IsBegun at (state_of (FirmHolds firm os) b) ram new
-begun at firm os b ram new same e w is set =
-    let all : state_of (FirmHolds firm os) b ≡ fresh at = fresh_is firm os b e ∙ ap fresh same in
+pub begun : (at : HandoverMap) (b : Blocks) (ram new : RamState) → b.map ≡ at → IsEmpty b → HasWindows at ram → new ≡ memory_started at ram → IsSet at new → IsBegun at (state_of FirmHolds b) ram new
+begun at b ram new same e w is set =
+    let all : state_of FirmHolds b ≡ fresh at = fresh_is b e ∙ ap fresh same in
     record {
       fresh_is = all;
       stands = subst (λ (h : HandoverState). StandsFor h new (started (window at ram))) (sym all) (fresh_stands at ram new w is set);
@@ -124,23 +124,13 @@ submits h ram m block good st =
       last = st.last ∙ sym (get_or_append_left ([] ∷ m.blocks) (block ∷ []) [] m.taken (omega (arith, t, s)));
     }
 
--- the sides, their map and their blocks
-pub whole-map : (o : Option Ends) (b : Blocks) → (whole_of o b).map ≡ b.map
-whole-map None b = refl
-whole-map (Some ends) b = refl
-
-pub bits_of : (o : Option Ends) (b : Blocks) → AreConsistent o b → HasAckBits b.map
-bits_of None b all = absurd all
-bits_of (Some ends) b all = all.bits
-
-pub waiting_of : (o : Option Ends) (b : Blocks) → AreConsistent o b → length (whole_of o b).waiting ≡ deque_len b.waiting
-waiting_of None b all = absurd all
-waiting_of (Some ends) b all = length-map b.waiting.items (λ v. v.items) ∙ all.room.counted
+-- the blocks that wait
+pub waiting_of : (ends : Ends) (b : Blocks) → IsConsistent ends b → length (state_of ends b).waiting ≡ deque_len b.waiting
+waiting_of ends b all = length-map b.waiting.items (λ v. v.items) ∙ all.room.counted
 
 -- a block more
-pub added : (o : Option Ends) (b after : Blocks) (block : List ℕ) → AreConsistent o b → Adds b after block → whole_of o after ≡ record (whole_of o b) { waiting = (whole_of o b).waiting ++ block ∷ [] }
-added None b after block all a = absurd all
-added (Some ends) b after block all a =
+pub added : (ends : Ends) (b after : Blocks) (block : List ℕ) → Adds b after block → state_of ends after ≡ record (state_of ends b) { waiting = (state_of ends b).waiting ++ block ∷ [] }
+added ends b after block a =
     let waiting = a.waiting in
     let map_is = a.same.map in
     let filled = a.same.filled in

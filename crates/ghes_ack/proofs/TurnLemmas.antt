@@ -59,10 +59,10 @@ turns side event h after ram memory m n is st same memory_is stands =
     }
 
 -- a write of the window and nothing else
-written : (map : HandoverMap) (ram new : RamState) (bytes : List ℕ) → HasWindows map ram → length bytes ≡ map.len → new ≡ with_window map ram bytes → window map new ≡ bytes
+pub written : (map : HandoverMap) (ram new : RamState) (bytes : List ℕ) → HasWindows map ram → length bytes ≡ map.len → new ≡ with_window map ram bytes → window map new ≡ bytes
 written map ram new bytes w n is = ap (window map) is ∙ window-with_window map ram bytes w n
 
-written_only : (map : HandoverMap) (ram new : RamState) (bytes : List ℕ) → HasWindows map ram → length bytes ≡ map.len → new ≡ with_window map ram bytes → new ≡ with_window map ram (window map new)
+pub written_only : (map : HandoverMap) (ram new : RamState) (bytes : List ℕ) → HasWindows map ram → length bytes ≡ map.len → new ≡ with_window map ram bytes → new ≡ with_window map ram (window map new)
 written_only map ram new bytes w n is = is ∙ ap (with_window map ram) (sym (written map ram new bytes w n is))
 
 -- the firmware's block
@@ -291,23 +291,16 @@ part_of_whole : (w block : List ℕ) (at n : ℕ) → take (length block) w ≡ 
 part_of_whole w block at n whole le =
     ap (λ (i : ℕ). part w i n) (sym (zero-add at)) ∙ sym (part-part w 0 (length block) at n le) ∙ ap (λ (x : List ℕ). part x at n) (part-front w (length block) ∙ whole)
 
--- a copy of the next piece goes over the same bytes
-pub copies_same : (h : HandoverState) (ram : RamState) (block : List ℕ) → h.situation ≡ Reading → h.at_work ≡ Some block → 64 * h.copied < length block → Stands h ram →
-    put_at block (64 * h.copied) (part (window h.map ram) (64 * h.copied) (min 64 (length block - 64 * h.copied))) ≡ block
-copies_same h ram block now is more (m, st) =
+-- a copy of bytes goes over the same bytes
+pub copies_over : (h : HandoverState) (ram : RamState) (block : List ℕ) (at n : ℕ) → h.situation ≡ Reading → h.at_work ≡ Some block → 64 * h.copied < length block → at + n ≤ length block → Stands h ram →
+    put_at block at (part (window h.map ram) at n) ≡ block
+copies_over h ram block at n now is more inside (m, st) =
     let w = (work_is h ram m block is st).0 in
     let whole : take (length block) m.window ≡ block = subst (λ (b : List ℕ). take (length b) m.window ≡ b) w (reads_whole h ram m block now is more st).1.whole in
-    let n : ℕ = min 64 (length block - 64 * h.copied) in
-    let inside : 64 * h.copied + min 64 (length block - 64 * h.copied) ≤ length block = omega (arith, more) in
-    let piece : part (window h.map ram) (64 * h.copied) (min 64 (length block - 64 * h.copied)) ≡ part block (64 * h.copied) (min 64 (length block - 64 * h.copied)) =
-    ap (λ (x : List ℕ). part x (64 * h.copied) (min 64 (length block - 64 * h.copied))) (sym st.window_is)
-    ∙ part_of_whole m.window block (64 * h.copied) (min 64 (length block - 64 * h.copied)) whole inside in
-    let long : length (part (window h.map ram) (64 * h.copied) (min 64 (length block - 64 * h.copied))) ≡ min 64 (length block - 64 * h.copied) =
-    ap length piece ∙ length-part block (64 * h.copied) (min 64 (length block - 64 * h.copied)) inside in
-    let back : part block (64 * h.copied) (length (part (window h.map ram) (64 * h.copied) (min 64 (length block - 64 * h.copied)))) ≡ part (window h.map ram) (64 * h.copied) (min 64 (length block - 64 * h.copied)) =
-    ap (part block (64 * h.copied)) long ∙ sym piece in
-    sym (is_put_at block block (64 * h.copied) (part (window h.map ram) (64 * h.copied) (min 64 (length block - 64 * h.copied)))
-    (SameOutside-refl (64 * h.copied) (length (part (window h.map ram) (64 * h.copied) (min 64 (length block - 64 * h.copied)))) block) back)
+    let piece : part (window h.map ram) at n ≡ part block at n = ap (λ (x : List ℕ). part x at n) (sym st.window_is) ∙ part_of_whole m.window block at n whole inside in
+    let long : length (part (window h.map ram) at n) ≡ n = ap length piece ∙ length-part block at n inside in
+    let back : part block at (length (part (window h.map ram) at n)) ≡ part (window h.map ram) at n = ap (part block at) long ∙ sym piece in
+    sym (is_put_at block block at (part (window h.map ram) at n) (SameOutside-refl at (length (part (window h.map ram) at n)) block) back)
 
 -- what the reader does with the block at work, by two tests: more pieces follow the next one, and there is a next one
 abbrev reading_by : Machine → Bool → Bool → Turned

@@ -8,7 +8,7 @@ use Rattle.ghes_ack.specs.declared.events.Side.{Side}
 use Rattle.ghes_ack.specs.declared.events.Event.{Event}
 use Rattle.ghes_ack.specs.declared.submission.SubmitError.{SubmitError}
 use Rattle.ghes_ack.specs.declared.submission.SubmitError.TheVariants.{Long, Malformed, Trailing, Full}
-use Rattle.ghes_ack.specs.Machine.{Machine, Situation, Filling, Published, Reading, Cleared, Acknowledged, IsState, turned, last_taken, waiting_in}
+use Rattle.ghes_ack.specs.Machine.{Machine, Situation, Filling, Published, Reading, Cleared, Acknowledged, IsState, turned, turned_times, events_of_times, last_taken, waiting_in}
 use Rattle.ghes_ack.specs.Maps.{HasWindows, address_in, window, IsSet, IsClear}
 
 -- the blocks that wait, the one that is filled or published and not yet acknowledged, and the one taken last
@@ -56,6 +56,12 @@ pub record StandsFor (h : HandoverState) (ram : RamState) (m : Machine) : Type 0
 pub record IsTurned (side : Side) (event : Event) (after : HandoverState) (memory : RamState) (m : Machine) : Type 0 where
   pub event_is : event ≡ (turned side m).0
   pub stands : StandsFor after memory (turned side m).1
+
+-- so many turns of a side, from a state of the machine: the machine's events, and afterwards it stands for the machine's state
+-- after them
+pub record AreTurned (side : Side) (n : ℕ) (events : List Event) (after : HandoverState) (memory : RamState) (m : Machine) : Type 0 where
+  pub events_are : events ≡ events_of_times side n m
+  pub stands : StandsFor after memory (turned_times side n m)
 
 -- the first reason why a block is refused: none where it is exactly one block of at most the window's length, and fewer
 -- than 64 wait

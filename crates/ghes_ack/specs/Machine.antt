@@ -1,5 +1,5 @@
 -- The handover as a machine: blocks, pieces of 64 bytes and five situations.
-use Rattle.std.specs.Prelude.{◌≡◌, ℕ, ◌+◌, ◌-◌, ◌*◌, ◌/◌, ◌<◌, ◌≤◌, ◌⊎◌, Bool, true, false, min, nat_lt, ◌==◌, if◌then◌else◌, List, [], ◌∷◌, ◌++◌, length, take, drop, replicate, get_or, All}
+use Rattle.std.specs.Prelude.{◌≡◌, ℕ, zero, suc, ◌+◌, ◌-◌, ◌*◌, ◌/◌, ◌<◌, ◌≤◌, ◌⊎◌, Bool, true, false, min, nat_lt, ◌==◌, if◌then◌else◌, List, [], ◌∷◌, ◌++◌, length, take, drop, replicate, get_or, All}
 use Rattle.base_model.specs.Bytes.{part, spelled, number_at, put_at}
 use Rattle.ghes_ack.specs.declared.events.Side.{Side}
 use Rattle.ghes_ack.specs.declared.events.Side.TheVariants.{Firmware, Reader}
@@ -66,6 +66,10 @@ hidden block = zeros (min 4 (length block)) ++ drop 4 block
 abbrev pub with_piece : List ℕ → List ℕ → ℕ → List ℕ
 with_piece window block k = put_at window (64 * k) (part (hidden block) (64 * k) 64)
 
+-- n pieces, one behind the other
+abbrev pub with_pieces : List ℕ → List ℕ → ℕ → ℕ → List ℕ
+with_pieces window block k n = put_at window (64 * k) (part (hidden block) (64 * k) (64 * n))
+
 abbrev pub with_status : List ℕ → List ℕ → List ℕ
 with_status window word = put_at window 0 word
 
@@ -107,6 +111,15 @@ reader_turn m Acknowledged = (Nothing, m)
 abbrev pub turned : Side → Machine → Turned
 turned Firmware m = firmware_turn m m.situation
 turned Reader m = reader_turn m m.situation
+
+-- n turns of a side, one after another: the state afterwards, and their events
+abbrev pub turned_times : Side → ℕ → Machine → Machine
+turned_times side zero m = m
+turned_times side (suc n) m = turned_times side n (turned side m).1
+
+abbrev pub events_of_times : Side → ℕ → Machine → List Event
+events_of_times side zero m = []
+events_of_times side (suc n) m = (turned side m).0 ∷ events_of_times side n (turned side m).1
 
 -- a start, over a window
 abbrev pub started : List ℕ → Machine

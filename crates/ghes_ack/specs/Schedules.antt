@@ -1,5 +1,5 @@
 -- Whole schedules: lists of submissions and turns from a start.
-use Rattle.std.specs.Prelude.{◌≡◌, ℕ, ◌+◌, ◌-◌, ◌*◌, ◌≤◌, min, List, [], ◌∷◌, ◌++◌, length, take}
+use Rattle.std.specs.Prelude.{◌≡◌, ℕ, ◌+◌, ◌-◌, ◌*◌, ◌≤◌, min, List, [], ◌∷◌, ◌++◌, length, take, replicate}
 use Rattle.base_model.specs.Bytes.{part}
 use Rattle.apei_space.specs.RamState.{RamState}
 use Rattle.ghes_ack.specs.declared.events.Side.{Side}
@@ -7,7 +7,7 @@ use Rattle.ghes_ack.specs.declared.events.Event.{Event}
 use Rattle.ghes_ack.specs.declared.events.Event.TheVariants.{Idle, Fill, Publish, Free, Wait, Nothing, Found, Copied, Took, Clear, Ack}
 use Rattle.ghes_ack.specs.Machine.{Machine, Situation, Filling, Published, Reading, Cleared, Acknowledged, Fits, at_work, turned, started, submitted}
 use Rattle.ghes_ack.specs.Elsewhere.{SameInMap}
-use Rattle.ghes_ack.specs.Handovers.{HandoverState, StandsFor, IsTurned}
+use Rattle.ghes_ack.specs.Handovers.{HandoverState, StandsFor, IsTurned, AreTurned}
 
 -- what may happen to the machine
 pub data Step : Type 0 where
@@ -85,6 +85,7 @@ IsHeld Acknowledged = ⊥
 pub data Call : Type 0 where
   Submits : List ℕ → Call
   Turns : Side → Event → Call
+  ManyTurns : Side → List Event → Call
   OthersWrite : Call
 
 -- a handover with its memory
@@ -96,6 +97,7 @@ abbrev pub Does : Call → Held → Held → Type 0
 Does (Submits block) old new =
     (new.1 ≡ old.1) × ((ram : RamState) (m : Machine) → StandsFor old.0 ram m → StandsFor new.0 ram (submitted m block))
 Does (Turns side event) old new = (m : Machine) → StandsFor old.0 old.1 m → IsTurned side event new.0 new.1 m
+Does (ManyTurns side events) old new = (m : Machine) → StandsFor old.0 old.1 m → AreTurned side (length events) events new.0 new.1 m
 Does OthersWrite old new = (new.0 ≡ old.0) × SameInMap old.0.map old.1 new.1
 
 abbrev pub DoAll : List Call → Held → Held → Type 0
@@ -107,12 +109,14 @@ abbrev pub steps_of : List Call → List Step
 steps_of [] = []
 steps_of (Submits block ∷ calls) = Submit block ∷ steps_of calls
 steps_of (Turns side event ∷ calls) = Turn side ∷ steps_of calls
+steps_of (ManyTurns side events ∷ calls) = replicate (length events) (Turn side) ++ steps_of calls
 steps_of (OthersWrite ∷ calls) = steps_of calls
 
 abbrev pub answers_of : List Call → List Event
 answers_of [] = []
 answers_of (Submits block ∷ calls) = answers_of calls
 answers_of (Turns side event ∷ calls) = event ∷ answers_of calls
+answers_of (ManyTurns side events ∷ calls) = events ++ answers_of calls
 answers_of (OthersWrite ∷ calls) = answers_of calls
 
 -- after some calls from a start: the handover stands for the machine that made the same steps, it answered the machine's

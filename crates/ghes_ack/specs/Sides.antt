@@ -1,33 +1,27 @@
 -- The two sides and the blocks of a handover, and what they are together.
-use Rattle.std.specs.Prelude.{◌≡◌, ℕ, ◌+◌, ◌*◌, ◌<◌, ◌≤◌, List, Vec, Option, Some, None, option_to_list, [], ◌∷◌, ◌++◌, ◌^◌, length, map, All, vec_len, vec_capacity}
+use Rattle.std.specs.Prelude.{◌≡◌, ℕ, ◌+◌, ◌*◌, ◌<◌, ◌≤◌, List, Vec, Option, Some, None, option_to_list, [], ◌∷◌, ◌++◌, ◌^◌, length, get_or, map, All, vec_len, vec_capacity}
 use Rattle.std.specs.VecDeque.{deque_len, deque_capacity}
 use Rattle.std.specs.declared.alloc.Global.{Global}
 use Rattle.apei_space.specs.RamState.{RamState}
 use Rattle.ghes_ack.specs.declared.maps.HandoverMap.{HandoverMap}
 use Rattle.ghes_ack.specs.declared.events.Side.{Side}
 use Rattle.ghes_ack.specs.declared.events.Event.{Event}
+use Rattle.ghes_ack.specs.declared.events.Event.TheVariants.{Idle}
+use Rattle.ghes_ack.specs.Elsewhere.{SameWhere, IsOffBlock}
 use Rattle.ghes_ack.specs.declared.ends.Ends.{Ends}
 use Rattle.ghes_ack.specs.declared.ends.Ends.TheVariants.{FirmHolds, Shown, OsHolds, Emptied, Returned}
 use Rattle.ghes_ack.specs.declared.blocks.Blocks.{Blocks}
 use Rattle.ghes_ack.specs.Machine.{Machine, Situation, Filling, Published, Reading, Cleared, Acknowledged}
 use Rattle.ghes_ack.specs.Maps.{HasAckBits, window, memory_after}
-use Rattle.ghes_ack.specs.Handovers.{HandoverState, fresh, StandsFor, IsTurned}
+use Rattle.ghes_ack.specs.Handovers.{HandoverState, StandsFor, IsTurned, AreTurned}
 
--- the two sides in each situation
+-- where the two sides stand
 abbrev pub situation_of : Ends → Situation
-situation_of (FirmHolds firm os) = Filling
-situation_of (Shown firm os) = Published
-situation_of (OsHolds firm os) = Reading
-situation_of (Emptied firm os) = Cleared
-situation_of (Returned firm os) = Acknowledged
-
--- both sides are of one map
-abbrev pub AreSides : HandoverMap → Ends → Type 0
-AreSides at (FirmHolds firm os) = (firm ≡ at) × (os ≡ at)
-AreSides at (Shown firm os) = (firm ≡ at) × (os ≡ at)
-AreSides at (OsHolds firm os) = (firm ≡ at) × (os ≡ at)
-AreSides at (Emptied firm os) = (firm ≡ at) × (os ≡ at)
-AreSides at (Returned firm os) = (firm ≡ at) × (os ≡ at)
+situation_of FirmHolds = Filling
+situation_of Shown = Published
+situation_of OsHolds = Reading
+situation_of Emptied = Cleared
+situation_of Returned = Acknowledged
 
 -- the block at work: once it is copied whole it is the one taken last
 abbrev pub in_work : Situation → Option (Vec ℕ Global) → Vec ℕ Global → Option (List ℕ)
@@ -81,34 +75,36 @@ IsCopiedSoFar copied None last = length last.items ≤ 64 * copied
 IsCopiedSoFar copied (Some block) last = 64 * copied < length block.items
 
 abbrev pub IsUnderWay : Ends → Blocks → Type 0
-IsUnderWay (FirmHolds firm os) b = Unit {0}
-IsUnderWay (Shown firm os) b = count_of b.at_work ≡ 1
-IsUnderWay (OsHolds firm os) b = IsCopiedSoFar b.copied b.at_work b.last
-IsUnderWay (Emptied firm os) b = b.at_work ≡ None
-IsUnderWay (Returned firm os) b = b.at_work ≡ None
+IsUnderWay FirmHolds b = Unit {0}
+IsUnderWay Shown b = count_of b.at_work ≡ 1
+IsUnderWay OsHolds b = IsCopiedSoFar b.copied b.at_work b.last
+IsUnderWay Emptied b = b.at_work ≡ None
+IsUnderWay Returned b = b.at_work ≡ None
 
 -- the sides and the blocks belong together
 pub record IsConsistent (ends : Ends) (b : Blocks) : Type 0 where
   pub bits : HasAckBits b.map
   pub short : b.map.len < 2 ^ 32
-  pub sides : AreSides b.map ends
   pub room : HasRoom 0 b
   pub under_way : IsUnderWay ends b
-
--- the two sides are always there between two calls
-abbrev pub whole_of : Option Ends → Blocks → HandoverState
-whole_of None b = fresh b.map
-whole_of (Some ends) b = state_of ends b
-
-abbrev pub AreConsistent : Option Ends → Blocks → Type 0
-AreConsistent None b = ⊥
-AreConsistent (Some ends) b = IsConsistent ends b
 
 -- a turn, for each state that it stood for, and what it leaves of the memory
 pub record Turns (side : Side) (event : Event) (old : HandoverState) (ram : RamState) (after : HandoverState) (memory : RamState) (m : Machine) : Type 0 where
   pub turned : IsTurned side event after memory m
   pub map : after.map ≡ old.map
   pub memory_is : memory ≡ memory_after old.map event ram (window old.map memory)
+
+-- turns of a side, one after another, that leave of the memory what one of their first event leaves: one turn, or pieces
+pub record Runs (side : Side) (events : List Event) (old : HandoverState) (ram : RamState) (after : HandoverState) (memory : RamState) (m : Machine) : Type 0 where
+  pub turned : AreTurned side (length events) events after memory m
+  pub map : after.map ≡ old.map
+  pub memory_is : memory ≡ memory_after old.map (get_or events 0 Idle) ram (window old.map memory)
+
+-- turns of a side, one after another
+pub record MakesTurns (side : Side) (events : List Event) (old : HandoverState) (ram : RamState) (after : HandoverState) (memory : RamState) (m : Machine) : Type 0 where
+  pub turned : AreTurned side (length events) events after memory m
+  pub map : after.map ≡ old.map
+  pub elsewhere : SameWhere (IsOffBlock old.map) ram memory
 
 -- it stands for some state: this is its memory, which only it wrote
 abbrev pub Stands : HandoverState → RamState → Type 0

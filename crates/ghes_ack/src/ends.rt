@@ -1,37 +1,16 @@
 // Where the two sides of a handover stand.
-use crate::states::{AwaitAck, Cleared, FirmBlock, OsBlock, OsIdle, stop};
 
-/// The two sides, in each of the five situations of a handover.
+/// The five situations of a handover: the states of its two sides, which are made of its map for each access.
+#[derive(Clone, Copy, Debug, PartialEq, Eq)]
 pub enum Ends {
     /// The firmware fills the block, or waits for one.
-    FirmHolds(FirmBlock, OsIdle),
+    FirmHolds,
     /// The block is published.
-    Shown(AwaitAck, OsIdle),
+    Shown,
     /// The reader reads the block.
-    OsHolds(AwaitAck, OsBlock),
+    OsHolds,
     /// The reader has cleared the block status.
-    Emptied(AwaitAck, Cleared),
+    Emptied,
     /// The reader has acknowledged.
-    Returned(AwaitAck, OsIdle),
-}
-
-impl Ends {
-    /// Spends both sides.
-    pub fn spend(self) {
-        match self {
-            Ends::FirmHolds(firm, idle) => stop(firm, idle),
-            Ends::Shown(wait, idle) | Ends::Returned(wait, idle) => {
-                wait.give_up();
-                idle.give_up();
-            }
-            Ends::OsHolds(wait, block) => {
-                wait.give_up();
-                block.give_up();
-            }
-            Ends::Emptied(wait, cleared) => {
-                wait.give_up();
-                cleared.give_up();
-            }
-        }
-    }
+    Returned,
 }

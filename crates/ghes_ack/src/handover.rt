@@ -4,16 +4,15 @@ ghost use Rattle.apei_space.specs.RamState.{RamState};
 ghost use Rattle.ghes_ack.specs.Machine.{Machine, started, submitted, waiting_in, is_idle};
 ghost use Rattle.ghes_ack.specs.Maps.{HasAckBits, HasWindows, window, memory_started, memory_after};
 ghost use Rattle.ghes_ack.specs.Elsewhere.{SameWhere, IsOffMap, IsOffBlock};
-ghost use Rattle.ghes_ack.specs.Handovers.{StandsFor, IsTurned, fresh, refusal};
-ghost use Rattle.ghes_ack.specs.Sides.{Stands, Turns};
+ghost use Rattle.ghes_ack.specs.Handovers.{StandsFor, IsTurned, AreTurned, fresh, refusal};
 
 use crate::blocks::{Blocks, WAITING};
 use crate::ends::Ends;
 use crate::events::{Event, Side};
 use crate::maps::HandoverMap;
-use crate::states::start;
+use crate::states::{start, stop};
 use crate::submission::SubmitError;
-use crate::turns::{piece_turn, turn_of};
+use crate::turns::{all_turns, piece_turn, run_of};
 use apei_bytes::Memory;
 use apei_space::Ram;
 use ghes_block::Block;
@@ -22,20 +21,19 @@ use std::marker::Model;
 
 /// Both sides of a handover, and the blocks that the firmware hands over. It may not be dropped: `end` spends it.
 pub struct Handover {
-    /// Always there between two calls.
-    ends: Option<Ends>,
+    ends: Ends,
     blocks: Blocks,
 }
 
 impl Model for Handover {
     ghost use Rattle.ghes_ack.specs.Handovers.{HandoverState};
-    ghost use Rattle.ghes_ack.specs.Sides.{whole_of, AreConsistent};
+    ghost use Rattle.ghes_ack.specs.Sides.{state_of, IsConsistent};
 
     ghost Value = { HandoverState };
 
-    ghost view = { λ handover. whole_of handover.ends handover.blocks };
+    ghost view = { λ handover. state_of handover.ends handover.blocks };
 
-    ghost invariant = { λ handover. AreConsistent handover.ends handover.blocks };
+    ghost invariant = { λ handover. IsConsistent handover.ends handover.blocks };
 }
 
 impl Handover {
@@ -52,8 +50,9 @@ impl Handover {
     {
         let blocks = Blocks::new(alloc, map)?;
         let (firm, idle) = start(map, ram);
+        stop(firm, idle);
         Ok(Handover {
-            ends: Some(Ends::FirmHolds(firm, idle)),
+            ends: Ends::FirmHolds,
             blocks,
         })
     }
@@ -95,37 +94,23 @@ impl Handover {
         ensures elsewhere { SameWhere (IsOffBlock self.old.map) ram.old ram.new }
         ensures map { self.new.map ≡ self.old.map }
     {
-        match self.moves_piece(side, ram) {
-            Some(event) => event,
-            None => self.changes_sides(side, ram),
+        if let Some(event) = piece_turn(side, self.ends, &mut self.blocks, ram) {
+            return event;
         }
+        let mut events = [Event::Idle; 1];
+        let (ends, _) = run_of(side, self.ends, &mut self.blocks, &mut events, ram);
+        self.ends = ends;
+        events[0]
     }
 
-    /// A turn that moves one piece, made in place; `None` where the turn is another one, and nothing is done then.
-    fn moves_piece(&mut self, side: Side, ram: &mut Ram) -> Option<Event>
-        requires { Stands self.old ram.old }
-        ensures { MatchOption result
-            ((self.new ≡ self.old) × (ram.new ≡ ram.old))
-            (λ event. (m : Machine) → StandsFor self.old ram.old m → Turns side event self.old ram.old self.new ram.new m) }
+    /// As many turns of a side as there are places for their events, over the memory that it was begun with.
+    pub fn turns(&mut self, side: Side, events: &mut [Event], ram: &mut Ram)
+        requires { (m : Machine) × StandsFor self.old ram.old m }
+        ensures turned { (m : Machine) → StandsFor self.old ram.old m → AreTurned side (length events.old) events.new self.new ram.new m }
+        ensures elsewhere { SameWhere (IsOffBlock self.old.map) ram.old ram.new }
+        ensures map { self.new.map ≡ self.old.map }
     {
-        match &mut self.ends {
-            Some(ends) => piece_turn(side, ends, &mut self.blocks, ram),
-            None => None,
-        }
-    }
-
-    /// Any turn, for which both sides are taken out and put back.
-    #[inline(never)]
-    fn changes_sides(&mut self, side: Side, ram: &mut Ram) -> Event
-        requires { Stands self.old ram.old }
-        ensures { (m : Machine) → StandsFor self.old ram.old m → Turns side result self.old ram.old self.new ram.new m }
-    {
-        let Some(ends) = self.ends.take() else {
-            unreachable!();
-        };
-        let (next, event) = turn_of(side, ends, &mut self.blocks, ram);
-        put_back(&mut self.ends, next);
-        event
+        self.ends = all_turns(side, self.ends, &mut self.blocks, events, ram);
     }
 
     /// The block taken last since the start, empty where none was.
@@ -139,11 +124,9 @@ impl Handover {
     pub fn reader_idle(&self) -> bool
         ensures { result ≡ is_idle self.now.situation }
     {
-        match &self.ends {
-            Some(Ends::OsHolds(..)) | Some(Ends::Emptied(..)) => false,
-            Some(Ends::FirmHolds(..)) | Some(Ends::Shown(..)) | Some(Ends::Returned(..)) | None => {
-                true
-            }
+        match self.ends {
+            Ends::OsHolds | Ends::Emptied => false,
+            Ends::FirmHolds | Ends::Shown | Ends::Returned => true,
         }
     }
 
@@ -155,30 +138,14 @@ impl Handover {
         ensures memory { ram.new ≡ memory_started self.old.map ram.old }
         ensures elsewhere { SameWhere (IsOffMap self.old.map) ram.old ram.new }
     {
-        if let Some(ends) = self.ends.take() {
-            ends.spend();
-        }
         self.blocks.forget();
         let (firm, idle) = start(self.blocks.map, ram);
-        put_back(&mut self.ends, Ends::FirmHolds(firm, idle));
+        stop(firm, idle);
+        self.ends = Ends::FirmHolds;
     }
 
-    /// Spends the handover with both its sides, in any situation.
+    /// Spends the handover, in any situation.
     pub fn end(self) {
-        let Handover { ends, blocks: _ } = self;
-        if let Some(ends) = ends {
-            ends.spend();
-        }
-    }
-}
-
-/// Puts the sides to their empty place.
-fn put_back(place: &mut Option<Ends>, ends: Ends)
-    requires { place.old ≡ None }
-    ensures { place.new ≡ Some ends }
-{
-    match place.replace(ends) {
-        None => {}
-        Some(_old) => unreachable!(),
+        let Handover { ends: _, blocks: _ } = self;
     }
 }

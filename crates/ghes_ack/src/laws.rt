@@ -28,7 +28,7 @@ pub fn nothing_while_held()
     ensures { (m : Machine) → IsHeld m.situation → (turned OfFirmware m).1 ≡ m }
 {}
 
-/// What `new`, `restart`, `submit` and `turn` say, put together: after any list of calls from a start, with anything that
+/// What `new`, `restart`, `submit`, `turn` and `turns` say, put together: after any list of calls from a start, with anything that
 /// others write elsewhere between them, the handover stands for the machine that made the same steps, and its turns answered
 /// the machine's events.
 pub fn every_list_of_calls()

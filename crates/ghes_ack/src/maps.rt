@@ -1,11 +1,12 @@
 // The windows of a handover in memory.
-ghost use Rattle.std.specs.Prelude.{◌≡◌, ◌+◌, ◌*◌, ◌%◌, ◌^◌, ◌<◌, ◌≤◌, length, min, IsTrue, ◌↔◌};
+ghost use Rattle.std.specs.Prelude.{◌≡◌, ◌+◌, ◌-◌, ◌*◌, ◌%◌, ◌^◌, ◌<◌, ◌≤◌, length, take, min, IsTrue, ◌↔◌};
 ghost use Rattle.base_model.specs.Bytes.{part, put_at, spelled};
 ghost use Rattle.apei_gas.specs.Access.{bits};
-ghost use Rattle.ghes_ack.specs.Machine.{with_piece};
+ghost use Rattle.ghes_ack.specs.Machine.{with_piece, with_pieces, with_status};
 ghost use Rattle.ghes_ack.specs.Maps.{HasAckBits, HasWindows, IsSet, IsClear, ack_mask, kept_mask, ack_read, window, status_word, with_window, with_ack, with_address, with_set, with_clear, acknowledged};
 
-use crate::pieces::copy_hidden;
+use crate::pieces::{PIECE, copy_hidden};
+use apei_bytes::get_u32;
 use apei_gas::{Place, Register, Width};
 use apei_space::{Ram, Space};
 
@@ -136,6 +137,55 @@ impl HandoverMap {
         ensures { ram.new ≡ with_window self.now ram.old (put_at (window self.now ram.old) at bytes.now) }
     {
         let _ = ram.write_bytes(self.block + at, bytes);
+    }
+
+    /// Writes the piece of 64 bytes with this number, the last one shorter, with a block status of 0.
+    #[inline(always)]
+    pub(crate) fn fill(&self, ram: &mut Ram, block: &[u8], piece: u32)
+        requires windows { HasWindows self.now ram.old }
+        requires fits { length block.now ≤ self.now.len }
+        requires begins { 64 * piece < length block.now }
+        ensures { ram.new ≡ with_window self.now ram.old (with_piece (window self.now ram.old) block.now piece) }
+    {
+        let at = PIECE * piece as usize;
+        let end = block.len().min(at + PIECE);
+        if piece == 0 {
+            self.write_first(ram, block, &mut [0; PIECE][..end]);
+        } else {
+            self.write_part(ram, at as u64, &block[at..end]);
+        }
+    }
+
+    /// Writes so many pieces from this one on, with a block status of 0.
+    #[inline(always)]
+    pub(crate) fn fill_more(&self, ram: &mut Ram, block: &[u8], piece: u32, count: usize)
+        requires windows { HasWindows self.now ram.old }
+        requires head { 20 ≤ length block.now }
+        requires fits { length block.now ≤ self.now.len }
+        requires begins { 64 * piece < length block.now }
+        requires some { 0 < count }
+        requires few { 64 * count < length block.now - 64 * piece + 64 }
+        ensures { ram.new ≡ with_window self.now ram.old (with_pieces (window self.now ram.old) block.now piece count) }
+    {
+        let at = PIECE * piece as usize;
+        let end = block.len().min(at + PIECE * count);
+        if piece == 0 {
+            self.hide(ram);
+            self.write_part(ram, 4, &block[4..end]);
+        } else {
+            self.write_part(ram, at as u64, &block[at..end]);
+        }
+    }
+
+    /// Clears the acknowledge bits, and then shows the block by its block status.
+    pub(crate) fn publish(&self, ram: &mut Ram, block: &[u8])
+        requires windows { HasWindows self.now ram.old }
+        requires head { 20 ≤ length block.now }
+        ensures memory { ram.new ≡ with_window self.now (with_ack self.now ram.old (with_clear self.now (ack_read self.now ram.old))) (with_status (window self.now ram.old) (take 4 block.now)) }
+        ensures clear { IsClear self.now ram.new }
+    {
+        self.clear_ack(ram);
+        self.show(ram, get_u32(block, 0));
     }
 
     /// Writes the first piece of a block, its status word as 0. The buffer is as long as the piece.

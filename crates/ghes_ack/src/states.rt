@@ -5,8 +5,6 @@ ghost use Rattle.ghes_ack.specs.Machine.{with_piece, with_status};
 ghost use Rattle.ghes_ack.specs.Maps.{HasAckBits, HasWindows, IsSet, IsClear, ack_read, window, status_word, with_window, with_ack, with_clear, acknowledged, memory_started};
 
 use crate::maps::HandoverMap;
-use crate::pieces::PIECE;
-use apei_bytes::get_u32;
 use apei_space::Ram;
 use std::marker::Model;
 
@@ -105,13 +103,7 @@ impl FirmBlock {
         ensures memory { ram.new ≡ with_window self.old ram.old (with_piece (window self.old ram.old) block.now piece) }
         ensures same { self.new ≡ self.old }
     {
-        let at = PIECE * piece as usize;
-        let end = block.len().min(at + PIECE);
-        if piece == 0 {
-            self.map.write_first(ram, block, &mut [0; PIECE][..end]);
-        } else {
-            self.map.write_part(ram, at as u64, &block[at..end]);
-        }
+        self.map.fill(ram, block, piece);
     }
 
     /// Clears the acknowledge bits, and then shows the block by its block status.
@@ -126,8 +118,7 @@ impl FirmBlock {
         ensures map { result ≡ self }
     {
         let FirmBlock { map } = self;
-        map.clear_ack(ram);
-        map.show(ram, get_u32(block, 0));
+        map.publish(ram, block);
         AwaitAck { map }
     }
 }
@@ -195,30 +186,5 @@ impl Cleared {
         let Cleared { map } = self;
         map.acknowledge(ram);
         OsIdle { map }
-    }
-}
-
-impl AwaitAck {
-    /// Spends it in the middle of a handover.
-    pub(crate) fn give_up(self) {
-        let AwaitAck { map: _ } = self;
-    }
-}
-
-impl OsIdle {
-    pub(crate) fn give_up(self) {
-        let OsIdle { map: _ } = self;
-    }
-}
-
-impl OsBlock {
-    pub(crate) fn give_up(self) {
-        let OsBlock { map: _ } = self;
-    }
-}
-
-impl Cleared {
-    pub(crate) fn give_up(self) {
-        let Cleared { map: _ } = self;
     }
 }

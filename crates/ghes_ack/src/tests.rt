@@ -87,6 +87,13 @@ fn restart(handover: &mut Handover, ram: &mut Ram)
     handover.restart(ram);
 }
 
+fn turns(handover: &mut Handover, ram: &mut Ram, side: Side, events: &mut [Event])
+    requires { Stands handover.old ram.old }
+    ensures { Stands handover.new ram.new }
+{
+    handover.turns(side, events, ram);
+}
+
 /// The turns of a script line.
 fn play<const N: usize>(
     rt: &impl Abort,
@@ -105,6 +112,29 @@ fn play<const N: usize>(
         };
         assert_eq!(rt; turn(handover, ram, side), *event);
     }
+}
+
+#[test]
+fn many_turns_in_one_call(rt: HostRuntime) -> Result<(), Fail> {
+    let mut ram = memory(rt.alloc())?;
+    let mut handover = begun(rt.alloc(), &mut ram)?;
+    assert_eq!(rt; submit(&mut handover, &ram, &CORRECTED), Ok(1));
+    let mut events = [Event::Idle; 4];
+    turns(&mut handover, &mut ram, Side::Firmware, &mut events);
+    assert!(rt; events == [Event::Fill, Event::Fill, Event::Publish, Event::Wait]);
+    let mut events = [Event::Idle; 2];
+    turns(&mut handover, &mut ram, Side::Reader, &mut events);
+    assert!(rt; events == [Event::Found, Event::Copied]);
+    let mut events = [Event::Idle; 4];
+    turns(&mut handover, &mut ram, Side::Reader, &mut events);
+    assert!(rt; events == [Event::Took, Event::Clear, Event::Ack, Event::Nothing]);
+    assert_eq!(rt; handover.taken(), CORRECTED.as_slice());
+    turns(&mut handover, &mut ram, Side::Reader, &mut []);
+    let mut events = [Event::Wait; 2];
+    turns(&mut handover, &mut ram, Side::Firmware, &mut events);
+    assert!(rt; events == [Event::Free, Event::Idle]);
+    handover.end();
+    Ok(())
 }
 
 #[test]

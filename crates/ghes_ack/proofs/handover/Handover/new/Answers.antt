@@ -6,7 +6,7 @@ use Rattle.ghes_ack.proofs.handover.Handover.new.Goals as goal
 
 pub returns-clause-stands : goal.returns-clause-stands
 returns-clause-stands c =
-    (begun c.args.map c.start-firm.result.0 c.start-firm.result.1 c.in_ok-blocks.blocks c.args.ram.now c.start-firm.new.ram c.in_ok-blocks.ensures.map c.in_ok-blocks.ensures.empty c.requires.windows c.start-firm.ensures.memory
+    (begun c.args.map c.in_ok-blocks.blocks c.args.ram.now c.start-firm.new.ram c.in_ok-blocks.ensures.map c.in_ok-blocks.ensures.empty c.requires.windows c.start-firm.ensures.memory
     (c.start-firm.ensures.set c.requires.bits)).stands
 
 pub returns-clause-elsewhere : goal.returns-clause-elsewhere

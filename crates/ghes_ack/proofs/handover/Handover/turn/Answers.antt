@@ -1,13 +1,14 @@
-use Rattle.std.proofs.Common.{◌≡◌, sym, subst}
+use Rattle.std.proofs.Common.{◌≡◌, ◌∙◌, ℕ, ◌<◌, ◌≤◌, List, [], ◌∷◌, length, take, get_or, slice_index_or, refl, sym, ap, subst, arith}
 use Rattle.apei_space.specs.RamState.{RamState}
 use Rattle.ghes_ack.specs.declared.maps.HandoverMap.{HandoverMap}
 use Rattle.ghes_ack.specs.declared.events.Side.{Side}
 use Rattle.ghes_ack.specs.declared.events.Event.{Event}
+use Rattle.ghes_ack.specs.declared.events.Event.TheVariants.{Idle}
 use Rattle.ghes_ack.specs.Machine.{Machine}
 use Rattle.ghes_ack.specs.Maps.{HasWindows}
 use Rattle.ghes_ack.specs.Elsewhere.{SameWhere, IsOffBlock}
 use Rattle.ghes_ack.specs.Handovers.{HandoverState, StandsFor}
-use Rattle.ghes_ack.specs.Sides.{Turns}
+use Rattle.ghes_ack.specs.Sides.{Turns, Runs, state_of}
 use Rattle.ghes_ack.proofs.ElsewhereLemmas.{elsewhere_left}
 use Rattle.ghes_ack.proofs.handover.Handover.turn.Goals as goal
 
@@ -17,19 +18,46 @@ elsewhere side event old ram new memory m st t =
     let after : HasWindows old.map memory = subst (λ (at : HandoverMap). HasWindows at memory) t.map t.turned.stands.windows in
     elsewhere_left old.map event ram memory st.windows after t.memory_is
 
+-- it stands for the same where nothing was done
+here : (first old : HandoverState) (between ram : RamState) (m : Machine) → first ≡ old → between ≡ ram → StandsFor old ram m → StandsFor first between m
+here first old between ram m same still st = subst (λ (h : HandoverState). StandsFor h between m) (sym same) (subst (λ (r : RamState). StandsFor old r m) (sym still) st)
+
 -- the same after nothing was done
-elsewhere_then : (side : Side) (event : Event) (old : HandoverState) (ram : RamState) (first : HandoverState) (between : RamState) (new : HandoverState) (memory : RamState) (m : Machine) → (first ≡ old) × (between ≡ ram) →
-    StandsFor old ram m → (StandsFor first between m → Turns side event first between new memory m) → SameWhere (IsOffBlock old.map) ram memory
-elsewhere_then side event old ram first between new memory m same st turns =
-    let here = turns (subst (λ (h : HandoverState). StandsFor h between m) (sym same.0) (subst (λ (r : RamState). StandsFor old r m) (sym same.1) st)) in
+elsewhere_then : (side : Side) (event : Event) (first old : HandoverState) (between ram : RamState) (new : HandoverState) (memory : RamState) (m : Machine) → first ≡ old → between ≡ ram →
+    StandsFor old ram m → Turns side event first between new memory m → SameWhere (IsOffBlock old.map) ram memory
+elsewhere_then side event first old between ram new memory m same still st t =
     elsewhere side event old ram new memory m st
-    (subst (λ (h : HandoverState). Turns side event h ram new memory m) same.0 (subst (λ (r : RamState). Turns side event first r new memory m) same.1 here))
+    (subst (λ (h : HandoverState). Turns side event h ram new memory m) same (subst (λ (r : RamState). Turns side event first r new memory m) still t))
+
+-- a run with one place for events is one turn
+one_turn : (side : Side) (n : ℕ) (events : List Event) (h : HandoverState) (ram : RamState) (after : HandoverState) (memory : RamState) (m : Machine) → 0 < n → n ≤ 1 → length events ≡ 1 → Runs side (take n events) h ram after memory m →
+    Turns side (slice_index_or events 0 Idle) h ram after memory m
+one_turn side n [] h ram after memory m some few one run = absurd (omega (arith, one))
+one_turn side n (e ∷ []) h ram after memory m some few one run =
+    let is : n ≡ 1 = omega (arith, some, few) in
+    let r : Runs side (e ∷ []) h ram after memory m = subst (λ (k : ℕ). Runs side (take k (e ∷ [])) h ram after memory m) is run in
+    record {
+      turned = record { event_is = ap (λ (es : List Event). get_or es 0 Idle) r.turned.events_are; stands = r.turned.stands };
+      map = r.map;
+      memory_is = r.memory_is;
+    }
+one_turn side n (e ∷ f ∷ es) h ram after memory m some few one run = absurd (omega (arith, one))
 
 pub returns-in-Some-clause-elsewhere : goal.returns-in-Some-clause-elsewhere
 returns-in-Some-clause-elsewhere c =
-    elsewhere c.args.side c.in-Some.event c.args.self.now c.args.ram.now c.moves_piece.new.self c.moves_piece.new.ram c.requires.0 c.requires.1 (c.in-Some.ensures c.requires.0 c.requires.1)
+    elsewhere_then c.args.side c.in-Some.event (state_of c.self.inside.ends c.self.inside.blocks) c.args.self.now c.args.ram.now c.args.ram.now (state_of c.self.inside.ends c.piece_turn.new.blocks) c.piece_turn.new.ram c.requires.0 c.self.view_is refl c.requires.1
+    (c.in-Some.ensures.turns c.requires.0 (here (state_of c.self.inside.ends c.self.inside.blocks) c.args.self.now c.args.ram.now c.args.ram.now c.requires.0 c.self.view_is refl c.requires.1))
 
-pub returns-in-None-clause-elsewhere : goal.returns-in-None-clause-elsewhere
-returns-in-None-clause-elsewhere c =
-    elsewhere_then c.args.side c.changes_sides.result c.args.self.now c.args.ram.now c.moves_piece.new.self c.moves_piece.new.ram c.changes_sides.new.self c.changes_sides.new.ram c.requires.0 c.in-None.ensures c.requires.1
-    (c.changes_sides.ensures c.requires.0)
+pub returns-clause-turned : goal.returns-clause-turned
+returns-clause-turned c =
+    λ m st. (one_turn c.args.side c.run_of-ends.result.1 c.run_of-ends.new.events (state_of c.self.inside.ends c.piece_turn.new.blocks) c.piece_turn.new.ram (state_of c.run_of-ends.result.0 c.run_of-ends.new.blocks) c.run_of-ends.new.ram m
+    c.run_of-ends.ensures.some c.run_of-ends.ensures.few c.run_of-ends.auto.events
+    (c.run_of-ends.ensures.turns m (here (state_of c.self.inside.ends c.piece_turn.new.blocks) c.args.self.now c.piece_turn.new.ram c.args.ram.now m (c.in_default.ensures.turns.0 ∙ c.self.view_is) c.in_default.ensures.turns.1 st))).turned
+
+pub returns-clause-elsewhere : goal.returns-clause-elsewhere
+returns-clause-elsewhere c =
+    elsewhere_then c.args.side (slice_index_or c.run_of-ends.new.events 0 Idle) (state_of c.self.inside.ends c.piece_turn.new.blocks) c.args.self.now c.piece_turn.new.ram c.args.ram.now (state_of c.run_of-ends.result.0 c.run_of-ends.new.blocks) c.run_of-ends.new.ram c.requires.0
+    (c.in_default.ensures.turns.0 ∙ c.self.view_is) c.in_default.ensures.turns.1 c.requires.1
+    (one_turn c.args.side c.run_of-ends.result.1 c.run_of-ends.new.events (state_of c.self.inside.ends c.piece_turn.new.blocks) c.piece_turn.new.ram (state_of c.run_of-ends.result.0 c.run_of-ends.new.blocks) c.run_of-ends.new.ram c.requires.0
+    c.run_of-ends.ensures.some c.run_of-ends.ensures.few c.run_of-ends.auto.events
+    (c.run_of-ends.ensures.turns c.requires.0 (here (state_of c.self.inside.ends c.piece_turn.new.blocks) c.args.self.now c.piece_turn.new.ram c.args.ram.now c.requires.0 (c.in_default.ensures.turns.0 ∙ c.self.view_is) c.in_default.ensures.turns.1 c.requires.1)))
