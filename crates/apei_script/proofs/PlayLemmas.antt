@@ -1,5 +1,5 @@
 -- A line that was played, from what its parts say.
-use Rattle.std.proofs.Common.{◌≡◌, ◌∙◌, ℕ, Bool, false, List, [], ◌∷◌, ◌++◌, take, map, Option, refl, sym, ap, subst}
+use Rattle.std.proofs.Common.{◌≡◌, ◌∙◌, ℕ, Bool, false, List, [], ◌∷◌, ◌++◌, take, map, Option, Result, Ok, Err, OnOk, refl, sym, ap, subst}
 use Rattle.std.proofs.lemmas.List.{append-nil}
 use Rattle.std.proofs.lemmas.Bool.{false≢true}
 use Rattle.erst_client.specs.Commands.{ClientState}
@@ -9,7 +9,7 @@ use Rattle.apei_script.specs.declared.desk.Desk.{Desk}
 use Rattle.apei_script.specs.Players.{PlayerState, with_machine}
 use Rattle.apei_script.specs.Words.{words_of_heard, reply_at, replies_at}
 use Rattle.apei_script.specs.Plays.{Plays, Blank, OnMachine, Heard, LinePlayed, PlaysLine, PlaysUnheard, Occurred, OccurredUnheard, PartlySaid, IsCutShort, Whole, SomeTurns, names_command, step_of}
-use Rattle.apei_script.specs.Desks.{state_of, SameClients, Lists, ListsUnheard}
+use Rattle.apei_script.specs.Desks.{state_of, SameClients, Lists, ListsUnheard, AnswersLine, LineAnswered}
 use Rattle.apei_script.proofs.LineLemmas.{line_happened}
 use Rattle.apei_script.proofs.ToldLemmas.{told_none}
 
@@ -37,6 +37,13 @@ other_machine old new same = same_state new.machine old.own new.own old.other ne
 
 pub same_desk : {F : Type 0} (old new : Desk F) → SameClients old new → new.machine ≡ old.machine → state_of new ≡ state_of old
 same_desk old new same machine = other_machine old new same ∙ ap (λ (m : MachineState). with_machine m (state_of old)) machine
+
+-- a line that was answered, with all that is said of it
+pub line_answered : {E : Type 0} (tells : Type 0) (old : PlayerState) (line : Line) (new : PlayerState) (reply : List ℕ) (result : Result (Unit {0}) E)
+    → ((words counts : List ℕ) → Plays tells counts old line (words ∷ []) [] new → LinePlayed tells counts old line (words ∷ []) [] new)
+    → OnOk result (AnswersLine tells old line new reply) → OnOk result (LineAnswered tells old line new reply)
+line_answered tells old line new reply (Ok done) whole answers = record { words = answers.words; played = λ counts. whole answers.words counts (answers.plays counts); text = answers.text }
+line_answered tells old line new reply (Err error) whole answers = answers
 
 cut_quiet : (line made : Line) → IsCutShort line made → names_command line ≡ false → names_command made ≡ false
 cut_quiet line made cut = elim cut as (λ line made cut. names_command line ≡ false → names_command made ≡ false) [ Whole line ↦ λ h. h | SomeTurns letters behind ↦ λ h. refl ]
@@ -135,6 +142,22 @@ module _ {L : Type 0} (interest : L → ℕ → Bool) (hearings : L → ℕ) (he
       text = some.1 ∙ ap (λ (xs : List ℕ). xs ++ take some.0 (reply_at (step_of new) words)) (sym (append-nil written));
     };
   }
+
+  -- where the listeners are as they were
+  pub answer_played : (old new : PlayerState) (members members_now : List L) (line : Line) (words written written_now : List ℕ) → members_now ≡ members
+      → LinePlayed tells (map hearings members) old line (words ∷ []) [] new → (told_sink → written_now ≡ written ++ reply_at (step_of new) words)
+      → PlaysLine interest hearings heard_last tells told_sink old new members members_now line written written_now
+  answer_played old new members members_now line words written written_now same played text =
+      subst (λ (now : List L). PlaysLine interest hearings heard_last tells told_sink old new members now line written written_now) (sym same)
+      (one_played old new members line words written written_now played text)
+
+  pub answer_unheard : (old new : PlayerState) (members members_now : List L) (line : Line) (words written written_now : List ℕ) → members_now ≡ members
+      → LinePlayed tells (map hearings members) old line (words ∷ []) [] new
+      → (told_sink → (n : ℕ) × (written_now ≡ written ++ take n (reply_at (step_of new) words)))
+      → PlaysUnheard interest hearings heard_last tells told_sink old new members members_now line written written_now
+  answer_unheard old new members members_now line words written written_now same played text =
+      subst (λ (now : List L). PlaysUnheard interest hearings heard_last tells told_sink old new members now line written written_now) (sym same)
+      (one_unheard old new members line words written written_now played text)
 
   heard_line : (old new : PlayerState) (members : List L) → new ≡ old → LinePlayed tells (map hearings members) old heard (words_of_heard (map hearings members) ∷ []) [] new
   heard_line old new members same = quiet tells (map hearings members) old heard (words_of_heard (map hearings members) ∷ []) [] new refl

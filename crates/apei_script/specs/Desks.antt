@@ -7,15 +7,21 @@ use Rattle.apei_script.specs.Replies.{IsMade}
 use Rattle.erst_machine.specs.MachineState.{MachineState}
 use Rattle.apei_script.specs.Words.{reply_at, replies_at}
 use Rattle.apei_script.specs.Happened.{Happened}
-use Rattle.apei_script.specs.Plays.{Plays, PartlySaid, changes_in, step_of}
+use Rattle.apei_script.specs.Plays.{Plays, LinePlayed, PartlySaid, changes_in, step_of}
 
 abbrev pub state_of : {F : Type 0} → Desk F → PlayerState
 state_of desk = record { machine = desk.machine; own = desk.own; other = desk.other; steps = desk.steps }
 
--- a line of one reply was played, and its reply made
-pub record AnswersLine (tells : Type 0) (counts : List ℕ) (old : PlayerState) (line : Line) (new : PlayerState) (reply : List ℕ) : Type 0 where
+-- a line of one reply was played, whatever the listeners have heard, and its reply made
+pub record AnswersLine (tells : Type 0) (old : PlayerState) (line : Line) (new : PlayerState) (reply : List ℕ) : Type 0 where
   pub words : List ℕ
-  pub plays : Plays tells counts old line (words ∷ []) [] new
+  pub plays : (counts : List ℕ) → Plays tells counts old line (words ∷ []) [] new
+  pub text : reply ≡ reply_at (step_of new) words
+
+-- the same, with all that is said of a line that was played
+pub record LineAnswered (tells : Type 0) (old : PlayerState) (line : Line) (new : PlayerState) (reply : List ℕ) : Type 0 where
+  pub words : List ℕ
+  pub played : (counts : List ℕ) → LinePlayed tells counts old line (words ∷ []) [] new
   pub text : reply ≡ reply_at (step_of new) words
 
 -- the same, but for the step behind the reply

@@ -41,7 +41,7 @@ impl<F: Flash> Desk<F> {
         requires valid { IsValid (line_of line.now) }
         requires one { has_one_reply (line_of line.now) ≡ true }
         requires fits { length (text_of (line_of line.now)) ≤ 140_000 }
-        ensures answered { OnOk result ((counts : List ℕ) → AnswersLine F.tells counts (state_of self.old) (line_of line.now) (state_of self.new) self.new.buffers.reply) }
+        ensures answered { OnOk result (AnswersLine F.tells (state_of self.old) (line_of line.now) (state_of self.new) self.new.buffers.reply) }
         ensures stopped { IfErr result (λ stop. Stops F.tells (state_of self.old) (line_of line.now) (state_of self.new) stop) }
     {
         self.make_reply(line)?;

@@ -8,7 +8,7 @@ ghost use Rattle.apei_script.specs.declared.player.PlayStop.TheVariants.{SinkFau
 ghost use Rattle.apei_script.specs.Players.{player_of};
 ghost use Rattle.apei_script.specs.Plays.{step_of, IsBuilt, has_one_reply, Stops, PlaysLine, PlaysUnheard};
 ghost use Rattle.erst_machine.specs.Shown.{changes_of};
-ghost use Rattle.apei_script.specs.Desks.{state_of};
+ghost use Rattle.apei_script.specs.Desks.{state_of, LineAnswered};
 
 use crate::buffers::Buffers;
 use crate::desk::Desk;
@@ -235,12 +235,41 @@ impl<F: Flash> Player<F> {
         ensures fault { result ≡ Err PlayStop.SinkFault → Rose (O.faults out.old) (O.faults out.new) }
         ensures no_fault { result ≢ Err PlayStop.SinkFault → O.faults out.new ≡ O.faults out.old }
     {
+        self.answer(line)?;
+        write_all(out, self.reply())?;
+        Ok(())
+    }
+
+    /// Plays a line of one reply that the listeners have no part in, and keeps the reply, which `reply` shows.
+    pub fn answer(&mut self, line: &ScriptLine<'_>) -> Result<(), PlayStop>
+        requires valid { IsValid (line_of line.now) }
+        requires one { has_one_reply (line_of line.now) ≡ true }
+        requires fits { length (text_of (line_of line.now)) ≤ 140_000 }
+        ensures answered { OnOk result (LineAnswered F.tells (state_of self.old.desk) (line_of line.now) (state_of self.new.desk) self.new.desk.buffers.reply) }
+        ensures stopped { IfErr result (λ stop. Stops F.tells (state_of self.old.desk) (line_of line.now) (state_of self.new.desk) stop) }
+        ensures listeners { members_of self.new.chain ≡ members_of self.old.chain }
+        ensures counted { F.tells → changes_of (state_of self.new.desk).machine ≡ step_of (state_of self.new.desk) }
+    {
         a_line_is_the_maps::<F>();
         // The law is of machines.
         let _ = self.desk.machine.reach();
-        self.desk.answer(line)?;
-        write_all(out, self.desk.buffers.reply.text())?;
-        Ok(())
+        let answered = self.desk.answer(line);
+        let _ = self.desk.machine.steps();
+        answered
+    }
+
+    /// The reply that was made last.
+    pub fn reply(&self) -> &[u8]
+        ensures { result.now ≡ self.now.desk.buffers.reply }
+    {
+        self.desk.buffers.reply.text()
+    }
+
+    /// How many changes of the flash were made so far: the step behind a reply.
+    pub fn steps(&self) -> u64
+        ensures { result ≡ step_of (state_of self.now.desk) }
+    {
+        self.desk.machine.steps()
     }
 
     /// Takes the player apart.
