@@ -1,0 +1,282 @@
+-- Commands that are generated and played, one after another.
+use Rattle.std.proofs.Common.{◌≡◌, ◌∙◌, ℕ, zero, suc, ◌+◌, Result, Ok, Err, Bool, true, false, List, [], ◌∷◌, ◌++◌, length, map, cond, refl, sym, ap, subst, arith, length-append}
+use Rattle.std.specs.Prelude.{count_by}
+use Rattle.std.proofs.lemmas.List.{map-append, append-nil}
+use Rattle.std.proofs.lemmas.List.Concat.{flat_map-append}
+use Rattle.std.proofs.lemmas.List.Sums.{sum_by-append}
+use Rattle.std.proofs.lemmas.Bool.{false≢true}
+use Rattle.erst_machine.specs.MachineState.{MachineState}
+use Rattle.erst_machine.specs.Shown.{changes_of}
+use Rattle.script_text.specs.ScriptGrammar.{Line, count}
+use Rattle.erst_client.specs.declared.errors.ClientError.{ClientError}
+use Rattle.erst_client.specs.Commands.{ClientState}
+use Rattle.apei_script.specs.Players.{PlayerState, client_of, budget_of}
+use Rattle.apei_script.specs.Asked.{Asked, WritesRecord, ReadsRecord, ClearsRecord, CountsRecords, FindsNext, WritesDummy, RunsAction}
+use Rattle.apei_script.specs.Happened.{Happened, IsGiven, Turn, IsPeeked, IsLaid, IsListed}
+use Rattle.apei_script.specs.Words.{reply_at, words_of_count}
+use Rattle.apei_script.specs.Plays.{Plays, Blank, ByClient, GivenTable, OwnTable, OnMachine, Heard, Reset, Power, LinePlayed, step_of}
+use Rattle.apei_script.specs.History.{Played, Follows, AreCounted, IsOwnLine, AreOwnLines, blocks_of, reply_of, heard_after}
+use Rattle.apei_gen.specs.declared.command.Command.{Command}
+use Rattle.apei_gen.specs.declared.command.Command.TheVariants.{Write, Clear, Read, Next}
+use Rattle.apei_gen.specs.declared.tally.Tally.{Tally}
+use Rattle.apei_gen.specs.Numbers.{number_behind, numbers_behind, drawn_of, command_of, line_for, line_at, lines_of}
+use Rattle.apei_gen.specs.Tallies.{counted_kind, counted_refusal, counted_with}
+use Rattle.apei_gen.specs.Generated.{is_write, is_clear, is_read, is_next, is_refusal, tally_of, IsAsked, ArePlayed}
+use Rattle.apei_gen.specs.Summaries.{TellsLive, Counted, Refused, WritesText, summary_of, IsGenerated}
+
+-- the number that so many numbers behind one end in
+abbrev pub number_after : ℕ → ℕ → ℕ
+number_after x zero = x
+number_after x (suc n) = number_after (number_behind x) n
+
+number_after-suc : (x n : ℕ) → number_after x (suc n) ≡ number_behind (number_after x n)
+number_after-suc x zero = refl
+number_after-suc x (suc n) = number_after-suc (number_behind x) n
+
+numbers-push : (x n : ℕ) → numbers_behind x (suc n) ≡ numbers_behind x n ++ number_after x (suc n) ∷ []
+numbers-push x zero = refl
+numbers-push x (suc n) = ap (λ (xs : List ℕ). number_behind x ∷ xs) (numbers-push (number_behind x) n)
+
+lines-push : (seed n : ℕ) → lines_of seed (suc n) ≡ lines_of seed n ++ line_at (number_after seed (suc n)) ∷ []
+lines-push seed n = ap (map line_at) (numbers-push seed n) ∙ map-append line_at (numbers_behind seed n) (number_after seed (suc n) ∷ [])
+
+-- one line more
+abbrev played_as : Line → List ℕ → PlayerState → Played
+played_as line words left = record { line = line; said = words ∷ []; blocks = []; left = left }
+
+Follows-push : (tells : Type 0) (wants : List (ℕ → Bool)) (counts : List ℕ) (first : PlayerState) (some : List Played) (mid : PlayerState) (line : Line) (words : List ℕ) (new : PlayerState)
+    → Follows tells wants counts first some mid → ((counts : List ℕ) → LinePlayed tells counts mid line (words ∷ []) [] new)
+    → Follows tells wants counts first (some ++ played_as line words new ∷ []) new
+Follows-push tells wants counts first [] mid line words new is played = (subst (λ (p : PlayerState). LinePlayed tells counts p line (words ∷ []) [] new) is (played counts), refl)
+Follows-push tells wants counts first (one ∷ some) mid line words new is played = (is.0, Follows-push tells wants (heard_after wants one.blocks counts) one.left some mid line words new is.1 played)
+
+AreCounted-push : (some : List Played) (line : Line) (words : List ℕ) (new : PlayerState) → AreCounted some → changes_of new.machine ≡ step_of new → AreCounted (some ++ played_as line words new ∷ [])
+AreCounted-push [] line words new some is = (is, tt)
+AreCounted-push (one ∷ rest) line words new some is = (some.0, AreCounted-push rest line words new some.1 is)
+
+AreOwnLines-push : (some : List Played) (line : Line) (words : List ℕ) (new : PlayerState) → AreOwnLines some → IsOwnLine line → AreOwnLines (some ++ played_as line words new ∷ [])
+AreOwnLines-push [] line words new some is = (is, tt)
+AreOwnLines-push (one ∷ rest) line words new some is = (some.0, AreOwnLines-push rest line words new some.1 is)
+
+blocks_of-push : (some : List Played) (line : Line) (words : List ℕ) (new : PlayerState) → blocks_of some ≡ [] → blocks_of (some ++ played_as line words new ∷ []) ≡ []
+blocks_of-push some line words new none =
+    flat_map-append (λ (played : Played). played.blocks) some (played_as line words new ∷ []) ∙ ap (λ (blocks : List (List ℕ)). blocks ++ []) none
+
+own_line : (command : Command) → IsOwnLine (line_for command)
+own_line (Write id size) = tt
+own_line (Clear id) = tt
+own_line (Read id) = tt
+own_line Next = tt
+
+-- the reply to the line
+reply-as : (line : Line) (words : List ℕ) (new : PlayerState) (reply : List ℕ) → reply ≡ reply_at (step_of new) words → reply_of (played_as line words new) ≡ reply
+reply-as line words new reply is = append-nil (reply_at (step_of new) words) ∙ sym is
+
+-- one more that passes a test, and one that does not
+count-more : (test : Played → Bool) (some : List Played) (one : Played) → test one ≡ true → count_by test (some ++ one ∷ []) ≡ count_by test some + 1
+count-more test some one is =
+    let whole : count_by test (some ++ one ∷ []) ≡ count_by test some + (0 + cond {A = ℕ} (test one) 1 0) = sum_by-append (λ (p : Played). cond (test p) 1 0) some (one ∷ []) in
+    let last : ◌≡◌ {A = ℕ} (cond {A = ℕ} (test one) 1 0) 1 = ap (λ (b : Bool). cond {A = ℕ} b 1 0) is in
+    omega arith
+
+count-same : (test : Played → Bool) (some : List Played) (one : Played) → test one ≡ false → count_by test (some ++ one ∷ []) ≡ count_by test some
+count-same test some one is =
+    let whole : count_by test (some ++ one ∷ []) ≡ count_by test some + (0 + cond {A = ℕ} (test one) 1 0) = sum_by-append (λ (p : Played). cond (test p) 1 0) some (one ∷ []) in
+    let last : ◌≡◌ {A = ℕ} (cond {A = ℕ} (test one) 1 0) 0 = ap (λ (b : Bool). cond {A = ℕ} b 1 0) is in
+    omega arith
+
+tally-as : (a b c d f a_now b_now c_now d_now f_now : ℕ) → a ≡ a_now → b ≡ b_now → c ≡ c_now → d ≡ d_now → f ≡ f_now
+    → ◌≡◌ {A = Tally} (record { writes = a; clears = b; reads = c; nexts = d; refused = f }) (record { writes = a_now; clears = b_now; reads = c_now; nexts = d_now; refused = f_now })
+tally-as a b c d f a_now b_now c_now d_now f_now is_a is_b is_c is_d is_f =
+    ap (λ (x : ℕ). let t : Tally = record { writes = x; clears = b; reads = c; nexts = d; refused = f } in t) is_a
+    ∙ ap (λ (x : ℕ). let t : Tally = record { writes = a_now; clears = x; reads = c; nexts = d; refused = f } in t) is_b
+    ∙ ap (λ (x : ℕ). let t : Tally = record { writes = a_now; clears = b_now; reads = x; nexts = d; refused = f } in t) is_c
+    ∙ ap (λ (x : ℕ). let t : Tally = record { writes = a_now; clears = b_now; reads = c_now; nexts = x; refused = f } in t) is_d
+    ∙ ap (λ (x : ℕ). let t : Tally = record { writes = a_now; clears = b_now; reads = c_now; nexts = d_now; refused = x } in t) is_f
+
+-- a tally of another count of refusals
+abbrev refusing : ℕ → Tally → Tally
+refusing f tally = record tally { refused = f }
+
+-- the kind of one more command
+kind-push : (some : List Played) (one : Played) (command : Command) (f : ℕ) → one.line ≡ line_for command
+    → refusing f (tally_of (some ++ one ∷ [])) ≡ counted_kind command (refusing f (tally_of some))
+kind-push some one (Write id size) f is =
+    tally-as _ _ _ _ _ _ _ _ _ _
+    (count-more (λ (p : Played). is_write p.line) some one (ap is_write is))
+    (count-same (λ (p : Played). is_clear p.line) some one (ap is_clear is))
+    (count-same (λ (p : Played). is_read p.line) some one (ap is_read is))
+    (count-same (λ (p : Played). is_next p.line) some one (ap is_next is)) refl
+kind-push some one (Clear id) f is =
+    tally-as _ _ _ _ _ _ _ _ _ _
+    (count-same (λ (p : Played). is_write p.line) some one (ap is_write is))
+    (count-more (λ (p : Played). is_clear p.line) some one (ap is_clear is))
+    (count-same (λ (p : Played). is_read p.line) some one (ap is_read is))
+    (count-same (λ (p : Played). is_next p.line) some one (ap is_next is)) refl
+kind-push some one (Read id) f is =
+    tally-as _ _ _ _ _ _ _ _ _ _
+    (count-same (λ (p : Played). is_write p.line) some one (ap is_write is))
+    (count-same (λ (p : Played). is_clear p.line) some one (ap is_clear is))
+    (count-more (λ (p : Played). is_read p.line) some one (ap is_read is))
+    (count-same (λ (p : Played). is_next p.line) some one (ap is_next is)) refl
+kind-push some one Next f is =
+    tally-as _ _ _ _ _ _ _ _ _ _
+    (count-same (λ (p : Played). is_write p.line) some one (ap is_write is))
+    (count-same (λ (p : Played). is_clear p.line) some one (ap is_clear is))
+    (count-same (λ (p : Played). is_read p.line) some one (ap is_read is))
+    (count-more (λ (p : Played). is_next p.line) some one (ap is_next is)) refl
+
+kind-refused : (command : Command) (tally : Tally) → counted_kind command (refusing (tally.refused + 1) tally) ≡ counted_refusal true (counted_kind command tally)
+kind-refused (Write id size) tally = refl
+kind-refused (Clear id) tally = refl
+kind-refused (Read id) tally = refl
+kind-refused Next tally = refl
+
+abbrev refused_in : Played → Bool
+refused_in one = is_refusal (reply_of one)
+
+tally-push : (some : List Played) (one : Played) (command : Command) (refused : Bool) → one.line ≡ line_for command → refused_in one ≡ refused
+    → tally_of (some ++ one ∷ []) ≡ counted_with command refused (tally_of some)
+tally-push some one command true line is =
+    kind-push some one command (count_by refused_in (some ++ one ∷ [])) line
+    ∙ ap (λ (f : ℕ). counted_kind command (refusing f (tally_of some))) (count-more refused_in some one is)
+    ∙ kind-refused command (tally_of some)
+tally-push some one command false line is =
+    kind-push some one command (count_by refused_in (some ++ one ∷ [])) line
+    ∙ ap (λ (f : ℕ). counted_kind command (refusing f (tally_of some))) (count-same refused_in some one is)
+
+-- the commands so far
+pub record SoFar (tells : Type 0) (old : PlayerState) (seed n : ℕ) (now : PlayerState) (number : ℕ) (tally : Tally) : Type 0 where
+  pub so_far : ArePlayed tells old seed n now tally
+  pub size : length so_far.played ≡ n
+  pub number_is : number ≡ number_after seed n
+
+pub SoFar-start : (tells : Type 0) (old : PlayerState) (seed : ℕ) (tally : Tally) → tally ≡ tally_of [] → SoFar tells old seed 0 old seed tally
+SoFar-start tells old seed tally is = record {
+  so_far = record { played = []; lines = refl; history = λ wants counts. refl; counted = λ told. tt; own = tt; blocks = refl; tallied = is };
+  size = refl;
+  number_is = refl;
+}
+
+next_so_far : (tells : Type 0) (old : PlayerState) (seed n : ℕ) (mid new : PlayerState) (number : ℕ) (tally tally_now : Tally) (command : Command) (refused : Bool) (reply : List ℕ)
+    → SoFar tells old seed n mid number tally → command ≡ command_of (drawn_of (number_behind number)) → IsAsked tells mid (line_for command) new reply → refused ≡ is_refusal reply
+    → tally_now ≡ counted_with command refused tally → SoFar tells old seed (suc n) new (number_behind number) tally_now
+next_so_far tells old seed n mid new number tally tally_now command refused reply sofar made asked is counts =
+    let before = sofar.so_far in
+    let one = played_as (line_for command) asked.words new in
+    let number_now : number_behind number ≡ number_after seed (suc n) = ap number_behind sofar.number_is ∙ sym (number_after-suc seed n) in
+    let line_is : line_for command ≡ line_at (number_after seed (suc n)) = ap line_for made ∙ ap line_at number_now in
+    record {
+      so_far = record {
+        played = before.played ++ one ∷ [];
+        lines =
+            map-append (λ (p : Played). p.line) before.played (one ∷ [])
+            ∙ ap (λ (ls : List Line). ls ++ line_for command ∷ []) before.lines
+            ∙ ap (λ (l : Line). lines_of seed n ++ l ∷ []) line_is
+            ∙ sym (lines-push seed n);
+        history = λ wants counts. Follows-push tells wants counts old before.played mid (line_for command) asked.words new (before.history wants counts) asked.played;
+        counted = λ told. AreCounted-push before.played (line_for command) asked.words new (before.counted told) (asked.counted told);
+        own = AreOwnLines-push before.played (line_for command) asked.words new before.own (own_line command);
+        blocks = blocks_of-push before.played (line_for command) asked.words new before.blocks;
+        tallied =
+            counts
+            ∙ ap (counted_with command refused) before.tallied
+            ∙ sym (tally-push before.played one command refused refl (ap is_refusal (reply-as (line_for command) asked.words new reply asked.text) ∙ sym is));
+      };
+      size = length-append before.played (one ∷ []) ∙ omega (arith, sofar.size);
+      number_is = number_now;
+    }
+
+pub SoFar-next : (tells : Type 0) (old : PlayerState) (seed n : ℕ) (mid new : PlayerState) (number : ℕ) (tally tally_now : Tally) (command : Command) (refused : Bool) (reply : List ℕ)
+    → SoFar tells old seed n mid number tally → command ≡ command_of (drawn_of (number_behind number)) → IsAsked tells mid (line_for command) new reply → refused ≡ is_refusal reply
+    → tally_now ≡ counted_with command refused tally → SoFar tells old seed (n + 1) new (number_behind number) tally_now
+SoFar-next tells old seed n mid new number tally tally_now command refused reply sofar made asked is counts =
+    subst (λ (k : ℕ). SoFar tells old seed k new (number_behind number) tally_now) (omega arith)
+    (next_so_far tells old seed n mid new number tally tally_now command refused reply sofar made asked is counts)
+
+-- the reply to a count tells a number of records, or that it was refused
+is_count : Line → Bool
+is_count count = true
+is_count line = false
+
+record ToldLive (said : List (List ℕ)) : Type 0 where
+  words : List ℕ
+  said_is : said ≡ words ∷ []
+  live : ℕ
+  told : TellsLive words live
+
+told_by : (answer : Result ℕ ClientError) → ToldLive (words_of_count answer ∷ [])
+told_by (Ok n) = record { words = words_of_count (Ok n); said_is = refl; live = n; told = Counted n }
+told_by (Err error) = record { words = words_of_count (Err error); said_is = refl; live = 0; told = Refused error }
+
+abbrev first_words : List (List ℕ) → List ℕ
+first_words [] = []
+first_words (words ∷ rest) = words
+
+module _ (tells : Type 0) where
+  asked_count : (client : ClientState) (steps : ℕ) (old : MachineState) (line : Line) (words : List ℕ) (new : MachineState) → Asked tells client steps old line words new → is_count line ≡ true → ToldLive (words ∷ [])
+  unfolding is_count
+  asked_count client steps old line words new asked = elim asked as (λ line words new asked. is_count line ≡ true → ToldLive (words ∷ [])) [
+    | WritesRecord hex bytes result left new decoded writes ↦ λ is. absurd (false≢true is)
+    | ReadsRecord id out after result left new long reads ↦ λ is. absurd (false≢true is)
+    | ClearsRecord id result left new clears ↦ λ is. absurd (false≢true is)
+    | CountsRecords result left new counts ↦ λ is. told_by result
+    | FindsNext result left new names ↦ λ is. absurd (false≢true is)
+    | WritesDummy result left new writes ↦ λ is. absurd (false≢true is)
+    | RunsAction code value answer left new runs ↦ λ is. absurd (false≢true is)
+  ]
+
+  no_count : (old : MachineState) (line : Line) (said blocks : List (List ℕ)) (new : MachineState) → Happened tells old line said blocks new → is_count line ≡ true → ⊥
+  unfolding is_count
+  no_count old line said blocks new happened = elim happened as (λ line said blocks new happened. is_count line ≡ true → ⊥) [
+    | IsGiven hex block result new decoded submits ↦ λ is. false≢true is
+    | Turn letters events blocks new turns ↦ λ is. false≢true is
+    | IsPeeked at len before after answer new long allowed ↦ λ is. false≢true is
+    | IsLaid hex block result new decoded lays ↦ λ is. false≢true is
+    | IsListed blocks left laid ↦ λ is. false≢true is
+  ]
+
+  played_count : (counts : List ℕ) (old : PlayerState) (line : Line) (said blocks : List (List ℕ)) (new : PlayerState) → Plays tells counts old line said blocks new → is_count line ≡ true → ToldLive said
+  unfolding is_count
+  played_count counts old line said blocks new plays = elim plays as (λ line said blocks new plays. is_count line ≡ true → ToldLive said) [
+    | Blank ↦ λ is. absurd (false≢true is)
+    | ByClient line words machine commanded ↦ λ is. asked_count (client_of old) (budget_of old) old.machine line words machine commanded.asked is
+    | GivenTable hex bytes words machine other decoded gives ↦ λ is. absurd (false≢true is)
+    | OwnTable ↦ λ is. absurd (false≢true is)
+    | OnMachine line said blocks machine happened ↦ λ is. absurd (no_count old.machine line said blocks machine happened is)
+    | Heard ↦ λ is. absurd (false≢true is)
+    | Reset n machine warms ↦ λ is. absurd (false≢true is)
+    | Power n machine powers ↦ λ is. absurd (false≢true is)
+  ]
+
+  count_told : (old : PlayerState) (words : List ℕ) (new : PlayerState) → Plays tells [] old count (words ∷ []) [] new → (live : ℕ) × TellsLive words live
+  unfolding is_count
+  count_told old words new plays =
+      let told = played_count [] old count (words ∷ []) [] new plays refl in
+      (told.live, subst (λ (w : List ℕ). TellsLive w told.live) (ap first_words (sym told.said_is)) told.told)
+
+  -- the commands, and a count of the records behind them
+  pub generated : {E : Type 0} (told_sink : Type 0) (old : PlayerState) (seed commands : ℕ) (mid new : PlayerState) (tally : Tally) (reply : List ℕ) (step : ℕ) (written written_now : List ℕ)
+      (result : Result (Unit {0}) E) → ArePlayed tells old seed commands mid tally → IsAsked tells mid count new reply → step ≡ step_of new
+      → ((words : List ℕ) (live : ℕ) → TellsLive words live → reply ≡ reply_at step words → told_sink → WritesText (summary_of commands tally live step) written written_now result)
+      → IsGenerated tells told_sink old seed commands new written written_now result
+  generated told_sink old seed commands mid new tally reply step written written_now result are asked at text =
+      let live = count_told mid asked.words new (asked.played []).plays in
+      record {
+        played = are.played;
+        last = played_as count asked.words new;
+        lines = are.lines;
+        asked = refl;
+        history = λ wants counts. Follows-push tells wants counts old are.played mid count asked.words new (are.history wants counts) asked.played;
+        counted = λ told. AreCounted-push are.played count asked.words new (are.counted told) (asked.counted told);
+        own = AreOwnLines-push are.played count asked.words new are.own tt;
+        blocks = blocks_of-push are.played count asked.words new are.blocks;
+        words = asked.words;
+        said = refl;
+        live = live.0;
+        told_live = live.1;
+        text = λ told.
+            subst (λ (t : Tally). WritesText (summary_of commands t live.0 (step_of new)) written written_now result) are.tallied
+            (subst (λ (s : ℕ). WritesText (summary_of commands tally live.0 s) written written_now result) at
+            (text asked.words live.0 live.1 (asked.text ∙ ap (λ (s : ℕ). reply_at s asked.words) (sym at)) told));
+      }

@@ -1,0 +1,34 @@
+use Rattle.std.proofs.Common.{◌≡◌, ◌∙◌, ◌^◌, ◌<◌, rules, lit<, sym, ap, subst, arith}
+use Rattle.std.proofs.lemmas.Fmt.{length-decimal-le}
+use Rattle.line_grammar.specs.Parts.{IsPairs}
+use Rattle.hex.specs.Hex.{encode_lower}
+use Rattle.script_text.specs.ScriptGrammar.{Line, write}
+use Rattle.apei_script.specs.Desks.{state_of}
+use Rattle.apei_gen.specs.declared.command.Command.TheVariants.{Write}
+use Rattle.apei_gen.specs.Numbers.{line_for}
+use Rattle.apei_gen.specs.Records.{record_of}
+use Rattle.apei_gen.specs.Generated.{IsAsked}
+use Rattle.apei_gen.proofs.RecordLemmas.{record_pairs}
+use Rattle.apei_gen.proofs.generator.play.Goals as goal
+
+pub ask-requires-clause-valid : goal.ask-requires-clause-valid
+ask-requires-clause-valid g c =
+    let hex : c.put_record.new.hex ≡ encode_lower (record_of c.in-Write.id c.in-Write.size) = c.put_record.ensures in
+    subst IsPairs (sym hex) (record_pairs c.in-Write.id c.in-Write.size)
+
+pub ask-requires-in-Clear-clause-fits : goal.ask-requires-in-Clear-clause-fits
+ask-requires-in-Clear-clause-fits g c =
+    let small : c.in-Clear.id < 2 ^ 64 = search rules in
+    omega (arith, length-decimal-le 20 c.in-Clear.id (lit< tt) (omega arith) small)
+
+pub ask-requires-in-Read-clause-fits : goal.ask-requires-in-Read-clause-fits
+ask-requires-in-Read-clause-fits g c =
+    let small : c.in-Read.id < 2 ^ 64 = search rules in
+    omega (arith, length-decimal-le 20 c.in-Read.id (lit< tt) (omega arith) small)
+
+pub returns-in-Write-clause-asked : goal.returns-in-Write-clause-asked
+returns-in-Write-clause-asked g c =
+    let hex : c.put_record.new.hex ≡ encode_lower (record_of c.in-Write.id c.in-Write.size) = c.put_record.ensures in
+    let is : c.args.command ≡ Write c.in-Write.id c.in-Write.size = c.in-Write.is in
+    let line : write c.put_record.new.hex ≡ line_for c.args.command = ap write hex ∙ ap line_for (sym is) in
+    subst (λ (l : Line). IsAsked g.F.Flash.tells (state_of c.args.player.now.desk) l (state_of c.ask.new.player.desk) c.ask.new.player.desk.buffers.reply) line c.ask.ensures.asked
