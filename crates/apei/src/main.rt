@@ -1,10 +1,13 @@
-//! Plays a script of a machine's error record store on a simulated flash: `apei sim` reads the script from standard
-//! input and writes the replies to standard output.
+//! Plays scripts of a machine's error record store: `apei sim` on a simulated flash, `apei play --image PATH` on one in a file. `apei gen`
+//! plays a script of its own making, and `apei check` shows tables, records and blocks. A script is read from standard input, and the
+//! replies are written to standard output.
 #![tactic(auto)]
 
 use apei_bytes::{StdSink, StdSource};
-use apei_cli::{PlanError, Status, plan, run, sim_flash};
+use apei_cli::{Plan, PlanError, Status, plan, run, sim_flash};
 use apei_notify::{Listener, Tally};
+use file_flash::FileFlash;
+use flash_model::{Flash, Geometry};
 use std::env;
 use std::io::ErrorKind;
 use std::process::ExitCode;
@@ -18,7 +21,7 @@ fn main(rt: HostRuntime) -> ExitCode {
     ExitCode::from(status.number())
 }
 
-// Plays standard input, by the words behind the program's name.
+// Does what the words behind the program's name ask for.
 fn play(rt: &HostRuntime) -> Status {
     let words = match words(rt) {
         Ok(words) => words,
@@ -29,9 +32,26 @@ fn play(rt: &HostRuntime) -> Status {
         Err(PlanError::BadWords) => return Status::BadWords,
         Err(PlanError::Memory) => return Status::Memory,
     };
-    let Ok(flash) = sim_flash(rt.alloc(), &plan) else {
-        return Status::Memory;
-    };
+    if let Some((path, geometry)) = image_of(&plan) {
+        let sector = geometry.sector() as u32;
+        let flash = FileFlash::attach(rt, rt.alloc(), path, sector, geometry.size());
+        return play_on(rt, &words, flash);
+    }
+    match sim_flash(rt.alloc(), &plan) {
+        Ok(flash) => play_on(rt, &words, flash),
+        Err(_) => Status::Memory,
+    }
+}
+
+// The path of the image that a plan plays on, and its geometry. Where that is outside its limits no file is touched.
+fn image_of(plan: &Plan) -> Option<(&str, Geometry)> {
+    let path = plan.image.as_ref()?;
+    let geometry = Geometry::new(plan.sector, plan.per_slot, plan.slots).ok()?;
+    Some((path.as_str(), geometry))
+}
+
+// Does it on a flash.
+fn play_on<F: Flash + Drop>(rt: &HostRuntime, words: &[String], flash: F) -> Status {
     // One hears of all errors, one of the fatal ones, and one of those that were corrected.
     let mut listeners: Vec<Box<dyn Listener>> = Vec::new(rt.alloc());
     for severities in [15, 2, 4] {
@@ -44,7 +64,7 @@ fn play(rt: &HostRuntime) -> Status {
     }
     let mut script = StdSource::new(rt.stdin());
     let mut out = StdSink::new(rt.stdout());
-    let (status, _, _) = run(rt.alloc(), &words, &mut script, &mut out, flash, listeners);
+    let (status, _, _) = run(rt.alloc(), words, &mut script, &mut out, flash, listeners);
     status
 }
 

@@ -10,12 +10,11 @@ use Rattle.script_text.proofs.OneLine.{one_line}
 use Rattle.erst_machine.specs.MachineState.{MachineState}
 use Rattle.apei_script.specs.Plays.{IsBuilt}
 use Rattle.apei_script.specs.History.{Played}
-use Rattle.apei_cli.specs.Lines.{Line, lines_of, IsTooLong}
+use Rattle.script_lines.specs.Lines.{Line, lines_of, IsTooLong}
 use Rattle.apei_cli.specs.Played.{Means, IsLine as MeansLine, IsComment, IsPlayable, ArePlayable}
 use Rattle.apei_cli.specs.Statuses.{EndsBy}
-use Rattle.apei_cli.specs.Plan.{IsPlanOf}
-use Rattle.apei_cli.specs.declared.job.Plan.{Plan}
-use Rattle.apei_cli.specs.Runs.{IsRun, NotBegun, Begun, MayComeFirst, HasGeometry, IsOnGeometry, IsAdmitted, HasSourceCause, HasSinkCause, HasFlashCause, EndsByItself}
+use Rattle.apei_cli.specs.Orders.{Order}
+use Rattle.apei_cli.specs.Runs.{OfText, LinesOf, IsRun, NotBegun, Begun, MayComeFirst, HasGeometry, IsOnGeometry, HasSourceCause, HasSinkCause, HasFlashCause, EndsByItself}
 use Rattle.apei_cli.specs.declared.status.Status.{Status}
 use Rattle.apei_cli.specs.declared.status.Status.TheVariants.{Done, BadWords, BadLine, SourceFault, SinkFault, FlashFault, BadGeometry, TooLong, Memory, NotYet}
 
@@ -58,31 +57,31 @@ playable_at (first ∷ before) line behind h = playable_at before line behind h.
 not_bad : (tells : Type 0) (script rest : List ℕ) (played : List Played) (last final : MachineState) (number column : ℕ) → ArePlayable (lines_of 0 script) → EndsBy tells script rest played last final (BadLine number column) → ⊥
 not_bad tells script rest played last final number column lines ends =
     let stops = ends.stops in
-    let at = playable_at stops.before ends.line stops.behind (subst ArePlayable stops.lines lines) in
+    let at = playable_at stops.before ends.line stops.stands.behind (subst ArePlayable stops.stands.lines lines) in
     no_break ends.line.text at.0 column at.1.means ends.breaks
 
 not_long : (tells : Type 0) (script rest : List ℕ) (played : List Played) (last final : MachineState) (number : ℕ) → ArePlayable (lines_of 0 script) → EndsBy tells script rest played last final (TooLong number) → ⊥
 not_long tells script rest played last final number lines ends =
     let stops = ends.stops in
-    let at = playable_at stops.before ends.line stops.behind (subst ArePlayable stops.lines lines) in
+    let at = playable_at stops.before ends.line stops.stands.behind (subst ArePlayable stops.stands.lines lines) in
     at.1.within ends.too_long
 
 all_built : (tells : Type 0) (script rest : List ℕ) (played : List Played) (last final : MachineState) (number : ℕ) → ArePlayable (lines_of 0 script) → EndsBy tells script rest played last final (NotYet number) → ⊥
 all_built tells script rest played last final number lines ends =
     let stops = ends.stops in
-    let at = playable_at stops.before ends.line stops.behind (subst ArePlayable stops.lines lines) in
+    let at = playable_at stops.before ends.line stops.stands.behind (subst ArePlayable stops.stands.lines lines) in
     not_both ends.line.text ends.asked at.0 ends.means at.1.means ends.not_built at.1.built
 
 -- with every line one that can be played, and no fault, all is read
-pub is_done : {L : Type 0} (interest : L → ℕ → Bool) (hearings : L → ℕ) (heard_last : L → ℕ → List ℕ → Type 0) (told_source told_sink tells untouched : Type 0) (plan : Plan)
-    (script rest written now : List ℕ) (listeners listeners_now : List L) (old new : FlashState) (source source_now sink sink_now : ℕ) (status : Status)
-    → IsRun interest hearings heard_last told_source told_sink tells untouched plan script rest written now listeners listeners_now old new status → IsOnGeometry plan old status
+pub is_done : {L : Type 0} (interest : L → ℕ → Bool) (hearings : L → ℕ) (heard_last : L → ℕ → List ℕ → Type 0) (told_source tells untouched : Type 0) (plan : Order) (IsText : OfText)
+    (script rest : List ℕ) (listeners listeners_now : List L) (old new : FlashState) (source source_now sink sink_now : ℕ) (status : Status)
+    → IsRun interest hearings heard_last tells untouched plan (LinesOf told_source tells script rest status) IsText listeners listeners_now old new status → IsOnGeometry plan old status
     → HasSourceCause source source_now status → HasSinkCause sink sink_now status → HasFlashCause old.faults new.faults status
     → told_source → HasGeometry plan old → ArePlayable (lines_of 0 script)
     → (Rose source source_now → ⊥) → (Rose sink sink_now → ⊥) → (Rose old.faults new.faults → ⊥) → (status ≡ Done) ⊎ (status ≡ Memory)
-is_done interest hearings heard_last told_source told_sink tells untouched plan script rest written now listeners listeners_now old new source source_now sink sink_now status run on in_cause out_cause flash_cause heard fits lines no_source no_sink no_flash =
+is_done interest hearings heard_last told_source tells untouched plan IsText script rest listeners listeners_now old new source source_now sink sink_now status run on in_cause out_cause flash_cause heard fits lines no_source no_sink no_flash =
     by_status status in_cause out_cause flash_cause on (elim run [
-      | NotBegun members begun ↦ inl begun.first
+      | NotBegun quiet members begun ↦ inl begun.first
       | Begun played ↦ inr (played.played, played.last.machine, played.final, played.lines heard)
     ])
   where
@@ -104,7 +103,7 @@ is_done interest hearings heard_last told_source told_sink tells untouched plan 
     by_status (NotYet number) in_cause out_cause flash_cause on (inr (played, last, final, ends)) = absurd (all_built tells script rest played last final number lines ends)
 
 -- where no fault was counted the run ends by itself
-pub is_complete : (plan : Plan) (old : FlashState) (source source_now sink sink_now faults faults_now : ℕ) (status : Status)
+pub is_complete : (plan : Order) (old : FlashState) (source source_now sink sink_now faults faults_now : ℕ) (status : Status)
     → IsOnGeometry plan old status → HasSourceCause source source_now status → HasSinkCause sink sink_now status → HasFlashCause faults faults_now status
     → HasGeometry plan old
     → (Rose source source_now → ⊥) → (Rose sink sink_now → ⊥) → (Rose faults faults_now → ⊥) → EndsByItself status
@@ -118,16 +117,3 @@ is_complete plan old source source_now sink sink_now faults faults_now (BadGeome
 is_complete plan old source source_now sink sink_now faults faults_now (TooLong number) on in_cause out_cause flash_cause fits no_source no_sink no_flash = tt
 is_complete plan old source source_now sink sink_now faults faults_now Memory on in_cause out_cause flash_cause fits no_source no_sink no_flash = tt
 is_complete plan old source source_now sink sink_now faults faults_now (NotYet number) on in_cause out_cause flash_cause fits no_source no_sink no_flash = tt
-
--- the words were admitted
-pub is_admitted : (words : List (String Global)) (plan : Plan) (flash : FlashState) (status : Status) → IsPlanOf words plan → IsOnGeometry plan flash status → IsAdmitted words flash status
-is_admitted words plan flash Done of on = (plan, (of, on))
-is_admitted words plan flash BadWords of on = absurd on
-is_admitted words plan flash (BadLine line column) of on = (plan, (of, on))
-is_admitted words plan flash SourceFault of on = (plan, (of, on))
-is_admitted words plan flash SinkFault of on = (plan, (of, on))
-is_admitted words plan flash FlashFault of on = (plan, (of, on))
-is_admitted words plan flash (BadGeometry sector per_slot slots size) of on = (plan, (of, on))
-is_admitted words plan flash (TooLong line) of on = (plan, (of, on))
-is_admitted words plan flash Memory of on = tt
-is_admitted words plan flash (NotYet line) of on = (plan, (of, on))

@@ -17,65 +17,43 @@ use Rattle.apei_script.specs.Words.{replies_at}
 use Rattle.apei_script.specs.Plays.{IsBuilt, LinePlayed, HasHappened, FailsRestart, PartlySaid, PlaysLine, PlaysUnheard, Stops, Told, IsCutShort, step_of}
 use Rattle.erst_machine.specs.Shown.{changes_of}
 use Rattle.apei_script.specs.History.{Played, Follows, AreCounted, blocks_of, reply_of, text_of, heard_after}
-use Rattle.apei_cli.specs.Lines.{Line, Reading, lines_of, ended_lines_of, lines_ahead, IsTooLong, ReadsLine, with_newline, last_one, IsNextLine, IsAtEnd, NextIsTooLong, HasNoLine}
+use Rattle.script_lines.specs.Lines.{Line, Reading, lines_of, IsTooLong, IsNextLine, IsAtEnd, NextIsTooLong, HasNoLine}
+use Rattle.script_lines.specs.Reads.{HasRead, StandsAt, AreTaken, first_reading, last_line}
 use Rattle.apei_cli.specs.Played.{Means, IsLine as MeansLine, IsComment, IsPlayable, ArePlayed}
 use Rattle.apei_cli.specs.Statuses.{StopsAt, EndsBy, LeavesLast, WritesReplies}
 use Rattle.apei_cli.specs.Runs.{PlaysScript}
 use Rattle.apei_cli.specs.declared.status.Status.{Status}
 use Rattle.apei_cli.specs.declared.status.Status.TheVariants.{Done, BadWords, BadLine, SourceFault, SinkFault, FlashFault, BadGeometry, TooLong, Memory, NotYet}
-use Rattle.apei_cli.proofs.LineLemmas.{lines_of-newline, lines_of-nil, lines_of-last, ended_lines_of-newline, ended_lines_of-one_line}
 use Rattle.apei_cli.proofs.ToldLemmas.{WantsOf, wants_first, wants_stay, none_told, all_told_then, heard_all}
 
--- the line that was read
-abbrev pub line_of : Reading → Line
-line_of reading = record { text = reading.line; end = reading.end }
+-- what is known of a script that is read line by line
+pub record InOrder (tells : Type 0) : Type 0 where
+  pub start : (script : List ℕ) → HasRead tells script script [] first_reading
+  pub next : (script rest rest_now : List ℕ) (lines : List Line) (old new : Reading) → HasRead tells script rest lines old
+      → IsNextLine tells old new rest rest_now → HasRead tells script rest_now (lines ++ last_line new ∷ []) new
+  pub stands : (script rest rest_now : List ℕ) (lines : List Line) (old new : Reading) → HasRead tells script rest lines old
+      → IsNextLine tells old new rest rest_now → tells → StandsAt script lines new.number (last_line new)
+  pub at_end : (script rest rest_now : List ℕ) (lines : List Line) (old new : Reading) → HasRead tells script rest lines old
+      → IsAtEnd tells old new rest rest_now → tells → (lines_of 0 script ≡ lines) × (rest_now ≡ [])
+  pub too_long : (script rest : List ℕ) (lines : List Line) (old new : Reading) → HasRead tells script rest lines old
+      → NextIsTooLong tells old new rest → tells → (line : Line) × StandsAt script lines (new.number + 1) line × IsTooLong line
+  pub failed : (script rest rest_now : List ℕ) (lines : List Line) (old new : Reading) → HasRead tells script rest lines old
+      → HasNoLine tells old new rest rest_now → tells → AreTaken script rest_now lines
 
--- the line that was read is the first of those ahead
-pub next_ahead : (tells : Type 0) (a b : Reading) (rest rest_now : List ℕ) → IsNextLine tells a b rest rest_now → tells
-    → lines_ahead a rest ≡ line_of b ∷ lines_ahead b rest_now
-next_ahead tells a b rest rest_now next told = by_kind next.read
-  where
-    by_kind : ReadsLine tells a b rest rest_now → lines_of a.end (a.pending ++ rest) ≡ line_of b ∷ lines_of b.end (b.pending ++ rest_now)
-    by_kind (with_newline bytes one text end at_end given) =
-        ap (λ (bs : List ℕ). lines_of a.end (a.pending ++ bs)) (given told)
-        ∙ ap (lines_of a.end) (sym (append_assoc a.pending bytes rest_now) ∙ ap (λ (bs : List ℕ). bs ++ rest_now) text ∙ append_assoc b.line (10 ∷ b.pending) rest_now)
-        ∙ lines_of-newline a.end b.line (b.pending ++ rest_now) one
-        ∙ ap (λ (n : ℕ). record { text = b.line; end = n } ∷ lines_of n (b.pending ++ rest_now)) (sym end)
-    by_kind (last_one bytes one some text pending end at_end given empty) =
-        ap (λ (bs : List ℕ). lines_of a.end (a.pending ++ bs)) (given told)
-        ∙ ap (lines_of a.end) text
-        ∙ lines_of-last a.end b.line one some
-        ∙ ap (λ (n : ℕ). record { text = b.line; end = n } ∷ []) (sym end)
-        ∙ ap (λ (ls : List Line). line_of b ∷ ls) (sym (ap (lines_of b.end) (ap (λ (bs : List ℕ). bs ++ rest_now) pending ∙ empty told) ∙ lines_of-nil b.end))
-
--- what was taken from the source so far: lines that newlines end, and then what is pending
-pub record TakenSoFar (script rest : List ℕ) (lines : List Line) (reading : Reading) : Type 0 where
-  pub taken : List ℕ
-  pub source : script ≡ taken ++ (reading.pending ++ rest)
-  pub ended : (more : List ℕ) → ended_lines_of 0 (taken ++ more) ≡ lines ++ ended_lines_of reading.end more
-
-pub next_taken : (tells : Type 0) (a b : Reading) (script rest rest_now : List ℕ) (lines : List Line) → IsNextLine tells a b rest rest_now → tells
-    → (a.at_end ≡ false → TakenSoFar script rest lines a) → b.at_end ≡ false → TakenSoFar script rest_now (lines ++ line_of b ∷ []) b
-next_taken tells a b script rest rest_now lines next told so_far not_end = by_kind next.read
-  where
-    by_kind : ReadsLine tells a b rest rest_now → TakenSoFar script rest_now (lines ++ line_of b ∷ []) b
-    by_kind (with_newline bytes one text end at_end given) =
-        let before = so_far (sym at_end ∙ not_end) in
-        let read : a.pending ++ rest ≡ b.line ++ 10 ∷ (b.pending ++ rest_now) =
-        ap (λ (bs : List ℕ). a.pending ++ bs) (given told) ∙ sym (append_assoc a.pending bytes rest_now) ∙ ap (λ (bs : List ℕ). bs ++ rest_now) text ∙ append_assoc b.line (10 ∷ b.pending) rest_now in
-        record {
-          taken = before.taken ++ (b.line ++ 10 ∷ []);
-          source = before.source ∙ ap (λ (bs : List ℕ). before.taken ++ bs) (read ∙ sym (append_assoc b.line (10 ∷ []) (b.pending ++ rest_now))) ∙ sym (append_assoc before.taken (b.line ++ 10 ∷ []) (b.pending ++ rest_now));
-          ended = λ more.
-              ap (ended_lines_of 0) (append_assoc before.taken (b.line ++ 10 ∷ []) more ∙ ap (λ (bs : List ℕ). before.taken ++ bs) (append_assoc b.line (10 ∷ []) more))
-              ∙ before.ended (b.line ++ 10 ∷ more)
-              ∙ ap (λ (ls : List Line). lines ++ ls) (ended_lines_of-newline a.end b.line more one ∙ ap (λ (n : ℕ). record { text = b.line; end = n } ∷ ended_lines_of n more) (sym end))
-              ∙ sym (append_assoc lines (line_of b ∷ []) (ended_lines_of b.end more));
-        }
-    by_kind (last_one bytes one some text pending end at_end given empty) = let clash : true ≡ false = sym at_end ∙ not_end in absurd (cc clash)
-
-pub end_small : (tells : Type 0) (a b : Reading) (rest rest_now : List ℕ) → IsNextLine tells a b rest rest_now → b.end ≤ 2 ^ 24
-end_small tells a b rest rest_now next = elim (cases_lt (2 ^ 24) b.end) [ inl far ↦ absurd (next.within (inr far)) | inr near ↦ near ]
+pub in_order : {tells : Type 0}
+    → ((script : List ℕ) → HasRead tells script script [] first_reading)
+    → ((script rest rest_now : List ℕ) (lines : List Line) (old new : Reading) → HasRead tells script rest lines old
+    → IsNextLine tells old new rest rest_now → HasRead tells script rest_now (lines ++ last_line new ∷ []) new)
+    → ((script rest rest_now : List ℕ) (lines : List Line) (old new : Reading) → HasRead tells script rest lines old
+    → IsNextLine tells old new rest rest_now → tells → StandsAt script lines new.number (last_line new))
+    → ((script rest rest_now : List ℕ) (lines : List Line) (old new : Reading) → HasRead tells script rest lines old
+    → IsAtEnd tells old new rest rest_now → tells → (lines_of 0 script ≡ lines) × (rest_now ≡ []))
+    → ((script rest : List ℕ) (lines : List Line) (old new : Reading) → HasRead tells script rest lines old
+    → NextIsTooLong tells old new rest → tells → (line : Line) × StandsAt script lines (new.number + 1) line × IsTooLong line)
+    → ((script rest rest_now : List ℕ) (lines : List Line) (old new : Reading) → HasRead tells script rest lines old
+    → HasNoLine tells old new rest rest_now → tells → AreTaken script rest_now lines)
+    → InOrder tells
+in_order start next stands at_end too_long failed = record { start = start; next = next; stands = stands; at_end = at_end; too_long = too_long; failed = failed }
 
 -- what a text that was read means
 pub means : (text : List ℕ) (line : Parsed) → IsText text line → Means text (meant line)
@@ -115,7 +93,7 @@ is_not b P tests e p = let clash : true ≡ false = sym (tests.1 p) ∙ e in abs
 
 -- the line that was read can be played
 pub playable : (tells : Type 0) (a b : Reading) (rest rest_now text : List ℕ) (line : Parsed) → IsNextLine tells a b rest rest_now → text ≡ b.line → IsText text line → IsBuilt (meant line)
-    → IsPlayable (line_of b) (meant line)
+    → IsPlayable (last_line b) (meant line)
 playable tells a b rest rest_now text line next is read built = record { within = next.within; means = subst (λ (t : List ℕ). Means t (meant line)) is (means text line read); built = built }
 
 AreCounted-push : (some : List Played) (one : Played) → AreCounted some → changes_of one.left.machine ≡ step_of one.left → AreCounted (some ++ one ∷ [])
@@ -160,10 +138,8 @@ module _ {L : Type 0} (interest : L → ℕ → Bool) (hearings : L → ℕ) (he
   pub record SoFar (script rest written written_now : List ℕ) (listeners listeners_now : List L) (old new : PlayerState) (reading : Reading) : Type 0 where
     pub lines : List Line
     pub played : List Played
-    pub number : reading.number ≡ length lines
+    pub read : HasRead told_source script rest lines reading
     pub are : ArePlayed lines played
-    pub ahead : told_source → lines_of 0 script ≡ lines ++ lines_ahead reading rest
-    pub taken : told_source → reading.at_end ≡ false → TakenSoFar script rest lines reading
     pub history : Follows tells (map interest listeners) (map hearings listeners) old played new
     pub counts : map hearings listeners_now ≡ counts_after (map interest listeners) played (map hearings listeners)
     pub wants : WantsOf interest hearings heard_last (map interest listeners) listeners_now
@@ -171,17 +147,16 @@ module _ {L : Type 0} (interest : L → ℕ → Bool) (hearings : L → ℕ) (he
     pub text : told_sink → written_now ≡ written ++ text_of played
     pub counted : tells → AreCounted played
 
+module _ {L : Type 0} (interest : L → ℕ → Bool) (hearings : L → ℕ) (heard_last : L → ℕ → List ℕ → Type 0) (told_source told_sink tells : Type 0) (order : InOrder told_source) where
   -- nothing was read
   pub SoFar-start : (script written : List ℕ) (listeners : List L) (player : PlayerState) (reading : Reading)
-      → reading ≡ record { line = []; number = 0; end = 0; pending = []; at_end = false } → SoFar script script written written listeners listeners player player reading
+      → reading ≡ record { line = []; number = 0; end = 0; pending = []; at_end = false } → SoFar interest hearings heard_last told_source told_sink tells script script written written listeners listeners player player reading
   SoFar-start script written listeners player reading start =
-      subst (SoFar script script written written listeners listeners player player) (sym start) (record {
+      subst (SoFar interest hearings heard_last told_source told_sink tells script script written written listeners listeners player player) (sym start) (record {
         lines = [];
         played = [];
-        number = refl;
+        read = order.start script;
         are = tt;
-        ahead = λ told. refl;
-        taken = λ told e. record { taken = []; source = refl; ended = λ more. refl };
         history = refl;
         counts = refl;
         wants = wants_first interest hearings heard_last listeners;
@@ -192,18 +167,16 @@ module _ {L : Type 0} (interest : L → ℕ → Bool) (hearings : L → ℕ) (he
 
   -- the lines before the one that was read, and those behind it
   stops_at : (script rest rest_now written middle : List ℕ) (members members_now : List L) (old mid : PlayerState) (a b : Reading) (number : ℕ)
-      → (so_far : SoFar script rest written middle members members_now old mid a) → IsNextLine told_source a b rest rest_now → number ≡ b.number → told_source
-      → StopsAt script so_far.played number (line_of b)
+      → (so_far : SoFar interest hearings heard_last told_source told_sink tells script rest written middle members members_now old mid a) → IsNextLine told_source a b rest rest_now → number ≡ b.number → told_source
+      → StopsAt script so_far.played number (last_line b)
   stops_at script rest rest_now written middle members members_now old mid a b number so_far next is told = record {
     before = so_far.lines;
-    behind = lines_ahead b rest_now;
-    lines = so_far.ahead told ∙ ap (λ (ls : List Line). so_far.lines ++ ls) (next_ahead told_source a b rest rest_now next told);
-    numbered = omega (arith, is, next.number, so_far.number);
+    stands = subst (λ (n : ℕ). StandsAt script so_far.lines n (last_line b)) (sym is) (order.stands script rest rest_now so_far.lines a b so_far.read next told);
     are = so_far.are;
   }
 
   -- a line that was played, behind some
-  module _ (script rest written middle : List ℕ) (first members : List L) (old mid : PlayerState) (a : Reading) (so_far : SoFar script rest written middle first members old mid a)
+  module _ (script rest written middle : List ℕ) (first members : List L) (old mid : PlayerState) (a : Reading) (so_far : SoFar interest hearings heard_last told_source told_sink tells script rest written middle first members old mid a)
       (line : ScriptLine) (said blocks : List (List ℕ)) (new : PlayerState) (members_now : List L)
       (played : LinePlayed tells (map hearings members) mid line said blocks new) (told : Told interest hearings heard_last blocks members members_now) where
     history_then : Follows tells (map interest first) (map hearings first) old (so_far.played ++ played_as line said blocks new ∷ []) new
@@ -224,17 +197,14 @@ module _ {L : Type 0} (interest : L → ℕ → Bool) (hearings : L → ℕ) (he
 
   -- one more line was read and played
   pub SoFar-played : (script rest rest_now written middle now : List ℕ) (first members members_now : List L) (old mid new : PlayerState) (a b : Reading) (line : ScriptLine)
-      → SoFar script rest written middle first members old mid a → IsNextLine told_source a b rest rest_now → IsPlayable (line_of b) line
+      → SoFar interest hearings heard_last told_source told_sink tells script rest written middle first members old mid a → IsNextLine told_source a b rest rest_now → IsPlayable (last_line b) line
       → PlaysLine interest hearings heard_last tells told_sink mid new members members_now line middle now → (tells → changes_of new.machine ≡ step_of new)
-      → SoFar script rest_now written now first members_now old new b
+      → SoFar interest hearings heard_last told_source told_sink tells script rest_now written now first members_now old new b
   SoFar-played script rest rest_now written middle now first members members_now old mid new a b line so_far next is plays counts = record {
-    lines = so_far.lines ++ line_of b ∷ [];
+    lines = so_far.lines ++ last_line b ∷ [];
     played = so_far.played ++ played_as line plays.said plays.blocks new ∷ [];
-    number = omega (arith, next.number, so_far.number, length-append so_far.lines (line_of b ∷ []));
-    are = ArePlayed-push so_far.lines (line_of b) so_far.played (played_as line plays.said plays.blocks new) so_far.are is;
-    ahead = λ told.
-        so_far.ahead told ∙ ap (λ (ls : List Line). so_far.lines ++ ls) (next_ahead told_source a b rest rest_now next told) ∙ sym (append_assoc so_far.lines (line_of b ∷ []) (lines_ahead b rest_now));
-    taken = λ told e. next_taken told_source a b script rest rest_now so_far.lines next told (so_far.taken told) e;
+    read = order.next script rest rest_now so_far.lines a b so_far.read next;
+    are = ArePlayed-push so_far.lines (last_line b) so_far.played (played_as line plays.said plays.blocks new) so_far.are is;
     history = history_then script rest written middle first members old mid a so_far line plays.said plays.blocks new members_now plays.played plays.told;
     counts = counts_now script rest written middle first members old mid a so_far line plays.said plays.blocks new members_now plays.played plays.told;
     wants = wants_stay interest hearings heard_last (map interest first) plays.blocks members members_now so_far.wants plays.told;
@@ -249,7 +219,7 @@ module _ {L : Type 0} (interest : L → ℕ → Bool) (hearings : L → ℕ) (he
 
   -- a run whose last line was played whole, and whose machine is as that left it
   as_so_far : (script rest rest_now written middle now : List ℕ) (first members : List L) (old new : PlayerState) (a : Reading) (status : Status)
-      → (so_far : SoFar script rest written middle first members old new a)
+      → (so_far : SoFar interest hearings heard_last told_source told_sink tells script rest written middle first members old new a)
       → (told_source → EndsBy tells script rest_now so_far.played new.machine new.machine status)
       → (told_sink → WritesReplies so_far.played written now status) → LeavesLast tells new.machine new.machine status → (status ≡ FlashFault → ⊥)
       → PlaysScript interest hearings heard_last told_source told_sink tells script rest_now written now first members old new status
@@ -267,67 +237,51 @@ module _ {L : Type 0} (interest : L → ℕ → Bool) (hearings : L → ℕ) (he
 
   -- the script was read to its end
   pub ends_done : (script rest rest_now written now : List ℕ) (first members : List L) (old new : PlayerState) (a b : Reading)
-      → IsAtEnd told_source a b rest rest_now → SoFar script rest written now first members old new a
+      → IsAtEnd told_source a b rest rest_now → SoFar interest hearings heard_last told_source told_sink tells script rest written now first members old new a
       → PlaysScript interest hearings heard_last told_source told_sink tells script rest_now written now first members old new Done
   ends_done script rest rest_now written now first members old new a b end so_far =
       as_so_far script rest rest_now written now now first members old new a Done so_far
       (λ told.
-      let left = end.nothing_left told in
-      let none : lines_ahead a rest ≡ [] = ap (lines_of a.end) (ap (λ (bs : List ℕ). bs ++ rest) end.pending ∙ left.0) ∙ lines_of-nil a.end in
-      let all : lines_of 0 script ≡ so_far.lines = so_far.ahead told ∙ ap (λ (ls : List Line). so_far.lines ++ ls) none ∙ append-nil so_far.lines in
-      record { all_read = left.1; are = subst (λ (ls : List Line). ArePlayed ls so_far.played) (sym all) so_far.are })
+      let all = order.at_end script rest rest_now so_far.lines a b so_far.read end told in
+      record { all_read = all.1; are = subst (λ (ls : List Line). ArePlayed ls so_far.played) (sym all.0) so_far.are })
       so_far.text refl (λ e. absurd (cc e))
 
   -- the source failed
   pub ends_fault : (script rest rest_now written now : List ℕ) (first members : List L) (old new : PlayerState) (a b : Reading)
-      → HasNoLine told_source a b rest rest_now → SoFar script rest written now first members old new a
+      → HasNoLine told_source a b rest rest_now → SoFar interest hearings heard_last told_source told_sink tells script rest written now first members old new a
       → PlaysScript interest hearings heard_last told_source told_sink tells script rest_now written now first members old new SourceFault
   ends_fault script rest rest_now written now first members old new a b failed so_far =
       as_so_far script rest rest_now written now now first members old new a SourceFault so_far
-      (λ told.
-      let before = so_far.taken told failed.not_at_end in
-      let none : ended_lines_of a.end (a.pending ++ failed.bytes) ≡ [] = ended_lines_of-one_line a.end (a.pending ++ failed.bytes) failed.one_line in
-      let lines : ended_lines_of 0 (before.taken ++ (a.pending ++ failed.bytes)) ≡ so_far.lines =
-      before.ended (a.pending ++ failed.bytes) ∙ ap (λ (ls : List Line). so_far.lines ++ ls) none ∙ append-nil so_far.lines in
-      record {
-        taken = before.taken ++ (a.pending ++ failed.bytes);
-        source =
-            before.source
-            ∙ ap (λ (bs : List ℕ). before.taken ++ bs) (ap (λ (bs : List ℕ). a.pending ++ bs) (failed.given told) ∙ sym (append_assoc a.pending failed.bytes rest_now))
-            ∙ sym (append_assoc before.taken (a.pending ++ failed.bytes) rest_now);
-        are = subst (λ (ls : List Line). ArePlayed ls so_far.played) (sym lines) so_far.are;
-      })
+      (λ told. record { lines = so_far.lines; taken = order.failed script rest rest_now so_far.lines a b so_far.read failed told; are = so_far.are })
       so_far.text refl (λ e. absurd (cc e))
 
   -- the next line is too long
   pub ends_too_long : (script rest rest_now written now : List ℕ) (first members : List L) (old new : PlayerState) (a b : Reading) (number : ℕ)
-      → NextIsTooLong told_source a b rest → number ≡ b.number → SoFar script rest written now first members old new a
+      → NextIsTooLong told_source a b rest → number ≡ b.number → SoFar interest hearings heard_last told_source told_sink tells script rest written now first members old new a
       → PlaysScript interest hearings heard_last told_source told_sink tells script rest_now written now first members old new (TooLong (number + 1))
   ends_too_long script rest rest_now written now first members old new a b number next is so_far =
       as_so_far script rest rest_now written now now first members old new a (TooLong (number + 1)) so_far
       (λ told.
-      let ahead = next.too_long told in
+      let ahead = order.too_long script rest so_far.lines a b so_far.read next told in
       record {
         line = ahead.0;
         stops = record {
           before = so_far.lines;
-          behind = ahead.1;
-          lines = so_far.ahead told ∙ ap (λ (ls : List Line). so_far.lines ++ ls) ahead.2;
-          numbered = omega (arith, is, next.number, so_far.number);
+          stands = subst (λ (n : ℕ). StandsAt script so_far.lines n ahead.0) (ap (λ (n : ℕ). n + 1) (sym is)) ahead.1;
           are = so_far.are;
         };
-        too_long = ahead.3;
+        too_long = ahead.2;
       })
       so_far.text refl (λ e. absurd (cc e))
 
   -- the line that was read is none
   pub ends_bad : (script rest rest_now written now : List ℕ) (first members : List L) (old new : PlayerState) (a b : Reading) (number column : ℕ)
-      → IsNextLine told_source a b rest rest_now → number ≡ b.number → BreaksAt IsLine b.line column → SoFar script rest written now first members old new a
+      → IsNextLine told_source a b rest rest_now → number ≡ b.number → BreaksAt IsLine b.line column → SoFar interest hearings heard_last told_source told_sink tells script rest written now first members old new a
       → PlaysScript interest hearings heard_last told_source told_sink tells script rest_now written now first members old new (BadLine number column)
   ends_bad script rest rest_now written now first members old new a b number column next is breaks so_far =
       as_so_far script rest rest_now written now now first members old new a (BadLine number column) so_far
       (λ told. record {
-        line = line_of b;
+        line = last_line b;
         stops = stops_at script rest rest_now written now first members old new a b number so_far next is told;
         within = next.within;
         breaks = breaks;
@@ -336,12 +290,12 @@ module _ {L : Type 0} (interest : L → ℕ → Bool) (hearings : L → ℕ) (he
 
   -- it is not built
   pub ends_not_built : (script rest rest_now written now : List ℕ) (first members : List L) (old new : PlayerState) (a b : Reading) (number : ℕ) (line : ScriptLine)
-      → IsNextLine told_source a b rest rest_now → number ≡ b.number → Means b.line line → (IsBuilt line → ⊥) → SoFar script rest written now first members old new a
+      → IsNextLine told_source a b rest rest_now → number ≡ b.number → Means b.line line → (IsBuilt line → ⊥) → SoFar interest hearings heard_last told_source told_sink tells script rest written now first members old new a
       → PlaysScript interest hearings heard_last told_source told_sink tells script rest_now written now first members old new (NotYet number)
   ends_not_built script rest rest_now written now first members old new a b number line next is means_it other so_far =
       as_so_far script rest rest_now written now now first members old new a (NotYet number) so_far
       (λ told. record {
-        line = line_of b;
+        line = last_line b;
         stops = stops_at script rest rest_now written now first members old new a b number so_far next is told;
         within = next.within;
         asked = line;
@@ -352,7 +306,7 @@ module _ {L : Type 0} (interest : L → ℕ → Bool) (hearings : L → ℕ) (he
 
   -- its reply was refused by the sink
   pub ends_unheard : (script rest rest_now written middle now : List ℕ) (first members members_now : List L) (old mid new : PlayerState) (a b : Reading) (line : ScriptLine)
-      → SoFar script rest written middle first members old mid a → IsNextLine told_source a b rest rest_now → IsPlayable (line_of b) line
+      → SoFar interest hearings heard_last told_source told_sink tells script rest written middle first members old mid a → IsNextLine told_source a b rest rest_now → IsPlayable (last_line b) line
       → PlaysUnheard interest hearings heard_last tells told_sink mid new members members_now line middle now → (tells → changes_of new.machine ≡ step_of new)
       → PlaysScript interest hearings heard_last told_source told_sink tells script rest_now written now first members_now old new SinkFault
   ends_unheard script rest rest_now written middle now first members members_now old mid new a b line so_far next is plays counts = record {
@@ -361,9 +315,9 @@ module _ {L : Type 0} (interest : L → ℕ → Bool) (hearings : L → ℕ) (he
     history = history_then script rest written middle first members old mid a so_far plays.made plays.said plays.blocks new members_now plays.played plays.told;
     lines = λ told. record {
       before = so_far.lines;
-      line = line_of b;
-      behind = lines_ahead b rest_now;
-      lines = so_far.ahead told ∙ ap (λ (ls : List Line). so_far.lines ++ ls) (next_ahead told_source a b rest rest_now next told);
+      line = last_line b;
+      behind = (order.stands script rest rest_now so_far.lines a b so_far.read next told).behind;
+      lines = (order.stands script rest rest_now so_far.lines a b so_far.read next told).lines;
       first = so_far.played;
       last = played_as plays.made plays.said plays.blocks new;
       played_is = refl;
@@ -386,7 +340,7 @@ module _ {L : Type 0} (interest : L → ℕ → Bool) (hearings : L → ℕ) (he
 
   -- the flash failed in its restart
   pub ends_failed : (script rest rest_now written middle now : List ℕ) (first members members_now : List L) (old mid new : PlayerState) (a b : Reading) (line : ScriptLine) (stop : PlayStop)
-      → SoFar script rest written middle first members old mid a → IsNextLine told_source a b rest rest_now → IsPlayable (line_of b) line
+      → SoFar interest hearings heard_last told_source told_sink tells script rest written middle first members old mid a → IsNextLine told_source a b rest rest_now → IsPlayable (last_line b) line
       → Stops tells mid line new stop → stop ≡ RestartFailed → members_now ≡ members → now ≡ middle
       → PlaysScript interest hearings heard_last told_source told_sink tells script rest_now written now first members_now old new FlashFault
   ends_failed script rest rest_now written middle now first members members_now old mid new a b line stop so_far next is stops why quiet said = record {
@@ -394,7 +348,7 @@ module _ {L : Type 0} (interest : L → ℕ → Bool) (hearings : L → ℕ) (he
     last = mid;
     history = so_far.history;
     lines = λ told. record {
-      line = line_of b;
+      line = last_line b;
       number = b.number;
       stops = stops_at script rest rest_now written middle first members old mid a b b.number so_far next refl told;
       asked = line;
@@ -416,7 +370,7 @@ module _ {L : Type 0} (interest : L → ℕ → Bool) (hearings : L → ℕ) (he
 
   -- there was no memory for its table
   pub ends_memory : (script rest rest_now written middle now : List ℕ) (first members members_now : List L) (old mid new : PlayerState) (a b : Reading) (line : ScriptLine) (stop : PlayStop)
-      → SoFar script rest written middle first members old mid a → IsNextLine told_source a b rest rest_now → IsPlayable (line_of b) line
+      → SoFar interest hearings heard_last told_source told_sink tells script rest written middle first members old mid a → IsNextLine told_source a b rest rest_now → IsPlayable (last_line b) line
       → Stops tells mid line new stop → stop ≡ NoMemory → members_now ≡ members → now ≡ middle
       → PlaysScript interest hearings heard_last told_source told_sink tells script rest_now written now first members_now old new Memory
   ends_memory script rest rest_now written middle now first members members_now old mid new a b line stop so_far next is stops why quiet said =
@@ -426,11 +380,11 @@ module _ {L : Type 0} (interest : L → ℕ → Bool) (hearings : L → ℕ) (he
         last = mid;
         history = so_far.history;
         lines = λ told. record {
-          line = line_of b;
+          line = last_line b;
           number = b.number;
           stops = stops_at script rest rest_now written middle first members old mid a b b.number so_far next refl told;
           hex = left.1.0;
-          is = subst (IsPlayable (line_of b)) left.1.1 is;
+          is = subst (IsPlayable (last_line b)) left.1.1 is;
         };
         text = λ told. said ∙ so_far.text told;
         behind = ap (λ (p : PlayerState). p.machine) left.0;

@@ -17,7 +17,7 @@ use Rattle.apei_space.specs.Accesses.{Move, Trail}
 use Rattle.erst_client.specs.Commands.{ClientState}
 use Rattle.erst_device.specs.Timings.{timings_of}
 use Rattle.erst_machine.specs.declared.errors.BootError.{BootError}
-use Rattle.erst_machine.specs.declared.errors.BootError.TheVariants.{Size, Memory as NoMemory}
+use Rattle.erst_machine.specs.declared.errors.BootError.TheVariants.{Size, Flash as Failed, Memory as NoMemory}
 use Rattle.erst_machine.specs.Boots.{IsBooted, FitsGeometry, RefusesBoot}
 use Rattle.erst_commands.specs.OwnPrograms.{with_value}
 use Rattle.erst_machine.specs.MachineState.{MachineState, records_of, told_of}
@@ -30,8 +30,8 @@ use Rattle.apei_script.specs.Plays.{FailsRestart, ResetFails, PowerFails, HasHap
 use Rattle.apei_script.specs.History.{Played, Follows, Shows, ShowsEach, AreOwnLines, heard_after, blocks_of}
 use Rattle.script_text.specs.ScriptGrammar.{Line as ScriptLine}
 use Rattle.apei_cli.specs.Statuses.{LeavesLast}
-use Rattle.apei_cli.specs.Runs.{IsGeometryOf, first_player, SomeFailed, MayComeFirst, ComesBeforeBoot, HasNotBegun, HasPlayed, PlaysScript, IsRun, NotBegun, Begun, HasGeometry, IsOnGeometry, HasFlashCause}
-use Rattle.apei_cli.specs.declared.job.Plan.{Plan}
+use Rattle.apei_cli.specs.Runs.{IsGeometryOf, boot_status, first_player, SomeFailed, MayComeFirst, ComesBeforeBoot, HasNotBegun, HasBooted, HasPlayed, PlaysLines, OfLines, OfText, HasGeometry, IsOnGeometry, HasFlashCause}
+use Rattle.apei_cli.specs.Orders.{Order}
 use Rattle.apei_cli.specs.declared.status.Status.{Status}
 use Rattle.apei_cli.specs.declared.status.Status.TheVariants.{Done, BadWords, BadLine, SourceFault, SinkFault, FlashFault, BadGeometry, TooLong, Memory, NotYet}
 use Rattle.apei_cli.proofs.ToldLemmas.{wants_first, heard_all}
@@ -80,37 +80,32 @@ same_layout a b sector per_slot slots =
     (a.product ∙ ap (λ (n : ℕ). n * a.per_slot) sector ∙ ap (λ (n : ℕ). b.sector * n) per_slot ∙ sym b.product)
 
 -- geometries of one plan divide a flash alike
-keeps_alike : (plan : Plan) (geometry other : Geometry) (old new : FlashState) → IsGeometryOf plan geometry → IsGeometryOf plan other → KeepsRecordsOf geometry old new → KeepsRecordsOf other old new
+keeps_alike : (plan : Order) (geometry other : Geometry) (old new : FlashState) → IsGeometryOf plan geometry → IsGeometryOf plan other → KeepsRecordsOf geometry old new → KeepsRecordsOf other old new
 keeps_alike plan geometry other old new is of kept =
     subst (λ (l : Layout). Leaves old.told new.told (λ image. records_in l image ≡ records_in l old.told.image))
     (same_layout (layout_of geometry) (layout_of other) (is.sector ∙ sym of.sector) (is.per_slot ∙ sym of.per_slot) (is.slots ∙ sym of.slots)) kept
 
-module _ {L : Type 0} (interest : L → ℕ → Bool) (hearings : L → ℕ) (heard_last : L → ℕ → List ℕ → Type 0) (told_source told_sink tells untouched : Type 0) where
-  -- the flash was not touched
-  pub run_none : (plan : Plan) (script written : List ℕ) (listeners listeners_now : List L) (old new : FlashState) (status : Status) → MayComeFirst status → untouched → listeners_now ≡ listeners → new ≡ old
-      → IsRun interest hearings heard_last told_source told_sink tells untouched plan script script written written listeners listeners_now old new status
-  run_none plan script written listeners listeners_now old new status first quiet members same = NotBegun members (record {
-    first = first;
-    untouched_is = quiet;
-    quiet = λ other. ap (λ (f : FlashState). f.faults) same;
-    flash = λ _. same;
-    kept = λ told geometry of.
-        subst (λ (f : FlashState). KeepsRecordsOf geometry old f) (sym same)
-        (Leaves-none old.told (λ image. records_in (layout_of geometry) image ≡ records_in (layout_of geometry) old.told.image) refl);
-  })
+-- the flash was not touched
+pub none_begun : (tells : Type 0) (plan : Order) (old new : FlashState) (status : Status) → MayComeFirst status → new ≡ old → HasNotBegun tells plan old new status
+none_begun tells plan old new status first same = record {
+  first = first;
+  quiet = λ other. ap (λ (f : FlashState). f.faults) same;
+  flash = λ _. same;
+  kept = λ told geometry of.
+      subst (λ (f : FlashState). KeepsRecordsOf geometry old f) (sym same)
+      (Leaves-none old.told (λ image. records_in (layout_of geometry) image ≡ records_in (layout_of geometry) old.told.image) refl);
+}
 
-  -- the machine was not booted, or no line was played on it
-  pub run_refused : (plan : Plan) (geometry : Geometry) (script written : List ℕ) (listeners listeners_now : List L) (old new : FlashState) (status : Status) → MayComeFirst status → untouched
-      → listeners_now ≡ listeners → (ComesBeforeBoot status → new ≡ old) → IsGeometryOf plan geometry → (tells → KeepsRecordsOf geometry old new)
-      → ((status ≡ FlashFault → ⊥) → new.faults ≡ old.faults)
-      → IsRun interest hearings heard_last told_source told_sink tells untouched plan script script written written listeners listeners_now old new status
-  run_refused plan geometry script written listeners listeners_now old new status first quiet members same is kept none = NotBegun members (record {
-    first = first;
-    quiet = none;
-    untouched_is = quiet;
-    flash = same;
-    kept = λ told other of. keeps_alike plan geometry other old new is of (kept told);
-  })
+-- the machine was not booted, or no line was played on it
+pub begun_in_vain : (tells : Type 0) (plan : Order) (geometry : Geometry) (old new : FlashState) (status : Status) → MayComeFirst status
+    → (ComesBeforeBoot status → new ≡ old) → IsGeometryOf plan geometry → (tells → KeepsRecordsOf geometry old new)
+    → ((status ≡ FlashFault → ⊥) → new.faults ≡ old.faults) → HasNotBegun tells plan old new status
+begun_in_vain tells plan geometry old new status first same is kept none = record {
+  first = first;
+  quiet = none;
+  flash = same;
+  kept = λ told other of. keeps_alike plan geometry other old new is of (kept told);
+}
 
 abbrev faults_of : MachineState → ℕ
 faults_of state = state.device.store.flash.faults
@@ -217,9 +212,9 @@ flash_cause before after (TooLong line) grows rose = grows
 flash_cause before after Memory grows rose = grows
 flash_cause before after (NotYet line) grows rose = grows
 
-module _ {L : Type 0} (interest : L → ℕ → Bool) (hearings : L → ℕ) (heard_last : L → ℕ → List ℕ → Type 0) (told_source told_sink tells untouched : Type 0)
-    (plan : Plan) (geometry : Geometry) (script rest written written_now : List ℕ) (listeners listeners_now : List L) (old : FlashState) (booted : MachineState) (end : PlayerState) (status : Status)
-    (plays : PlaysScript interest hearings heard_last told_source told_sink tells script rest written written_now listeners listeners_now (first_player plan booted) end status) where
+module _ {L : Type 0} (interest : L → ℕ → Bool) (hearings : L → ℕ) (heard_last : L → ℕ → List ℕ → Type 0) (tells : Type 0)
+    (plan : Order) (geometry : Geometry) (AreLines : OfLines) (IsText : OfText) (listeners listeners_now : List L) (old : FlashState) (booted : MachineState) (end : PlayerState) (status : Status)
+    (plays : PlaysLines interest hearings heard_last tells AreLines IsText listeners listeners_now (first_player plan booted) end status) where
   abbrev first : PlayerState
   first = first_player plan booted
 
@@ -338,8 +333,8 @@ module _ {L : Type 0} (interest : L → ℕ → Bool) (hearings : L → ℕ) (he
     -- the machine was booted, and then lines were played on it
     pub run_played : (new : FlashState) → IsGeometryOf plan geometry
         → (tells → booted.device.store.flash.steps ≡ old.steps + second_copies geometry.slot_size geometry.slots old.told.image) → final.device.store.flash ≡ new
-        → IsRun interest hearings heard_last told_source told_sink tells untouched plan script rest written written_now listeners listeners_now old new status
-    run_played new is_of steps same = Begun (record {
+        → HasPlayed interest hearings heard_last tells plan AreLines IsText listeners listeners_now old new status
+    run_played new is_of steps same = record {
       geometry = geometry;
       geometry_of = is_of;
       booted = booted;
@@ -366,34 +361,26 @@ module _ {L : Type 0} (interest : L → ℕ → Bool) (hearings : L → ℕ) (he
       each = λ told. (shown_ends told (map interest listeners) (map hearings listeners) first plays.played last plays.history).0;
       crash = λ told own s image from crash. all_show told own s image from (subst (λ (f : FlashState). CrashImage f.told s image) (sym same) crash);
       any = λ told. (all_moves.0, all_moves.1, λ s image from crash. any_shows told s image from (subst (λ (f : FlashState). CrashImage f.told s image) (sym same) crash));
-    })
+    }
 
 -- the same lines, by what the player is made of
-pub plays_from : {L : Type 0} (interest : L → ℕ → Bool) (hearings : L → ℕ) (heard_last : L → ℕ → List ℕ → Type 0) (told_source told_sink tells : Type 0)
-    (script rest written written_now : List ℕ) (members listeners members_now listeners_now : List L) (start first end : PlayerState) (status : Status)
-    → PlaysScript interest hearings heard_last told_source told_sink tells script rest written written_now members members_now start end status
+pub plays_from : {L : Type 0} (interest : L → ℕ → Bool) (hearings : L → ℕ) (heard_last : L → ℕ → List ℕ → Type 0) (tells : Type 0)
+    (AreLines : OfLines) (IsText : OfText) (members listeners members_now listeners_now : List L) (start first end : PlayerState) (status : Status)
+    → PlaysLines interest hearings heard_last tells AreLines IsText members members_now start end status
     → members ≡ listeners → members_now ≡ listeners_now → start ≡ first
-    → PlaysScript interest hearings heard_last told_source told_sink tells script rest written written_now listeners listeners_now first end status
-plays_from {L} interest hearings heard_last told_source told_sink tells script rest written written_now members listeners members_now listeners_now start first end status plays before after at =
-    subst (λ (p : PlayerState). PlaysScript interest hearings heard_last told_source told_sink tells script rest written written_now listeners listeners_now p end status) at
-    (subst (λ (ls : List L). PlaysScript interest hearings heard_last told_source told_sink tells script rest written written_now listeners ls start end status) after
-    (subst (λ (ls : List L). PlaysScript interest hearings heard_last told_source told_sink tells script rest written written_now ls members_now start end status) before plays))
+    → PlaysLines interest hearings heard_last tells AreLines IsText listeners listeners_now first end status
+plays_from {L} interest hearings heard_last tells AreLines IsText members listeners members_now listeners_now start first end status plays before after at =
+    subst (λ (p : PlayerState). PlaysLines interest hearings heard_last tells AreLines IsText listeners listeners_now p end status) at
+    (subst (λ (ls : List L). PlaysLines interest hearings heard_last tells AreLines IsText listeners ls start end status) after
+    (subst (λ (ls : List L). PlaysLines interest hearings heard_last tells AreLines IsText ls members_now start end status) before plays))
 
-pub is_first : (plan : Plan) (booted machine : MachineState) (own : ClientState) (state : PlayerState) → state ≡ player_of machine own plan.steps → own ≡ own_client booted
+pub is_first : (plan : Order) (booted machine : MachineState) (own : ClientState) (state : PlayerState) → state ≡ player_of machine own plan.steps → own ≡ own_client booted
     → machine ≡ with_value (timings_of booted.device.store.layout) booted → state ≡ first_player plan booted
 is_first plan booted machine own state is client attached =
     is ∙ ap (λ (m : MachineState). player_of m own plan.steps) attached ∙ ap (λ (c : ClientState). player_of (with_value (timings_of booted.device.store.layout) booted) c plan.steps) client
 
--- a flash that the boot refused by its size is handed back as it was
-pub refused_size : (geometry : Geometry) (old back : FlashState) (why : BootError) (found sector : ℕ) → RefusesBoot geometry old back why → why ≡ Size found sector → back ≡ old
-refused_size geometry old back why found sector refused is = let by_size : RefusesBoot geometry old back (Size found sector) = subst (RefusesBoot geometry old back) is refused in by_size.3
-
--- and so is one for which there was no memory
-pub refused_memory : (geometry : Geometry) (old back : FlashState) (why : BootError) → RefusesBoot geometry old back why → why ≡ NoMemory → back ≡ old
-refused_memory geometry old back why refused is = subst (RefusesBoot geometry old back) is refused
-
 -- a flash that fits was found by the plan's numbers
-pub has_geometry : (plan : Plan) (geometry : Geometry) (flash : FlashState) → IsGeometryOf plan geometry → IsGeometry plan.sector plan.per_slot plan.slots → FitsGeometry geometry flash → HasGeometry plan flash
+pub has_geometry : (plan : Order) (geometry : Geometry) (flash : FlashState) → IsGeometryOf plan geometry → IsGeometry plan.sector plan.per_slot plan.slots → FitsGeometry geometry flash → HasGeometry plan flash
 has_geometry plan geometry flash is within fits = record {
   within = within;
   size =
@@ -402,7 +389,41 @@ has_geometry plan geometry flash is within fits = record {
   sector_size = fits.sector_size ∙ is.sector;
 }
 
-pub on_geometry : (plan : Plan) (flash : FlashState) (status : Status) → HasGeometry plan flash → (ComesBeforeBoot status → ⊥) → IsOnGeometry plan flash status
+-- and the other way round
+fits_geometry : (order : Order) (geometry : Geometry) (flash : FlashState) → IsGeometryOf order geometry → HasGeometry order flash → FitsGeometry geometry flash
+fits_geometry order geometry flash is has = record {
+  size =
+      has.size
+      ∙ sym (ap (λ (n : ℕ). n * geometry.slots) geometry.product ∙ ap (λ (n : ℕ). n * geometry.per_slot * geometry.slots) is.sector
+      ∙ ap (λ (n : ℕ). order.sector * n * geometry.slots) is.per_slot ∙ ap (λ (n : ℕ). order.sector * order.per_slot * n) is.slots);
+  sector_size = has.sector_size ∙ sym is.sector;
+}
+
+-- what a boot that was refused leaves, by its status
+pub refused_begun : (tells : Type 0) (order : Order) (geometry : Geometry) (old back : FlashState) (why : BootError) (size : ℕ)
+    → IsGeometryOf order geometry → RefusesBoot geometry old back why → (tells → KeepsRecordsOf geometry old back)
+    → HasNotBegun tells order old back (boot_status why (BadGeometry order.sector order.per_slot order.slots size))
+refused_begun tells order geometry old back (Size found sector) size is refused kept =
+    begun_in_vain tells order geometry old back _ tt (λ _. refused.3) is kept (λ _. ap (λ (f : FlashState). f.faults) refused.3)
+refused_begun tells order geometry old back Failed size is refused kept =
+    begun_in_vain tells order geometry old back _ tt (λ never. absurd never) is kept (λ other. absurd (other refl))
+refused_begun tells order geometry old back NoMemory size is refused kept =
+    begun_in_vain tells order geometry old back _ tt (λ never. absurd never) is kept (λ _. ap (λ (f : FlashState). f.faults) refused)
+
+pub refused_geometry : (order : Order) (geometry : Geometry) (old back : FlashState) (why : BootError) (size : ℕ) → size ≡ old.size
+    → IsGeometryOf order geometry → IsGeometry order.sector order.per_slot order.slots → RefusesBoot geometry old back why
+    → IsOnGeometry order old (boot_status why (BadGeometry order.sector order.per_slot order.slots size))
+refused_geometry order geometry old back (Size found sector) size sized is within refused = (λ has. refused.0 (fits_geometry order geometry old is has), refl, refl, refl, sized)
+refused_geometry order geometry old back Failed size sized is within refused = has_geometry order geometry old is within refused.0
+refused_geometry order geometry old back NoMemory size sized is within refused = tt
+
+pub refused_cause : (order : Order) (geometry : Geometry) (old back : FlashState) (why : BootError) (size : ℕ) → RefusesBoot geometry old back why
+    → HasFlashCause old.faults back.faults (boot_status why (BadGeometry order.sector order.per_slot order.slots size))
+refused_cause order geometry old back (Size found sector) size refused = let same = ap (λ (f : FlashState). f.faults) refused.3 in omega arith
+refused_cause order geometry old back Failed size refused = (refused.1, refused.2)
+refused_cause order geometry old back NoMemory size refused = let same = ap (λ (f : FlashState). f.faults) refused in omega arith
+
+pub on_geometry : (plan : Order) (flash : FlashState) (status : Status) → HasGeometry plan flash → (ComesBeforeBoot status → ⊥) → IsOnGeometry plan flash status
 on_geometry plan flash Done has begun = has
 on_geometry plan flash BadWords has begun = begun tt
 on_geometry plan flash (BadLine line column) has begun = has
@@ -414,10 +435,31 @@ on_geometry plan flash (TooLong line) has begun = has
 on_geometry plan flash Memory has begun = tt
 on_geometry plan flash (NotYet line) has begun = has
 
--- a run of a plan is one of the same plan
-pub run_of : {L : Type 0} (interest : L → ℕ → Bool) (hearings : L → ℕ) (heard_last : L → ℕ → List ℕ → Type 0) (told_source told_sink tells untouched : Type 0) (plan other : Plan)
-    (script rest written written_now : List ℕ) (listeners listeners_now : List L) (old new : FlashState) (status : Status) → plan ≡ other
-    → IsRun interest hearings heard_last told_source told_sink tells untouched plan script rest written written_now listeners listeners_now old new status
-    → IsRun interest hearings heard_last told_source told_sink tells untouched other script rest written written_now listeners listeners_now old new status
-run_of interest hearings heard_last told_source told_sink tells untouched plan other script rest written written_now listeners listeners_now old new status same run =
-    subst (λ (p : Plan). IsRun interest hearings heard_last told_source told_sink tells untouched p script rest written written_now listeners listeners_now old new status) same run
+-- lines that were played by a player that had just been booted, the player taken apart then
+pub plays_then : {L : Type 0} (interest : L → ℕ → Bool) (hearings : L → ℕ) (heard_last : L → ℕ → List ℕ → Type 0) (tells : Type 0) (plan : Order)
+    (AreLines : OfLines) (IsText : OfText) (listeners listeners_now : List L) (old new : FlashState) (start end : PlayerState) (status : Status)
+    (one_list : (wants : List (ℕ → Bool)) (counts : List ℕ) (first : PlayerState) (played : List Played) (last : PlayerState)
+    → Follows tells wants counts first played last → HasHappened tells first.machine last.machine)
+    (shown_ends : tells → (wants : List (ℕ → Bool)) (counts : List ℕ) (first : PlayerState) (played : List Played) (last : PlayerState)
+    → Follows tells wants counts first played last → ShowsEach last first played × IsLater (told_of first.machine) (told_of last.machine))
+    (shown_crash : tells → (wants : List (ℕ → Bool)) (counts : List ℕ) (first : PlayerState) (played : List Played) (last : PlayerState)
+    → first.own ≡ own_client first.machine → first.other ≡ None → AreOwnLines played
+    → Follows tells wants counts first played last
+    → (s : ℕ) (image : List ℕ) → changes_of first.machine ≤ s → CrashImage (told_of last.machine) s image
+    → Shows s first played (shown_by first.machine image))
+    → HasBooted tells plan old start → PlaysLines interest hearings heard_last tells AreLines IsText listeners listeners_now start end status
+    → end.machine.device.store.flash ≡ new → HasPlayed interest hearings heard_last tells plan AreLines IsText listeners listeners_now old new status
+plays_then {L} interest hearings heard_last tells plan AreLines IsText listeners listeners_now old new start end status one_list shown_ends shown_crash boot plays same =
+    run_played interest hearings heard_last tells plan boot.geometry AreLines IsText listeners listeners_now old boot.booted end status
+    (subst (λ (p : PlayerState). PlaysLines interest hearings heard_last tells AreLines IsText listeners listeners_now p end status) boot.player_is plays)
+    boot.is_booted boot.faults boot.kept one_list shown_ends shown_crash new boot.geometry_of boot.steps same
+
+-- the causes of its status
+pub cause_then : {L : Type 0} (interest : L → ℕ → Bool) (hearings : L → ℕ) (heard_last : L → ℕ → List ℕ → Type 0) (tells : Type 0) (plan : Order)
+    (AreLines : OfLines) (IsText : OfText) (listeners listeners_now : List L) (old new : FlashState) (start end : PlayerState) (status : Status)
+    → HasBooted tells plan old start → PlaysLines interest hearings heard_last tells AreLines IsText listeners listeners_now start end status
+    → end.machine.device.store.flash ≡ new → HasFlashCause old.faults new.faults status
+cause_then {L} interest hearings heard_last tells plan AreLines IsText listeners listeners_now old new start end status boot plays same =
+    whole_cause interest hearings heard_last tells plan boot.geometry AreLines IsText listeners listeners_now old boot.booted end status
+    (subst (λ (p : PlayerState). PlaysLines interest hearings heard_last tells AreLines IsText listeners listeners_now p end status) boot.player_is plays)
+    new boot.faults same

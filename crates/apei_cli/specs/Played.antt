@@ -4,7 +4,7 @@ use Rattle.script_text.specs.ScriptGrammar.{Line as ScriptLine, blank, comment}
 use Rattle.script_text.specs.ScriptText.{IsWritten}
 use Rattle.apei_script.specs.Plays.{IsBuilt}
 use Rattle.apei_script.specs.History.{Played}
-use Rattle.apei_cli.specs.Lines.{Line, IsTooLong}
+use Rattle.script_lines.specs.Lines.{Line, IsTooLong}
 
 -- what a text means: the line that is written so; a text that begins with '#' is a blank line
 pub data Means (text : List ℕ) : ScriptLine → Type 0 where

@@ -1,10 +1,19 @@
 -- The simulated flash of a plan.
-use Rattle.std.specs.Prelude.{◌≡◌, ℕ, ◌*◌, ◌==◌, if◌then◌else◌, List, [], ◌∷◌, replicate, Option, Some, None, option_to_list}
+use Rattle.std.specs.Prelude.{◌≡◌, ℕ, Bool, true, false, ◌*◌, ◌==◌, if◌then◌else◌, List, [], ◌∷◌, replicate, Option, Some, None, option_to_list}
 use Rattle.flash_model.specs.Simulation.{Simulation, first_power}
 use Rattle.flash_model.specs.declared.cut.Cut.{Cut}
 use Rattle.flash_model.specs.declared.tear.Tear.{Tear}
 use Rattle.flash_model.specs.declared.tear.Tear.TheVariants.{Nothing, Whole, Zeros, Marks}
-use Rattle.apei_cli.specs.declared.job.Plan.{Plan}
+use Rattle.apei_words.specs.declared.job.Job.{Job}
+use Rattle.apei_words.specs.declared.job.Job.TheVariants.{Play, Sim, Check, Gen}
+use Rattle.apei_words.specs.declared.job.Plan.{Plan}
+
+-- a job plays on a simulated flash
+abbrev pub simulates : Job → Bool
+simulates Play = false
+simulates Sim = true
+simulates Check = false
+simulates Gen = true
 
 -- a tear by its number; the words give none above 3
 abbrev pub tear_numbered : ℕ → Tear

@@ -6,7 +6,8 @@ use Rattle.script_text.specs.ScriptGrammar.{Line as ScriptLine, IsLine, table}
 use Rattle.apei_script.specs.Players.{PlayerState}
 use Rattle.apei_script.specs.Plays.{IsBuilt, IsCutShort, FailsRestart, PartlySaid, step_of}
 use Rattle.apei_script.specs.History.{Played, text_of}
-use Rattle.apei_cli.specs.Lines.{Line, lines_of, ended_lines_of, IsTooLong}
+use Rattle.script_lines.specs.Lines.{Line, lines_of, IsTooLong}
+use Rattle.script_lines.specs.Reads.{StandsAt, AreTaken}
 use Rattle.apei_cli.specs.Played.{Means, IsPlayable, ArePlayed}
 use Rattle.apei_cli.specs.declared.status.Status.{Status}
 use Rattle.apei_cli.specs.declared.status.Status.TheVariants.{Done, BadWords, BadLine, SourceFault, SinkFault, FlashFault, BadGeometry, TooLong, Memory, NotYet}
@@ -14,9 +15,7 @@ use Rattle.apei_cli.specs.declared.status.Status.TheVariants.{Done, BadWords, Ba
 -- the lines before one of the script were played, and what that line is
 pub record StopsAt (script : List ℕ) (played : List Played) (number : ℕ) (line : Line) : Type 0 where
   pub before : List Line
-  pub behind : List Line
-  pub lines : lines_of 0 script ≡ before ++ line ∷ behind
-  pub numbered : number ≡ length before + 1
+  pub stands : StandsAt script before number line
   pub are : ArePlayed before played
 
 -- the script was played to its end
@@ -26,9 +25,9 @@ pub record PlaysAll (script rest : List ℕ) (played : List Played) : Type 0 whe
 
 -- the lines whose newline was taken from the source were played
 pub record PlaysTaken (script rest : List ℕ) (played : List Played) : Type 0 where
-  pub taken : List ℕ
-  pub source : script ≡ taken ++ rest
-  pub are : ArePlayed (ended_lines_of 0 taken) played
+  pub lines : List Line
+  pub taken : AreTaken script rest lines
+  pub are : ArePlayed lines played
 
 -- the lines before one of the script were played, and that one too; it may be left after some of its turns
 pub record PlaysUpTo (script : List ℕ) (played : List Played) : Type 0 where

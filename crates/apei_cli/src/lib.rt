@@ -1,16 +1,11 @@
 //! The program's top call.
 #![tactic(auto)]
 
-mod job;
-mod lines;
-mod number;
 mod program;
 mod sim;
 mod status;
-mod words;
 
-pub use job::{Job, Plan, PlanError};
+pub use apei_words::{Job, Plan, PlanError, Show, plan};
 pub use program::run;
 pub use sim::sim_flash;
 pub use status::Status;
-pub use words::plan;

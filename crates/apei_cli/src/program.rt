@@ -1,24 +1,28 @@
 // The program's top call.
-ghost use Rattle.std.specs.Prelude.{◌≡◌, ◌↔◌, ⊤, [], false, IsTrue};
+ghost use Rattle.std.specs.Prelude.{◌≡◌, ◌≢◌, ◌⊎◌, ◌↔◌, ⊤, [], false, IsTrue, IfOk, IfErr};
 ghost use Rattle.base_model.specs.Faults.{Rose};
 ghost use Rattle.apei_notify.specs.Chains.{members_of};
 ghost use Rattle.script_text.specs.ScriptText.{line_of};
 ghost use Rattle.apei_script.specs.Plays.{IsBuilt};
 ghost use Rattle.apei_script.specs.Desks.{state_of};
-ghost use Rattle.apei_cli.specs.Plan.{IsPlanOf};
-ghost use Rattle.apei_cli.specs.Runs.{PlaysScript, IsRun, IsOnGeometry, IsAdmitted, HasSourceCause, HasSinkCause, HasFlashCause, ComesBeforeBoot, IsComplete, IsDoneWhere};
+ghost use Rattle.apei_words.specs.Plan.{IsPlanOf};
+ghost use Rattle.apei_cli.specs.Orders.{order_of};
+ghost use Rattle.apei_cli.specs.Runs.{PlaysScript, boot_status, HasBooted, HasNotBegun, LinesOf, RepliesTo, IsRun, IsOnGeometry, HasSourceCause, HasSinkCause, HasFlashCause, ComesBeforeBoot};
+ghost use Rattle.apei_cli.specs.Jobs.{status_of, summary_status, GeneratedLines, SummaryOf, RunsJob, FitsStatus, FitsFlash, AreTakenBy, IsAdmitted, IsComplete, IsDoneWhere};
+ghost use Rattle.script_lines.specs.Lines.{lines_of};
 
-use crate::job::{Plan, PlanError};
-use crate::lines::{LineReader, LineStop};
 use crate::status::Status;
-use crate::words::plan;
-use apei_bytes::{Sink, Source};
+use apei_bytes::{Sink, SinkFault, Source};
+use apei_check::{CheckEnd, check_script};
+use apei_gen::generate;
 use apei_notify::{Chain, Listener};
 use apei_script::{
     PlayStop, Player, PlayerRefused, lines_are_one_list, lines_are_shown, own_client,
 };
+use apei_words::{Job, Plan, PlanError, plan, words_ask_for_one_plan};
 use erst_machine::{BootError, BootRefused, Machine};
 use flash_model::{Flash, Geometry};
+use script_lines::{LineReader, LineStop, lines_are_read_in_order};
 use script_text::ScriptLine;
 use std::alloc::Global;
 
@@ -47,6 +51,7 @@ fn play_script<I: Source, O: Sink, F: Flash>(
     ensures source { HasSourceCause (I.faults script.old) (I.faults script.new) result }
     ensures sink { HasSinkCause (O.faults out.old) (O.faults out.new) result }
 {
+    lines_are_read_in_order::<I>();
     'lines: loop {
         match lines.advance(script) {
             Ok(true) => {}
@@ -80,8 +85,98 @@ fn play_script<I: Source, O: Sink, F: Flash>(
     }
 }
 
+/// Why no line was played, and what was handed in.
+struct NotBegun<F: Flash> {
+    status: Status,
+    flash: F,
+    listeners: Vec<Box<dyn Listener>>,
+}
+
+/// The status of a boot that was refused; `refused` is that of a flash of another size.
+fn boot_status(why: BootError, refused: Status) -> Status
+    ensures { result ≡ boot_status why refused }
+{
+    match why {
+        BootError::Size { .. } => refused,
+        BootError::Flash => Status::FlashFault,
+        BootError::Memory => Status::Memory,
+    }
+}
+
+/// Boots the machine of a flash, attaches a client to its own table, and makes its player.
+fn boot_player<F: Flash>(
+    alloc: Global,
+    plan: &Plan,
+    flash: F,
+    listeners: Vec<Box<dyn Listener>>,
+) -> Result<Player<F>, NotBegun<F>>
+    requires { ⊤ }
+    ensures booted { IfOk result (λ player. HasBooted F.tells (order_of plan.now) (F.state flash) (state_of player.desk)) }
+    ensures members { IfOk result (λ player. members_of player.chain ≡ listeners.items) }
+    ensures refused { IfErr result (λ none. HasNotBegun F.tells (order_of plan.now) (F.state flash) (F.state none.flash) none.status) }
+    ensures listeners_back { IfErr result (λ none. none.listeners.items ≡ listeners.items) }
+    ensures geometry { IfErr result (λ none. IsOnGeometry (order_of plan.now) (F.state flash) none.status) }
+    ensures cause { IfErr result (λ none. HasFlashCause (F.state flash).faults (F.state none.flash).faults none.status) }
+{
+    let refused = Status::BadGeometry {
+        sector: plan.sector,
+        per_slot: plan.per_slot,
+        slots: plan.slots,
+        size: flash.size(),
+    };
+    let Ok(geometry) = Geometry::new(plan.sector, plan.per_slot, plan.slots) else {
+        return Err(NotBegun {
+            status: refused,
+            flash,
+            listeners,
+        });
+    };
+    let mut machine = match Machine::boot(alloc, flash, geometry) {
+        Ok(machine) => machine,
+        Err(BootRefused { why, flash }) => {
+            return Err(NotBegun {
+                status: boot_status(why, refused),
+                flash,
+                listeners,
+            });
+        }
+    };
+    let Ok(own) = own_client(alloc, &mut machine) else {
+        return Err(NotBegun {
+            status: Status::Memory,
+            flash: machine.into_flash(),
+            listeners,
+        });
+    };
+    let chain = Chain::new(listeners);
+    match Player::new(alloc, machine, own, chain, plan.steps) {
+        Ok(player) => Ok(player),
+        Err(
+            PlayerRefused {
+                machine,
+                own: _,
+                chain,
+            },
+        ) => Err(NotBegun {
+            status: Status::Memory,
+            flash: machine.into_flash(),
+            listeners: chain.into_members(),
+        }),
+    }
+}
+
+/// The flash and the listeners of a player.
+fn take_apart<F: Flash>(player: Player<F>) -> (F, Vec<Box<dyn Listener>>)
+    requires { ⊤ }
+    ensures flash { F.state result.0 ≡ (state_of player.desk).machine.device.store.flash }
+    ensures listeners { result.1.items ≡ members_of player.chain }
+{
+    let (machine, chain) = player.into_parts();
+    (machine.into_flash(), chain.into_members())
+}
+
 /// Plays a script on a flash, by a plan.
-fn run_plan<I: Source, O: Sink, F: Flash>(
+fn run_script<I: Source, O: Sink, F: Flash>(
     alloc: Global,
     plan: &Plan,
     script: &mut I,
@@ -94,59 +189,140 @@ fn run_plan<I: Source, O: Sink, F: Flash>(
         (λ b. (⟦<dyn Listener as Listener>⟧ b.vtable).interest b.value)
         (λ b. (⟦<dyn Listener as Listener>⟧ b.vtable).hearings b.value)
         (λ b. (⟦<dyn Listener as Listener>⟧ b.vtable).heard_last b.value)
-        I.tells O.tells F.tells ((script.new ≡ script.old) × (out.new ≡ out.old)) plan.now (I.rest script.old) (I.rest script.new)
-        (O.written out.old) (O.written out.new) listeners.items result.2.items (F.state flash) (F.state result.1) result.0 }
-    ensures geometry { IsOnGeometry plan.now (F.state flash) result.0 }
+        F.tells ((script.new ≡ script.old) × (out.new ≡ out.old)) (order_of plan.now)
+        (LinesOf I.tells F.tells (I.rest script.old) (I.rest script.new) result.0)
+        (RepliesTo O.tells (O.written out.old) (O.written out.new) result.0)
+        listeners.items result.2.items (F.state flash) (F.state result.1) result.0 }
+    ensures geometry { IsOnGeometry (order_of plan.now) (F.state flash) result.0 }
     ensures source { HasSourceCause (I.faults script.old) (I.faults script.new) result.0 }
     ensures sink { HasSinkCause (O.faults out.old) (O.faults out.new) result.0 }
     ensures flash { HasFlashCause (F.state flash).faults (F.state result.1).faults result.0 }
 {
-    let refused = Status::BadGeometry {
-        sector: plan.sector,
-        per_slot: plan.per_slot,
-        slots: plan.slots,
-        size: flash.size(),
-    };
-    let Ok(geometry) = Geometry::new(plan.sector, plan.per_slot, plan.slots) else {
-        return (refused, flash, listeners);
-    };
     let Ok(mut lines) = LineReader::new(alloc) else {
         return (Status::Memory, flash, listeners);
     };
-    let mut machine = match Machine::boot(alloc, flash, geometry) {
-        Ok(machine) => machine,
-        Err(BootRefused { why, flash }) => match why {
-            BootError::Size { .. } => return (refused, flash, listeners),
-            BootError::Flash => return (Status::FlashFault, flash, listeners),
-            BootError::Memory => return (Status::Memory, flash, listeners),
-        },
-    };
-    let Ok(own) = own_client(alloc, &mut machine) else {
-        return (Status::Memory, machine.into_flash(), listeners);
-    };
-    let chain = Chain::new(listeners);
-    match Player::new(alloc, machine, own, chain, plan.steps) {
+    match boot_player(alloc, plan, flash, listeners) {
         Ok(mut player) => {
             lines_are_one_list::<F>();
             lines_are_shown::<F>();
             let status = play_script(&mut lines, &mut player, script, out);
-            let (machine, chain) = player.into_parts();
-            (status, machine.into_flash(), chain.into_members())
+            let (flash, listeners) = take_apart(player);
+            (status, flash, listeners)
         }
         Err(
-            PlayerRefused {
-                machine,
-                own: _,
-                chain,
+            NotBegun {
+                status,
+                flash,
+                listeners,
             },
-        ) => { (Status::Memory, machine.into_flash(), chain.into_members()) }
+        ) => (status, flash, listeners),
     }
 }
 
-/// Plays a script on the machine of a flash, and writes the replies: the program's top call.
+/// The status of an end of a check.
+fn status_of(end: CheckEnd) -> Status
+    ensures { result ≡ status_of end }
+{
+    match end {
+        CheckEnd::Done => Status::Done,
+        CheckEnd::BadLine { line, column } => Status::BadLine { line, column },
+        CheckEnd::SourceFault => Status::SourceFault,
+        CheckEnd::SinkFault => Status::SinkFault,
+        CheckEnd::TooLong { line } => Status::TooLong { line },
+        CheckEnd::Memory => Status::Memory,
+    }
+}
+
+/// The status of lines that were generated, played and summed up.
+fn summary_status(generated: Result<(), SinkFault>) -> Status
+    ensures { result ≡ summary_status generated }
+{
+    match generated {
+        Ok(()) => Status::Done,
+        Err(SinkFault) => Status::SinkFault,
+    }
+}
+
+/// Plays the lines that a seed generates on a flash, by a plan, and sums them up.
+fn run_generated<O: Sink, F: Flash>(
+    alloc: Global,
+    plan: &Plan,
+    out: &mut O,
+    flash: F,
+    listeners: Vec<Box<dyn Listener>>,
+) -> (Status, F, Vec<Box<dyn Listener>>)
+    requires { ⊤ }
+    ensures run { IsRun
+        (λ b. (⟦<dyn Listener as Listener>⟧ b.vtable).interest b.value)
+        (λ b. (⟦<dyn Listener as Listener>⟧ b.vtable).hearings b.value)
+        (λ b. (⟦<dyn Listener as Listener>⟧ b.vtable).heard_last b.value)
+        F.tells (out.new ≡ out.old) (order_of plan.now)
+        (GeneratedLines (order_of plan.now)) (SummaryOf O.tells (order_of plan.now) (O.written out.old) (O.written out.new) result.0)
+        listeners.items result.2.items (F.state flash) (F.state result.1) result.0 }
+    ensures geometry { IsOnGeometry (order_of plan.now) (F.state flash) result.0 }
+    ensures source { result.0 ≢ Status.SourceFault }
+    ensures sink { HasSinkCause (O.faults out.old) (O.faults out.new) result.0 }
+    ensures flash { HasFlashCause (F.state flash).faults (F.state result.1).faults result.0 }
+{
+    match boot_player(alloc, plan, flash, listeners) {
+        Ok(mut player) => {
+            lines_are_one_list::<F>();
+            lines_are_shown::<F>();
+            let status = summary_status(generate(&mut player, plan.count, plan.seed, out));
+            let (flash, listeners) = take_apart(player);
+            (status, flash, listeners)
+        }
+        Err(
+            NotBegun {
+                status,
+                flash,
+                listeners,
+            },
+        ) => (status, flash, listeners),
+    }
+}
+
+/// Does a plan's job.
+fn run_plan<I: Source, O: Sink, F: Flash>(
+    alloc: Global,
+    plan: &Plan,
+    script: &mut I,
+    out: &mut O,
+    flash: F,
+    listeners: Vec<Box<dyn Listener>>,
+) -> (Status, F, Vec<Box<dyn Listener>>)
+    requires { ⊤ }
+    ensures run { RunsJob
+        (λ b. (⟦<dyn Listener as Listener>⟧ b.vtable).interest b.value)
+        (λ b. (⟦<dyn Listener as Listener>⟧ b.vtable).hearings b.value)
+        (λ b. (⟦<dyn Listener as Listener>⟧ b.vtable).heard_last b.value)
+        I.tells O.tells F.tells ((script.new ≡ script.old) × (out.new ≡ out.old)) (script.new ≡ script.old) (order_of plan.now)
+        (I.rest script.old) (I.rest script.new) (O.written out.old) (O.written out.new)
+        listeners.items result.2.items (F.state flash) (F.state result.1) result.0 plan.now.job }
+    ensures geometry { FitsStatus plan.now.job (order_of plan.now) (F.state flash) result.0 }
+    ensures source { HasSourceCause (I.faults script.old) (I.faults script.new) result.0 }
+    ensures sink { HasSinkCause (O.faults out.old) (O.faults out.new) result.0 }
+    ensures flash { HasFlashCause (F.state flash).faults (F.state result.1).faults result.0 }
+    // A script whose lines are all taken is read to its end, want of memory aside.
+    ensures done { I.tells → FitsFlash plan.now.job (order_of plan.now) (F.state flash) → AreTakenBy plan.now.job (lines_of 0 (I.rest script.old))
+        → (Rose (I.faults script.old) (I.faults script.new) → ⊥) → (Rose (O.faults out.old) (O.faults out.new) → ⊥)
+        → (Rose (F.state flash).faults (F.state result.1).faults → ⊥) → (result.0 ≡ Status.Done) ⊎ (result.0 ≡ Status.Memory) }
+{
+    match plan.job {
+        Job::Play | Job::Sim => run_script(alloc, plan, script, out, flash, listeners),
+        Job::Check => {
+            let end = check_script(alloc, plan.show, script, out);
+            (status_of(end), flash, listeners)
+        }
+        Job::Gen => run_generated(alloc, plan, out, flash, listeners),
+    }
+}
+
+/// Does what the words ask for: the program's top call. It plays a script on the machine of a flash, or lines of its own making, and writes
+/// the replies or what sums them up; or it checks tables, records and blocks.
 ///
-/// The words are tried first, then the limits of their geometry. Then the machine is booted, and all memory taken but that of tables. Then
-/// the lines are played one after another. The flash comes back, and the listeners in their order.
+/// The words are tried first, then, but for a check, the limits of their geometry. Then the machine is booted, and all memory taken but that
+/// of tables. Then the lines are played one after another. The flash comes back, and the listeners in their order.
 pub fn run<I: Source, O: Sink, F: Flash>(
     alloc: Global,
     words: &[String],
@@ -157,12 +333,13 @@ pub fn run<I: Source, O: Sink, F: Flash>(
 ) -> (Status, F, Vec<Box<dyn Listener>>)
     requires { ⊤ }
     // The lines that were played are a chain of states, and their replies are what was written.
-    ensures run { (plan : Plan) → IsPlanOf words.now plan → IsRun
+    ensures run { (plan : Plan) → IsPlanOf words.now plan → RunsJob
         (λ b. (⟦<dyn Listener as Listener>⟧ b.vtable).interest b.value)
         (λ b. (⟦<dyn Listener as Listener>⟧ b.vtable).hearings b.value)
         (λ b. (⟦<dyn Listener as Listener>⟧ b.vtable).heard_last b.value)
-        I.tells O.tells F.tells ((script.new ≡ script.old) × (out.new ≡ out.old)) plan (I.rest script.old) (I.rest script.new)
-        (O.written out.old) (O.written out.new) listeners.items result.2.items (F.state flash) (F.state result.1) result.0 }
+        I.tells O.tells F.tells ((script.new ≡ script.old) × (out.new ≡ out.old)) (script.new ≡ script.old) (order_of plan)
+        (I.rest script.old) (I.rest script.new) (O.written out.old) (O.written out.new)
+        listeners.items result.2.items (F.state flash) (F.state result.1) result.0 plan.job }
 
     ensures admitted { IsAdmitted words.now (F.state flash) result.0 }
 
@@ -180,6 +357,7 @@ pub fn run<I: Source, O: Sink, F: Flash>(
         (Rose (I.faults script.old) (I.faults script.new)) (Rose (O.faults out.old) (O.faults out.new))
         (Rose (F.state flash).faults (F.state result.1).faults) result.0 }
 {
+    words_ask_for_one_plan();
     match plan(alloc, words) {
         Ok(plan) => run_plan(alloc, &plan, script, out, flash, listeners),
         Err(PlanError::BadWords) => (Status::BadWords, flash, listeners),

@@ -1,30 +1,44 @@
-// The flash that a `sim` plays on.
-ghost use Rattle.std.specs.Prelude.{◌≡◌, ◌*◌, [], IfOk, replicate, option_to_list};
+// The simulated flash of a plan.
+ghost use Rattle.std.specs.Prelude.{◌≡◌, true, false, ◌*◌, [], IfOk, replicate, option_to_list};
 ghost use Rattle.flash_model.specs.Limits.{IsGeometry};
-ghost use Rattle.apei_cli.specs.Sim.{tear_numbered, cut_of, failing_of, IsErasedFlash, IsEmptyFlash};
+ghost use Rattle.apei_cli.specs.Sim.{simulates, tear_numbered, cut_of, failing_of, IsErasedFlash, IsEmptyFlash};
 
-use crate::Plan;
 use apei_bytes::Memory;
+use apei_words::{Job, Plan};
 use flash_model::{Cut, Geometry, SimFlash, Tear, erased};
 use std::alloc::Global;
 
-// The sector of the flash that stands for a geometry outside its limits.
-const NO_GEOMETRY_SECTOR: u32 = 256;
+// The sector of the flash that is empty.
+const NO_SECTOR: u32 = 256;
 
-/// The flash that a plan's job plays on: its bytes are erased, and its calls fail where the plan says, and for want of
-/// memory. Where the geometry is outside its limits it is empty.
+/// The flash that a `sim` or `gen` plays on: its bytes are erased, and its calls fail where the plan says, and for want of
+/// memory. For another job, and where the geometry is outside its limits, it is empty.
 pub fn sim_flash(alloc: Global, plan: &Plan) -> Result<SimFlash, Memory>
-    ensures erased { IsGeometry plan.now.sector plan.now.per_slot plan.now.slots → IfOk result (IsErasedFlash plan.now) }
+    ensures erased { simulates plan.now.job ≡ true → IsGeometry plan.now.sector plan.now.per_slot plan.now.slots → IfOk result (IsErasedFlash plan.now) }
     ensures empty { ¬ IsGeometry plan.now.sector plan.now.per_slot plan.now.slots → IfOk result (IsEmptyFlash plan.now) }
+    ensures other { simulates plan.now.job ≡ false → IfOk result (IsEmptyFlash plan.now) }
 {
     let failing = failing_changes(alloc, plan)?;
     let failing_reads = failing_reads(alloc, plan)?;
     let (sector, image) = match Geometry::new(plan.sector, plan.per_slot, plan.slots) {
-        Ok(geometry) => (geometry.sector() as u32, erased(alloc, &geometry)?),
-        Err(_) => (NO_GEOMETRY_SECTOR, Vec::new(alloc)),
+        Ok(geometry) if simulates(plan.job) => (
+            geometry.sector() as u32,
+            erased(alloc, &geometry)?,
+        ),
+        _ => (NO_SECTOR, Vec::new(alloc)),
     };
     let cut = lost_power(plan);
     Ok(SimFlash::new(alloc, sector, image, cut, failing, failing_reads))
+}
+
+// Whether a job plays on a simulated flash.
+fn simulates(job: Job) -> bool
+    ensures { result ≡ simulates job }
+{
+    match job {
+        Job::Sim | Job::Gen => true,
+        Job::Play | Job::Check => false,
+    }
 }
 
 // The change in which a plan has power lost.

@@ -1,26 +1,27 @@
-use Rattle.std.proofs.Common.{refl, subst}
-use Rattle.apei_cli.specs.Runs.{IsRun, IsOnGeometry}
-use Rattle.apei_cli.specs.declared.job.Plan.{Plan}
-use Rattle.apei_cli.proofs.WordLemmas.{same_plan}
-use Rattle.apei_cli.proofs.WholeLemmas.{run_none, run_of}
-use Rattle.apei_cli.proofs.CompleteLemmas.{is_done, is_complete}
+use Rattle.std.proofs.Common.{refl}
+use Rattle.apei_cli.specs.Orders.{order_of}
+use Rattle.apei_cli.proofs.JobLemmas.{same_order, same_job, same_run, status_fits, flash_fits, lines_fit, job_complete, runs_none}
 use Rattle.apei_cli.proofs.program.run.Goals as goal
 
 pub returns-in-Ok-clause-run : goal.returns-in-Ok-clause-run
 returns-in-Ok-clause-run g c = λ plan of.
-    run_of _ _ _ _ _ _ _ c.in-Ok.plan plan _ _ _ _ _ _ _ _ _ (same_plan c.args.words.now c.in-Ok.plan plan c.in-Ok.ensures.plan of) c.run_plan.ensures.run
+    let same = c.words_ask_for_one_plan.ensures.plan c.args.words.now c.in-Ok.plan plan c.in-Ok.ensures.plan of in
+    same_run _ _ _ _ _ _ _ _ _ _ _ _ _ _ _ _ _ (order_of c.in-Ok.plan) (order_of plan) c.in-Ok.plan.job plan.job (same_order c.in-Ok.plan plan same) (same_job c.in-Ok.plan plan same) c.run_plan.ensures.run
 
 pub returns-in-Ok-clause-complete : goal.returns-in-Ok-clause-complete
-returns-in-Ok-clause-complete g c = λ plan of fits.
-    let on = subst (λ (p : Plan). IsOnGeometry p (g.F.Flash.state c.args.flash) c.run_plan.result.0) (same_plan c.args.words.now c.in-Ok.plan plan c.in-Ok.ensures.plan of) c.run_plan.ensures.geometry in
-    is_complete plan (g.F.Flash.state c.args.flash) _ _ _ _ _ _ c.run_plan.result.0 on c.run_plan.ensures.source c.run_plan.ensures.sink c.run_plan.ensures.flash fits
+returns-in-Ok-clause-complete g c = λ plan of.
+    let same = c.words_ask_for_one_plan.ensures.plan c.args.words.now c.in-Ok.plan plan c.in-Ok.ensures.plan of in
+    let run = c.run_plan.ensures in
+    job_complete plan.job (order_of plan) (g.F.Flash.state c.args.flash) _ _ _ _ _ _ c.run_plan.result.0
+    (status_fits c.in-Ok.plan.job plan.job (order_of c.in-Ok.plan) (order_of plan) (g.F.Flash.state c.args.flash) c.run_plan.result.0 (same_job c.in-Ok.plan plan same) (same_order c.in-Ok.plan plan same) run.geometry)
+    run.source run.sink run.flash
 
 pub returns-in-Ok-clause-done : goal.returns-in-Ok-clause-done
-returns-in-Ok-clause-done g c = λ heard plan of fits.
-    let same = same_plan c.args.words.now c.in-Ok.plan plan c.in-Ok.ensures.plan of in
-    let run = run_of _ _ _ _ _ _ _ c.in-Ok.plan plan _ _ _ _ _ _ _ _ _ same c.run_plan.ensures.run in
-    let on = subst (λ (p : Plan). IsOnGeometry p (g.F.Flash.state c.args.flash) c.run_plan.result.0) same c.run_plan.ensures.geometry in
-    is_done _ _ _ _ _ _ _ plan _ _ _ _ _ _ _ _ _ _ _ _ c.run_plan.result.0 run on c.run_plan.ensures.source c.run_plan.ensures.sink c.run_plan.ensures.flash heard fits
+returns-in-Ok-clause-done g c = λ told plan of fits lines.
+    let same = c.words_ask_for_one_plan.ensures.plan c.args.words.now c.in-Ok.plan plan c.in-Ok.ensures.plan of in
+    c.run_plan.ensures.done told
+    (flash_fits c.in-Ok.plan.job plan.job (order_of c.in-Ok.plan) (order_of plan) (g.F.Flash.state c.args.flash) (same_job c.in-Ok.plan plan same) (same_order c.in-Ok.plan plan same) fits)
+    (lines_fit c.in-Ok.plan.job plan.job _ (same_job c.in-Ok.plan plan same) lines)
 
 pub returns-in-Err-Memory-clause-run : goal.returns-in-Err-Memory-clause-run
-returns-in-Err-Memory-clause-run g c = λ plan of. run_none _ _ _ _ _ _ _ _ _ _ _ _ _ _ _ tt (refl, refl) refl refl
+returns-in-Err-Memory-clause-run g c = λ plan of. runs_none _ _ _ _ _ _ _ _ (order_of plan) _ _ _ _ plan.job (refl, refl) refl

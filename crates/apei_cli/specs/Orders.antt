@@ -1,0 +1,27 @@
+-- What a run does with a plan, whatever flash it is made on.
+use Rattle.std.specs.Prelude.{ℕ, Option}
+use Rattle.check_text.specs.declared.show.Show.{Show}
+use Rattle.apei_words.specs.declared.job.Job.{Job}
+use Rattle.apei_words.specs.declared.job.Plan.{Plan}
+
+pub record Order : Type 0 where
+  pub job : Job
+  pub sector : ℕ
+  pub per_slot : ℕ
+  pub slots : ℕ
+  pub steps : Option ℕ
+  pub count : ℕ
+  pub seed : ℕ
+  pub show : Show
+
+abbrev pub order_of : Plan → Order
+order_of plan = record {
+  job = plan.job;
+  sector = plan.sector;
+  per_slot = plan.per_slot;
+  slots = plan.slots;
+  steps = plan.steps;
+  count = plan.count;
+  seed = plan.seed;
+  show = plan.show;
+}
