@@ -41,10 +41,10 @@ class FlashFailed(Exception):
 class Model:
     """A store on slots of `per_slot` sectors, whose change number `fail` leaves the tear of number `torn`."""
 
-    def __init__(self, per_slot, slots, fail, torn):
-        self.per_slot, self.fail, self.torn = per_slot, fail, torn
-        self.slots = [bytearray(b"\xff" * (SECTOR * per_slot)) for _ in range(slots)]
-        self.room = SECTOR * per_slot - OVERHEAD
+    def __init__(self, per_slot, slots, fail=None, torn=0, sector=SECTOR):
+        self.sector, self.per_slot, self.fail, self.torn = sector, per_slot, fail, torn
+        self.slots = [bytearray(b"\xff" * (sector * per_slot)) for _ in range(slots)]
+        self.room = sector * per_slot - OVERHEAD
         self.reach = min(4 * self.room, LONGEST)
         self.steps = self.cursor = 0
         self.in_doubt = False
@@ -148,11 +148,11 @@ class Model:
     def fill_slot(self, slot, at, head, data):
         upwards = self.slots[slot][-1] != 0xA5
         for sector in range(self.per_slot) if upwards else reversed(range(self.per_slot)):
-            self.change(slot, sector * SECTOR, b"\xff" * SECTOR)
+            self.change(slot, sector * self.sector, b"\xff" * self.sector)
         self.change(slot, at, head)
         for start in range(0, len(data), PIECE):
             self.change(slot, HEAD + start, data[start : start + PIECE])
-        self.change(slot, SECTOR * self.per_slot - 1, b"\xa5")
+        self.change(slot, self.sector * self.per_slot - 1, b"\xa5")
 
     def clear(self, text):
         identifier = int(text)
@@ -203,21 +203,26 @@ def line(chance):
     return chance(["count", "next", "next"])
 
 
-program = sys.argv[1] if len(sys.argv) > 1 else os.path.join(TOP, "crates/apei/out/apei")
-scripts = int(sys.argv[2]) if len(sys.argv) > 2 else 1000
-random.seed(int(sys.argv[3]) if len(sys.argv) > 3 else 1)
-different = 0
-for _ in range(scripts):
-    slots, per_slot, torn = random.choice([2, 3, 4, 5, 6, 8, 12]), random.choice([2, 3]), random.randrange(4)
-    fail = random.choice([None] + [random.randrange(100) for _ in range(4)])
-    lines = [line(random.choice) for _ in range(random.randrange(1, 25))]
-    words = ["sim", f"--sector={SECTOR}", f"--per-slot={per_slot}", f"--slots={slots}"]
-    words += [] if fail is None else [f"--fail={fail}", f"--torn={torn}"]
-    model = Model(per_slot, slots, fail, torn)
-    wanted = "".join(map(model.play, lines))
-    done = subprocess.run([program] + words, input="\n".join(lines).encode(), capture_output=True)
-    if done.returncode != 0 or done.stdout.decode() != wanted:
-        different += 1
-        print("different:", " ".join(words), file=sys.stderr)
-print(f"{scripts} scripts, {different} different")
-sys.exit(1 if different else 0)
+def main():
+    program = sys.argv[1] if len(sys.argv) > 1 else os.path.join(TOP, "crates/apei/out/apei")
+    scripts = int(sys.argv[2]) if len(sys.argv) > 2 else 1000
+    random.seed(int(sys.argv[3]) if len(sys.argv) > 3 else 1)
+    different = 0
+    for _ in range(scripts):
+        slots, per_slot, torn = random.choice([2, 3, 4, 5, 6, 8, 12]), random.choice([2, 3]), random.randrange(4)
+        fail = random.choice([None] + [random.randrange(100) for _ in range(4)])
+        lines = [line(random.choice) for _ in range(random.randrange(1, 25))]
+        words = ["sim", f"--sector={SECTOR}", f"--per-slot={per_slot}", f"--slots={slots}"]
+        words += [] if fail is None else [f"--fail={fail}", f"--torn={torn}"]
+        model = Model(per_slot, slots, fail, torn)
+        wanted = "".join(map(model.play, lines))
+        done = subprocess.run([program] + words, input="\n".join(lines).encode(), capture_output=True)
+        if done.returncode != 0 or done.stdout.decode() != wanted:
+            different += 1
+            print("different:", " ".join(words), file=sys.stderr)
+    print(f"{scripts} scripts, {different} different")
+    return 1 if different else 0
+
+
+if __name__ == "__main__":
+    sys.exit(main())

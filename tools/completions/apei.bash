@@ -1,0 +1,70 @@
+# Completion of `apei` in bash: jobs, the options of the job that aren't given yet, and the values of --image, --show, --torn and --sector.
+# Source this file, or put it as `apei` where bash-completion looks, as in ~/.local/share/bash-completion/completions.
+
+# The options of a job, or where there is none yet, those of any job.
+_apei_options() {
+  case $1 in
+    play) echo --image --sector --per-slot --slots --steps ;;
+    sim) echo --sector --per-slot --slots --steps --cut --fail --fail-read --torn ;;
+    check) echo --show ;;
+    gen) echo --count --seed --sector --per-slot --slots --steps ;;
+    '') echo --image --sector --per-slot --slots --steps --cut --fail --fail-read --torn --count --seed --show ;;
+  esac
+}
+
+# The values of an option that begin with some text.
+_apei_values() {
+  local values=() value
+  case $1 in
+    --image) _apei_files "$2" ;;
+    --show) values=(HEAD PARTS 'HEAD\|PARTS') ;;
+    --torn) values=(0 1 2 3) ;;
+    --sector) values=(256 512 1024 2048 4096 8192 16384 32768) ;;
+  esac
+  for value in "${values[@]}"; do [[ $value != "$2"* ]] || COMPREPLY+=("$value"); done
+}
+
+_apei_files() {
+  compopt -o filenames 2>/dev/null
+  mapfile -t COMPREPLY < <(compgen -f -- "$1")
+}
+
+_apei() {
+  COMPREPLY=()
+  # Bash cuts a word at its `=`, so `--slots=3` may come in three.
+  local words=() word at
+  for ((at = 1; at <= COMP_CWORD; at++)); do
+    word=${COMP_WORDS[at]}
+    if [[ ${#words[@]} -gt 0 && ( $word == = || ${words[-1]} == --*= ) ]]; then words[-1]+=$word; else words+=("$word"); fi
+  done
+  local current=${words[-1]} option='' job='' given=' ' ended='' file=''
+  unset 'words[-1]'
+  for word in "${words[@]}"; do
+    if [[ $word == [\<\>]* ]]; then file=yes
+    elif [[ -n $file ]]; then file=''
+    elif [[ -n $option ]]; then option=''
+    elif [[ -n $ended || $word != -* ]]; then job=$word
+    elif [[ $word == -- ]]; then ended=yes
+    elif [[ $word == *=* ]]; then given+="${word%%=*} "
+    else option=$word given+="$word "
+    fi
+  done
+  if [[ -n $file ]]; then
+    _apei_files "$current"
+  elif [[ -n $option ]]; then
+    _apei_values "$option" "$current"
+  elif [[ -z $ended && $current == --*=* ]]; then
+    _apei_values "${current%%=*}" "${current#*=}"
+    # Where bash has not cut the word, the option is a part of what is completed.
+    [[ $COMP_WORDBREAKS == *=* ]] || COMPREPLY=("${COMPREPLY[@]/#/${current%%=*}=}")
+  elif [[ -z $ended && ( $current == -* || ( -n $job && -z $current ) ) ]]; then
+    compopt -o nospace 2>/dev/null
+    for option in $(_apei_options "$job"); do
+      [[ $given == *" $option "* || $option= != "$current"* ]] || COMPREPLY+=("$option=")
+    done
+  elif [[ -z $job ]]; then
+    mapfile -t COMPREPLY < <(compgen -W 'play sim check gen' -- "$current")
+  fi
+}
+
+complete -F _apei apei
