@@ -1,13 +1,14 @@
 #!/usr/bin/env python3
-"""Times 200 writes that `apei play` makes in a new image file, beside a bare loop that makes the same changes of a file.
+"""Times 200 writes that `apei play` makes in an image file, beside a bare loop that makes the same changes of the same file.
 
     bench/play.py [PROGRAM] [RUNS] [LENGTH]
 
 PROGRAM is the built program, by default crates/apei/out/apei; build it by ./apei sim </dev/null. It writes 200 records of LENGTH
 bytes (default 368) over 20 identifiers, so that all but the first 20 writes replace a record, into a store of the default geometry. The
 bare loop is a C program that cc makes in a temporary folder: it writes the same numbers of bytes at the same places in the same order, a
-sync behind each, into a file that was filled before. Both take turns, RUNS times (default 7), in that folder; TMPDIR says where it lies.
-It prints the median of either in milliseconds, what one change takes, and their ratio.
+sync behind each. A run of an empty script makes the file. Then both take turns on it, RUNS times (default 21), in that folder; TMPDIR says
+where it lies. It prints the median of either in milliseconds, less that of the same program on the same file with nothing to write, what one
+change takes, and the median of the ratios of each turn.
 """
 
 import os
@@ -69,41 +70,44 @@ def changes(length):
     return made
 
 
-def milliseconds(words, text):
-    start = time.perf_counter()
-    done = subprocess.run(words, input=text, capture_output=True)
-    took = (time.perf_counter() - start) * 1000
-    assert done.returncode == 0, done.stderr
-    return took, done.stdout
+def milliseconds(words, text, folder):
+    """The time of a run whose input and output are files, as a pipe's reader would take time of its own; and what it wrote."""
+    with open(os.path.join(folder, "input"), "wb") as given:
+        given.write(text)
+    with open(os.path.join(folder, "input"), "rb") as given, open(os.path.join(folder, "output"), "w+b") as out:
+        start = time.perf_counter()
+        done = subprocess.run(words, stdin=given, stdout=out)
+        took = (time.perf_counter() - start) * 1000
+        assert done.returncode == 0, words
+        out.seek(0)
+        return took, out.read()
 
 
 program = os.path.abspath(sys.argv[1]) if len(sys.argv) > 1 else os.path.join(TOP, "crates/apei/out/apei")
-runs = int(sys.argv[2]) if len(sys.argv) > 2 else 7
+runs = int(sys.argv[2]) if len(sys.argv) > 2 else 21
 length = int(sys.argv[3]) if len(sys.argv) > 3 else 368
 script = b"".join(b"write " + record(1 + k % IDENTIFIERS, length).hex().encode() + b"\n" for k in range(WRITES))
 made = changes(length)
 listed = "".join(f"{at} {count}\n" for at, count in made).encode()
-played, looped, opened = [], [], []
+played, looped, ratios = [], [], []
 with tempfile.TemporaryDirectory() as folder:
     image, loop = os.path.join(folder, "image"), os.path.join(folder, "loop")
     with open(loop + ".c", "w") as text:
         text.write(LOOP)
     subprocess.run(["cc", "-O2", "-o", loop, loop + ".c"], check=True)
+    play = [program, "play", f"--image={image}"]
     for _ in range(runs):
-        took, replies = milliseconds([program, "play", f"--image={image}"], script)
+        milliseconds(play, b"", folder)
+        opened, _ = milliseconds(play, b"", folder)
+        took, replies = milliseconds(play, script, folder)
         last = replies.decode().splitlines()[-1]
         assert last.endswith(f" @{len(made)}"), f"{last}, where {len(made)} changes were expected"
-        played.append(took)
+        played.append(took - opened)
+        looped.append(milliseconds([loop, image], listed, folder)[0] - milliseconds([loop, image], b"", folder)[0])
+        ratios.append(played[-1] / looped[-1])
         os.remove(image)
-        with open(image, "wb") as file:
-            file.write(b"\xff" * (SLOT * SLOTS))
-            os.fsync(file.fileno())
-        looped.append(milliseconds([loop, image], listed)[0])
-        os.remove(image)
-        opened.append(milliseconds([program, "play", f"--image={image}"], b"")[0])
-        os.remove(image)
-play, bare, empty = (statistics.median(times) for times in (played, looped, opened))
+one, other, ratio = (statistics.median(numbers) for numbers in (played, looped, ratios))
 print(
-    f"{WRITES} writes of {length} bytes, {len(made)} changes: play {play:.1f} ms, {play * 1000 / len(made):.0f} us a change; "
-    f"bare loop {bare:.1f} ms, {bare * 1000 / len(made):.0f} us a change; ratio {play / bare:.2f}; an empty script {empty:.1f} ms"
+    f"{WRITES} writes of {length} bytes, {len(made)} changes: play {one:.1f} ms, {one * 1000 / len(made):.0f} us a change; "
+    f"bare loop {other:.1f} ms, {other * 1000 / len(made):.0f} us a change; ratio {ratio:.2f}"
 )
