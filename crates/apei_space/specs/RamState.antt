@@ -1,5 +1,5 @@
 -- Plain memory: its windows, the bytes that they hold, and how long it waited.
-use Rattle.std.specs.Prelude.{◌≡◌, ℕ, ◌+◌, ◌-◌, ◌/◌, ◌^◌, min, nat_le, ◌==◌, if◌then◌else◌, List, length, Option, Some, None, Result, Ok, Err}
+use Rattle.std.specs.Prelude.{◌≡◌, ℕ, ◌+◌, ◌-◌, ◌/◌, ◌^◌, min, nat_le, ◌==◌, if◌then◌else◌, List, length, Option, Some, None, Result, Ok, Err, bit_and, bit_or}
 use Rattle.base_model.specs.Bytes.{part, number_at, spelled, put_at}
 use Rattle.apei_gas.specs.declared.registers.Place.{Place}
 use Rattle.apei_gas.specs.declared.registers.Place.TheVariants.{Memory}
@@ -48,6 +48,11 @@ answer_of (Err fault) = Err fault
 abbrev pub stored : Result ℕ SpaceFault → RamState → List ℕ → RamState
 stored (Ok start) old others = record old { bytes = put_at old.bytes start others }
 stored (Err fault) old others = old
+
+-- a number in which some bits are kept, and then others set
+abbrev pub changed : Result ℕ SpaceFault → RamState → ℕ → ℕ → ℕ → RamState
+changed (Ok start) old n keep set = record old { bytes = put_at old.bytes start (spelled n (bit_or (bit_and (number_at old.bytes start n) keep) set)) }
+changed (Err fault) old n keep set = old
 
 -- a copy: the source is checked first
 abbrev pub copied : Result ℕ SpaceFault → Result ℕ SpaceFault → ℕ → RamState → Result (Unit {0}) SpaceFault × RamState

@@ -4,7 +4,7 @@ ghost use Rattle.base_model.specs.Bytes.{number_at};
 ghost use Rattle.apei_gas.specs.Access.{bits};
 ghost use Rattle.apei_space.specs.Calls.{Call, Read, Write, Wait, Copy, ReadBytes, WriteBytes, HasReason};
 ghost use Rattle.apei_space.specs.Windows.{total, AreApart};
-ghost use Rattle.apei_space.specs.RamState.{RamState, FillsWindows, Allows, located, number_in, answer_of, filled};
+ghost use Rattle.apei_space.specs.RamState.{RamState, FillsWindows, Allows, located, number_in, answer_of, changed, filled};
 
 use crate::bytes::{copy_part, get_number, get_part, put_number, put_part};
 use crate::faults::SpaceFault;
@@ -69,6 +69,24 @@ impl Ram {
     {
         let start = self.locate(at, width.bytes())?;
         Ok(get_number(&self.bytes, start, width))
+    }
+
+    /// Keeps the bits `keep` of a number and sets the bits `set`, by one look-up of its place. It answers what stood there.
+    pub fn change(
+        &mut self,
+        at: Place,
+        width: Width,
+        keep: u64,
+        set: u64,
+    ) -> Result<u64, SpaceFault>
+        ensures value { result ≡ number_in (located self.old.windows at (bits width / 8)) self.old.bytes (bits width / 8) }
+        ensures small { IfOk result (λ value. value < 2 ^ bits width) }
+        ensures memory { self.new ≡ changed (located self.old.windows at (bits width / 8)) self.old (bits width / 8) keep set }
+    {
+        let start = self.locate(at, width.bytes())?;
+        let value = get_number(&self.bytes, start, width);
+        put_number(&mut self.bytes, start, width, value & keep | set);
+        Ok(value)
     }
 
     /// What `read_bytes` would answer.

@@ -1,9 +1,9 @@
 -- What accesses of the three windows read and leave.
-use Rattle.std.proofs.Common.{◌≡◌, ◌∙◌, ℕ, ◌+◌, ◌-◌, ◌*◌, ◌/◌, ◌%◌, ◌^◌, ◌<◌, ◌≤◌, ◌⊎◌, inl, inr, add-zero, List, [], ◌∷◌, ◌++◌, length, take, drop, Result, Ok, Err, refl, sym, ap, subst, arith, append_assoc, bit_and}
+use Rattle.std.proofs.Common.{◌≡◌, ◌∙◌, ℕ, ◌+◌, ◌-◌, ◌*◌, ◌/◌, ◌%◌, ◌^◌, ◌<◌, ◌≤◌, ◌⊎◌, inl, inr, add-zero, List, [], ◌∷◌, ◌++◌, length, take, drop, Result, Ok, Err, refl, sym, ap, subst, arith, append_assoc, bit_and, bit_or, IfOk}
 use Rattle.std.specs.Result.{result_unwrap_or}
 use Rattle.std.proofs.lemmas.List.{take-append-drop, drop-drop, drop-take, take-take, nil_from_length}
 use Rattle.std.proofs.lemmas.Bool.{cases_lt}
-use Rattle.std.proofs.lemmas.Nat.{and_le_l, or_lt, and_or_self, pow-add}
+use Rattle.std.proofs.lemmas.Nat.{and_le_l, or_lt, and_or_self, pow-add, pow_pos}
 use Rattle.std.proofs.Math.Nat.{mod-eq_of_lt, mul-mod_left, mul_assoc}
 use Rattle.std.proofs.lemmas.Grind.{and-not_self}
 use Rattle.base_model.specs.Bytes.{part, little, number_at, spelled, put_at}
@@ -16,7 +16,7 @@ use Rattle.apei_gas.specs.Access.{bits}
 use Rattle.apei_space.specs.declared.faults.SpaceFault.{SpaceFault}
 use Rattle.apei_space.specs.declared.windows.Window.{Window}
 use Rattle.apei_space.specs.Windows.{EndsBelow, AreApart}
-use Rattle.apei_space.specs.RamState.{RamState, FillsWindows, located, stored, number_in, filled}
+use Rattle.apei_space.specs.RamState.{RamState, FillsWindows, located, stored, changed, number_in, filled}
 use Rattle.apei_space.specs.Mapped.{Holds, IsMapped, AreDisjoint}
 use Rattle.apei_space.proofs.Placed.{IsPlaced, placed, located_within, placed_fits, placed_apart}
 use Rattle.ghes_ack.specs.declared.maps.HandoverMap.{HandoverMap}
@@ -299,6 +299,17 @@ pub number_read : (r : Result ℕ SpaceFault) (bytes : List ℕ) (n : ℕ) → r
 unfolding number_at
 number_read (Ok start) bytes n = refl
 number_read (Err fault) bytes n = refl
+
+-- the register's bytes after a change of its bits, and their number, which is 0 where there are none
+pub change_stored : (r : Result ℕ SpaceFault) (old : RamState) (n keep set : ℕ) → changed r old n keep set ≡ stored r old (spelled n (bit_or (bit_and (little (bytes_in r old.bytes n)) keep) set))
+unfolding number_at
+change_stored (Ok start) old n keep set = refl
+change_stored (Err fault) old n keep set = refl
+
+pub number_small : (r : Result ℕ SpaceFault) (bytes : List ℕ) (n k : ℕ) → IfOk (number_in r bytes n) (λ (value : ℕ). value < 2 ^ k) → little (bytes_in r bytes n) < 2 ^ k
+unfolding number_at
+number_small (Ok start) bytes n k small = small
+number_small (Err fault) bytes n k small = pow_pos k
 
 -- bits moved past the last one
 pub moved_past : (mask offset : ℕ) → 64 ≤ offset → 0 ≡ mask * 2 ^ offset % 2 ^ 64

@@ -1,14 +1,14 @@
 -- Runs of turns.
-use Rattle.std.proofs.Common.{◌≡◌, ◌∙◌, ℕ, zero, suc, ◌+◌, ◌-◌, ◌*◌, ◌<◌, ◌≤◌, List, [], ◌∷◌, ◌++◌, length, take, drop, get_or, replicate, Option, Some, None, refl, sym, ap, subst, arith, length-append, append_assoc}
+use Rattle.std.proofs.Common.{◌≡◌, ◌∙◌, ℕ, zero, suc, ◌+◌, ◌-◌, ◌*◌, ◌<◌, ◌≤◌, List, [], ◌∷◌, ◌++◌, length, take, get_or, replicate, Some, refl, sym, ap, subst, arith, length-append, append_assoc}
 use Rattle.std.proofs.lemmas.List.{take_at, length-replicate}
-use Rattle.base_model.specs.Bytes.{part, put_at}
 use Rattle.apei_space.specs.RamState.{RamState}
+use Rattle.ghes_ack.specs.declared.maps.HandoverMap.{HandoverMap}
 use Rattle.ghes_ack.specs.declared.events.Side.{Side}
 use Rattle.ghes_ack.specs.declared.events.Side.TheVariants.{Firmware, Reader}
 use Rattle.ghes_ack.specs.declared.events.Event.{Event}
 use Rattle.ghes_ack.specs.declared.events.Event.TheVariants.{Idle, Fill, Copied, Took}
 use Rattle.ghes_ack.specs.Machine.{Machine, Filling, Reading, with_piece, with_pieces, turned, turned_times, events_of_times}
-use Rattle.ghes_ack.specs.Maps.{HasWindows, window, with_window, memory_after}
+use Rattle.ghes_ack.specs.Maps.{HasWindows, window, with_window, memory_after, AreLeft}
 use Rattle.ghes_ack.specs.Elsewhere.{SameWhere, IsOffBlock}
 use Rattle.ghes_ack.specs.Handovers.{HandoverState, kept, StandsFor, AreTurned}
 use Rattle.ghes_ack.specs.Sides.{Turns, Runs, MakesTurns}
@@ -24,6 +24,7 @@ run_one side event h after ram memory m t = record {
   turned = record { events_are = ap (λ (e : Event). e ∷ []) t.turned.event_is; stands = t.turned.stands };
   map = t.map;
   memory_is = t.memory_is;
+  left = (memory, t.memory_is, refl);
 }
 
 -- the events that were written first
@@ -78,6 +79,7 @@ fills_run (suc n) h ram new m block rest now held more memory st =
       };
       map = refl;
       memory_is = written_only h.map ram new all w long memory;
+      left = (ram1, t.memory_is, r.left);
     }
 
 -- the reader copies n pieces, none of which is the last
@@ -119,6 +121,18 @@ pub taken_memory : (n : ℕ) (h : HandoverState) (ram : RamState) → ram ≡ me
 taken_memory zero h ram = refl
 taken_memory (suc n) h ram = refl
 
+pub copied_left : (n : ℕ) (h : HandoverState) (ram : RamState) → AreLeft h.map (replicate n Copied) ram ram
+copied_left zero h ram = refl
+copied_left (suc n) h ram = (ram, refl, copied_left n h ram)
+
+pub taken_left : (n : ℕ) (h : HandoverState) (ram : RamState) → AreLeft h.map (replicate n Copied ++ Took ∷ []) ram ram
+taken_left zero h ram = (ram, refl, refl)
+taken_left (suc n) h ram = (ram, refl, taken_left n h ram)
+
+left_then : (at : HandoverMap) (first others : List Event) (ram memory new : RamState) → AreLeft at first ram memory → AreLeft at others memory new → AreLeft at (first ++ others) ram new
+left_then at [] others ram memory new a b = subst (λ (r : RamState). AreLeft at others r new) a b
+left_then at (event ∷ first) others ram memory new (between, is, more) b = (between, is, left_then at first others between memory new more b)
+
 -- turns after turns
 times_more : (side : Side) (a b : ℕ) (m : Machine) → turned_times side (a + b) m ≡ turned_times side b (turned_times side a m)
 times_more side zero b m = let e : 0 + b ≡ b = omega arith in ap (λ (k : ℕ). turned_times side k m) e
@@ -131,7 +145,7 @@ events_more side (suc a) b m =
     ap (λ (k : ℕ). events_of_times side k m) e ∙ ap (λ (es : List Event). (turned side m).0 ∷ es) (events_more side a b (turned side m).1)
 
 pub no_turns : (side : Side) (h : HandoverState) (ram : RamState) (m : Machine) → StandsFor h ram m → MakesTurns side [] h ram h ram m
-no_turns side h ram m st = record { turned = record { events_are = refl; stands = st }; map = refl; elsewhere = SameWhere-refl (IsOffBlock h.map) ram }
+no_turns side h ram m st = record { turned = record { events_are = refl; stands = st }; map = refl; left = refl; elsewhere = SameWhere-refl (IsOffBlock h.map) ram }
 
 pub turns_then : (side : Side) (first others : List Event) (h between after : HandoverState) (ram memory new : RamState) (m : Machine) → StandsFor h ram m → MakesTurns side first h ram between memory m →
     Runs side others between memory after new (turned_times side (length first) m) → MakesTurns side (first ++ others) h ram after new m
@@ -148,5 +162,6 @@ turns_then side first others h between after ram memory new m st a b =
         stands = subst (StandsFor after new) (sym (ap (λ (k : ℕ). turned_times side k m) n ∙ times_more side (length first) (length others) m)) b.turned.stands;
       };
       map = b.map ∙ a.map;
+      left = left_then h.map first others ram memory new a.left (subst (λ at. AreLeft at others memory new) a.map b.left);
       elsewhere = SameWhere-then (IsOffBlock h.map) ram memory new a.elsewhere (subst (λ at. SameWhere (IsOffBlock at) memory new) a.map far);
     }

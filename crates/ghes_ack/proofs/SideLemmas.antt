@@ -7,19 +7,18 @@ use Rattle.base_model.specs.Bytes.{part, spelled, put_at}
 use Rattle.apei_space.specs.RamState.{RamState}
 use Rattle.ghes_ack.specs.declared.maps.HandoverMap.{HandoverMap}
 use Rattle.ghes_ack.specs.declared.events.Side.TheVariants.{Firmware, Reader}
-use Rattle.ghes_ack.specs.declared.events.Event.TheVariants.{Idle, Fill, Publish, Free, Copied, Took, Clear, Ack}
+use Rattle.ghes_ack.specs.declared.events.Event.TheVariants.{Fill, Publish, Free, Copied, Took, Clear, Ack}
 use Rattle.ghes_ack.specs.declared.ends.Ends.TheVariants.{FirmHolds, Shown, OsHolds, Emptied, Returned}
 use Rattle.ghes_ack.specs.declared.blocks.Blocks.{Blocks}
 use Rattle.ghes_ack.specs.Machine.{Machine, Situation, Filling, Published, Reading, Cleared, Acknowledged, Fits, with_piece, with_pieces, with_status}
 use Rattle.ghes_ack.specs.Maps.{HasWindows, window, status_word, ack_read, with_window, with_ack, with_clear, acknowledged, IsSet, IsClear}
 use Rattle.ghes_ack.specs.Handovers.{HandoverState, kept, StandsFor}
 use Rattle.ghes_ack.specs.Sides.{Turns, Runs, Stands, state_of, in_work, TakesOut, IsCopiedSoFar}
-use Rattle.ghes_ack.proofs.TurnLemmas.{next_is, fills, publish_filled, publishes, frees, some_status, work_fits, copies_over, copies_more, copies_last, clears, acknowledges}
+use Rattle.ghes_ack.proofs.TurnLemmas.{next_is, fills, publishes, frees, some_status, work_fits, copies_over, copies_more, clears, acknowledges}
 use Rattle.ghes_ack.specs.declared.events.Event.{Event}
 use Rattle.ghes_ack.specs.Handovers.{AreTurned}
-use Rattle.ghes_ack.specs.Maps.{memory_after}
 use Rattle.std.proofs.lemmas.List.{length-replicate, length-take, length-drop}
-use Rattle.ghes_ack.proofs.RunLemmas.{fills_run, copies_run, takes_run, copied_memory, taken_memory, run_noted, one_noted, taken_noted}
+use Rattle.ghes_ack.proofs.RunLemmas.{fills_run, copies_run, takes_run, copied_memory, copied_left, taken_memory, taken_left, run_noted, taken_noted}
 
 -- a write in the middle of a list
 pub mid_is : (old others : List ℕ) (at n : ℕ) → length others ≡ n → take at old ++ (others ++ drop n (drop at old)) ≡ put_at old at others
@@ -177,6 +176,7 @@ copies_many n b block after ram some same more m st =
       turned = subst (λ (k : ℕ). AreTurned Reader k (replicate n Copied) (record h { copied = b.copied + n; at_work = Some after.items }) ram m) long run;
       map = refl;
       memory_is = copied_memory n h ram;
+      left = copied_left n h ram;
     }
 
 -- and the last
@@ -200,6 +200,7 @@ takes_many n b after block last ram some same more all is m st =
       turned = subst (λ (k : ℕ). AreTurned Reader k (replicate n Copied ++ Took ∷ []) (record h { copied = b.copied + suc n; last = last.items; at_work = Some last.items }) ram m) long here;
       map = refl;
       memory_is = taken_memory n h ram;
+      left = taken_left n h ram;
     })
 
 pub copies_count : (count : ℕ) (b : Blocks) (block after : Vec ℕ Global) (ram : RamState) (events rest : List Event) → b.at_work ≡ Some block → after.items ≡ block.items → 64 * (b.copied + count) < length block.items →

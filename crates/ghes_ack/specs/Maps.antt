@@ -1,5 +1,5 @@
 -- The three windows of a handover in memory: the block's address, the acknowledge register and the block.
-use Rattle.std.specs.Prelude.{◌≡◌, ℕ, ◌-◌, ◌*◌, ◌/◌, ◌%◌, ◌^◌, ◌<◌, ◌≤◌, List, [], Result, Ok, Err, bit_and, bit_or}
+use Rattle.std.specs.Prelude.{◌≡◌, ℕ, ◌-◌, ◌*◌, ◌/◌, ◌%◌, ◌^◌, ◌<◌, ◌≤◌, List, [], ◌∷◌, Result, Ok, Err, bit_and, bit_or}
 use Rattle.base_model.specs.Bytes.{part, little, number_at, spelled}
 use Rattle.apei_gas.specs.declared.registers.Place.{Place}
 use Rattle.apei_gas.specs.declared.registers.Place.TheVariants.{Memory}
@@ -107,3 +107,9 @@ memory_after map Copied ram bytes = ram
 memory_after map Took ram bytes = ram
 memory_after map Clear ram bytes = with_window map ram bytes
 memory_after map Ack ram bytes = with_ack map ram (acknowledged map (ack_read map ram))
+
+-- what turns leave of a memory, one after another: each what its own event leaves
+abbrev pub AreLeft : HandoverMap → List Event → RamState → RamState → Type 0
+AreLeft map [] ram memory = memory ≡ ram
+AreLeft map (event ∷ events) ram memory =
+    (between : RamState) × (between ≡ memory_after map event ram (window map between)) × AreLeft map events between memory

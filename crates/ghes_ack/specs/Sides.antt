@@ -3,7 +3,6 @@ use Rattle.std.specs.Prelude.{◌≡◌, ℕ, ◌+◌, ◌*◌, ◌<◌, ◌≤�
 use Rattle.std.specs.VecDeque.{deque_len, deque_capacity}
 use Rattle.std.specs.declared.alloc.Global.{Global}
 use Rattle.apei_space.specs.RamState.{RamState}
-use Rattle.ghes_ack.specs.declared.maps.HandoverMap.{HandoverMap}
 use Rattle.ghes_ack.specs.declared.events.Side.{Side}
 use Rattle.ghes_ack.specs.declared.events.Event.{Event}
 use Rattle.ghes_ack.specs.declared.events.Event.TheVariants.{Idle}
@@ -12,7 +11,7 @@ use Rattle.ghes_ack.specs.declared.ends.Ends.{Ends}
 use Rattle.ghes_ack.specs.declared.ends.Ends.TheVariants.{FirmHolds, Shown, OsHolds, Emptied, Returned}
 use Rattle.ghes_ack.specs.declared.blocks.Blocks.{Blocks}
 use Rattle.ghes_ack.specs.Machine.{Machine, Situation, Filling, Published, Reading, Cleared, Acknowledged}
-use Rattle.ghes_ack.specs.Maps.{HasAckBits, window, memory_after}
+use Rattle.ghes_ack.specs.Maps.{HasAckBits, window, memory_after, AreLeft}
 use Rattle.ghes_ack.specs.Handovers.{HandoverState, StandsFor, IsTurned, AreTurned}
 
 -- where the two sides stand
@@ -99,11 +98,13 @@ pub record Runs (side : Side) (events : List Event) (old : HandoverState) (ram :
   pub turned : AreTurned side (length events) events after memory m
   pub map : after.map ≡ old.map
   pub memory_is : memory ≡ memory_after old.map (get_or events 0 Idle) ram (window old.map memory)
+  pub left : AreLeft old.map events ram memory
 
 -- turns of a side, one after another
 pub record MakesTurns (side : Side) (events : List Event) (old : HandoverState) (ram : RamState) (after : HandoverState) (memory : RamState) (m : Machine) : Type 0 where
   pub turned : AreTurned side (length events) events after memory m
   pub map : after.map ≡ old.map
+  pub left : AreLeft old.map events ram memory
   pub elsewhere : SameWhere (IsOffBlock old.map) ram memory
 
 -- it stands for some state: this is its memory, which only it wrote

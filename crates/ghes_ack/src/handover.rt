@@ -2,7 +2,7 @@
 ghost use Rattle.std.specs.Prelude.{◌≡◌, ◌∷◌, ◌++◌, [], length, IfOk, OnOk, OnErr, MatchOption, MatchResult, Some, None};
 ghost use Rattle.apei_space.specs.RamState.{RamState};
 ghost use Rattle.ghes_ack.specs.Machine.{Machine, started, submitted, waiting_in, is_idle};
-ghost use Rattle.ghes_ack.specs.Maps.{HasAckBits, HasWindows, window, memory_started, memory_after};
+ghost use Rattle.ghes_ack.specs.Maps.{HasAckBits, HasWindows, window, memory_started, memory_after, AreLeft};
 ghost use Rattle.ghes_ack.specs.Elsewhere.{SameWhere, IsOffMap, IsOffBlock};
 ghost use Rattle.ghes_ack.specs.Handovers.{StandsFor, IsTurned, AreTurned, fresh, refusal};
 
@@ -12,7 +12,7 @@ use crate::events::{Event, Side};
 use crate::maps::HandoverMap;
 use crate::states::{start, stop};
 use crate::submission::SubmitError;
-use crate::turns::{all_turns, piece_turn, run_of};
+use crate::turns::{all_turns, piece_turn};
 use apei_bytes::Memory;
 use apei_space::Ram;
 use ghes_block::Block;
@@ -98,8 +98,7 @@ impl Handover {
             return event;
         }
         let mut events = [Event::Idle; 1];
-        let (ends, _) = run_of(side, self.ends, &mut self.blocks, &mut events, ram);
-        self.ends = ends;
+        self.ends = all_turns(side, self.ends, &mut self.blocks, &mut events, ram);
         events[0]
     }
 
@@ -107,6 +106,7 @@ impl Handover {
     pub fn turns(&mut self, side: Side, events: &mut [Event], ram: &mut Ram)
         requires { (m : Machine) × StandsFor self.old ram.old m }
         ensures turned { (m : Machine) → StandsFor self.old ram.old m → AreTurned side (length events.old) events.new self.new ram.new m }
+        ensures memory { AreLeft self.old.map events.new ram.old ram.new }
         ensures elsewhere { SameWhere (IsOffBlock self.old.map) ram.old ram.new }
         ensures map { self.new.map ≡ self.old.map }
     {

@@ -1,5 +1,5 @@
 // The windows of a handover in memory.
-ghost use Rattle.std.specs.Prelude.{◌≡◌, ◌+◌, ◌-◌, ◌*◌, ◌%◌, ◌^◌, ◌<◌, ◌≤◌, length, take, min, IsTrue, ◌↔◌};
+ghost use Rattle.std.specs.Prelude.{◌≡◌, ◌+◌, ◌-◌, ◌*◌, ◌%◌, ◌^◌, ◌<◌, ◌≤◌, length, take, min, IsTrue, ◌↔◌, bit_and, bit_or};
 ghost use Rattle.base_model.specs.Bytes.{part, put_at, spelled};
 ghost use Rattle.apei_gas.specs.Access.{bits};
 ghost use Rattle.ghes_ack.specs.Machine.{with_piece, with_pieces, with_status};
@@ -58,6 +58,14 @@ impl HandoverMap {
         let _ = ram.write(self.ack.place, self.ack.access, value);
     }
 
+    /// Keeps the bits `keep` of the acknowledge register's access, and sets the bits `set`.
+    fn change_ack(&self, ram: &mut Ram, keep: u64, set: u64)
+        ensures memory { ram.new ≡ with_ack self.now ram.old (bit_or (bit_and (ack_read self.now ram.old) keep) set) }
+        ensures small { ack_read self.now ram.old < 2 ^ bits self.now.ack.access }
+    {
+        let _ = ram.change(self.ack.place, self.ack.access, keep, set);
+    }
+
     /// Writes the block's address.
     pub(crate) fn write_address(&self, ram: &mut Ram)
         ensures { ram.new ≡ with_address self.now ram.old }
@@ -89,8 +97,7 @@ impl HandoverMap {
         ensures memory { ram.new ≡ with_ack self.now ram.old (with_clear self.now (ack_read self.now ram.old)) }
         ensures clear { IsClear self.now ram.new }
     {
-        let value = self.read_ack(ram) & !self.ack_mask();
-        self.write_ack(ram, value);
+        self.change_ack(ram, !self.ack_mask(), 0);
     }
 
     /// Acknowledges.
@@ -99,8 +106,7 @@ impl HandoverMap {
         ensures memory { ram.new ≡ with_ack self.now ram.old (acknowledged self.now (ack_read self.now ram.old)) }
         ensures set { HasAckBits self.now → IsSet self.now ram.new }
     {
-        let value = self.read_ack(ram) & self.kept_mask() | self.ack_mask();
-        self.write_ack(ram, value);
+        self.change_ack(ram, self.kept_mask(), self.ack_mask());
     }
 
     /// The block status.

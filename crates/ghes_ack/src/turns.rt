@@ -109,7 +109,7 @@ pub fn all_turns(
 }
 
 /// The next turns of a side: all that fill or copy pieces, or else one. It answers how many, and writes their events.
-pub fn run_of(
+fn run_of(
     side: Side,
     ends: Ends,
     blocks: &mut Blocks,

@@ -1,4 +1,4 @@
-use Rattle.std.proofs.Common.{◌≡◌, ◌∙◌, ℕ, ◌+◌, ◌*◌, ◌<◌, ◌≤◌, List, length, drop, vec_len, sym, ap, subst, arith}
+use Rattle.std.proofs.Common.{◌≡◌, ◌∙◌, ℕ, ◌≤◌, List, length, drop, vec_len, sym, ap, subst, arith}
 use Rattle.ghes_ack.specs.declared.events.Side.TheVariants.{Firmware}
 use Rattle.ghes_ack.specs.declared.events.Event.TheVariants.{Publish}
 use Rattle.ghes_ack.specs.declared.ends.Ends.TheVariants.{FirmHolds, Shown}

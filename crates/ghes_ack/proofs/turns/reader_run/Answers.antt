@@ -5,7 +5,7 @@ use Rattle.ghes_ack.specs.declared.ends.Ends.{Ends}
 use Rattle.ghes_ack.specs.declared.ends.Ends.TheVariants.{Emptied, Returned}
 use Rattle.ghes_ack.specs.Handovers.{StandsFor}
 use Rattle.ghes_ack.specs.Sides.{Runs, Stands, IsConsistent, state_of}
-use Rattle.std.proofs.Common.{◌≡◌, ◌∙◌, take}
+use Rattle.std.proofs.Common.{◌∙◌, take}
 use Rattle.ghes_ack.proofs.RunLemmas.{one_noted}
 use Rattle.ghes_ack.proofs.SideLemmas.{status_at, acknowledges_at}
 use Rattle.ghes_ack.proofs.turns.reader_run.Goals as goal

@@ -1,14 +1,14 @@
-use Rattle.std.proofs.Common.{◌≡◌, ◌∙◌, ℕ, ◌<◌, ◌≤◌, List, [], ◌∷◌, length, take, get_or, slice_index_or, refl, sym, ap, subst, arith}
+use Rattle.std.proofs.Common.{◌≡◌, ◌∙◌, List, [], ◌∷◌, length, get_or, slice_index_or, refl, sym, ap, subst, arith}
 use Rattle.apei_space.specs.RamState.{RamState}
 use Rattle.ghes_ack.specs.declared.maps.HandoverMap.{HandoverMap}
 use Rattle.ghes_ack.specs.declared.events.Side.{Side}
 use Rattle.ghes_ack.specs.declared.events.Event.{Event}
 use Rattle.ghes_ack.specs.declared.events.Event.TheVariants.{Idle}
 use Rattle.ghes_ack.specs.Machine.{Machine}
-use Rattle.ghes_ack.specs.Maps.{HasWindows}
+use Rattle.ghes_ack.specs.Maps.{HasWindows, window, memory_after}
 use Rattle.ghes_ack.specs.Elsewhere.{SameWhere, IsOffBlock}
 use Rattle.ghes_ack.specs.Handovers.{HandoverState, StandsFor}
-use Rattle.ghes_ack.specs.Sides.{Turns, Runs, state_of}
+use Rattle.ghes_ack.specs.Sides.{Turns, MakesTurns, state_of}
 use Rattle.ghes_ack.proofs.ElsewhereLemmas.{elsewhere_left}
 use Rattle.ghes_ack.proofs.handover.Handover.turn.Goals as goal
 
@@ -29,19 +29,18 @@ elsewhere_then side event first old between ram new memory m same still st t =
     elsewhere side event old ram new memory m st
     (subst (λ (h : HandoverState). Turns side event h ram new memory m) same (subst (λ (r : RamState). Turns side event first r new memory m) still t))
 
--- a run with one place for events is one turn
-one_turn : (side : Side) (n : ℕ) (events : List Event) (h : HandoverState) (ram : RamState) (after : HandoverState) (memory : RamState) (m : Machine) → 0 < n → n ≤ 1 → length events ≡ 1 → Runs side (take n events) h ram after memory m →
+-- turns with one place for events are one turn
+one_turn : (side : Side) (events : List Event) (h : HandoverState) (ram : RamState) (after : HandoverState) (memory : RamState) (m : Machine) → length events ≡ 1 → MakesTurns side events h ram after memory m →
     Turns side (slice_index_or events 0 Idle) h ram after memory m
-one_turn side n [] h ram after memory m some few one run = absurd (omega (arith, one))
-one_turn side n (e ∷ []) h ram after memory m some few one run =
-    let is : n ≡ 1 = omega (arith, some, few) in
-    let r : Runs side (e ∷ []) h ram after memory m = subst (λ (k : ℕ). Runs side (take k (e ∷ [])) h ram after memory m) is run in
+one_turn side [] h ram after memory m one t = absurd (omega (arith, one))
+one_turn side (e ∷ []) h ram after memory m one t =
+    let (between, is, same) = t.left in
     record {
-      turned = record { event_is = ap (λ (es : List Event). get_or es 0 Idle) r.turned.events_are; stands = r.turned.stands };
-      map = r.map;
-      memory_is = r.memory_is;
+      turned = record { event_is = ap (λ (es : List Event). get_or es 0 Idle) t.turned.events_are; stands = t.turned.stands };
+      map = t.map;
+      memory_is = subst (λ (r : RamState). r ≡ memory_after h.map e ram (window h.map r)) (sym same) is;
     }
-one_turn side n (e ∷ f ∷ es) h ram after memory m some few one run = absurd (omega (arith, one))
+one_turn side (e ∷ f ∷ es) h ram after memory m one t = absurd (omega (arith, one))
 
 pub returns-in-Some-clause-elsewhere : goal.returns-in-Some-clause-elsewhere
 returns-in-Some-clause-elsewhere c =
@@ -50,14 +49,13 @@ returns-in-Some-clause-elsewhere c =
 
 pub returns-clause-turned : goal.returns-clause-turned
 returns-clause-turned c =
-    λ m st. (one_turn c.args.side c.run_of-ends.result.1 c.run_of-ends.new.events (state_of c.self.inside.ends c.piece_turn.new.blocks) c.piece_turn.new.ram (state_of c.run_of-ends.result.0 c.run_of-ends.new.blocks) c.run_of-ends.new.ram m
-    c.run_of-ends.ensures.some c.run_of-ends.ensures.few c.run_of-ends.auto.events
-    (c.run_of-ends.ensures.turns m (here (state_of c.self.inside.ends c.piece_turn.new.blocks) c.args.self.now c.piece_turn.new.ram c.args.ram.now m (c.in_default.ensures.turns.0 ∙ c.self.view_is) c.in_default.ensures.turns.1 st))).turned
+    λ m st. (one_turn c.args.side c.all_turns-self-inside.new.events (state_of c.self.inside.ends c.piece_turn.new.blocks) c.piece_turn.new.ram (state_of c.all_turns-self-inside.result c.all_turns-self-inside.new.blocks) c.all_turns-self-inside.new.ram m
+    c.all_turns-self-inside.auto.events
+    (c.all_turns-self-inside.ensures.turns m (here (state_of c.self.inside.ends c.piece_turn.new.blocks) c.args.self.now c.piece_turn.new.ram c.args.ram.now m (c.in_default.ensures.turns.0 ∙ c.self.view_is) c.in_default.ensures.turns.1 st))).turned
 
 pub returns-clause-elsewhere : goal.returns-clause-elsewhere
 returns-clause-elsewhere c =
-    elsewhere_then c.args.side (slice_index_or c.run_of-ends.new.events 0 Idle) (state_of c.self.inside.ends c.piece_turn.new.blocks) c.args.self.now c.piece_turn.new.ram c.args.ram.now (state_of c.run_of-ends.result.0 c.run_of-ends.new.blocks) c.run_of-ends.new.ram c.requires.0
-    (c.in_default.ensures.turns.0 ∙ c.self.view_is) c.in_default.ensures.turns.1 c.requires.1
-    (one_turn c.args.side c.run_of-ends.result.1 c.run_of-ends.new.events (state_of c.self.inside.ends c.piece_turn.new.blocks) c.piece_turn.new.ram (state_of c.run_of-ends.result.0 c.run_of-ends.new.blocks) c.run_of-ends.new.ram c.requires.0
-    c.run_of-ends.ensures.some c.run_of-ends.ensures.few c.run_of-ends.auto.events
-    (c.run_of-ends.ensures.turns c.requires.0 (here (state_of c.self.inside.ends c.piece_turn.new.blocks) c.args.self.now c.piece_turn.new.ram c.args.ram.now c.requires.0 (c.in_default.ensures.turns.0 ∙ c.self.view_is) c.in_default.ensures.turns.1 c.requires.1)))
+    let old = c.in_default.ensures.turns.0 ∙ c.self.view_is in
+    let t = c.all_turns-self-inside.ensures.turns c.requires.0 (here (state_of c.self.inside.ends c.piece_turn.new.blocks) c.args.self.now c.piece_turn.new.ram c.args.ram.now c.requires.0 old c.in_default.ensures.turns.1 c.requires.1) in
+    subst (λ (h : HandoverState). SameWhere (IsOffBlock h.map) c.args.ram.now c.all_turns-self-inside.new.ram) old
+    (subst (λ (r : RamState). SameWhere (IsOffBlock (state_of c.self.inside.ends c.piece_turn.new.blocks).map) r c.all_turns-self-inside.new.ram) c.in_default.ensures.turns.1 t.elsewhere)

@@ -1,7 +1,7 @@
-use Rattle.std.proofs.Common.{◌≡◌, ◌∙◌, ℕ, length, sym, ap, subst}
-use Rattle.ghes_ack.specs.declared.maps.HandoverMap.{HandoverMap}
+use Rattle.std.proofs.Common.{◌∙◌, ℕ, sym, ap, subst}
 use Rattle.ghes_ack.specs.Elsewhere.{SameWhere, IsOffBlock}
 use Rattle.ghes_ack.specs.Handovers.{HandoverState, StandsFor, AreTurned}
+use Rattle.ghes_ack.specs.Maps.{AreLeft}
 use Rattle.ghes_ack.specs.Sides.{state_of}
 use Rattle.ghes_ack.proofs.handover.Handover.turns.Goals as goal
 
@@ -18,3 +18,8 @@ returns-clause-elsewhere c =
 pub returns-clause-map : goal.returns-clause-map
 returns-clause-map c =
     (c.all_turns-self-inside.ensures.turns c.requires.0 (subst (λ (h : HandoverState). StandsFor h c.args.ram.now c.requires.0) (sym c.self.view_is) c.requires.1)).map ∙ ap (λ (h : HandoverState). h.map) c.self.view_is
+
+pub returns-clause-memory : goal.returns-clause-memory
+returns-clause-memory c =
+    subst (λ (h : HandoverState). AreLeft h.map c.all_turns-self-inside.new.events c.args.ram.now c.all_turns-self-inside.new.ram) c.self.view_is
+    (c.all_turns-self-inside.ensures.turns c.requires.0 (subst (λ (h : HandoverState). StandsFor h c.args.ram.now c.requires.0) (sym c.self.view_is) c.requires.1)).left

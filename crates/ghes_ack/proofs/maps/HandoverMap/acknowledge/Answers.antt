@@ -1,11 +1,9 @@
-use Rattle.std.proofs.Common.{◌≡◌, ℕ, ◌<◌, ◌^◌, sym, subst, rules}
-use Rattle.apei_gas.specs.Access.{bits}
+use Rattle.std.proofs.Common.{◌≡◌, sym, subst, rules}
 use Rattle.ghes_ack.specs.Maps.{IsSet, ack_read, with_ack, acknowledged}
 use Rattle.ghes_ack.proofs.MemoryLemmas.{acknowledged_bits}
 use Rattle.ghes_ack.proofs.maps.HandoverMap.acknowledge.Goals as goal
 
 pub returns-clause-set : goal.returns-clause-set
 returns-clause-set c =
-    let m : c.write_ack.new.ram ≡ with_ack c.args.self.now c.args.ram.now (acknowledged c.args.self.now (ack_read c.args.self.now c.args.ram.now)) = search rules in
-    let small : ack_read c.args.self.now c.args.ram.now < 2 ^ bits c.args.self.now.ack.access = subst (λ (x : ℕ). x < 2 ^ bits c.args.self.now.ack.access) c.read_ack.ensures.value c.read_ack.ensures.small in
-    λ sound. subst (IsSet c.args.self.now) (sym m) (acknowledged_bits c.args.self.now c.args.ram.now c.requires small sound)
+    let m : c.change_ack.new.ram ≡ with_ack c.args.self.now c.args.ram.now (acknowledged c.args.self.now (ack_read c.args.self.now c.args.ram.now)) = search rules in
+    λ sound. subst (IsSet c.args.self.now) (sym m) (acknowledged_bits c.args.self.now c.args.ram.now c.requires c.change_ack.ensures.small sound)
