@@ -1,5 +1,4 @@
 pub mod AnswerLemmas
-pub mod ErstSpelling
 pub mod OneList
 pub mod PartLemmas
 pub mod TableLemmas

@@ -13,7 +13,8 @@ use Rattle.bert_region.proofs.TableLemmas.{only_from}
 use Rattle.apei_tables.specs.Tables.{refusal as table_refusal}
 use Rattle.apei_tables.proofs.Finding.{none_refused, size-front}
 use Rattle.erst_entries.specs.declared.entries.Entry.{Entry}
-use Rattle.check_tables.proofs.ErstSpelling.{one_spelling, not_refused as erst_not_refused}
+use Rattle.erst_entries.specs.Layout.{Erst}
+use Rattle.erst_entries.proofs.Finding.{same_erst, not_refused as erst_not_refused}
 use Rattle.script_text.specs.TableWords.{words_of_table, words_of_erst, words_of_hest}
 use Rattle.check_tables.specs.Lines.{erst_line, entry_lines, hest_line, source_lines, bert_line}
 use Rattle.check_tables.specs.Tables.{AreErstLines, AreHestLines, AreBertLines, HestShown, BertShown}
@@ -90,7 +91,7 @@ one_erst show bytes lines others (inl a) (inl b) =
     let long : length a.table ≡ length b.table = sym (size-front bytes a.table a.rest a.begins a.is_erst.sealed) ∙ size-front bytes b.table b.rest b.begins b.is_erst.sealed in
     let table : a.table ≡ b.table = sym (front bytes a.table a.rest a.begins) ∙ ap (λ (n : ℕ). take n bytes) long ∙ front bytes b.table b.rest b.begins in
     let rest : length a.rest ≡ length b.rest = omega (arith, within bytes a.table a.rest a.begins, within bytes b.table b.rest b.begins, long) in
-    let entries : a.erst.entries ≡ b.erst.entries = one_spelling a.erst b.erst a.fits b.fits (sym a.is_erst.spelled ∙ table ∙ b.is_erst.spelled) in
+    let entries : a.erst.entries ≡ b.erst.entries = ap (λ (erst : Erst). erst.entries) (same_erst a.erst b.erst a.fits b.fits (sym a.is_erst.spelled ∙ table ∙ b.is_erst.spelled)) in
     a.shown
     ∙ ap (λ (n : ℕ). lines_shown show (erst_line n (length a.erst.entries) (length a.rest)) (entry_lines a.erst.entries)) long
     ∙ ap (λ (n : ℕ). lines_shown show (erst_line (length b.table) (length a.erst.entries) n) (entry_lines a.erst.entries)) rest

@@ -1,4 +1,4 @@
-mod Listing
-mod EntryBytes
-mod TableBytes
-mod Finding
+pub mod Listing
+pub mod EntryBytes
+pub mod TableBytes
+pub mod Finding
