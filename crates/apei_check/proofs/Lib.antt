@@ -1,4 +1,3 @@
-pub mod HexText
 pub mod TextLemmas
 pub mod GrammarLemmas
 pub mod RunLemmas

@@ -1,7 +1,10 @@
 //! The program's top call.
 #![tactic(auto)]
 
+mod boot;
+mod generated;
 mod program;
+mod script;
 mod sim;
 mod status;
 

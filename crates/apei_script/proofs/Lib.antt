@@ -15,7 +15,6 @@ pub mod TurnLemmas
 pub mod ResultLemmas
 pub mod HeardLemmas
 pub mod ListLemmas
-pub mod HexText
 pub mod Lengths
 pub mod Made
 pub mod Asking

@@ -5,13 +5,13 @@ ghost use Rattle.script_text.specs.ScriptGrammar.{error, peek, fatal};
 ghost use Rattle.apei_script.specs.Words.{word_of};
 ghost use Rattle.apei_script.specs.Happened.{Occurs, side_of};
 
-use crate::commands::decode;
 use crate::refusals::{refuse, refuse_fatal};
 use crate::reply::Reply;
 use apei_space::Space;
 use erst_machine::Machine;
 use flash_model::Flash;
 use ghes_ack::{Event, Side};
+use script_text::decode;
 
 /// Gives an error status block to the handover.
 pub fn give_block<F: Flash>(

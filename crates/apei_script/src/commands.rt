@@ -1,6 +1,5 @@
 // What a line asks of the client in use.
-ghost use Rattle.std.specs.Prelude.{◌≡◌, ◌*◌, ◌≤◌, ℕ, List, length, take, Ok};
-ghost use Rattle.hex.specs.Hex.{decode_of};
+ghost use Rattle.std.specs.Prelude.{◌≡◌, ◌*◌, ◌≤◌, ℕ, List, length, Ok};
 ghost use Rattle.line_grammar.specs.Parts.{IsPairs};
 ghost use Rattle.script_text.specs.ScriptGrammar.{Line, write, read, clear, count, next, dummy, action};
 ghost use Rattle.apei_script.specs.Words.{words_of_write};
@@ -14,7 +13,7 @@ use erst_client::Client;
 use erst_interp::{Budget, run};
 use erst_machine::Machine;
 use flash_model::Flash;
-use hex::decode_to_slice;
+use script_text::decode;
 
 /// The bytes that the longest line stands for, and those of the longest record that is read.
 pub const LONGEST_HEX: usize = 70_000;
@@ -23,21 +22,6 @@ const READ_BUFFER: usize = 65_536;
 
 /// The offset of a record's identifier, and the bytes of its header.
 const ID: usize = 96;
-
-/// The first bytes of a buffer become those of pairs of hexadecimal digits; their number is answered.
-pub fn decode(hex: &[u8], out: &mut [u8]) -> usize
-    requires pairs { IsPairs hex.now }
-    requires room { length hex.now ≤ 2 * length out.old }
-    ensures bytes { decode_of hex.now ≡ Ok (take result out.new) }
-    ensures within { result ≤ length out.new }
-    ensures size { length out.new ≡ length out.old }
-{
-    let count = hex.len() / 2;
-    match decode_to_slice(hex, &mut out[..count]) {
-        Ok(()) => count,
-        Err(_) => unreachable!(),
-    }
-}
 
 /// Writes the record of a line.
 pub fn write_record<F: Flash>(

@@ -11,8 +11,7 @@ ghost use Rattle.apei_script.specs.Desks.{state_of, AnswersLine, MakesReply};
 use crate::blocks::{give_block, lay_block, show_bytes};
 use crate::buffers::Buffers;
 use crate::commands::{
-    clear_record, count_records, decode, read_record, run_action, show_next, write_dummy,
-    write_record,
+    clear_record, count_records, read_record, run_action, show_next, write_dummy, write_record,
 };
 use crate::player::PlayStop;
 use crate::reply::Reply;
@@ -20,7 +19,7 @@ use crate::tables::give_table;
 use erst_client::Client;
 use erst_machine::Machine;
 use flash_model::Flash;
-use script_text::ScriptLine;
+use script_text::{ScriptLine, decode};
 use std::alloc::Global;
 
 /// The machine, its clients, and the memory in which lines are carried out, all of it taken once but for that of tables.

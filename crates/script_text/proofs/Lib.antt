@@ -1,4 +1,5 @@
 pub mod CheckLemmas
+pub mod HexText
 pub mod OneCheckLine
 pub mod OneLine
 pub mod ScriptLemmas

@@ -3,6 +3,7 @@
 
 mod check_line;
 mod client_refusals;
+mod digits;
 mod frame_refusals;
 mod laws;
 mod refusal;
@@ -19,6 +20,7 @@ mod tests;
 mod turns;
 
 pub use check_line::CheckLine;
+pub use digits::decode;
 pub use laws::{one_check_column, one_check_line, one_column, one_line};
 pub use refusal::Refusal;
 pub use refusal_text::RefusalText;

@@ -1,7 +1,7 @@
 use Rattle.std.proofs.Common.{◌≡◌, ◌*◌, ◌/◌, length, take, arith}
 use Rattle.std.proofs.lemmas.List.{length-take-le}
-use Rattle.apei_script.proofs.HexText.{not_refused}
-use Rattle.apei_script.proofs.commands.decode.Goals as goal
+use Rattle.script_text.proofs.HexText.{not_refused}
+use Rattle.script_text.proofs.digits.decode.Goals as goal
 
 pub unreachable-requires : goal.unreachable-requires
 unreachable-requires c =

@@ -5,7 +5,7 @@ use Rattle.script_text.specs.ScriptText.{line_of}
 use Rattle.script_lines.specs.Lines.{Reading}
 use Rattle.apei_cli.specs.Played.{Means}
 use Rattle.apei_cli.proofs.RunLemmas.{on_true, on_false, is_not, means, playable, in_order, SoFar-start, SoFar-played, ends_done, ends_fault, ends_too_long, ends_bad, ends_not_built, ends_unheard, ends_failed, ends_memory}
-use Rattle.apei_cli.proofs.program.play_script.Goals as goal
+use Rattle.apei_cli.proofs.script.play_script.Goals as goal
 
 pub lines-init : goal.lines-init
 lines-init g c =

@@ -5,7 +5,7 @@ use Rattle.apei_cli.specs.Orders.{order_of}
 use Rattle.apei_cli.specs.Runs.{Begun}
 use Rattle.apei_cli.proofs.WholeLemmas.{plays_then, cause_then}
 use Rattle.apei_cli.proofs.JobLemmas.{generated_then}
-use Rattle.apei_cli.proofs.program.run_generated.Goals as goal
+use Rattle.apei_cli.proofs.generated.run_generated.Goals as goal
 
 pub returns-in-Ok-clause-run : goal.returns-in-Ok-clause-run
 returns-in-Ok-clause-run g c =

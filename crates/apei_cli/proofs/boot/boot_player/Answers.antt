@@ -5,7 +5,7 @@ use Rattle.erst_machine.specs.MachineState.{MachineState}
 use Rattle.apei_cli.specs.Orders.{order_of}
 use Rattle.apei_cli.specs.Runs.{HasNotBegun, IsGeometryOf}
 use Rattle.apei_cli.proofs.WholeLemmas.{begun_in_vain, refused_begun, refused_geometry, refused_cause, is_first, has_geometry}
-use Rattle.apei_cli.proofs.program.boot_player.Goals as goal
+use Rattle.apei_cli.proofs.boot.boot_player.Goals as goal
 
 pub returns-in-Err-clause-refused : goal.returns-in-Err-clause-refused
 returns-in-Err-clause-refused g c =

@@ -2,7 +2,7 @@ use Rattle.std.proofs.Common.{◌≡◌, ◌-◌, ◌^◌, ◌≤◌, true, []}
 use Rattle.apei_notify.specs.Chains.{members_of}
 use Rattle.apei_script.specs.Desks.{state_of}
 use Rattle.apei_cli.proofs.RunLemmas.{SoFar}
-use Rattle.apei_cli.proofs.program.play_script.Given as goal
+use Rattle.apei_cli.proofs.script.play_script.Given as goal
 
 -- the lines that were read were played, and no count of the source or the sink rose
 abbrev pub invariant-lines : goal.invariant-lines

@@ -2,7 +2,7 @@ use Rattle.std.proofs.Common.{refl, sym}
 use Rattle.apei_cli.specs.Orders.{order_of}
 use Rattle.apei_cli.specs.Runs.{NotBegun, Begun}
 use Rattle.apei_cli.proofs.WholeLemmas.{none_begun, plays_from, plays_then, cause_then}
-use Rattle.apei_cli.proofs.program.run_script.Goals as goal
+use Rattle.apei_cli.proofs.script.run_script.Goals as goal
 
 pub returns-in_default-clause-run : goal.returns-in_default-clause-run
 returns-in_default-clause-run g c = NotBegun (refl, refl) refl (none_begun g.F.Flash.tells (order_of c.args.plan.now) (g.F.Flash.state c.args.flash) (g.F.Flash.state c.args.flash) _ tt refl)
