@@ -8,7 +8,6 @@ mod laws;
 mod refusal;
 #[cfg(test)]
 mod refusal_tests;
-mod refusal_text;
 mod run_refusals;
 mod script_line;
 mod script_word;
@@ -21,5 +20,4 @@ mod turns;
 pub use check_line::CheckLine;
 pub use laws::{one_check_column, one_check_line, one_column, one_line};
 pub use refusal::Refusal;
-pub use refusal_text::RefusalText;
 pub use script_line::{BadLine, ScriptLine};
