@@ -7,7 +7,8 @@ use crate::reply::Reply;
 use bert_region::RegionFull;
 use erst_machine::FatalError;
 use ghes_ack::SubmitError;
-use script_text::{Refusal, RefusalText};
+use line_text::LineText;
+use script_text::Refusal;
 
 /// Makes it the words of a refusal.
 pub fn refuse<R: Refusal>(reply: &mut Reply, why: &R)
@@ -23,7 +24,7 @@ pub fn refuse_behind<R: Refusal>(reply: &mut Reply, word: &[u8], why: &R)
     requires short { length word.now ≤ 16 }
     ensures { IsMade reply.new (refused (word.now ++ R.words why.now)) }
 {
-    let mut text = RefusalText::new();
+    let mut text = LineText::new();
     why.add_to(&mut text);
     reply.begin(b"refused ");
     reply.add(word);

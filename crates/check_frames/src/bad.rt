@@ -4,23 +4,9 @@ ghost use Rattle.base_model.specs.Faults.{HasCause};
 ghost use Rattle.check_text.specs.Written.{Writes, WritesPart};
 
 use apei_bytes::{Sink, SinkFault};
-use check_text::LineText;
-use script_text::{Refusal, RefusalText};
-
-/// A word, and behind it the words of a refusal.
-fn bad_line<R: Refusal>(word: &[u8], refusal: &R) -> LineText
-    requires told { R.has_words refusal.now }
-    requires short { length word.now ≤ 100 }
-    ensures text { result ≡ word.now ++ R.words refusal.now }
-    ensures short { length result ≤ 255 }
-{
-    let mut words = RefusalText::new();
-    refusal.add_to(&mut words);
-    let mut line = LineText::new();
-    line.add(word);
-    line.add(words.bytes());
-    line
-}
+use check_text::write_line;
+use line_text::LineText;
+use script_text::Refusal;
 
 /// Writes the line of an item that is refused, whatever is to be shown.
 pub(crate) fn write_bad<R: Refusal, O: Sink>(
@@ -30,9 +16,13 @@ pub(crate) fn write_bad<R: Refusal, O: Sink>(
 ) -> Result<(), SinkFault>
     requires told { R.has_words refusal.now }
     requires short { length word.now ≤ 100 }
+    requires room { length word.now ≤ R.most_before }
     ensures all { OnOk result (Writes O.tells ((word.now ++ R.words refusal.now) ∷ []) (O.written out.old) (O.written out.new)) }
     ensures part { OnErr result (WritesPart O.tells ((word.now ++ R.words refusal.now) ∷ []) (O.written out.old) (O.written out.new)) }
     ensures cause { HasCause (O.faults out.old) (O.faults out.new) result }
 {
-    bad_line(word, refusal).write_to(out)
+    let mut line = LineText::new();
+    line.add(word);
+    refusal.add_to(&mut line);
+    write_line(line, out)
 }

@@ -8,8 +8,9 @@ ghost use Rattle.check_frames.specs.Frames.{AreBlockLines, block_line, entry_lin
 
 use crate::bad::write_bad;
 use apei_bytes::{Sink, SinkFault};
-use check_text::{CheckStop, LineText, Show};
+use check_text::{CheckStop, Show, write_line};
 use ghes_block::{Block, DataEntry};
+use line_text::LineText;
 
 /// Where the first entry of a block begins.
 const FIRST: u64 = 20;
@@ -23,11 +24,11 @@ fn entry_line(index: u64, entry: &DataEntry<'_>) -> LineText
     let mut kind = [0; 36];
     entry.head.kind.text(&mut kind);
     let mut line = LineText::new();
-    line.add_number(b"part ", index);
+    line.add_one(b"part ", index);
     line.add(b" kind ");
     line.add(&kind);
-    line.add_number(b" bytes ", entry.body.len() as u64);
-    line.add_number(b" severity ", u64::from(entry.head.severity));
+    line.add_one(b" bytes ", entry.body.len() as u64);
+    line.add_one(b" severity ", u64::from(entry.head.severity));
     line
 }
 
@@ -38,12 +39,12 @@ fn block_line(block: &Block<'_>, rest: usize) -> LineText
     ensures short { length result ≤ 255 }
 {
     let mut line = LineText::new();
-    line.add_number(b"block ", block.len());
-    line.add_number(b" entries ", u64::from(block.entries()));
-    line.add_number(b" status ", u64::from(block.status()));
-    line.add_number(b" severity ", u64::from(block.severity()));
-    line.add_number(b" raw ", block.raw().len() as u64);
-    line.add_number(b" rest ", rest as u64);
+    line.add_one(b"block ", block.len());
+    line.add_one(b" entries ", u64::from(block.entries()));
+    line.add_one(b" status ", u64::from(block.status()));
+    line.add_one(b" severity ", u64::from(block.severity()));
+    line.add_one(b" raw ", block.raw().len() as u64);
+    line.add_one(b" rest ", rest as u64);
     line
 }
 
@@ -57,7 +58,7 @@ fn write_entries<O: Sink>(block: &Block<'_>, out: &mut O) -> Result<(), SinkFaul
     let mut at = FIRST;
     let mut index = 0;
     while let Some((entry, next)) = block.entry_at(at) {
-        entry_line(index, &entry).write_to(out)?;
+        write_line(entry_line(index, &entry), out)?;
         at = next;
         index += 1;
     }

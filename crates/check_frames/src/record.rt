@@ -8,8 +8,9 @@ ghost use Rattle.check_frames.specs.Frames.{AreRecordLines, record_line, section
 
 use crate::bad::write_bad;
 use apei_bytes::{Sink, SinkFault};
-use check_text::{CheckStop, LineText, Show};
+use check_text::{CheckStop, Show, write_line};
 use cper_frame::{Record, Section};
+use line_text::LineText;
 
 /// The line of a section.
 #[tactic(auto, unfolding(crate::specs::Frames::section_line))]
@@ -20,12 +21,12 @@ fn section_line(index: u16, section: &Section<'_>) -> LineText
     let mut kind = [0; 36];
     section.head.kind.text(&mut kind);
     let mut line = LineText::new();
-    line.add_number(b"section ", u64::from(index));
+    line.add_one(b"section ", u64::from(index));
     line.add(b" kind ");
     line.add(&kind);
-    line.add_number(b" at ", u64::from(section.offset));
-    line.add_number(b" bytes ", section.body.len() as u64);
-    line.add_number(b" severity ", u64::from(section.head.severity));
+    line.add_one(b" at ", u64::from(section.offset));
+    line.add_one(b" bytes ", section.body.len() as u64);
+    line.add_one(b" severity ", u64::from(section.head.severity));
     line
 }
 
@@ -37,11 +38,11 @@ fn record_line(framed: &Record<'_>, size: usize, rest: usize) -> LineText
 {
     let head = framed.head();
     let mut line = LineText::new();
-    line.add_number(b"record ", size as u64);
-    line.add_number(b" sections ", u64::from(framed.sections()));
-    line.add_number(b" severity ", u64::from(head.severity));
-    line.add_number(b" id ", head.id);
-    line.add_number(b" rest ", rest as u64);
+    line.add_one(b"record ", size as u64);
+    line.add_one(b" sections ", u64::from(framed.sections()));
+    line.add_one(b" severity ", u64::from(head.severity));
+    line.add_one(b" id ", head.id);
+    line.add_one(b" rest ", rest as u64);
     line
 }
 
@@ -52,7 +53,7 @@ fn write_sections<O: Sink>(framed: &Record<'_>, out: &mut O) -> Result<(), SinkF
     ensures cause { HasCause (O.faults out.old) (O.faults out.new) result }
 {
     for index in 0..framed.sections() {
-        section_line(index, &framed.section(index)).write_to(out)?;
+        write_line(section_line(index, &framed.section(index)), out)?;
     }
     Ok(())
 }

@@ -7,7 +7,8 @@ ghost use Rattle.check_tables.specs.Tables.{AreBertLines};
 use crate::refused::write_refused;
 use apei_bytes::Sink;
 use bert_region::Bert;
-use check_text::{CheckStop, LineText, Show};
+use check_text::{CheckStop, Show};
+use line_text::LineText;
 
 /// Shows the Boot Error Record Table that the bytes begin with, by one line. Where they begin with none, a line says why.
 pub fn check_bert<O: Sink>(bytes: &[u8], show: Show, out: &mut O) -> Result<(), CheckStop>
@@ -28,9 +29,9 @@ fn table_line(table: &Bert, len: usize, rest: usize) -> LineText
     ensures short { length result ≤ 255 }
 {
     let mut line = LineText::new();
-    line.add_number(b"bert ", len as u64);
-    line.add_number(b" region ", table.region);
-    line.add_number(b" bytes ", u64::from(table.len));
-    line.add_number(b" rest ", rest as u64);
+    line.add_one(b"bert ", len as u64);
+    line.add_one(b" region ", table.region);
+    line.add_one(b" bytes ", u64::from(table.len));
+    line.add_one(b" rest ", rest as u64);
     line
 }

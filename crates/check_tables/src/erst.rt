@@ -8,8 +8,9 @@ ghost use Rattle.check_tables.specs.Tables.{AreErstLines};
 
 use crate::refused::write_refused;
 use apei_bytes::{Sink, SinkFault};
-use check_text::{CheckStop, LineText, Show};
+use check_text::{CheckStop, Show, write_line};
 use erst_entries::{Entry, ErstError, ErstTable};
+use line_text::LineText;
 use std::alloc::Global;
 
 /// Shows the Error Record Serialization Table that the bytes begin with: a line on the table, and one for each instruction entry. Where
@@ -54,9 +55,9 @@ fn table_line(table: &ErstTable, len: usize, rest: usize) -> LineText
     ensures short { length result ≤ 255 }
 {
     let mut line = LineText::new();
-    line.add_number(b"erst ", len as u64);
-    line.add_number(b" entries ", table.len() as u64);
-    line.add_number(b" rest ", rest as u64);
+    line.add_one(b"erst ", len as u64);
+    line.add_one(b" entries ", table.len() as u64);
+    line.add_one(b" rest ", rest as u64);
     line
 }
 
@@ -80,7 +81,7 @@ fn write_entries<O: Sink>(table: &ErstTable, out: &mut O) -> Result<(), SinkFaul
     ensures cause { HasCause (O.faults out.old) (O.faults out.new) result }
 {
     for index in 0..table.len() {
-        entry_line(index, &table.entry(index)).write_to(out)?;
+        write_line(entry_line(index, &table.entry(index)), out)?;
     }
     Ok(())
 }
@@ -91,7 +92,7 @@ fn entry_line(index: usize, entry: &Entry) -> LineText
     ensures short { length result ≤ 255 }
 {
     let mut line = LineText::new();
-    line.add_number(b"entry ", index as u64);
+    line.add_one(b"entry ", index as u64);
     line.add_byte(b" action ", entry.action);
     line.add_byte(b" instruction ", entry.code);
     line.add_byte(b" flags ", entry.flags);
@@ -99,8 +100,8 @@ fn entry_line(index: usize, entry: &Entry) -> LineText
     line.add_byte(b" width ", entry.region.width);
     line.add_byte(b" offset ", entry.region.offset);
     line.add_byte(b" access ", entry.region.access);
-    line.add_number(b" address ", entry.region.address);
-    line.add_number(b" value ", entry.value);
-    line.add_number(b" mask ", entry.mask);
+    line.add_one(b" address ", entry.region.address);
+    line.add_one(b" value ", entry.value);
+    line.add_one(b" mask ", entry.mask);
     line
 }

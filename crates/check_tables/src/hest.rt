@@ -10,8 +10,9 @@ ghost use Rattle.hest_sources.specs.Layout.{type_of};
 
 use crate::refused::write_refused;
 use apei_bytes::{Sink, SinkFault};
-use check_text::{CheckStop, LineText, Show};
+use check_text::{CheckStop, Show, write_line};
 use hest_sources::{Ghes, Hest, HestError, HestSource};
+use line_text::LineText;
 use std::alloc::Global;
 
 /// Shows the Hardware Error Source Table that the bytes begin with: a line on the table, and one for each error source. Where they begin
@@ -56,9 +57,9 @@ fn table_line(sources: &[HestSource], len: usize, rest: usize) -> LineText
     ensures short { length result ≤ 255 }
 {
     let mut line = LineText::new();
-    line.add_number(b"hest ", len as u64);
-    line.add_number(b" sources ", sources.len() as u64);
-    line.add_number(b" rest ", rest as u64);
+    line.add_one(b"hest ", len as u64);
+    line.add_one(b" sources ", sources.len() as u64);
+    line.add_one(b" rest ", rest as u64);
     line
 }
 
@@ -82,7 +83,7 @@ fn write_sources<O: Sink>(sources: &[HestSource], out: &mut O) -> Result<(), Sin
     ensures cause { HasCause (O.faults out.old) (O.faults out.new) result }
 {
     for index in 0..sources.len() {
-        source_line(index, &sources[index]).write_to(out)?;
+        write_line(source_line(index, &sources[index]), out)?;
     }
     Ok(())
 }
@@ -104,8 +105,8 @@ fn kind_line(index: usize, kind: u16) -> LineText
     ensures short { length result ≤ 53 }
 {
     let mut line = LineText::new();
-    line.add_number(b"source ", index as u64);
-    line.add_number(b" kind ", u64::from(kind));
+    line.add_one(b"source ", index as u64);
+    line.add_one(b" kind ", u64::from(kind));
     line
 }
 
@@ -115,9 +116,9 @@ fn ghes_line(index: usize, source: &Ghes) -> LineText
     ensures short { length result ≤ 255 }
 {
     let mut line = kind_line(index, kind_of(source));
-    line.add_number(b" id ", u64::from(source.id));
-    line.add_number(b" enabled ", u64::from(source.enabled));
-    line.add_number(b" block ", u64::from(source.block_len));
+    line.add_one(b" id ", u64::from(source.id));
+    line.add_one(b" enabled ", u64::from(source.enabled));
+    line.add_one(b" block ", u64::from(source.block_len));
     line
 }
 

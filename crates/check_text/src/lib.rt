@@ -1,13 +1,11 @@
-//! What a check of tables, records and blocks shows, and the text of a line of it.
+//! What a check of tables, records and blocks shows, and the writing of its lines.
 #![tactic(auto)]
 
-mod add_byte;
-mod line_text;
+mod line;
 mod show;
 mod stop;
 mod write_head;
-mod write_line;
 
-pub use line_text::LineText;
+pub use line::write_line;
 pub use show::Show;
 pub use stop::CheckStop;

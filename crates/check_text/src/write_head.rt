@@ -3,9 +3,10 @@ ghost use Rattle.std.specs.Prelude.{◌≤◌, length, OnOk, OnErr};
 ghost use Rattle.base_model.specs.Faults.{HasCause};
 ghost use Rattle.check_text.specs.Written.{Writes, WritesPart, head_shown};
 
-use crate::line_text::LineText;
+use crate::line::write_line;
 use crate::show::Show;
 use apei_bytes::{Sink, SinkFault};
+use line_text::LineText;
 
 impl Show {
     /// Writes the line on the whole item, where it is asked for.
@@ -16,7 +17,7 @@ impl Show {
         ensures cause { HasCause (O.faults out.old) (O.faults out.new) result }
     {
         if self.head() {
-            line.write_to(out)
+            write_line(line, out)
         } else {
             Ok(())
         }

@@ -10,4 +10,3 @@ pub mod ScriptWords
 pub mod TableWords
 pub mod SubmitWords
 pub mod Turns
-pub mod Words

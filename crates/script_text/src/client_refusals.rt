@@ -3,8 +3,8 @@ ghost use Rattle.std.specs.Prelude.{ℕ, List};
 ghost use Rattle.script_text.specs.ClientWords.{words_of_attach, words_of_client};
 
 use crate::refusal::Refusal;
-use crate::refusal_text::RefusalText;
 use erst_client::{AttachError, ClientError};
+use line_text::LineText;
 
 impl Refusal for AttachError {
     ghost has_words = { λ _. Unit {0} };
@@ -13,7 +13,7 @@ impl Refusal for AttachError {
 
     ghost most_before = { 62 };
 
-    fn add_to(&self, text: &mut RefusalText) {
+    fn add_to(&self, text: &mut LineText) {
         match self {
             AttachError::Stopped(why) => {
                 text.add(b"stopped ");
@@ -32,7 +32,7 @@ impl Refusal for ClientError {
 
     ghost most_before = { 62 };
 
-    fn add_to(&self, text: &mut RefusalText) {
+    fn add_to(&self, text: &mut LineText) {
         match self {
             ClientError::NoSpace => text.add(b"no-space"),
             ClientError::Hardware => text.add(b"hardware"),

@@ -3,9 +3,9 @@ ghost use Rattle.std.specs.Prelude.{ℕ, List};
 ghost use Rattle.script_text.specs.FrameWords.{words_of_frame, words_of_block};
 
 use crate::refusal::Refusal;
-use crate::refusal_text::RefusalText;
 use cper_frame::FrameError;
 use ghes_block::BlockError;
+use line_text::LineText;
 
 impl Refusal for FrameError {
     ghost has_words = { λ _. Unit {0} };
@@ -14,7 +14,7 @@ impl Refusal for FrameError {
 
     ghost most_before = { 100 };
 
-    fn add_to(&self, text: &mut RefusalText) {
+    fn add_to(&self, text: &mut LineText) {
         match self {
             FrameError::Need { more } => text.add_one(b"need ", *more),
             FrameError::Start => text.add(b"start"),
@@ -33,7 +33,7 @@ impl Refusal for BlockError {
 
     ghost most_before = { 81 };
 
-    fn add_to(&self, text: &mut RefusalText) {
+    fn add_to(&self, text: &mut LineText) {
         match self {
             BlockError::Need { more } => text.add_one(b"need ", *more),
             BlockError::NotPublished => text.add(b"not-published"),

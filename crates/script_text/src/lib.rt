@@ -9,7 +9,6 @@ mod laws;
 mod refusal;
 #[cfg(test)]
 mod refusal_tests;
-mod refusal_text;
 mod run_refusals;
 mod script_line;
 mod script_word;
@@ -23,5 +22,4 @@ pub use check_line::CheckLine;
 pub use digits::decode;
 pub use laws::{one_check_column, one_check_line, one_column, one_line};
 pub use refusal::Refusal;
-pub use refusal_text::RefusalText;
 pub use script_line::{BadLine, ScriptLine};

@@ -2,8 +2,8 @@
 ghost use Rattle.std.specs.Prelude.{◌≡◌, ℕ, ◌+◌, ◌≤◌, List, ◌++◌, length, take, OnOk, OnErr};
 ghost use Rattle.base_model.specs.Faults.{HasCause};
 
-use crate::refusal_text::RefusalText;
 use apei_bytes::{Sink, SinkFault, write_all};
+use line_text::LineText;
 
 /// A refusal, which has words in a reply. Want of memory is no refusal, and has none.
 pub trait Refusal {
@@ -13,11 +13,11 @@ pub trait Refusal {
     // Its words.
     ghost words: { Self → List ℕ };
 
-    // How many bytes a text may have before them: words of this kind have no more than the rest of its 128.
+    // How many bytes a text may have before them: words of this kind have no more than the rest of 128.
     ghost most_before: { ℕ };
 
     /// Appends its words to a text.
-    fn add_to(&self, text: &mut RefusalText)
+    fn add_to(&self, text: &mut LineText)
         requires told { has_words self.now }
         requires room { length text.old ≤ most_before }
         ensures words { text.new ≡ text.old ++ words self.now }
@@ -30,7 +30,7 @@ pub trait Refusal {
         ensures part { OnErr result (O.tells → (n : ℕ) × (O.written out.new ≡ O.written out.old ++ take n (words self.now))) }
         ensures cause { HasCause (O.faults out.old) (O.faults out.new) result }
     {
-        let mut text = RefusalText::new();
+        let mut text = LineText::new();
         self.add_to(&mut text);
         write_all(out, text.bytes())
     }

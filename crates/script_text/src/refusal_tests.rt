@@ -1,6 +1,5 @@
 // The words of refusals.
 use crate::refusal::Refusal;
-use crate::refusal_text::RefusalText;
 use apei_bytes::{MemSink, SinkFault};
 use apei_space::SpaceFault;
 use apei_tables::TableError;
@@ -12,6 +11,7 @@ use erst_interp::RunStop;
 use ghes_ack::SubmitError;
 use ghes_block::BlockError;
 use hest_sources::HestError;
+use line_text::LineText;
 use std::test::Fail;
 
 #[test]
@@ -49,7 +49,7 @@ fn stops(rt: HostRuntime) -> Result<(), Fail> {
         (RunStop::NoAction { code: 12 }, b"no-action 12"),
     ];
     for (stop, want) in stops {
-        let mut text = RefusalText::new();
+        let mut text = LineText::new();
         stop.add_to(&mut text);
         assert_eq!(rt; text.bytes(), want);
     }
@@ -58,7 +58,7 @@ fn stops(rt: HostRuntime) -> Result<(), Fail> {
 
 #[test]
 fn frames_and_blocks(rt: HostRuntime) -> Result<(), Fail> {
-    let mut text = RefusalText::new();
+    let mut text = LineText::new();
     FrameError::Need { more: 126 }.add_to(&mut text);
     text.add(b"|");
     BlockError::NotPublished.add_to(&mut text);
@@ -73,7 +73,7 @@ fn frames_and_blocks(rt: HostRuntime) -> Result<(), Fail> {
 
 #[test]
 fn tables(rt: HostRuntime) -> Result<(), Fail> {
-    let mut text = RefusalText::new();
+    let mut text = LineText::new();
     ErstError::Table(TableError::Sum { found: 1 }).add_to(&mut text);
     text.add(b"|");
     HestError::UnknownType { at: 40, code: 5 }.add_to(&mut text);
@@ -101,11 +101,11 @@ fn clients(rt: HostRuntime) -> Result<(), Fail> {
         (ClientError::Late { waited: 20 }, b"late 20"),
     ];
     for (error, want) in errors {
-        let mut text = RefusalText::new();
+        let mut text = LineText::new();
         error.add_to(&mut text);
         assert_eq!(rt; text.bytes(), want);
     }
-    let mut text = RefusalText::new();
+    let mut text = LineText::new();
     AttachError::NoRange { len: 127 }.add_to(&mut text);
     assert_eq!(rt; text.bytes(), b"no-range 127".as_slice());
     Ok(())
@@ -123,11 +123,11 @@ fn blocks_that_are_not_taken(rt: HostRuntime) -> Result<(), Fail> {
         (SubmitError::Full, b"full"),
     ];
     for (refusal, want) in refusals {
-        let mut text = RefusalText::new();
+        let mut text = LineText::new();
         refusal.add_to(&mut text);
         assert_eq!(rt; text.bytes(), want);
     }
-    let mut text = RefusalText::new();
+    let mut text = LineText::new();
     RegionFull { need: 92 }.add_to(&mut text);
     assert_eq!(rt; text.bytes(), b"region 92".as_slice());
     Ok(())

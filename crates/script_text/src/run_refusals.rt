@@ -3,9 +3,9 @@ ghost use Rattle.std.specs.Prelude.{ℕ, List};
 ghost use Rattle.script_text.specs.RunWords.{words_of_fault, words_of_stop};
 
 use crate::refusal::Refusal;
-use crate::refusal_text::RefusalText;
 use apei_space::SpaceFault;
 use erst_interp::RunStop;
+use line_text::LineText;
 
 impl Refusal for SpaceFault {
     ghost has_words = { λ _. Unit {0} };
@@ -14,7 +14,7 @@ impl Refusal for SpaceFault {
 
     ghost most_before = { 97 };
 
-    fn add_to(&self, text: &mut RefusalText) {
+    fn add_to(&self, text: &mut LineText) {
         match self {
             SpaceFault::Unmapped { at } => text.add_one(b"unmapped ", *at),
             SpaceFault::BadAccess { at, width: _ } => text.add_one(b"access ", *at),
@@ -31,7 +31,7 @@ impl Refusal for RunStop {
 
     ghost most_before = { 70 };
 
-    fn add_to(&self, text: &mut RefusalText) {
+    fn add_to(&self, text: &mut LineText) {
         match self {
             RunStop::Budget => text.add(b"budget"),
             RunStop::Register { index, why: _ } => text.add_one(b"register ", *index),

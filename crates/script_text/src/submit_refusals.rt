@@ -3,9 +3,9 @@ ghost use Rattle.std.specs.Prelude.{ℕ, List};
 ghost use Rattle.script_text.specs.SubmitWords.{words_of_region, words_of_submit};
 
 use crate::refusal::Refusal;
-use crate::refusal_text::RefusalText;
 use bert_region::RegionFull;
 use ghes_ack::SubmitError;
+use line_text::LineText;
 
 impl Refusal for SubmitError {
     ghost has_words = { λ _. Unit {0} };
@@ -14,7 +14,7 @@ impl Refusal for SubmitError {
 
     ghost most_before = { 75 };
 
-    fn add_to(&self, text: &mut RefusalText) {
+    fn add_to(&self, text: &mut LineText) {
         match self {
             SubmitError::Long { len } => text.add_one(b"long ", *len),
             SubmitError::Malformed(why) => {
@@ -34,7 +34,7 @@ impl Refusal for RegionFull {
 
     ghost most_before = { 100 };
 
-    fn add_to(&self, text: &mut RefusalText) {
+    fn add_to(&self, text: &mut LineText) {
         text.add_one(b"region ", self.need);
     }
 }

@@ -3,10 +3,10 @@ ghost use Rattle.std.specs.Prelude.{ℕ, List};
 ghost use Rattle.script_text.specs.TableWords.{words_of_table, words_of_erst, words_of_hest, ErstHasWords, HestHasWords};
 
 use crate::refusal::Refusal;
-use crate::refusal_text::RefusalText;
 use apei_tables::TableError;
 use erst_entries::ErstError;
 use hest_sources::HestError;
+use line_text::LineText;
 
 impl Refusal for TableError {
     ghost has_words = { λ _. Unit {0} };
@@ -15,7 +15,7 @@ impl Refusal for TableError {
 
     ghost most_before = { 101 };
 
-    fn add_to(&self, text: &mut RefusalText) {
+    fn add_to(&self, text: &mut LineText) {
         match self {
             TableError::Short { have } => text.add_one(b"short ", *have),
             TableError::Signature { found: _ } => text.add(b"signature"),
@@ -32,7 +32,7 @@ impl Refusal for ErstError {
 
     ghost most_before = { 81 };
 
-    fn add_to(&self, text: &mut RefusalText) {
+    fn add_to(&self, text: &mut LineText) {
         match self {
             ErstError::Table(why) => why.add_to(text),
             ErstError::HeaderSize { found } => text.add_one(b"header-size ", *found),
@@ -49,7 +49,7 @@ impl Refusal for HestError {
 
     ghost most_before = { 79 };
 
-    fn add_to(&self, text: &mut RefusalText) {
+    fn add_to(&self, text: &mut LineText) {
         match self {
             HestError::Table(why) => why.add_to(text),
             HestError::UnknownType { at, code } => text.add_two(b"unknown ", *at, *code),

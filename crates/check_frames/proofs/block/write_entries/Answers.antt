@@ -16,8 +16,8 @@ loop-entry-init g c = record {
   so_far = wrote_nothing _ _;
 }
 
-pub returns-in_err-write_to-clause-part : goal.returns-in_err-write_to-clause-part
-returns-in_err-write_to-clause-part g c =
+pub returns-in_err-write_line-clause-part : goal.returns-in_err-write_line-clause-part
+returns-in_err-write_line-clause-part g c =
     let entries = c.args.block.now.entries in
     let lines = entry_lines entries in
     let i = c.loop-entry.index in
@@ -25,7 +25,7 @@ returns-in_err-write_to-clause-part g c =
     let many = length-entry_lines entries in
     let within : i < length lines = omega arith in
     let is : c.entry_line.result ≡ get_or lines i [] = c.entry_line.ensures.text ∙ entry_line_at entries i (value_of c.in-Some.entry) here.found in
-    on_err _ (wrote_part_of_next _ lines i _ _ _ _ within is c.loop-entry.invariant.so_far c.in_err-write_to.ensures.part)
+    on_err _ (wrote_part_of_next _ lines i _ _ _ _ within is c.loop-entry.invariant.so_far c.in_err-write_line.ensures.part)
 
 pub loop-entry-preserved : goal.loop-entry-preserved
 loop-entry-preserved g c =
@@ -41,8 +41,8 @@ loop-entry-preserved g c =
       within = omega arith;
       place = here.next_place;
       low = omega arith;
-      no_fault = c.in_ok-write_to.ensures.cause.ok ∙ c.loop-entry.invariant.no_fault;
-      so_far = wrote_next _ lines i _ _ _ _ within is c.loop-entry.invariant.so_far c.in_ok-write_to.ensures.all;
+      no_fault = c.in_ok-write_line.ensures.cause.ok ∙ c.loop-entry.invariant.no_fault;
+      so_far = wrote_next _ lines i _ _ _ _ within is c.loop-entry.invariant.so_far c.in_ok-write_line.ensures.all;
     }
 
 pub returns-clause-all : goal.returns-clause-all

@@ -11,19 +11,19 @@ use Rattle.check_tables.proofs.erst.write_entries.Goals as goal
 pub loop-index-init : goal.loop-index-init
 loop-index-init g c = record { wrote = wrote_nothing _ _; faults = refl }
 
-pub returns-in_err-write_to-clause-part : goal.returns-in_err-write_to-clause-part
-returns-in_err-write_to-clause-part g c =
+pub returns-in_err-write_line-clause-part : goal.returns-in_err-write_line-clause-part
+returns-in_err-write_line-clause-part g c =
     let xs = c.args.table.now.entries in
     let i = c.loop-index.index in
     let in_lines : i < length (entry_lines xs) = omega (arith, length_numbered entry_line xs) in
     let is_next : c.entry_line.result ≡ get_or (entry_lines xs) i [] =
     c.entry_line.ensures.text ∙ numbered_of entry_line xs i c.entry.result (omega arith) c.entry.ensures in
-    on_err c.from_residual.result (wrote_part_of_next _ (entry_lines xs) i c.entry_line.result _ _ _ in_lines is_next c.loop-index.invariant.wrote c.in_err-write_to.ensures.part)
+    on_err c.from_residual.result (wrote_part_of_next _ (entry_lines xs) i c.entry_line.result _ _ _ in_lines is_next c.loop-index.invariant.wrote c.in_err-write_line.ensures.part)
 
-pub returns-in_err-write_to-clause-cause : goal.returns-in_err-write_to-clause-cause
-returns-in_err-write_to-clause-cause g c =
+pub returns-in_err-write_line-clause-cause : goal.returns-in_err-write_line-clause-cause
+returns-in_err-write_line-clause-cause g c =
     let p = err_from_is_err_and c.from_residual.result c.from_residual.ensures.1 in
-    failed _ _ _ c.from_residual.result p.0 _ c.loop-index.invariant.faults p.1 c.in_err-write_to.ensures.cause
+    failed _ _ _ c.from_residual.result p.0 _ c.loop-index.invariant.faults p.1 c.in_err-write_line.ensures.cause
 
 pub loop-index-preserved : goal.loop-index-preserved
 loop-index-preserved g c =
@@ -33,8 +33,8 @@ loop-index-preserved g c =
     let is_next : c.entry_line.result ≡ get_or (entry_lines xs) i [] =
     c.entry_line.ensures.text ∙ numbered_of entry_line xs i c.entry.result (omega arith) c.entry.ensures in
     record {
-      wrote = wrote_next _ (entry_lines xs) i c.entry_line.result _ _ _ in_lines is_next c.loop-index.invariant.wrote c.in_ok-write_to.ensures.all;
-      faults = c.in_ok-write_to.ensures.cause.ok ∙ c.loop-index.invariant.faults;
+      wrote = wrote_next _ (entry_lines xs) i c.entry_line.result _ _ _ in_lines is_next c.loop-index.invariant.wrote c.in_ok-write_line.ensures.all;
+      faults = c.in_ok-write_line.ensures.cause.ok ∙ c.loop-index.invariant.faults;
     }
 
 pub returns-clause-all : goal.returns-clause-all

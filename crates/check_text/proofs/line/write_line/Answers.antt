@@ -3,7 +3,7 @@ use Rattle.apei_bytes.specs.declared.streams.SinkFault.{SinkFault}
 use Rattle.check_text.specs.Shown.{lines_text}
 use Rattle.check_text.specs.Written.{Writes, WritesPart}
 use Rattle.check_text.proofs.WrittenLemmas.{lines_text_one, appended_count}
-use Rattle.check_text.proofs.line_text.LineText.write_to.Goals as goal
+use Rattle.check_text.proofs.line.write_line.Goals as goal
 
 is_text : (line mid bytes : List ℕ) → bytes ≡ mid → mid ≡ line ++ 10 ∷ [] → bytes ≡ lines_text (line ∷ [])
 is_text line mid bytes e f = e ∙ f ∙ sym (lines_text_one line)
@@ -19,10 +19,8 @@ part_written (Ok _) told line bytes a b e wrote = tt
 part_written (Err _) told line bytes a b e wrote =
     record { count = length b - length a; text = λ t. appended_count a b bytes (wrote t) ∙ ap (λ (x : List ℕ). a ++ take (length b - length a) x) e }
 
--- src/write_line.rt:21:5
 pub returns-clause-all : goal.returns-clause-all
 returns-clause-all g c = all_written _ _ _ _ _ _ (is_text _ _ _ c.bytes.ensures c.add.ensures) c.write_all.ensures.all
 
--- src/write_line.rt:21:5
 pub returns-clause-part : goal.returns-clause-part
 returns-clause-part g c = part_written _ _ _ _ _ _ (is_text _ _ _ c.bytes.ensures c.add.ensures) c.write_all.ensures.part
