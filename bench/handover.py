@@ -6,7 +6,7 @@ memory and out of it by accesses of 64 bytes each, all in one loop, and each in 
 
 PROGRAM is the built program, by default crates/apei_bench/out/apei_bench; build it by `rt run` in crates/apei_bench. The
 turns are made by three calls, and each by a call of its own; what it takes to submit the block, which copies it once more, is
-timed alone and taken off. It prints the median of eleven rounds for each, in nanoseconds of processor time, and ratios.
+timed alone and taken off. It prints the median of 21 rounds for each, in nanoseconds of processor time, and the median of the ratios of each round.
 """
 
 import os
@@ -29,17 +29,26 @@ def seconds(job, times):
     return used.ru_utime + used.ru_stime
 
 
+ROUNDS = 21
 rest = min(seconds("copies", 0) for _ in range(11))
 rounds = {job: [] for job in TIMES}
-for _ in range(11):
+for _ in range(ROUNDS):
     for job, times in TIMES.items():
         rounds[job].append((seconds(job, times) - rest) * 1e9 / times)
-took = {job: statistics.median(each) for job, each in rounds.items()}
-submit = took["submits"] / 64
-print(f"two copies: {took['copies']:.0f} ns; by pieces: {took['pieces']:.0f} ns; each in a call: {took['apart']:.0f} ns; a submission: {submit:.0f} ns")
+rounds["submits"] = [each / 64 for each in rounds["submits"]]
+median = {job: statistics.median(each) for job, each in rounds.items()}
+print(
+    f"two copies: {median['copies']:.0f} ns; by pieces: {median['pieces']:.0f} ns; each in a call: {median['apart']:.0f} ns; "
+    f"a submission: {median['submits']:.0f} ns"
+)
 for name, job in [("three calls", "handover"), ("a call for each turn", "turns")]:
-    turns = took[job] - submit
+    turns = [whole - submit for whole, submit in zip(rounds[job], rounds["submits"])]
+
+    def times(taken, other):
+        """How many times as long as another job, in the median of the rounds."""
+        return statistics.median(one / two for one, two in zip(taken, rounds[other]))
+
     print(
-        f"all turns by {name}: {turns:.0f} ns, {turns / took['copies']:.2f} times two copies, {turns / took['pieces']:.1f} times by pieces, "
-        f"{turns / took['apart']:.1f} times each in a call; with the submission {took[job]:.0f} ns, {took[job] / took['copies']:.1f} times two copies"
+        f"all turns by {name}: {statistics.median(turns):.0f} ns, {times(turns, 'copies'):.2f} times two copies, {times(turns, 'pieces'):.1f} times by pieces, "
+        f"{times(turns, 'apart'):.1f} times each in a call; with the submission {median[job]:.0f} ns, {times(rounds[job], 'copies'):.1f} times two copies"
     )
