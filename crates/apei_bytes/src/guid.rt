@@ -47,22 +47,3 @@ impl Guid {
         out.copy_from_slice(text.as_bytes());
     }
 }
-
-#[cfg(test)]
-mod tests {
-    use super::Guid;
-
-    // The section type of a processor error, which firmware stores as these bytes.
-    #[test]
-    fn the_first_three_fields_are_shown_the_other_way_round(rt: HostRuntime) {
-        let bytes = [
-            0x14, 0x11, 0xbc, 0xa5, 0x64, 0x6f, 0xde, 0x4e, 0xb8, 0x63, 0x3e, 0x83, 0xed, 0x7c,
-            0x83, 0xb1,
-        ];
-        let guid = Guid::from_bytes(bytes);
-        let mut text = [0; 36];
-        guid.text(&mut text);
-        assert!(rt; text == *b"a5bc1114-6f64-4ede-b863-3e83ed7c83b1");
-        assert!(rt; guid.to_bytes() == bytes);
-    }
-}

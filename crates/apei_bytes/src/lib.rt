@@ -6,8 +6,6 @@ mod guid;
 mod in_memory;
 mod memory;
 mod numbers;
-#[cfg(test)]
-mod stream_tests;
 mod streams;
 
 pub use adapters::{StdSink, StdSource};

@@ -6,8 +6,6 @@ mod digits;
 mod ending;
 mod item;
 mod laws;
-#[cfg(test)]
-mod tests;
 
 pub use check::check_script;
 pub use ending::CheckEnd;

@@ -8,6 +8,3 @@ mod widths;
 pub use registers::{BadRegister, Place, Register};
 pub use structure::Gas;
 pub use widths::Width;
-
-#[cfg(test)]
-mod tests;

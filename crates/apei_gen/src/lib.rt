@@ -9,6 +9,3 @@ mod summary;
 mod tally;
 
 pub use generator::generate;
-
-#[cfg(test)]
-mod tests;

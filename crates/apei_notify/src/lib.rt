@@ -10,6 +10,3 @@ pub use chain::Chain;
 pub use laws::heard_is_wanted;
 pub use listener::Listener;
 pub use tally::Tally;
-
-#[cfg(test)]
-mod tests;

@@ -24,6 +24,3 @@ pub use laws::{
 };
 pub use own::own_client;
 pub use player::{PlayStop, Player, PlayerRefused};
-
-#[cfg(test)]
-mod tests;

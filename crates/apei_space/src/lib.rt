@@ -17,6 +17,3 @@ pub use laws::{
 pub use plain::Ram;
 pub use spaces::Space;
 pub use windows::Window;
-
-#[cfg(test)]
-mod tests;

@@ -8,6 +8,3 @@ mod sealing;
 pub use bytes::sum_of;
 pub use headers::{Header, TableError};
 pub use sealing::seal;
-
-#[cfg(test)]
-mod tests;

@@ -6,6 +6,3 @@ mod table;
 
 pub use region::{RegionFull, lay, take, walks_the_list, what_is_laid_is_the_list};
 pub use table::Bert;
-
-#[cfg(test)]
-mod tests;

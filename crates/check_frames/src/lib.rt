@@ -5,8 +5,6 @@ mod bad;
 mod block;
 mod laws;
 mod record;
-#[cfg(test)]
-mod tests;
 
 pub use block::check_block;
 pub use laws::{block_lines_are_one_list, record_lines_are_one_list};

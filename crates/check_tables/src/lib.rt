@@ -6,8 +6,6 @@ mod erst;
 mod hest;
 mod laws;
 mod refused;
-#[cfg(test)]
-mod tests;
 
 pub use bert::check_bert;
 pub use erst::check_erst;

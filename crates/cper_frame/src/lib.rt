@@ -8,8 +8,6 @@ mod mark;
 mod pieces;
 mod reader;
 mod record;
-#[cfg(test)]
-mod tests;
 mod writer;
 
 pub use apei_fields::NoRoom;

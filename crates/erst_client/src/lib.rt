@@ -11,6 +11,3 @@ mod sequences;
 
 pub use client::Client;
 pub use errors::{AttachError, ClientError};
-
-#[cfg(test)]
-mod tests;

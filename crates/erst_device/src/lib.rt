@@ -15,6 +15,3 @@ mod timings;
 pub use device::{Device, LOG_RANGE};
 pub use registers::Operation;
 pub use status::CommandStatus;
-
-#[cfg(test)]
-mod tests;

@@ -12,6 +12,3 @@ pub use entries::Entry;
 pub use instructions::Instruction;
 pub use programs::Program;
 pub use tables::{ErstError, ErstTable};
-
-#[cfg(test)]
-mod tests;

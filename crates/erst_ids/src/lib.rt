@@ -6,6 +6,3 @@ mod record_id;
 
 pub use next::{next_after, position_of};
 pub use record_id::RecordId;
-
-#[cfg(test)]
-mod tests;

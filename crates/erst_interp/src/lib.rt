@@ -14,6 +14,3 @@ pub use budgets::Budget;
 pub use laws::a_straight_program_runs_through;
 pub use runs::run;
 pub use stops::RunStop;
-
-#[cfg(test)]
-mod tests;

@@ -18,6 +18,3 @@ pub use laws::{
     every_access_finds_its_bytes, whatever_happens_is_one_list,
 };
 pub use machine::Machine;
-
-#[cfg(test)]
-mod tests;

@@ -157,6 +157,3 @@ impl Flash for FileFlash {
 
     ghost counted = { λ flash tells. absurd tells };
 }
-
-#[cfg(test)]
-mod tests;

@@ -231,6 +231,3 @@ impl Flash for SimFlash {
 
     ghost counted = { λ flash _. refl };
 }
-
-#[cfg(test)]
-mod tests;

@@ -23,6 +23,3 @@ pub use maps::HandoverMap;
 pub use states::{AwaitAck, Cleared, FirmBlock, OsBlock, OsIdle, start, stop};
 pub use station::Station;
 pub use submission::SubmitError;
-
-#[cfg(test)]
-mod tests;

@@ -4,8 +4,6 @@
 mod block;
 mod entry;
 mod error;
-#[cfg(test)]
-mod tests;
 mod writer;
 
 pub use apei_fields::NoRoom;

@@ -3,8 +3,6 @@
 
 mod sources;
 mod tables;
-#[cfg(test)]
-mod tests;
 
 pub use sources::{Ack, Ghes, HestSource};
 pub use tables::{Hest, HestError};

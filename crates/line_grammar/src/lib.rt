@@ -6,8 +6,6 @@
 
 mod keywords;
 mod parts;
-#[cfg(test)]
-mod tests;
 
 pub use keywords::{Keyword, common_len, keyword_of};
 pub use parts::{end, number, pairs, two_numbers};

@@ -16,6 +16,3 @@ pub use errors::{StoreError, StoreRefused};
 pub use laws::a_walk_finds_each_identifier;
 pub use record_recovery::ScanError;
 pub use store::Store;
-
-#[cfg(test)]
-mod tests;

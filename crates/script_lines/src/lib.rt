@@ -3,8 +3,6 @@
 
 mod laws;
 mod lines;
-#[cfg(test)]
-mod tests;
 
 pub use laws::lines_are_read_in_order;
 pub use lines::{LineReader, LineStop, MAX_LINE, MAX_SCRIPT};

@@ -7,15 +7,11 @@ mod digits;
 mod frame_refusals;
 mod laws;
 mod refusal;
-#[cfg(test)]
-mod refusal_tests;
 mod run_refusals;
 mod script_line;
 mod script_word;
 mod submit_refusals;
 mod table_refusals;
-#[cfg(test)]
-mod tests;
 mod turns;
 
 pub use check_line::CheckLine;
