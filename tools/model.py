@@ -18,6 +18,7 @@ import sys
 TOP = os.path.dirname(os.path.dirname(os.path.abspath(__file__)))
 SECTOR = 256
 HEAD, LEAST, OVERHEAD, PIECE, LONGEST = 32, 128, 64, 256, 65536
+GATE_OPEN, GATE_FURTHER, KILL_MARK, NOT_KILLED, TAIL_MARK = 0x5A, 0x3C, 0x00, 0xFF, 0xA5
 LAST = 2**64 - 1
 LAST_GENERATION = 2**32 - 1
 IDENTIFIERS = [0, 1, 2, 3, 7, LAST - 1, LAST]
@@ -63,7 +64,7 @@ class Model:
         form, identifier, length = number(data[2:4]), number(data[8:16]), number(data[16:20])
         named = [number(data[at : at + 2]) for at in (20, 22, 24)]
         further = -(-length // self.room) - 1
-        if (data[0], data[1], data[-1]) != (0x5A, 0xFF, 0xA5) or length < LEAST or identifier in (0, LAST):
+        if (data[0], data[1], data[-1]) != (GATE_OPEN, NOT_KILLED, TAIL_MARK) or length < LEAST or identifier in (0, LAST):
             return None
         if form == 1 and length <= self.room:
             return identifier, number(data[4:8]), length, []
@@ -83,7 +84,7 @@ class Model:
             size = min(self.room, length - part * self.room)
             data = self.slots[place]
             head = self.part_head(identifier, generation, size, part, slot)
-            if data[0] != head[0] or data[2:24] != head[2:] or data[-1] != 0xA5:
+            if data[0] != head[0] or data[2:24] != head[2:] or data[-1] != TAIL_MARK:
                 return None
             body += data[HEAD : HEAD + size]
         return identifier, generation, bytes(body), further
@@ -91,7 +92,7 @@ class Model:
     def part_head(self, identifier, generation, size, part, first):
         """The head of a further slot: bytes 0 to 23."""
         numbers = [(3, 2), (generation, 4), (identifier, 8), (size, 4), (part, 2), (first, 2)]
-        return b"\x3c\xff" + b"".join(value.to_bytes(width, "little") for value, width in numbers)
+        return bytes([GATE_FURTHER, NOT_KILLED]) + b"".join(value.to_bytes(width, "little") for value, width in numbers)
 
     def records(self):
         """Of each identifier the first slot, the generation, the body and the further slots of its record."""
@@ -107,7 +108,7 @@ class Model:
             first = {found[0] for found in self.records().values()}
             for slot in range(len(self.slots)):
                 if self.upright(slot) and slot not in first:
-                    self.change(slot, 1, b"\0")
+                    self.change(slot, 1, bytes([KILL_MARK]))
             self.in_doubt = False
         return self.records()
 
@@ -130,7 +131,7 @@ class Model:
             return "refused no-space"
         self.fill(free[:parts], identifier, older[1] + 1 if older else 1, bytes(body))
         if older:
-            self.change(older[0], 1, b"\0")
+            self.change(older[0], 1, bytes([KILL_MARK]))
         return f"wrote {identifier} {len(body)}"
 
     def fill(self, slots, identifier, generation, body):
@@ -143,16 +144,16 @@ class Model:
         numbers += [(slot, 2) for slot in further + [0xFFFF] * (3 - len(further))]
         head = b"".join(value.to_bytes(width, "little") for value, width in numbers)
         self.fill_slot(first, 2, head, body[: self.room])
-        self.change(first, 0, b"\x5a")
+        self.change(first, 0, bytes([GATE_OPEN]))
 
     def fill_slot(self, slot, at, head, data):
-        upwards = self.slots[slot][-1] != 0xA5
+        upwards = self.slots[slot][-1] != TAIL_MARK
         for sector in range(self.per_slot) if upwards else reversed(range(self.per_slot)):
             self.change(slot, sector * self.sector, b"\xff" * self.sector)
         self.change(slot, at, head)
         for start in range(0, len(data), PIECE):
             self.change(slot, HEAD + start, data[start : start + PIECE])
-        self.change(slot, self.sector * self.per_slot - 1, b"\xa5")
+        self.change(slot, self.sector * self.per_slot - 1, bytes([TAIL_MARK]))
 
     def clear(self, text):
         identifier = int(text)
@@ -161,7 +162,7 @@ class Model:
         found = self.settle().get(identifier)
         if not found:
             return "refused not-found"
-        self.change(found[0], 1, b"\0")
+        self.change(found[0], 1, bytes([KILL_MARK]))
         return f"cleared {identifier}"
 
     def read(self, text):

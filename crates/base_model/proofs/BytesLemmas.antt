@@ -144,14 +144,6 @@ SameOutside-wider at n outer m old new low high same = record {
       ∙ ap (λ (k : ℕ). drop k old) (sym e);
 }
 
--- one change and then another in the same range
-pub SameOutside-then : (at n : ℕ) (old mid new : List ℕ) → SameOutside at n old mid → SameOutside at n mid new → SameOutside at n old new
-SameOutside-then at n old mid new first second = record {
-  same_length = second.same_length ∙ first.same_length;
-  before = second.before ∙ first.before;
-  after = second.after ∙ first.after;
-}
-
 -- an empty range: nothing differs
 pub SameOutside-none : (at : ℕ) (old new : List ℕ) → SameOutside at 0 old new → new ≡ old
 SameOutside-none at old new same =
@@ -221,12 +213,6 @@ is_put_at old new at others same here =
     ∙ ap (λ (xs : List ℕ). take at old ++ (xs ++ drop (length others) (drop at new))) here
     ∙ ap (λ (xs : List ℕ). take at old ++ (others ++ xs)) (drop-drop (length others) at new ∙ same.after)
     ∙ sym (append_assoc (take at old) others (drop (at + length others) old))
-
--- joining what was cut gives what stands first
-pub joined-cut : (sizes bytes : List ℕ) → joined (cut sizes bytes) ≡ take (total sizes) bytes
-joined-cut [] bytes = refl
-joined-cut (size ∷ sizes) bytes =
-    ap (λ (xs : List ℕ). take size bytes ++ xs) (joined-cut sizes (drop size bytes)) ∙ sym (take-add size (total sizes) bytes)
 
 -- cutting what was joined gives the fields
 pub cut-joined : (fields : List (List ℕ)) (rest : List ℕ) → cut (map length fields) (joined fields ++ rest) ≡ fields

@@ -11,8 +11,8 @@ ghost use Rattle.record_draft.specs.Drafts.{IsDraft, target_in, plan_of, step_of
 use crate::{Draft, Step};
 use flash_model::{Flash, FlashFailed, Geometry};
 use record_slots::{
-    FORMAT, Head, NO_SLOT, NOT_KILLED, PartHead, erase_one, part_len, put_head, put_part_head,
-    put_piece, put_tail,
+    FORMAT, GATE_CLOSED, Head, NO_SLOT, NOT_KILLED, PartHead, erase_one, part_len, put_head,
+    put_part_head, put_piece, put_tail,
 };
 
 /// Makes the change of a step in the slot of a part.
@@ -76,7 +76,7 @@ fn first_head(geometry: &Geometry, draft: &Draft, body: &[u8]) -> Head
     ensures { numbers_of result ≡ (target_in geometry.now draft.now body.now 0).head }
 {
     Head {
-        gate: 0xFF,
+        gate: GATE_CLOSED,
         kill: NOT_KILLED,
         format: FORMAT,
         generation: draft.generation,

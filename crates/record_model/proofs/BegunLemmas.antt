@@ -7,10 +7,11 @@ use Rattle.std.proofs.lemmas.List.{take_all, take-take, length-take}
 use Rattle.base_model.specs.Bytes.{SameOutside, number_at, part, spelled}
 use Rattle.base_model.proofs.BytesLemmas.{part-before, part-after, part-append, number_at-part, number_at-after, little-spelled}
 use Rattle.flash_words.specs.Flash.{IsErased}
-use Rattle.record_model.specs.Records.{Head, head_at, tail_at, slot_at, is_part, part_len, first_head, HasPart}
+use Rattle.record_model.specs.Records.{Head, head_at, tail_at, slot_at, is_part, part_len, first_head, HasPart, gate_open, tail_mark, gate_closed, not_killed}
 use Rattle.record_model.specs.Filling.{StaysDown, Target, first_target, part_target, IsBegun, IsFilled}
 use Rattle.record_model.proofs.SlotLemmas.{head_at-before, tail_at-after, erased_byte, IsErased-within, IsErased-after}
 use Rattle.record_model.proofs.FillLemmas.{StaysDown-gate, StaysDown-tail}
+use Rattle.record_model.proofs.MarkLemmas.{tail_is_not_erased}
 
 -- the first 26 bytes of a slot
 abbrev pub head_26 : ℕ → ℕ → ℕ → ℕ → ℕ → ℕ → ℕ → ℕ → ℕ → List ℕ
@@ -62,18 +63,18 @@ part-nothing image at = refl
 
 -- bytes 2 to 25 of a first slot were programmed into an erased slot
 pub IsBegun-first : (size : ℕ) (target : Target) (format generation id len a b c : ℕ) (old new : List ℕ) → 512 ≤ size
-    → target.head ≡ record { gate = 0xFF; kill = 0xFF; format = format; generation = generation; id = id; len = len; next = a ∷ b ∷ c ∷ [] }
+    → target.head ≡ record { gate = gate_closed; kill = not_killed; format = format; generation = generation; id = id; len = len; next = a ∷ b ∷ c ∷ [] }
     → FitFields format generation id len a b c → IsErased old (target.slot * size) size → SameOutside (target.slot * size + 2) 24 old new
     → part new (target.slot * size + 2) 24 ≡ spelled 2 format ++ spelled 4 generation ++ spelled 8 id ++ spelled 4 len ++ spelled 2 a ++ spelled 2 b ++ spelled 2 c
     → IsBegun size target 0 new
 IsBegun-first size target format generation id len a b c old new large is fits blank same fields =
     let place = target.slot * size in
-    let front : part new place 2 ≡ 0xFF ∷ 0xFF ∷ [] =
+    let front : part new place 2 ≡ gate_closed ∷ not_killed ∷ [] =
     part-before (place + 2) 24 place 2 old new same (omega arith) ∙ IsErased-within old place size place 2 blank (omega arith) (omega arith) in
-    let whole : part new place 26 ≡ head_26 0xFF 0xFF format generation id len a b c =
-    sym (part-append new place 2 24) ∙ ap (λ (xs : List ℕ). xs ++ part new (place + 2) 24) front ∙ ap (λ (xs : List ℕ). 0xFF ∷ 0xFF ∷ xs) fields in
+    let whole : part new place 26 ≡ head_26 gate_closed not_killed format generation id len a b c =
+    sym (part-append new place 2 24) ∙ ap (λ (xs : List ℕ). xs ++ part new (place + 2) 24) front ∙ ap (λ (xs : List ℕ). gate_closed ∷ not_killed ∷ xs) fields in
     record {
-      head = head_read new place 0xFF 0xFF format generation id len a b c fits whole ∙ sym is;
+      head = head_read new place gate_closed not_killed format generation id len a b c fits whole ∙ sym is;
       begun = part-nothing new (place + 32);
       rest = IsErased-after (place + 2) 24 (place + 32 + 0) (size - 32 - 0) old new same (omega arith)
           (IsErased-within old place size (place + 32 + 0) (size - 32 - 0) blank (omega arith) (omega arith));
@@ -120,7 +121,7 @@ IsBegun-more size target count more old new large fits begun same here =
 
 -- the tail mark was programmed behind the whole part
 pub IsFilled-tail : (size : ℕ) (target : Target) (old new : List ℕ) → 512 ≤ size → length target.bytes ≤ size - 64
-    → IsBegun size target (length target.bytes) old → SameOutside (target.slot * size + (size - 1)) 1 old new → tail_at new (target.slot * size) size ≡ 0xA5
+    → IsBegun size target (length target.bytes) old → SameOutside (target.slot * size + (size - 1)) 1 old new → tail_at new (target.slot * size) size ≡ tail_mark
     → IsFilled size target new
 IsFilled-tail size target old new large room begun same tail =
     let place = target.slot * size in
@@ -133,12 +134,10 @@ IsFilled-tail size target old new large room begun same tail =
 
 -- the tail mark of an erased slot, and of one of which the part is begun, is not set
 erased_mark : (size slot place len : ℕ) (image : List ℕ) → IsErased image place len → place ≤ slot * size + (size - 1) → slot * size + (size - 1) < place + len
-    → tail_at image (slot * size) size ≢ 0xA5
+    → tail_at image (slot * size) size ≢ tail_mark
 unfolding tail_at
 erased_mark size slot place len image erased low high marked =
-    let byte : number_at image (slot * size + (size - 1)) 1 ≡ 0xFF = erased_byte image place len (slot * size + (size - 1)) erased low high in
-    let wrong : number_at image (slot * size + (size - 1)) 1 ≡ 0xA5 = marked in
-    absurd (omega arith)
+    tail_is_not_erased marked (erased_byte image place len (slot * size + (size - 1)) erased low high)
 
 -- so the slot stays down while its head, and while its part, is programmed, whatever is torn
 pub StaysDown-erased : (size slots slot at len : ℕ) (image : List ℕ) → 512 ≤ size → IsErased image (slot * size) size → at + len ≤ slot * size + (size - 1) → StaysDown at len size slots slot image
@@ -156,7 +155,7 @@ unfolding head_at
 gate_is image place = refl
 
 -- and while its tail mark is, since the gate of no target is open
-pub StaysDown-mark : (size slots : ℕ) (target : Target) (count at len : ℕ) (image : List ℕ) → target.head.gate ≢ 0x5A → IsBegun size target count image
+pub StaysDown-mark : (size slots : ℕ) (target : Target) (count at len : ℕ) (image : List ℕ) → target.head.gate ≢ gate_open → IsBegun size target count image
     → target.slot * size + 1 ≤ at → StaysDown at len size slots target.slot image
 StaysDown-mark size slots target count at len image closed begun low =
     StaysDown-gate size slots target.slot at len image low
@@ -209,7 +208,7 @@ HasPart-filled size k id generation number slot further body image filled = reco
 -- a first slot that is filled, behind its gate
 pub record StandsFirst (size k id generation : ℕ) (further body image : List ℕ) : Type 0 where
   pub head : (slot_at size image k).head ≡ first_head id generation further body
-  pub tail : (slot_at size image k).tail ≡ 0xA5
+  pub tail : (slot_at size image k).tail ≡ tail_mark
   pub bytes : take (part_len (size - 64) (length body) 0) (slot_at size image k).body ≡ part body 0 (part_len (size - 64) (length body) 0)
 
 with_gate : (image : List ℕ) (place gate : ℕ) (old : List ℕ) → SameOutside place 1 old image → number_at image place 1 ≡ gate
@@ -227,10 +226,10 @@ with_gate image place gate old same is =
     λ i. record { gate = is i; kill = kill i; format = format i; generation = generation i; id = id i; len = len i; next = one i ∷ two i ∷ three i ∷ [] }
 
 pub StandsFirst-opened : (size k id generation : ℕ) (further body old new : List ℕ) → 512 ≤ size → IsFilled size (first_target (size - 64) k id generation further body) old
-    → SameOutside (k * size) 1 old new → number_at new (k * size) 1 ≡ 0x5A → StandsFirst size k id generation further body new
+    → SameOutside (k * size) 1 old new → number_at new (k * size) 1 ≡ gate_open → StandsFirst size k id generation further body new
 unfolding slot_at
 StandsFirst-opened size k id generation further body old new large filled same gate = record {
-  head = with_gate new (k * size) 0x5A old same gate ∙ ap (λ (h : Head). record h { gate = 0x5A }) filled.head;
+  head = with_gate new (k * size) gate_open old same gate ∙ ap (λ (h : Head). record h { gate = gate_open }) filled.head;
   tail = tail_at-after (k * size) 1 (k * size) size old new same (omega arith) (omega arith) ∙ filled.tail;
   bytes = ap (take (part_len (size - 64) (length body) 0)) (part-after (k * size) 1 (k * size + 32) (size - 64) old new same (omega arith)) ∙ first_body;
 }

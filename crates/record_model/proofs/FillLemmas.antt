@@ -7,30 +7,30 @@ use Rattle.base_model.specs.Bytes.{SameOutside, number_at}
 use Rattle.base_model.proofs.BytesLemmas.{number_at-before}
 use Rattle.flash_words.specs.Flash.{IsErased}
 use Rattle.flash_words.specs.Layout.{Layout}
-use Rattle.record_model.specs.Records.{tail_at, slot_at, is_up}
+use Rattle.record_model.specs.Records.{tail_at, slot_at, is_up, gate_open, tail_mark}
 use Rattle.record_model.specs.Filling.{StaysDown, IsCleanFromHead, IsCleanFromTail}
 use Rattle.record_model.proofs.SlotLemmas.{head_at-before, tail_at-after, down_by_gate, down_by_tail, down_by_head, erased_byte, IsErased-before, IsErased-after, IsErased-append}
+use Rattle.record_model.proofs.MarkLemmas.{open_is_not_erased, tail_is_not_erased}
 
 -- while the gate is closed and not touched
-pub StaysDown-gate : (size slots slot at len : ℕ) (image : List ℕ) → slot * size + 1 ≤ at → number_at image (slot * size) 1 ≢ 0x5A → StaysDown at len size slots slot image
+pub StaysDown-gate : (size slots slot at len : ℕ) (image : List ℕ) → slot * size + 1 ≤ at → number_at image (slot * size) 1 ≢ gate_open → StaysDown at len size slots slot image
 StaysDown-gate size slots slot at len image low closed other same =
     down_by_gate size slots slot other (λ is. closed (sym (number_at-before at len (slot * size) 1 image other same low) ∙ is))
 
 -- while the tail mark is not set and not touched
-pub StaysDown-tail : (size slots slot at len : ℕ) (image : List ℕ) → 1 ≤ size → at + len ≤ slot * size + (size - 1) → tail_at image (slot * size) size ≢ 0xA5 → StaysDown at len size slots slot image
+pub StaysDown-tail : (size slots slot at len : ℕ) (image : List ℕ) → 1 ≤ size → at + len ≤ slot * size + (size - 1) → tail_at image (slot * size) size ≢ tail_mark → StaysDown at len size slots slot image
 StaysDown-tail size slots slot at len image some high unmarked other same =
     down_by_tail size slots slot other (λ is. unmarked (sym (tail_at-after at len (slot * size) size image other same some high) ∙ is))
 
 -- while it is not upright by its head, and that is not touched
 pub StaysDown-head : (size slots slot at len : ℕ) (image : List ℕ) → slot * size + 26 ≤ at → is_up (size - 64) slots (slot_at size image slot) ≡ false
-    → tail_at image (slot * size) size ≡ 0xA5 → StaysDown at len size slots slot image
+    → tail_at image (slot * size) size ≡ tail_mark → StaysDown at len size slots slot image
 StaysDown-head size slots slot at len image low down marked other same =
     down_by_head size slots slot image other down marked (head_at-before at len (slot * size) image other same low)
 
-erased_gate : (image : List ℕ) (place len : ℕ) → IsErased image place len → 1 ≤ len → number_at image place 1 ≢ 0x5A
+erased_gate : (image : List ℕ) (place len : ℕ) → IsErased image place len → 1 ≤ len → number_at image place 1 ≢ gate_open
 erased_gate image place len erased some open_gate =
-    let byte : number_at image place 1 ≡ 0xFF = erased_byte image place len place erased (omega arith) (omega arith) in
-    absurd (omega arith)
+    open_is_not_erased open_gate (erased_byte image place len place erased (omega arith) (omega arith))
 
 -- how far sectors reach within a slot
 pub record Reach (per_slot size sector_size done : ℕ) : Type 0 where
@@ -90,7 +90,7 @@ IsCleanFromHead-more layout slot done old new within clean same erased =
     }
 
 erased_tail : (layout : Layout) (slot done : ℕ) (image : List ℕ) → done ≤ layout.per_slot → 1 ≤ done → IsErased image (slot * layout.slot_size + (layout.per_slot - done) * layout.sector) (done * layout.sector)
-    → tail_at image (slot * layout.slot_size) layout.slot_size ≢ 0xA5
+    → tail_at image (slot * layout.slot_size) layout.slot_size ≢ tail_mark
 unfolding tail_at
 erased_tail layout slot done image few some erased marked =
     let size = layout.slot_size in
@@ -99,9 +99,8 @@ erased_tail layout slot done image few some erased marked =
     let whole : (layout.per_slot - done) * sector + done * sector ≡ size = r.whole in
     let long : sector ≤ done * sector = r.some some in
     let least : 256 ≤ sector = layout.least_sector in
-    let byte = erased_byte image (slot * size + (layout.per_slot - done) * sector) (done * sector) (slot * size + (size - 1)) erased (omega arith) (omega arith) in
-    let wrong : number_at image (slot * size + (size - 1)) 1 ≡ 0xA5 = marked in
-    absurd (omega arith)
+    tail_is_not_erased marked
+    (erased_byte image (slot * size + (layout.per_slot - done) * sector) (done * sector) (slot * size + (size - 1)) erased (omega arith) (omega arith))
 
 -- the next sector from the tail: the last is free by the head, the others by the missing tail mark
 pub StaysDown-from_tail : (layout : Layout) (slot done : ℕ) (image : List ℕ) → done < layout.per_slot → is_up (layout.slot_size - 64) layout.slots (slot_at layout.slot_size image slot) ≡ false

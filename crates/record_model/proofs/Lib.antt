@@ -1,6 +1,7 @@
 pub mod SelectionLemmas
 pub mod ChosenLemmas
 pub mod SizeLemmas
+pub mod MarkLemmas
 pub mod LiveLemmas
 pub mod SlotLemmas
 pub mod CountLemmas
@@ -13,7 +14,6 @@ pub mod BegunLemmas
 pub mod PlanLemmas
 pub mod KillLemmas
 pub mod MapLemmas
-pub mod HistoryLemmas
 pub mod RefusalLemmas
 pub mod SpareLemmas
 pub mod StepLemmas

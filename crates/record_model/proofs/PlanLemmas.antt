@@ -7,7 +7,7 @@ use Rattle.std.proofs.lemmas.Bool.{cases_eq, cases_Bool, eq-eqb, eqb-true, or_pa
 use Rattle.base_model.specs.Bytes.{SameOutside, number_at}
 use Rattle.base_model.proofs.BytesLemmas.{SameOutside-wider}
 use Rattle.flash_words.specs.Layout.{Layout}
-use Rattle.record_model.specs.Records.{Slot, slot_at, Entry, entry_at, stored_in, is_taken, OnlyFirstUp, NearlyOnlyFirstUp, HasPart, HaveParts, AreDistinct, DiffersInFreeSlot}
+use Rattle.record_model.specs.Records.{Slot, slot_at, Entry, entry_at, stored_in, is_taken, OnlyFirstUp, NearlyOnlyFirstUp, HasPart, HaveParts, AreDistinct, DiffersInFreeSlot, gate_open, tail_mark}
 use Rattle.record_model.specs.Filling.{Step, IsFilled}
 use Rattle.record_model.specs.Plan.{Plan, IsPlan, Fill, Gate, target_of, further_done, slots_ahead, PartsStand, KnowsPlan, StandsAtStage}
 use Rattle.record_model.proofs.LiveLemmas.{others_kept, gate_map, gate_replaces, gate_adds}
@@ -105,7 +105,7 @@ pub record StaysKnown (layout : Layout) (plan : Plan) (number : ℕ) (old new : 
   pub stored : stored_in layout.slot_size layout.slots new ≡ stored_in layout.slot_size layout.slots old
   pub knows : KnowsPlan layout plan new
   pub parts : PartsStand layout plan new (further_done number plan.further)
-  pub ahead : (n : ℕ) → list_any (λ m. n == m) (slots_ahead number plan.first plan.further) ≡ true → ((slot_at layout.slot_size new n).tail == 0xA5) ≡ plan.marked n
+  pub ahead : (n : ℕ) → list_any (λ m. n == m) (slots_ahead number plan.first plan.further) ≡ true → ((slot_at layout.slot_size new n).tail == tail_mark) ≡ plan.marked n
 
 pub stays_known : (layout : Layout) (plan : Plan) (number : ℕ) (step : Step) (old new : List ℕ) → IsPlan layout plan → number ≤ length plan.further
     → KnowsPlan layout plan old → StandsAtStage layout plan old (Fill number step)
@@ -130,7 +130,7 @@ stays_known layout plan number step old new is h knows stands differs =
       };
       parts = have_parts-other (size - 64) plan.first plan.id plan.generation plan.further plan.body (slot_at size old) (slot_at size new) slot 1 (further_done number plan.further)
           others (target_undone layout plan number is h) stands.0;
-      ahead = λ n one_of. ap (λ (s : Slot). s.tail == 0xA5) (others n (target_not_ahead layout plan number n is h one_of)) ∙ stands.2 n one_of;
+      ahead = λ n one_of. ap (λ (s : Slot). s.tail == tail_mark) (others n (target_not_ahead layout plan number n is h one_of)) ∙ stands.2 n one_of;
     }
 
 take_push : (xs : List ℕ) (n : ℕ) → n < length xs → take (suc n) xs ≡ take n xs ++ get_or xs n 0 ∷ []
@@ -159,7 +159,7 @@ record_for plan = record { id = plan.id; generation = plan.generation; body = pl
 
 -- The gate. Behind an open gate stands the whole record
 pub opened_entry : (layout : Layout) (plan : Plan) (old new : List ℕ) → IsPlan layout plan → KnowsPlan layout plan old → StandsAtStage layout plan old Gate
-    → SameOutside (plan.first * layout.slot_size) 1 old new → number_at new (plan.first * layout.slot_size) 1 ≡ 0x5A → entry_at layout.slot_size layout.slots new plan.first ≡ Some (record_for plan)
+    → SameOutside (plan.first * layout.slot_size) 1 old new → number_at new (plan.first * layout.slot_size) 1 ≡ gate_open → entry_at layout.slot_size layout.slots new plan.first ≡ Some (record_for plan)
 unfolding entry_at
 opened_entry layout plan old new is knows stands same gate =
     let size = layout.slot_size in
@@ -178,7 +178,7 @@ pub record Opens (layout : Layout) (plan : Plan) (old new : List ℕ) : Type 0 w
   pub stored : stored_in layout.slot_size layout.slots new ≡ insert (stored_in layout.slot_size layout.slots old) plan.id (plan.body, plan.generation)
 
 pub gate_opens : (layout : Layout) (plan : Plan) (old new : List ℕ) → IsPlan layout plan → KnowsPlan layout plan old → StandsAtStage layout plan old Gate
-    → SameOutside (plan.first * layout.slot_size) 1 old new → number_at new (plan.first * layout.slot_size) 1 ≡ 0x5A → Opens layout plan old new
+    → SameOutside (plan.first * layout.slot_size) 1 old new → number_at new (plan.first * layout.slot_size) 1 ≡ gate_open → Opens layout plan old new
 unfolding entry_at stored_in
 gate_opens layout plan old new is knows stands same gate =
     let size = layout.slot_size in
@@ -197,7 +197,7 @@ gate_opens layout plan old new is knows stands same gate =
 pub gate_torn : (layout : Layout) (plan : Plan) (old new : List ℕ) → IsPlan layout plan → KnowsPlan layout plan old → StandsAtStage layout plan old Gate
     → SameOutside (plan.first * layout.slot_size) 1 old new
     → Opens layout plan old new ⊎ ((stored_in layout.slot_size layout.slots new ≡ stored_in layout.slot_size layout.slots old) × OnlyFirstUp layout.slot_size layout.slots new)
-gate_torn layout plan old new is knows stands same = elim (cases_eq (number_at new (plan.first * layout.slot_size) 1) 0x5A) [
+gate_torn layout plan old new is knows stands same = elim (cases_eq (number_at new (plan.first * layout.slot_size) 1) gate_open) [
   | inl gate ↦ inl (gate_opens layout plan old new is knows stands same gate)
   | inr closed ↦
       let size = layout.slot_size in
@@ -215,7 +215,7 @@ gate_torn layout plan old new is knows stands same = elim (cases_eq (number_at n
 
 -- with the gate open, only first slots of records are upright where the identifier is new, and else but for its old slot
 pub gate_only : (layout : Layout) (plan : Plan) (old new : List ℕ) → IsPlan layout plan → KnowsPlan layout plan old → StandsAtStage layout plan old Gate
-    → SameOutside (plan.first * layout.slot_size) 1 old new → number_at new (plan.first * layout.slot_size) 1 ≡ 0x5A
+    → SameOutside (plan.first * layout.slot_size) 1 old new → number_at new (plan.first * layout.slot_size) 1 ≡ gate_open
     → ((k : ℕ) (x : Entry) → k < layout.slots → entry_at layout.slot_size layout.slots old k ≡ Some x → x.id ≡ plan.id → ⊥) → OnlyFirstUp layout.slot_size layout.slots new
 unfolding entry_at
 gate_only layout plan old new is knows stands same gate none =
@@ -227,7 +227,7 @@ gate_only layout plan old new is knows stands same gate none =
     (λ n other. slot_at-other size plan.first n old new (omega arith) wide other) (opened_entry layout plan old new is knows stands same gate) none
 
 pub gate_spare : (layout : Layout) (plan : Plan) (spare : ℕ) (kept : Entry) (old new : List ℕ) → IsPlan layout plan → KnowsPlan layout plan old → StandsAtStage layout plan old Gate
-    → SameOutside (plan.first * layout.slot_size) 1 old new → number_at new (plan.first * layout.slot_size) 1 ≡ 0x5A
+    → SameOutside (plan.first * layout.slot_size) 1 old new → number_at new (plan.first * layout.slot_size) 1 ≡ gate_open
     → spare < layout.slots → entry_at layout.slot_size layout.slots old spare ≡ Some kept → kept.id ≡ plan.id → NearlyOnlyFirstUp layout.slot_size layout.slots new
 unfolding entry_at
 gate_spare layout plan spare kept old new is knows stands same gate within had its =

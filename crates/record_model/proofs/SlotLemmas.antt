@@ -7,7 +7,7 @@ use Rattle.std.proofs.lemmas.Bool.{cases_eq, cases_order, eqb-true, and_parts, b
 use Rattle.base_model.specs.Bytes.{part, little, number_at, SameOutside}
 use Rattle.base_model.proofs.BytesLemmas.{part-before, part-after, number_at-before, number_at-after, part-part, part-append, SameOutside-wider}
 use Rattle.flash_words.specs.Flash.{IsErased}
-use Rattle.record_model.specs.Records.{Head, head_at, tail_at, is_upright, slot_at, is_up, Entry, entry_at, selected, stored_in, is_taken, OnlyFirstUp, DiffersInFreeSlot}
+use Rattle.record_model.specs.Records.{Head, head_at, tail_at, is_upright, slot_at, is_up, Entry, entry_at, selected, stored_in, is_taken, OnlyFirstUp, DiffersInFreeSlot, gate_open, tail_mark, not_killed}
 use Rattle.record_model.proofs.LiveLemmas.{law_entries, law_only, IsKilled}
 
 -- a slot ends before a later one begins
@@ -77,9 +77,9 @@ slot_at-other size j k old new some same apart = elim (cases_order k j) [
 
 -- what an upright slot has
 pub record UprightParts (head : Head) (tail : ℕ) : Type 0 where
-  pub gate : head.gate ≡ 0x5A
-  pub kill : head.kill ≡ 0xFF
-  pub mark : tail ≡ 0xA5
+  pub gate : head.gate ≡ gate_open
+  pub kill : head.kill ≡ not_killed
+  pub mark : tail ≡ tail_mark
 
 pub upright_parts : (room slots : ℕ) (head : Head) (tail : ℕ) → is_upright room slots head tail ≡ true → UprightParts head tail
 unfolding is_upright
@@ -89,23 +89,23 @@ upright_parts room slots head tail up =
     let c = and_parts _ _ b.0 in
     let d = and_parts _ _ c.0 in
     let e = and_parts _ _ d.0 in
-    record { gate = eqb-true head.gate 0x5A e.0; kill = eqb-true head.kill 0xFF e.1; mark = eqb-true tail 0xA5 d.1 }
+    record { gate = eqb-true head.gate gate_open e.0; kill = eqb-true head.kill not_killed e.1; mark = eqb-true tail tail_mark d.1 }
 
 -- a slot is not upright with its gate closed, without its tail mark, or killed
-pub down_by_gate : (size slots k : ℕ) (image : List ℕ) → number_at image (k * size) 1 ≢ 0x5A → is_up (size - 64) slots (slot_at size image k) ≡ false
+pub down_by_gate : (size slots k : ℕ) (image : List ℕ) → number_at image (k * size) 1 ≢ gate_open → is_up (size - 64) slots (slot_at size image k) ≡ false
 unfolding is_up slot_at head_at
 down_by_gate size slots k image gate = false_from_ne_true _ (λ up. gate (upright_parts (size - 64) slots (head_at image (k * size)) (tail_at image (k * size) size) up).gate)
 
-pub down_by_tail : (size slots k : ℕ) (image : List ℕ) → tail_at image (k * size) size ≢ 0xA5 → is_up (size - 64) slots (slot_at size image k) ≡ false
+pub down_by_tail : (size slots k : ℕ) (image : List ℕ) → tail_at image (k * size) size ≢ tail_mark → is_up (size - 64) slots (slot_at size image k) ≡ false
 unfolding is_up slot_at
 down_by_tail size slots k image mark = false_from_ne_true _ (λ up. mark (upright_parts (size - 64) slots (head_at image (k * size)) (tail_at image (k * size) size) up).mark)
 
-pub down_by_kill : (size slots k : ℕ) (image : List ℕ) → number_at image (k * size + 1) 1 ≢ 0xFF → is_up (size - 64) slots (slot_at size image k) ≡ false
+pub down_by_kill : (size slots k : ℕ) (image : List ℕ) → number_at image (k * size + 1) 1 ≢ not_killed → is_up (size - 64) slots (slot_at size image k) ≡ false
 unfolding is_up slot_at head_at
 down_by_kill size slots k image mark = false_from_ne_true _ (λ up. mark (upright_parts (size - 64) slots (head_at image (k * size)) (tail_at image (k * size) size) up).kill)
 
 -- one with its tail mark is not upright by its head, whatever becomes of the mark
-pub down_by_head : (size slots k : ℕ) (old new : List ℕ) → is_up (size - 64) slots (slot_at size old k) ≡ false → tail_at old (k * size) size ≡ 0xA5
+pub down_by_head : (size slots k : ℕ) (old new : List ℕ) → is_up (size - 64) slots (slot_at size old k) ≡ false → tail_at old (k * size) size ≡ tail_mark
     → head_at new (k * size) ≡ head_at old (k * size) → is_up (size - 64) slots (slot_at size new k) ≡ false
 unfolding is_up slot_at
 down_by_head size slots k old new down mark same = false_from_ne_true _ (λ up.
@@ -133,15 +133,6 @@ pub differs_stored : (size slots j : ℕ) (first image : List ℕ) → 64 ≤ si
 unfolding stored_in
 differs_stored size slots j first image some within only free differs =
     ap (λ (entry : ℕ → Option Entry). selected entry slots) (differs_entries size slots j first image some within only free differs)
-
--- The law that all rests on. Where only first slots of records are upright, a change that lies in a free slot and leaves that
--- slot not upright keeps the records, and only first slots of records are upright afterwards
-pub free_slot_change_keeps_records : (size slots j : ℕ) (old new : List ℕ) → 64 ≤ size → j < slots → OnlyFirstUp size slots old → is_taken (entry_at size slots old) slots j ≡ false
-    → SameOutside (j * size) size old new → is_up (size - 64) slots (slot_at size new j) ≡ false
-    → (stored_in size slots new ≡ stored_in size slots old) × OnlyFirstUp size slots new
-free_slot_change_keeps_records size slots j old new some within only free same down =
-    let differs : DiffersInFreeSlot size slots j old new = record { same = same; down = down } in
-    (differs_stored size slots j old new some within only free differs, differs_only size slots j old new some within only free differs)
 
 -- a byte of an erased range
 pub erased_byte : (image : List ℕ) (place len at : ℕ) → IsErased image place len → place ≤ at → at < place + len → number_at image at 1 ≡ 0xFF
@@ -190,7 +181,7 @@ kill_byte size slots j old new some up same = record {
   same = λ n apart. slot_at-other size j n old new some (SameOutside-wider (j * size + 1) 1 (j * size) size old new (omega arith) (omega arith) same) apart;
   up = up;
   gate = gate;
-  here = elim (cases_eq (number_at new (j * size + 1) 1) 0xFF) [
+  here = elim (cases_eq (number_at new (j * size + 1) 1) not_killed) [
     | inr apart ↦ inr (down_by_kill size slots j new apart)
     | inl mark ↦ inl (stays (mark ∙ sym (upright_parts (size - 64) slots (head_at old (j * size)) (tail_at old (j * size) size) up).kill))
   ];

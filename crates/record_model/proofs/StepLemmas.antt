@@ -9,13 +9,14 @@ use Rattle.base_model.specs.Bytes.{SameOutside, part, spelled}
 use Rattle.base_model.proofs.BytesLemmas.{SameOutside-wider}
 use Rattle.flash_words.specs.Flash.{IsErased}
 use Rattle.flash_words.specs.Layout.{Layout, reach_of}
-use Rattle.record_model.specs.Records.{slot_at, head_fields, head_bytes, tail_at, is_up, entry_of, entry_at, is_taken, OnlyFirstUp, part_len, named, AreBelow}
+use Rattle.record_model.specs.Records.{slot_at, head_fields, head_bytes, tail_at, is_up, entry_of, entry_at, is_taken, OnlyFirstUp, part_len, named, AreBelow, gate_further, gate_open, tail_mark, not_killed}
 use Rattle.record_model.specs.Filling.{Target, first_target, StaysDown, IsCleanFromHead, IsCleanFromTail, IsBegun, IsFilled, Step, EraseFromHead, EraseFromTail, PutHead, Piece, TailMark, StandsAt, IsStep, place_of, len_of, IsWritten}
 use Rattle.record_model.specs.Plan.{Plan, IsPlan, Stage, Fill, target_of, slots_ahead, PartsStand, KnowsPlan, StandsAtStage, first_step, after_part, stage_after}
 use Rattle.record_model.proofs.LiveLemmas.{only_live, entry_live, free_none}
 use Rattle.record_model.proofs.FillLemmas.{reach, StaysDown-from_head, StaysDown-from_tail, IsCleanFromHead-more, IsCleanFromTail-more}
 use Rattle.record_model.proofs.BegunLemmas.{IsBegun-first, IsBegun-further, IsBegun-more, IsFilled-tail, StaysDown-erased, StaysDown-begun, StaysDown-mark, length-bytes, length-first, part_len-le}
 use Rattle.record_model.proofs.PlanLemmas.{any_append, target_in, StaysKnown, stays_known, next_part}
+use Rattle.record_model.proofs.MarkLemmas.{open_is_not_further, open_is_not_erased}
 
 -- a free slot is not upright
 pub free_down : (size slots j : ℕ) (image : List ℕ) → OnlyFirstUp size slots image → j < slots → is_taken (entry_at size slots image) slots j ≡ false → is_up (size - 64) slots (slot_at size image j) ≡ false
@@ -25,9 +26,9 @@ free_down size slots j image only within free = false_from_ne_true (is_up (size 
     ∙ entry_live (size - 64) slots (slot_at size image) j (only_live (size - 64) slots (slot_at size image) j only within up)))
 
 -- the gate of a target is closed, and its bytes fit its slot
-gate_closed : (layout : Layout) (plan : Plan) (number : ℕ) → (target_of layout plan number).head.gate ≢ 0x5A
-gate_closed layout plan zero is = absurd (omega arith)
-gate_closed layout plan (suc n) is = absurd (omega arith)
+target_closed : (layout : Layout) (plan : Plan) (number : ℕ) → (target_of layout plan number).head.gate ≢ gate_open
+target_closed layout plan zero is = open_is_not_erased is refl
+target_closed layout plan (suc n) is = open_is_not_further is refl
 
 bytes_fit : (layout : Layout) (plan : Plan) (number : ℕ) → length (target_of layout plan number).bytes ≤ layout.slot_size - 64
 bytes_fit layout plan zero =
@@ -60,7 +61,7 @@ step_down layout plan number (Piece piece) image form down stands =
 step_down layout plan number TailMark image form down stands =
     let large : 512 ≤ layout.slot_size = layout.least_slot in
     let target = target_of layout plan number in
-    StaysDown-mark layout.slot_size layout.slots target (length target.bytes) (target.slot * layout.slot_size + (layout.slot_size - 1)) 1 image (gate_closed layout plan number) stands (omega arith)
+    StaysDown-mark layout.slot_size layout.slots target (length target.bytes) (target.slot * layout.slot_size + (layout.slot_size - 1)) 1 image (target_closed layout plan number) stands (omega arith)
 
 -- the range of a step lies in its slot
 pub record LiesIn (at len place size : ℕ) : Type 0 where
@@ -166,17 +167,17 @@ all_from_tail layout slot done image all clean =
     subst (λ (n : ℕ). IsErased image (slot * layout.slot_size) n) size (subst (λ (k : ℕ). IsErased image k (done * layout.sector)) at clean.erased)
 
 -- what stands before the first change of a slot
-first_stands : (layout : Layout) (target : Target) (image : List ℕ) (marked : Bool) → ((slot_at layout.slot_size image target.slot).tail == 0xA5) ≡ marked → StandsAt layout target image (first_step marked)
+first_stands : (layout : Layout) (target : Target) (image : List ℕ) (marked : Bool) → ((slot_at layout.slot_size image target.slot).tail == tail_mark) ≡ marked → StandsAt layout target image (first_step marked)
 unfolding part slot_at
 first_stands layout target image true is = record {
-  marked = λ none. eqb-true (tail_at image (target.slot * layout.slot_size) layout.slot_size) 0xA5 is;
+  marked = λ none. eqb-true (tail_at image (target.slot * layout.slot_size) layout.slot_size) tail_mark is;
   erased = subst (λ (n : ℕ). IsErased image (target.slot * layout.slot_size + (layout.per_slot - 0) * layout.sector) n) (zero_of layout.sector) refl;
 }
   where
     zero_of : (n : ℕ) → 0 ≡ 0 * n
     zero_of n = omega arith
 first_stands layout target image false is = record {
-  unmarked = λ none. eqb-false (tail_at image (target.slot * layout.slot_size) layout.slot_size) 0xA5 is;
+  unmarked = λ none. eqb-false (tail_at image (target.slot * layout.slot_size) layout.slot_size) tail_mark is;
   erased = subst (λ (n : ℕ). IsErased image (target.slot * layout.slot_size) n) (zero_of layout.sector) refl;
 }
   where
@@ -234,7 +235,7 @@ further_begun layout plan n old new few within id generation blank same fields =
     let most : part_len (layout.slot_size - 64) (length plan.body) (suc n) ≤ layout.slot_size - 64 = part_len-le (layout.slot_size - 64) (length plan.body) (suc n) in
     let great : layout.slot_size ≤ 65600 = layout.greatest_slot in
     let many : layout.slots ≤ 1024 = layout.many_slots in
-    IsBegun-further layout.slot_size (target_of layout plan (suc n)) 0x3C 0xFF 3 plan.generation plan.id (part_len (layout.slot_size - 64) (length plan.body) (suc n)) (suc n) plan.first old new layout.least_slot refl
+    IsBegun-further layout.slot_size (target_of layout plan (suc n)) gate_further not_killed 3 plan.generation plan.id (part_len (layout.slot_size - 64) (length plan.body) (suc n)) (suc n) plan.first old new layout.least_slot refl
     (record { format_fits = omega arith; generation_fits = generation; id_fits = id; len_fits = omega arith; a_fits = omega arith; b_fits = omega arith; c_fits = omega arith }) blank same fields
 
 take_whole : (n : ℕ) (xs : List ℕ) → length xs ≤ n → take n xs ≡ xs
@@ -326,7 +327,7 @@ first_stage plan = cond (nat_lt 0 (length plan.further)) (Fill 1 (first_step (pl
 
 -- it stands where the tail marks of the slots were read
 pub first_stage_stands : (layout : Layout) (plan : Plan) (image : List ℕ)
-    → ((n : ℕ) → list_any (λ m. n == m) (plan.first ∷ plan.further) ≡ true → ((slot_at layout.slot_size image n).tail == 0xA5) ≡ plan.marked n) → StandsAtStage layout plan image (first_stage plan)
+    → ((n : ℕ) → list_any (λ m. n == m) (plan.first ∷ plan.further) ≡ true → ((slot_at layout.slot_size image n).tail == tail_mark) ≡ plan.marked n) → StandsAtStage layout plan image (first_stage plan)
 first_stage_stands layout plan image read =
     by_choice layout plan image (nat_lt 0 (length plan.further)) (Fill 1 (first_step (plan.marked (get_or plan.further 0 0)))) (Fill 0 (first_step (plan.marked plan.first)))
     (λ more.

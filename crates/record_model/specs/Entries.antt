@@ -1,15 +1,15 @@
 -- The record of a slot. It stands in a first slot and in up to three further slots, which the head of the first one names: its
 -- bytes fill the room of one slot after another.
 use Rattle.std.specs.Prelude.{ℕ, ◌+◌, ◌-◌, Bool, true, ◌==◌, ◌&&◌, nat_lt, if◌then◌else◌, List, [], ◌∷◌, ◌++◌, take, slice_index, Option, Some, None}
-use Rattle.record_model.specs.Heads.{Head}
+use Rattle.record_model.specs.Heads.{Head, gate_further, tail_mark}
 use Rattle.record_model.specs.Slots.{part_len, further_of, Slot, slot_at, is_up}
 
 -- a slot has the head and the tail mark of this part of the record whose first slot, k, has this head
 unfoldable pub is_part : ℕ → ℕ → Head → ℕ → Slot → Bool
 is_part room k head number slot =
-    slot.head.gate == 0x3C && slot.head.format == 3 && slot.head.generation == head.generation && slot.head.id == head.id
+    slot.head.gate == gate_further && slot.head.format == 3 && slot.head.generation == head.generation && slot.head.id == head.id
     && slot.head.len == part_len room head.len number && slice_index slot.head.next 0 == number && slice_index slot.head.next 1 == k
-    && slot.tail == 0xA5
+    && slot.tail == tail_mark
 
 -- these slots have the parts from this number on
 abbrev pub are_parts : ℕ → ℕ → Head → (ℕ → Slot) → ℕ → List ℕ → Bool

@@ -3,7 +3,7 @@ use Rattle.std.specs.Prelude.{◌≡◌, ◌≢◌, ℕ, zero, suc, ◌+◌, ◌
 use Rattle.base_model.specs.Bytes.{SameOutside, part}
 use Rattle.flash_words.specs.Flash.{IsErased}
 use Rattle.flash_words.specs.Layout.{Layout}
-use Rattle.record_model.specs.Records.{Head, head_at, head_fields, head_bytes, tail_at, slot_at, is_up, part_len, named}
+use Rattle.record_model.specs.Records.{Head, head_at, head_fields, head_bytes, tail_at, slot_at, is_up, part_len, named, gate_further, tail_mark, gate_closed, not_killed}
 
 -- whatever stands in the range, the slot is not upright
 abbrev pub StaysDown : ℕ → ℕ → ℕ → ℕ → ℕ → List ℕ → Type 0
@@ -20,7 +20,7 @@ pub record Target : Type 0 where
 abbrev pub first_target : ℕ → ℕ → ℕ → ℕ → List ℕ → List ℕ → Target
 first_target room k id generation further body = record {
   slot = k;
-  head = record { gate = 0xFF; kill = 0xFF; format = 2; generation = generation; id = id; len = length body; next = named further };
+  head = record { gate = gate_closed; kill = not_killed; format = 2; generation = generation; id = id; len = length body; next = named further };
   bytes = part body 0 (part_len room (length body) 0);
 }
 
@@ -29,8 +29,8 @@ abbrev pub part_target : ℕ → ℕ → ℕ → ℕ → List ℕ → ℕ → �
 part_target room k id generation body number slot = record {
   slot = slot;
   head = record {
-    gate = 0x3C;
-    kill = 0xFF;
+    gate = gate_further;
+    kill = not_killed;
     format = 3;
     generation = generation;
     id = id;
@@ -42,12 +42,12 @@ part_target room k id generation body number slot = record {
 
 -- the first sectors of the slot are erased; before the first one is, the tail mark is not set
 pub record IsCleanFromHead (slot_size sector slot done : ℕ) (image : List ℕ) : Type 0 where
-  pub unmarked : done ≡ 0 → tail_at image (slot * slot_size) slot_size ≢ 0xA5
+  pub unmarked : done ≡ 0 → tail_at image (slot * slot_size) slot_size ≢ tail_mark
   pub erased : IsErased image (slot * slot_size) (done * sector)
 
 -- the last sectors of the slot are erased; before the last one is, the tail mark is set
 pub record IsCleanFromTail (slot_size sector per_slot slot done : ℕ) (image : List ℕ) : Type 0 where
-  pub marked : done ≡ 0 → tail_at image (slot * slot_size) slot_size ≡ 0xA5
+  pub marked : done ≡ 0 → tail_at image (slot * slot_size) slot_size ≡ tail_mark
   pub erased : IsErased image (slot * slot_size + (per_slot - done) * sector) (done * sector)
 
 -- the head and the first bytes of the part stand, and the rest of the slot is erased
@@ -60,7 +60,7 @@ pub record IsBegun (slot_size : ℕ) (target : Target) (count : ℕ) (image : Li
 pub record IsFilled (slot_size : ℕ) (target : Target) (image : List ℕ) : Type 0 where
   pub head : head_at image (target.slot * slot_size) ≡ target.head
   pub bytes : part image (target.slot * slot_size + 32) (length target.bytes) ≡ target.bytes
-  pub tail : tail_at image (target.slot * slot_size) slot_size ≡ 0xA5
+  pub tail : tail_at image (target.slot * slot_size) slot_size ≡ tail_mark
 
 -- the next change of a slot that is filled
 pub data Step : Type 0 where
@@ -111,4 +111,4 @@ IsWritten layout (suc n) target PutHead image = part image (target.slot * layout
 IsWritten layout number target (Piece piece) image =
     part image (target.slot * layout.slot_size + 32 + 256 * piece) (min 256 (length target.bytes - 256 * piece))
     ≡ take (min 256 (length target.bytes - 256 * piece)) (drop (256 * piece) target.bytes)
-IsWritten layout number target TailMark image = tail_at image (target.slot * layout.slot_size) layout.slot_size ≡ 0xA5
+IsWritten layout number target TailMark image = tail_at image (target.slot * layout.slot_size) layout.slot_size ≡ tail_mark

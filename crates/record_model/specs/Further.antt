@@ -3,7 +3,7 @@ use Rattle.std.specs.Prelude.{◌≡◌, ℕ, ◌+◌, ◌-◌, ◌*◌, ◌<◌
 use Rattle.std.specs.List.{list_any}
 use Rattle.flash_words.specs.Layout.{reach_of}
 use Rattle.base_model.specs.Bytes.{part}
-use Rattle.record_model.specs.Heads.{Head}
+use Rattle.record_model.specs.Heads.{Head, gate_open, not_killed}
 use Rattle.record_model.specs.Slots.{parts_of, part_len, Slot}
 use Rattle.record_model.specs.Entries.{is_part}
 
@@ -14,8 +14,8 @@ named further = further ++ replicate (3 - length further) 0xFFFF
 -- the head of a first slot behind an open gate
 abbrev pub first_head : ℕ → ℕ → List ℕ → List ℕ → Head
 first_head id generation further body = record {
-  gate = 0x5A;
-  kill = 0xFF;
+  gate = gate_open;
+  kill = not_killed;
   format = 2;
   generation = generation;
   id = id;

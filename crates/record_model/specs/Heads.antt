@@ -14,6 +14,28 @@ pub record Head : Type 0 where
   pub len : ℕ
   pub next : List ℕ
 
+-- the gate of a first slot that holds a record, and of one that is being filled, as an erased flash has it
+abbrev pub gate_open : ℕ
+gate_open = 0x5A
+
+abbrev pub gate_closed : ℕ
+gate_closed = 0xFF
+
+-- what stands in place of the gate in a further slot
+abbrev pub gate_further : ℕ
+gate_further = 0x3C
+
+-- the kill mark of a slot that is killed, and of one that is not, as an erased flash has it
+abbrev pub kill_mark : ℕ
+kill_mark = 0x00
+
+abbrev pub not_killed : ℕ
+not_killed = 0xFF
+
+-- the tail mark of a slot that is filled
+abbrev pub tail_mark : ℕ
+tail_mark = 0xA5
+
 -- the head at a place
 unfoldable pub head_at : List ℕ → ℕ → Head
 head_at image place = record {

@@ -2,7 +2,7 @@
 use Rattle.std.specs.Prelude.{◌≡◌, ℕ, zero, suc, ◌+◌, ◌-◌, ◌*◌, ◌^◌, ◌<◌, ◌==◌, nat_lt, if◌then◌else◌, Bool, true, false, List, [], ◌∷◌, ◌++◌, length, take, drop, slice_index, Some}
 use Rattle.std.specs.List.{list_any}
 use Rattle.flash_words.specs.Layout.{Layout}
-use Rattle.record_model.specs.Records.{slot_at, is_reserved, Entry, entry_at, is_taken, OnlyFirstUp, HaveParts, part_len, AreDistinct, NamesAll}
+use Rattle.record_model.specs.Records.{slot_at, is_reserved, Entry, entry_at, is_taken, OnlyFirstUp, HaveParts, part_len, AreDistinct, NamesAll, tail_mark}
 use Rattle.record_model.specs.RecordMap.{pieces_of}
 use Rattle.record_model.specs.Filling.{Target, first_target, part_target, Step, EraseFromHead, EraseFromTail, PutHead, Piece, TailMark, StandsAt, IsFilled}
 
@@ -59,7 +59,7 @@ abbrev pub StandsAtStage : Layout → Plan → List ℕ → Stage → Type 0
 StandsAtStage layout plan image (Fill number step) =
     PartsStand layout plan image (further_done number plan.further)
     × StandsAt layout (target_of layout plan number) image step
-    × ((n : ℕ) → list_any (λ m. n == m) (slots_ahead number plan.first plan.further) ≡ true → ((slot_at layout.slot_size image n).tail == 0xA5) ≡ plan.marked n)
+    × ((n : ℕ) → list_any (λ m. n == m) (slots_ahead number plan.first plan.further) ≡ true → ((slot_at layout.slot_size image n).tail == tail_mark) ≡ plan.marked n)
 StandsAtStage layout plan image Gate =
     PartsStand layout plan image plan.further × IsFilled layout.slot_size (target_of layout plan 0) image
 

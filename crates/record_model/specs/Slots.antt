@@ -4,7 +4,7 @@ use Rattle.std.specs.Prelude.{ℕ, ◌+◌, ◌-◌, ◌*◌, ◌/◌, min, Bool
 use Rattle.std.specs.List.{list_all}
 use Rattle.flash_words.specs.Layout.{reach_of}
 use Rattle.base_model.specs.Bytes.{part}
-use Rattle.record_model.specs.Heads.{Head, head_at, tail_at, is_reserved}
+use Rattle.record_model.specs.Heads.{Head, head_at, tail_at, is_reserved, gate_open, tail_mark, not_killed}
 
 -- the parts of a record of so many bytes: each fills the room of a slot, but for the last, which has the rest
 unfoldable pub parts_of : ℕ → ℕ → ℕ
@@ -33,7 +33,7 @@ is_spread room slots head =
 -- record can have, and one of the two forms
 unfoldable pub is_upright : ℕ → ℕ → Head → ℕ → Bool
 is_upright room slots head tail =
-    head.gate == 0x5A && head.kill == 0xFF && tail == 0xA5 && nat_le 128 head.len && not (is_reserved head.id)
+    head.gate == gate_open && head.kill == not_killed && tail == tail_mark && nat_le 128 head.len && not (is_reserved head.id)
     && (is_alone room head || is_spread room slots head)
 
 -- what is seen of a slot: its head, its tail mark, and the bytes of its room

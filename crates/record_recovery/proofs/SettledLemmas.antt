@@ -8,7 +8,7 @@ use Rattle.base_model.specs.Bytes.{SameOutside, part, little, number_at}
 use Rattle.base_model.proofs.BytesLemmas.{length-part}
 use Rattle.std.proofs.Math.Nat.{mul_comm}
 use Rattle.flash_words.specs.Flash.{Told, FlashState, Changed, MayChange, IsErased, next_count}
-use Rattle.record_model.specs.Records.{Slot, head_at, tail_at, slot_at, is_up, Entry, entry_of, entry_at, stored_in, IsChosen, holds, is_taken, HasOnlyFirst, HasNearlyOnlyFirst, OnlyFirstUp, NearlyOnlyFirstUp, parts_of, second_copies}
+use Rattle.record_model.specs.Records.{Slot, head_at, tail_at, slot_at, is_up, Entry, entry_of, entry_at, stored_in, IsChosen, holds, is_taken, HasOnlyFirst, HasNearlyOnlyFirst, OnlyFirstUp, NearlyOnlyFirstUp, parts_of, second_copies, kill_mark}
 use Rattle.flash_words.proofs.CrashLemmas.{Leaves-none, Leaves-change, Leaves-weaker, Leaves-then, Leaves-exit}
 use Rattle.record_model.proofs.ChosenLemmas.{IsChosen-unique, IsChosen-without}
 use Rattle.record_model.proofs.LiveLemmas.{IsKilled, killed_others, kill_only, down_entry}
@@ -23,6 +23,7 @@ use Rattle.record_recovery.specs.Recovered.{KeepsRecords, StaysNearly, ChangesFe
 use Rattle.record_recovery.specs.Settling.{IsSettled, CountsCopies}
 use Rattle.record_recovery.proofs.FirstRecords.{only_chosen, first_single, first_listed, first_is}
 use Rattle.record_recovery.proofs.FreeLemmas.{list_below-same, list_below-are, list_below-rising}
+use Rattle.record_model.proofs.MarkLemmas.{killed_is_not_erased}
 use Rattle.record_model.proofs.SpareLemmas.{second_copies-none, second_copies-some, second_copies-fewer}
 
 -- what passes in a list stands at an index
@@ -105,19 +106,16 @@ kill_nearly size slots n old new some within up other change =
 
 -- a kill that was done
 pub killed_counted : (size slots n : ℕ) (old new : FlashState) → 64 ≤ size → n < slots → is_up (size - 64) slots (slot_at size old.told.image n) ≡ true
-    → ((e : Entry) → IsChosen (entry_at size slots old.told.image) slots n e → ⊥) → Changed (n * size + 1) 1 old.told new.told → number_at new.told.image (n * size + 1) 1 ≡ 0
+    → ((e : Entry) → IsChosen (entry_at size slots old.told.image) slots n e → ⊥) → Changed (n * size + 1) 1 old.told new.told → number_at new.told.image (n * size + 1) 1 ≡ kill_mark
     → new.steps ≡ old.steps + 1 → CountsCopies size slots old new
 unfolding entry_at
 killed_counted size slots n old new some within up other changed mark counted =
     let killed = kill_byte size slots n old.told.image new.told.image some up changed.image in
-    let down = down_by_kill size slots n new.told.image (λ open_mark. absurd (not_erased (sym mark ∙ open_mark))) in
+    let down = down_by_kill size slots n new.told.image (killed_is_not_erased mark) in
     let fewer : second_copies size slots new.told.image + 1 ≡ second_copies size slots old.told.image =
     second_copies-fewer size slots n old.told.image new.told.image within up down other killed.same
     (killed_others (size - 64) slots (slot_at size old.told.image) (slot_at size new.told.image) n killed) (down_entry (size - 64) slots (slot_at size new.told.image) n down) in
     omega arith
-  where
-    not_erased : ◌≡◌ {A = ℕ} 0 0xFF → ⊥
-    not_erased e = omega arith
 
 -- one that failed
 pub failed_few : (size slots n : ℕ) (old new : FlashState) → n < slots → is_up (size - 64) slots (slot_at size old.told.image n) ≡ true
@@ -159,12 +157,12 @@ listed_without entry other n j ids places same gone not_chosen had = record {
 }
 
 pub settled_killed : (size slots n : ℕ) (start old new : FlashState) (found : Found) → 64 ≤ size → n < slots → is_up (size - 64) slots (slot_at size old.told.image n) ≡ true
-    → ((e : Entry) → IsChosen (entry_at size slots old.told.image) slots n e → ⊥) → Changed (n * size + 1) 1 old.told new.told → number_at new.told.image (n * size + 1) 1 ≡ 0
+    → ((e : Entry) → IsChosen (entry_at size slots old.told.image) slots n e → ⊥) → Changed (n * size + 1) 1 old.told new.told → number_at new.told.image (n * size + 1) 1 ≡ kill_mark
     → IsSettled size slots n start old found → IsSettled size slots (n + 1) start new found
 unfolding entry_at
 settled_killed size slots n start old new found some within up other changed mark had =
     let killed = kill_byte size slots n old.told.image new.told.image some up changed.image in
-    let down = down_by_kill size slots n new.told.image (λ open_mark. absurd (not_erased (sym mark ∙ open_mark))) in
+    let down = down_by_kill size slots n new.told.image (killed_is_not_erased mark) in
     record {
       listed = listed_without (entry_of (size - 64) slots (slot_at size old.told.image)) (entry_of (size - 64) slots (slot_at size new.told.image)) slots n found.ids.items found.places.items
           (killed_others (size - 64) slots (slot_at size old.told.image) (slot_at size new.told.image) n killed) (down_entry (size - 64) slots (slot_at size new.told.image) n down) other had.listed;
@@ -174,9 +172,6 @@ settled_killed size slots n start old new found some within up other changed mar
       ];
       rest = λ k h. killed.same k (λ here. omega arith) ∙ had.rest k (omega arith);
     }
-  where
-    not_erased : ◌≡◌ {A = ℕ} 0 0xFF → ⊥
-    not_erased e = omega arith
 
 -- a place takes exactly the slots of its record
 takes_is : (room : ℕ) (place : SlotOf) (e : Entry) (k : ℕ) → length e.body ≡ place.len → e.further ≡ take (length e.further) place.next → 1 + length e.further ≡ parts_of room (length e.body)

@@ -2,11 +2,11 @@
 ghost use Rattle.std.specs.Prelude.{◌≡◌, ◌+◌, ◌-◌, ◌*◌, ◌<◌, ◌≤◌, [], ◌∷◌, length, take, replicate, OnOk};
 ghost use Rattle.base_model.specs.Bytes.{number_at, part, put_at};
 ghost use Rattle.flash_words.specs.Flash.{AsksChange, IsErased};
-ghost use Rattle.record_model.specs.Records.{head_fields, head_bytes, tail_at};
+ghost use Rattle.record_model.specs.Records.{head_fields, head_bytes, tail_at, gate_open, kill_mark, tail_mark};
 ghost use Rattle.record_slots.specs.Parts.{part_numbers};
 ghost use Rattle.record_slots.specs.Slots.{Fits, numbers_of};
 
-use crate::live::{GATE_OPEN, KILLED, TAIL_MARK};
+use crate::head::{GATE_OPEN, KILL_MARK, TAIL_MARK};
 use crate::places::{BODY_AT, place_of, sector_of};
 use crate::{Head, PartHead};
 use flash_model::{Flash, FlashFailed, Geometry};
@@ -121,8 +121,8 @@ pub fn put_tail<F: Flash>(flash: &mut F, geometry: &Geometry, slot: u32) -> Resu
     requires erased { F.tells → IsErased (F.state flash.old).told.image (slot * geometry.now.slot_size + (geometry.now.slot_size - 1)) 1 }
 
     ensures bytes { OnOk result (F.tells → (F.state flash.new).told.image
-        ≡ put_at (F.state flash.old).told.image (slot * geometry.now.slot_size + (geometry.now.slot_size - 1)) (0xA5 ∷ [])) }
-    ensures stands { OnOk result (F.tells → tail_at (F.state flash.new).told.image (slot * geometry.now.slot_size) geometry.now.slot_size ≡ 0xA5) }
+        ≡ put_at (F.state flash.old).told.image (slot * geometry.now.slot_size + (geometry.now.slot_size - 1)) (tail_mark ∷ [])) }
+    ensures stands { OnOk result (F.tells → tail_at (F.state flash.new).told.image (slot * geometry.now.slot_size) geometry.now.slot_size ≡ tail_mark) }
     ensures change { AsksChange F.tells (slot * geometry.now.slot_size + (geometry.now.slot_size - 1)) 1
         (F.state flash.old) (F.state flash.new) result }
 {
@@ -137,25 +137,25 @@ pub fn open_gate<F: Flash>(flash: &mut F, geometry: &Geometry, slot: u32) -> Res
     requires erased { F.tells → IsErased (F.state flash.old).told.image (slot * geometry.now.slot_size) 1 }
 
     ensures bytes { OnOk result (F.tells → (F.state flash.new).told.image
-        ≡ put_at (F.state flash.old).told.image (slot * geometry.now.slot_size) (0x5A ∷ [])) }
-    ensures stands { OnOk result (F.tells → number_at (F.state flash.new).told.image (slot * geometry.now.slot_size) 1 ≡ 0x5A) }
+        ≡ put_at (F.state flash.old).told.image (slot * geometry.now.slot_size) (gate_open ∷ [])) }
+    ensures stands { OnOk result (F.tells → number_at (F.state flash.new).told.image (slot * geometry.now.slot_size) 1 ≡ gate_open) }
     ensures change { AsksChange F.tells (slot * geometry.now.slot_size) 1 (F.state flash.old) (F.state flash.new) result }
 {
     let place = place_of(geometry, slot);
     flash.program(place, &[GATE_OPEN])
 }
 
-/// Kills a slot: programs its second byte to zero, so that it holds no record from then on.
+/// Kills a slot: programs its second byte to the kill mark, so that it holds no record from then on.
 pub fn kill<F: Flash>(flash: &mut F, geometry: &Geometry, slot: u32) -> Result<(), FlashFailed>
     requires fits { Fits geometry.now (F.state flash.old) }
     requires slot { slot < geometry.now.slots }
     requires erased { F.tells → IsErased (F.state flash.old).told.image (slot * geometry.now.slot_size + 1) 1 }
 
     ensures bytes { OnOk result (F.tells → (F.state flash.new).told.image
-        ≡ put_at (F.state flash.old).told.image (slot * geometry.now.slot_size + 1) (0 ∷ [])) }
-    ensures stands { OnOk result (F.tells → number_at (F.state flash.new).told.image (slot * geometry.now.slot_size + 1) 1 ≡ 0) }
+        ≡ put_at (F.state flash.old).told.image (slot * geometry.now.slot_size + 1) (kill_mark ∷ [])) }
+    ensures stands { OnOk result (F.tells → number_at (F.state flash.new).told.image (slot * geometry.now.slot_size + 1) 1 ≡ kill_mark) }
     ensures change { AsksChange F.tells (slot * geometry.now.slot_size + 1) 1 (F.state flash.old) (F.state flash.new) result }
 {
     let place = place_of(geometry, slot);
-    flash.program(place + KILL_AT, &[KILLED])
+    flash.program(place + KILL_AT, &[KILL_MARK])
 }

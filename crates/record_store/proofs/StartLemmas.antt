@@ -13,7 +13,7 @@ use Rattle.flash_model.specs.declared.geometry.Geometry.{Geometry}
 use Rattle.flash_model.specs.Layouts.{layout_of}
 use Rattle.flash_words.specs.Flash.{FlashState}
 use Rattle.flash_words.specs.Layout.{Layout, room_of, reach_of}
-use Rattle.record_model.specs.Records.{Entry, Stored, slot_at, tail_at, entry_at, parts_of, part_len, parts_in, is_reserved, AreDistinct, AreBelow}
+use Rattle.record_model.specs.Records.{Entry, Stored, slot_at, tail_at, entry_at, parts_of, part_len, parts_in, is_reserved, AreDistinct, AreBelow, tail_mark}
 use Rattle.record_model.specs.RecordMap.{Write, Failed, NoSpace as no_space, LAST_GENERATION, refusal_of, next_generation}
 use Rattle.record_model.specs.Plan as planned
 use Rattle.record_model.specs.Plan.{Plan, IsPlan, KnowsPlan, StandsAtStage, made_at, made_in_slot, made_in_further, first_step}
@@ -43,10 +43,10 @@ pub record HasMarks (tells : Type 0) (slot_size n : ℕ) (old now : FlashState) 
   pub marked : tells → AreMarks slot_size old.told.image n slots marks
 
 pub marks_more : (slot_size n : ℕ) (image : List ℕ) (slots : List ℕ) (marks : List Bool) (mark : Bool) → n < length marks → AreMarks slot_size image n slots marks
-    → mark ≡ (tail_at image (get_or slots n 0 * slot_size) slot_size == 0xA5) → AreMarks slot_size image (n + 1) slots (set marks n mark)
+    → mark ≡ (tail_at image (get_or slots n 0 * slot_size) slot_size == tail_mark) → AreMarks slot_size image (n + 1) slots (set marks n mark)
 marks_more slot_size n image slots marks mark within had is i h = elim (cases_eq i n) [
   | inl here ↦
-      ap (λ (k : ℕ). get_or (set marks n mark) k false) here ∙ get_or-set_same marks n mark false within ∙ is ∙ ap (λ (k : ℕ). tail_at image (get_or slots k 0 * slot_size) slot_size == 0xA5) (sym here)
+      ap (λ (k : ℕ). get_or (set marks n mark) k false) here ∙ get_or-set_same marks n mark false within ∙ is ∙ ap (λ (k : ℕ). tail_at image (get_or slots k 0 * slot_size) slot_size == tail_mark) (sym here)
   | inr apart ↦ get_or-set_other marks n i mark false apart ∙ had i (omega arith)
 ]
 
@@ -181,7 +181,7 @@ planned_stands tells geometry found image id bytes draft replaced is least most 
     let four_marks = is.four_marks in
     let counted = is.parts in
     first_stage_stands (layout_of geometry) (plan_of draft bytes) image
-    (λ n any. sym (mark_of draft.slots draft.marked draft.parts n (λ k. tail_at image (k * geometry.slot_size) geometry.slot_size == 0xA5) (omega arith) (is.marks told)
+    (λ n any. sym (mark_of draft.slots draft.marked draft.parts n (λ k. tail_at image (k * geometry.slot_size) geometry.slot_size == tail_mark) (omega arith) (is.marks told)
     (subst (λ (xs : List ℕ). list_any (λ m. n == m) xs ≡ true) (front_of draft.slots draft.parts (omega arith) (omega arith)) any)))
 
 -- no change is made at the first stage

@@ -12,7 +12,8 @@ use Rattle.flash_model.specs.Layouts.{layout_of}
 use Rattle.flash_words.specs.Flash.{Told, Leaves, MayChange}
 use Rattle.flash_words.specs.Layout.{Layout, reach_of}
 use Rattle.flash_words.proofs.CrashLemmas.{Leaves-weaker, Leaves-exit}
-use Rattle.record_model.specs.Records.{Entry, Stored, entry_at, entry_of, slot_at, head_at, is_up, selected, stored_in, parts_of, part_len, is_taken, holds, IsChosen, OnlyFirstUp, NearlyOnlyFirstUp, DiffersInFreeSlot}
+use Rattle.record_model.specs.Records.{Entry, Stored, entry_at, entry_of, slot_at, head_at, is_up, selected, stored_in, parts_of, part_len, is_taken, holds, IsChosen, OnlyFirstUp, NearlyOnlyFirstUp, DiffersInFreeSlot, gate_open, kill_mark}
+use Rattle.record_model.proofs.MarkLemmas.{killed_is_not_erased}
 use Rattle.record_model.specs.RecordMap.{Write as write, Clear as clear, made_by, next_generation, pieces_of}
 use Rattle.record_model.specs.Filling as filling
 use Rattle.record_model.specs.Plan as planned
@@ -228,7 +229,7 @@ gate_may geometry found buffer draft replaced old new is known leaves =
     ])
 
 -- a slot that has a record has its gate open
-gate_of : (size slots k : ℕ) (image : List ℕ) (e : Entry) → entry_at size slots image k ≡ Some e → number_at image (k * size) 1 ≡ 0x5A
+gate_of : (size slots k : ℕ) (image : List ℕ) (e : Entry) → entry_at size slots image k ≡ Some e → number_at image (k * size) 1 ≡ gate_open
 unfolding entry_at slot_at head_at
 gate_of size slots k image e here = up_gate (size - 64) slots (slot_at size image k) (up_entry (size - 64) slots (slot_at size image) k e here).1
 
@@ -340,7 +341,7 @@ gate_nearly_only geometry found draft body replaced old new is known change =
     let size = geometry.slot_size in
     let first = get_or draft.slots 0 0 in
     let same = MayChange-same (first * size) 1 old new change in
-    elim (cases_eq (number_at new.image (first * size) 1) 0x5A) [
+    elim (cases_eq (number_at new.image (first * size) 1) gate_open) [
       | inl opened ↦ by_replaced same opened replaced known
       | inr closed ↦
           let large = large_slot geometry in
@@ -352,7 +353,7 @@ gate_nearly_only geometry found draft body replaced old new is known change =
           nearly_of_only size geometry.slots new.image (differs_only size geometry.slots first old.image new.image (omega arith) free.0 known.plan.only free.1 differs)
     ]
   where
-    by_replaced : SameOutside (get_or draft.slots 0 0 * geometry.slot_size) 1 old.image new.image → number_at new.image (get_or draft.slots 0 0 * geometry.slot_size) 1 ≡ 0x5A
+    by_replaced : SameOutside (get_or draft.slots 0 0 * geometry.slot_size) 1 old.image new.image → number_at new.image (get_or draft.slots 0 0 * geometry.slot_size) 1 ≡ gate_open
         → (o : Option SlotOf) → KnowsDraft geometry found old.image body draft Gate o → NearlyOnlyFirstUp geometry.slot_size geometry.slots new.image
     by_replaced same opened None had =
         nearly_of_only geometry.slot_size geometry.slots new.image
@@ -418,7 +419,7 @@ up_here size slots k image e here = up_entry (size - 64) slots (slot_at size ima
 
 -- a slot was killed
 pub kill_lost : (geometry : Geometry) (slot : ℕ) (old new : List ℕ) (e : Entry) → entry_at geometry.slot_size geometry.slots old slot ≡ Some e → SameOutside (slot * geometry.slot_size + 1) 1 old new
-    → number_at new (slot * geometry.slot_size + 1) 1 ≡ 0 → HasLost (entry_at geometry.slot_size geometry.slots old) (entry_at geometry.slot_size geometry.slots new) geometry.slots slot e
+    → number_at new (slot * geometry.slot_size + 1) 1 ≡ kill_mark → HasLost (entry_at geometry.slot_size geometry.slots old) (entry_at geometry.slot_size geometry.slots new) geometry.slots slot e
 unfolding entry_at
 kill_lost geometry slot old new e here same mark =
     let size = geometry.slot_size in
@@ -426,7 +427,7 @@ kill_lost geometry slot old new e here same mark =
     let large = large_slot geometry in
     let up = up_entry (size - 64) slots (slot_at size old) slot e here in
     let killed = kill_byte size slots slot old new (omega arith) up.1 same in
-    let down = down_by_kill size slots slot new (λ erased. let is : number_at new (slot * size + 1) 1 ≡ 0xFF = erased in absurd (omega arith)) in
+    let down = down_by_kill size slots slot new (killed_is_not_erased mark) in
     record {
       same = killed_others (size - 64) slots (slot_at size old) (slot_at size new) slot killed;
       was = here;
@@ -504,7 +505,7 @@ old_copy_spare geometry found draft place old new known change =
 
 -- the lists after the older record was killed
 pub old_copy_list : (geometry : Geometry) (found after : Found) (draft : Draft) (place : SlotOf) (old new : List ℕ) → length old ≡ geometry.slot_size * geometry.slots
-    → KnowsOldCopy geometry found old draft place → SameOutside (place.slot * geometry.slot_size + 1) 1 old new → number_at new (place.slot * geometry.slot_size + 1) 1 ≡ 0
+    → KnowsOldCopy geometry found old draft place → SameOutside (place.slot * geometry.slot_size + 1) 1 old new → number_at new (place.slot * geometry.slot_size + 1) 1 ≡ kill_mark
     → ((entry other : ℕ → Option Entry) (id : ℕ) (lost : Entry) → HasLost entry other geometry.slots place.slot lost → IsEntryOf id place lost
     → HasItsParts (geometry.slot_size - 64) lost → IsOlderCopy entry geometry.slots place.slot lost → IsListOf entry geometry.slots found → IsListOf other geometry.slots after)
     → IsListOf (entry_at geometry.slot_size geometry.slots new) geometry.slots after
@@ -514,7 +515,7 @@ old_copy_list geometry found after draft place old new sized known same mark lis
     (older_of geometry found old draft place known) known.list
 
 pub old_copy_made : (tells : Type 0) (geometry : Geometry) (before found : Found) (buffer : List ℕ) (draft : Draft) (place : SlotOf) (old new : List ℕ)
-    → (tells → KnowsOldCopy geometry before old draft place) → (tells → SameOutside (place.slot * geometry.slot_size + 1) 1 old new) → (tells → number_at new (place.slot * geometry.slot_size + 1) 1 ≡ 0)
+    → (tells → KnowsOldCopy geometry before old draft place) → (tells → SameOutside (place.slot * geometry.slot_size + 1) 1 old new) → (tells → number_at new (place.slot * geometry.slot_size + 1) 1 ≡ kill_mark)
     → (tells → IsListOf (entry_at geometry.slot_size geometry.slots new) geometry.slots found)
     → HasMade tells geometry buffer old new found (OldCopy draft place) Nothing
 old_copy_made tells geometry before found buffer draft place old new knows same mark list = record {
@@ -524,7 +525,7 @@ old_copy_made tells geometry before found buffer draft place old new knows same 
       let known = knows told in
       record {
         list = list told;
-        only = spare_killed geometry.slot_size geometry.slots place.slot old new large (up told) known.others (same told) (λ erased. not_erased (mark told) erased);
+        only = spare_killed geometry.slot_size geometry.slots place.slot old new large (up told) known.others (same told) (killed_is_not_erased (mark told));
       };
   made = λ told.
       scan_kill geometry.slot_size geometry.slots place.slot old new large (low told) (up told) (older_not_first geometry before old draft place (knows told)) (same told)
@@ -552,9 +553,6 @@ old_copy_made tells geometry before found buffer draft place old new knows same 
 
     up : tells → is_up (geometry.slot_size - 64) geometry.slots (slot_at geometry.slot_size old place.slot) ≡ true
     up told = (up_here geometry.slot_size geometry.slots place.slot old (knows told).lost (knows told).here).1
-
-    not_erased : {n : ℕ} → n ≡ 0 → n ≡ 0xFF → ⊥
-    not_erased zeroed erased = omega arith
 
 -- the clearing
 made_by-clear : (id : ℕ) (stored : Stored) → made_by (clear id) stored ≡ remove stored id
@@ -593,7 +591,7 @@ only_copy geometry found id place image known k e h at_k is =
     only_single (geometry.slot_size - 64) geometry.slots (slot_at geometry.slot_size image) known.slots.only k place.slot e known.held.chosen h (known.held.is).within at_k (known.held.is).here (is ∙ sym known.held.of_id)
 
 pub cleared_list : (geometry : Geometry) (found after : Found) (id : ℕ) (place : SlotOf) (old new : List ℕ) → length old ≡ geometry.slot_size * geometry.slots
-    → KnowsCleared geometry found old id place → SameOutside (place.slot * geometry.slot_size + 1) 1 old new → number_at new (place.slot * geometry.slot_size + 1) 1 ≡ 0
+    → KnowsCleared geometry found old id place → SameOutside (place.slot * geometry.slot_size + 1) 1 old new → number_at new (place.slot * geometry.slot_size + 1) 1 ≡ kill_mark
     → ((entry other : ℕ → Option Entry) (j : ℕ) (lost : Entry) → j < geometry.slots → HasLost entry other geometry.slots j lost → lost.id ≡ id
     → HasItsParts (geometry.slot_size - 64) lost → IsOnlyCopy entry geometry.slots j id → IsListOf entry geometry.slots found → IsListOf other geometry.slots after)
     → IsListOf (entry_at geometry.slot_size geometry.slots new) geometry.slots after
@@ -604,7 +602,7 @@ cleared_list geometry found after id place old new sized known same mark lists =
     (only_copy geometry found id place old known) known.slots.list
 
 pub cleared_made : (tells : Type 0) (geometry : Geometry) (before found : Found) (buffer : List ℕ) (id : ℕ) (place : SlotOf) (old new : List ℕ)
-    → (tells → KnowsCleared geometry before old id place) → (tells → SameOutside (place.slot * geometry.slot_size + 1) 1 old new) → (tells → number_at new (place.slot * geometry.slot_size + 1) 1 ≡ 0)
+    → (tells → KnowsCleared geometry before old id place) → (tells → SameOutside (place.slot * geometry.slot_size + 1) 1 old new) → (tells → number_at new (place.slot * geometry.slot_size + 1) 1 ≡ kill_mark)
     → (tells → IsListOf (entry_at geometry.slot_size geometry.slots new) geometry.slots found)
     → HasMade tells geometry buffer old new found (Clear id place) Nothing
 cleared_made tells geometry before found buffer id place old new knows same mark list = record {
@@ -615,7 +613,7 @@ cleared_made tells geometry before found buffer id place old new knows same mark
       record {
         list = list told;
         only = spare_killed geometry.slot_size geometry.slots place.slot old new large
-            (up_here geometry.slot_size geometry.slots place.slot old known.held.chosen (known.held.is).here).1 (λ k h apart up. only_each geometry.slot_size geometry.slots old known.slots.only k h up) (same told) (λ erased. not_erased (mark told) erased);
+            (up_here geometry.slot_size geometry.slots place.slot old known.held.chosen (known.held.is).here).1 (λ k h apart up. only_each geometry.slot_size geometry.slots old known.slots.only k h up) (same told) (killed_is_not_erased (mark told));
       };
   made = λ told.
       let known = knows told in
@@ -629,6 +627,3 @@ cleared_made tells geometry before found buffer id place old new knows same mark
 
     large : 64 ≤ geometry.slot_size
     large = omega (arith, geometry.least_slot)
-
-    not_erased : {n : ℕ} → n ≡ 0 → n ≡ 0xFF → ⊥
-    not_erased zeroed erased = omega arith

@@ -3,7 +3,7 @@ use Rattle.std.specs.Prelude.{◌≡◌, ◌≢◌, ℕ, ◌+◌, ◌*◌, ◌-�
 use Rattle.base_model.specs.Faults.{HasCause}
 use Rattle.flash_model.specs.declared.geometry.Geometry.{Geometry}
 use Rattle.flash_words.specs.Flash.{FlashState, raised}
-use Rattle.record_model.specs.Records.{Entry, parts_of, tail_at, is_reserved}
+use Rattle.record_model.specs.Records.{Entry, parts_of, tail_at, is_reserved, tail_mark}
 use Rattle.record_model.specs.RecordMap.{LAST_GENERATION}
 use Rattle.record_draft.specs.declared.draft.Draft.{Draft}
 use Rattle.record_recovery.specs.declared.found.Found.{Found}
@@ -31,7 +31,7 @@ slots_needed parts (Some place) = parts
 -- which of the first n slots of an image have their tail mark
 abbrev pub AreMarks : ℕ → List ℕ → ℕ → List ℕ → List Bool → Type 0
 AreMarks slot_size image n slots marks =
-    (i : ℕ) → i < n → slice_index_or marks i false ≡ (tail_at image (slice_index slots i * slot_size) slot_size == 0xA5)
+    (i : ℕ) → i < n → slice_index_or marks i false ≡ (tail_at image (slice_index slots i * slot_size) slot_size == tail_mark)
 
 -- where the record of an identifier is by the lists, and that it can be replaced
 pub record IsOver (geometry : Geometry) (found : Found) (id : ℕ) (replaced : Option SlotOf) : Type 0 where

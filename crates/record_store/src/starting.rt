@@ -1,7 +1,7 @@
 // What a write begins with: the slots that the record is written into, and the generation that it gets.
 ghost use Rattle.std.specs.Prelude.{◌≡◌, ◌≢◌, ℕ, ◌+◌, ◌-◌, ◌*◌, ◌<◌, ◌≤◌, ◌==◌, ◌++◌, length, drop, slice_index, slice_index_or, Option, IfSome, IfOk, IfErr, OnOk, OnErr};
 ghost use Rattle.flash_words.specs.Layout.{reach_of};
-ghost use Rattle.record_model.specs.Records.{Entry, parts_of, tail_at};
+ghost use Rattle.record_model.specs.Records.{Entry, parts_of, tail_at, tail_mark};
 ghost use Rattle.record_model.specs.RecordMap.{LAST_GENERATION};
 ghost use Rattle.record_recovery.specs.Listed.{AreSlots};
 ghost use Rattle.record_slots.specs.Slots.{Fits};
@@ -138,7 +138,7 @@ fn look_at_marks<F: Flash>(
 fn has_mark<F: Flash>(flash: &mut F, geometry: &Geometry, slot: u32) -> Result<bool, FlashFailed>
     requires fits { Fits geometry.now (F.state flash.old) }
     requires within { slot < geometry.now.slots }
-    ensures mark { IfOk result (λ mark. F.tells → mark ≡ (tail_at (F.state flash.old).told.image (slot * geometry.now.slot_size) geometry.now.slot_size == 0xA5)) }
+    ensures mark { IfOk result (λ mark. F.tells → mark ≡ (tail_at (F.state flash.old).told.image (slot * geometry.now.slot_size) geometry.now.slot_size == tail_mark)) }
     ensures stays { ReadsTimes F.tells 2 (F.state flash.old) (F.state flash.new) result }
 {
     let (_, tail) = look(flash, geometry, slot)?;

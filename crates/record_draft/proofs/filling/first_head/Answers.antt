@@ -1,6 +1,7 @@
 use Rattle.std.proofs.Common.{◌≡◌, length, sym, [], ◌∷◌, ◌∙◌, arith, cond, get_or}
 use Rattle.std.specs.Prelude.{nat_lt}
 use Rattle.record_draft.proofs.Here.{names_first}
+use Rattle.record_model.specs.Records.{gate_closed, not_killed}
 use Rattle.record_draft.proofs.filling.first_head.Goals as goal
 
 pub returns : goal.returns
@@ -13,8 +14,8 @@ returns c =
     λ i. c.named_at.ensures i ∷ c.named_at-2.ensures i ∷ c.named_at-3.ensures i ∷ [] in
     let named_is = next ∙ names_first slots parts long c.requires.some c.requires.few in
     λ i. record {
-      gate = 0xFF;
-      kill = 0xFF;
+      gate = gate_closed;
+      kill = not_killed;
       format = 2;
       generation = c.args.draft.now.generation;
       id = c.get.ensures.value i;

@@ -6,6 +6,7 @@ use Rattle.record_model.proofs.PlanLemmas.{gate_opens}
 use Rattle.flash_model.specs.Layouts.{layout_of}
 use Rattle.record_draft.specs.Drafts.{plan_of}
 use Rattle.record_draft.proofs.Here.{gate_erased}
+use Rattle.record_model.specs.Records.{gate_open}
 use Rattle.record_draft.proofs.preparing.publish.Goals as goal
 
 pub open_gate-requires-clause-erased : goal.open_gate-requires-clause-erased
@@ -27,7 +28,7 @@ returns-clause-opened g c =
     gate_opens (layout_of c.args.geometry.now) (plan_of c.args.draft.now c.args.body.now) (g.F.Flash.state c.args.flash.now).told.image (g.F.Flash.state c.open_gate.new.flash).told.image
     c.requires.draft.plan (c.requires.knows tells) (c.requires.stands tells)
     (subst (λ (k : ℕ). SameOutside (k * c.args.geometry.now.slot_size) 1 (g.F.Flash.state c.args.flash.now).told.image (g.F.Flash.state c.open_gate.new.flash).told.image) c.from-slot.ensures (done tells).image)
-    (subst (λ (k : ℕ). number_at (g.F.Flash.state c.open_gate.new.flash).told.image (k * c.args.geometry.now.slot_size) 1 ≡ 0x5A) c.from-slot.ensures (gate tells)))
+    (subst (λ (k : ℕ). number_at (g.F.Flash.state c.open_gate.new.flash).told.image (k * c.args.geometry.now.slot_size) 1 ≡ gate_open) c.from-slot.ensures (gate tells)))
     c.open_gate.ensures.stands c.open_gate.ensures.change.done
   where
     on_ok_both : {T E P Q R : Type 0} (result : Result T E) → (P → Q → R) → OnOk result P → OnOk result Q → OnOk result R

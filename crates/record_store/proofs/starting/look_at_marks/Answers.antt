@@ -2,7 +2,7 @@ use Rattle.std.proofs.Common.{◌≡◌, ◌+◌, ◌*◌, ◌<◌, ℕ, length,
 use Rattle.std.specs.Prelude.{◌==◌}
 use Rattle.std.proofs.Math.ListN.{length-set}
 use Rattle.flash_words.specs.Flash.{Told}
-use Rattle.record_model.specs.Records.{tail_at}
+use Rattle.record_model.specs.Records.{tail_at, tail_mark}
 use Rattle.record_store.proofs.StartLemmas.{marks_more}
 use Rattle.record_store.proofs.ReadLemmas.{HasRead, reads_none, reads_more, reads_ok}
 use Rattle.record_store.proofs.starting.look_at_marks.Goals as goal
@@ -24,8 +24,8 @@ loop-at-preserved g c =
           c.in_ok-marked.ensures.stays (omega arith));
       marked = λ tells.
           marks_more size c.loop-at.at image c.args.slots.now c.loop-at.marked c.in_ok-marked.field-0 within (before.marked tells)
-          (c.in_ok-marked.ensures.mark tells ∙ ap (λ (t : Told). tail_at t.image (c.from.result * size) size == 0xA5) (before.reads.told tells)
-          ∙ ap (λ (n : ℕ). tail_at image (n * size) size == 0xA5) c.from.ensures);
+          (c.in_ok-marked.ensures.mark tells ∙ ap (λ (t : Told). tail_at t.image (c.from.result * size) size == tail_mark) (before.reads.told tells)
+          ∙ ap (λ (n : ℕ). tail_at image (n * size) size == tail_mark) c.from.ensures);
     }
 
 pub returns-clause-stays : goal.returns-clause-stays
