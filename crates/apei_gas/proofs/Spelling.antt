@@ -42,9 +42,6 @@ only_found bytes gas fits same = found-spelling gas fits ∙ ap found (sym same)
 pub same_gas : (a b : Gas) → IsGas a → IsGas b → spelling a ≡ spelling b → a ≡ b
 same_gas a b fits_a fits_b same = found-spelling a fits_a ∙ ap found same ∙ sym (found-spelling b fits_b)
 
-pub length-spelling : (gas : Gas) → length (spelling gas) ≡ 12
-length-spelling gas = omega (arith, length-spelled 8 gas.address)
-
 -- the four bytes, and the address put behind them
 pub put_behind : (a b c d x : ℕ) (rest : List ℕ) → length rest ≡ 8 → put_at (a ∷ b ∷ c ∷ d ∷ rest) 4 (spelled 8 x) ≡ a ∷ b ∷ c ∷ d ∷ spelled 8 x
 unfolding put_at

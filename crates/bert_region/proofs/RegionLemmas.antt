@@ -64,9 +64,6 @@ pub record IsAt (region : List ℕ) (at : ℕ) (blocks : List (List ℕ)) (left 
   pub place : at + length (joined rest) ≡ length (joined blocks)
   pub here : drop at region ≡ joined rest ++ zeros left
 
-pub at_first : (region : List ℕ) (blocks : List (List ℕ)) (left : ℕ) → IsLaidOut blocks left region → IsAt region 0 blocks left
-at_first region blocks left h = record { rest = blocks; each = h.each; place = omega arith; here = h.region_is }
-
 All-head : (block : List ℕ) (blocks : List (List ℕ)) → All IsOneBlock (block ∷ blocks) → IsOneBlock block
 All-head block blocks all = all 0 [] (omega arith)
 

@@ -216,13 +216,6 @@ stream_begins limit reader e = subst (λ (r : Reader). StreamSoFar limit r [] []
   going = record { whole = refl; each = All-nil (IsRecordWithin limit) };
 })
 
-pub stream_goes_on : (limit : ℕ) (old new : Reader) (stream piece : List ℕ) (before after : List (List ℕ)) → StreamSoFar limit old stream before → PassedPiece old new before after piece None → StreamSoFar limit new (stream ++ piece) after
-stream_goes_on limit old new stream piece before after so p = record {
-  waits = p.0;
-  limit_is = p.1 ∙ so.limit_is;
-  going = subst (λ (k : ℕ). Going k (stream ++ piece) after new.held) so.limit_is (p.2 stream (subst (λ (k : ℕ). Going k stream before old.held) (sym so.limit_is) so.going));
-}
-
 pub stream_stops : (limit : ℕ) (old new : Reader) (stream piece following : List ℕ) (before after : List (List ℕ)) (error : FrameError) → StreamSoFar limit old stream before → PassedPiece old new before after piece (Some error)
     → (rest : List ℕ) × Splits limit ((stream ++ piece) ++ following) after rest error × (is_need error ≡ false)
 stream_stops limit old new stream piece following before after error so p =

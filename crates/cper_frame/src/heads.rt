@@ -2,6 +2,7 @@
 ghost use Rattle.std.specs.Prelude.{◌≡◌, ◌≤◌, length};
 ghost use Rattle.cper_frame.specs.Reading.{head_at, section_head_at};
 
+use crate::record::ID_AT;
 use apei_bytes::{Guid, get_u16, get_u32, get_u64};
 use apei_fields::{array_at, byte_at, guid_at};
 
@@ -51,7 +52,7 @@ impl RecordHead {
             partition: guid_at(header, 48),
             creator: guid_at(header, 64),
             notification: guid_at(header, 80),
-            id: get_u64(header, 96),
+            id: get_u64(header, ID_AT),
             flags: get_u32(header, 104),
             persistence: array_at(header, 108),
             reserved: array_at(header, 116),

@@ -17,5 +17,5 @@ pub use heads::{RecordHead, SectionHead};
 pub use mark::stamp;
 pub use pieces::{Frames, frames_in};
 pub use reader::FrameReader;
-pub use record::{Record, Section, one_end};
+pub use record::{HEADER, ID_AT, LENGTH_AT, Record, Section, one_end};
 pub use writer::RecordWriter;

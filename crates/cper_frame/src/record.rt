@@ -11,9 +11,16 @@ use apei_bytes::{get_u16, get_u32};
 use apei_fields::bytes_at;
 use std::marker::Model;
 
-/// The bytes of a header, and of a descriptor.
-pub(crate) const HEADER: usize = 128;
+/// The bytes of a record's header (UEFI 2.8, N.2.1).
+pub const HEADER: usize = 128;
 
+/// Where a header says the length of its record.
+pub const LENGTH_AT: usize = 20;
+
+/// Where a header says the identifier of its record.
+pub const ID_AT: usize = 96;
+
+/// The bytes of a descriptor.
 pub(crate) const DESCRIPTOR: usize = 72;
 
 /// "CPER", and the 0xFFFFFFFF that ends the signature, as numbers.
@@ -97,7 +104,7 @@ pub(crate) fn checked_length(bytes: &[u8], limit: u32) -> Result<u32, FrameError
         return Err(FrameError::End);
     }
     let sections = get_u16(bytes, 10);
-    let length = get_u32(bytes, 20);
+    let length = get_u32(bytes, LENGTH_AT);
     let first = 128 + 72 * u32::from(sections);
     if length < first {
         return Err(FrameError::Length {

@@ -8,7 +8,7 @@ ghost use Rattle.cper_frame.specs.Grammar.{header_front, header_back, header, de
 ghost use Rattle.cper_frame.specs.Writer.{Given, written_record, room_of, used_by, announced_to, given_to, name_of, IsRecordWriter, IsUnchanged, IsWriting, IsWritten};
 
 use crate::heads::{RecordHead, SectionHead};
-use crate::record::{DESCRIPTOR, HEADER, SIGNATURE_END};
+use crate::record::{DESCRIPTOR, HEADER, LENGTH_AT, SIGNATURE_END};
 use apei_fields::{
     NoRoom, room_for, write_array, write_bytes, write_guid, write_u8, write_u16, write_u32,
     write_u64,
@@ -164,7 +164,7 @@ impl<'a> RecordWriter<'a> {
         ensures used { result ≡ used_by self.entry }
     {
         let RecordWriter { out, end, .. } = self;
-        write_u32(out, 20, end as u32);
+        write_u32(out, LENGTH_AT, end as u32);
         end
     }
 }

@@ -5,14 +5,12 @@ ghost use Rattle.erst_client.specs.Attaching.{Attaches, AsksTimings, client_resu
 use crate::errors::AttachError;
 use crate::requests::{perform, program_for};
 use apei_space::Space;
+use cper_frame::HEADER;
 use erst_entries::{Action, ErstTable};
 use erst_interp::{Budget, RunStop};
 
 /// The bit of the range's attributes that says that it is non-volatile memory.
 const NON_VOLATILE: u64 = 2;
-
-/// The bytes of an error record's header.
-const HEADER: u64 = 128;
 
 /// The error log address range, and how long an operation takes at most and nominally.
 #[derive(Clone, Copy, Debug, PartialEq, Eq)]
@@ -90,7 +88,7 @@ fn admit(
     if attributes & NON_VOLATILE != 0 {
         return Err(AttachError::NonVolatile { found: attributes });
     }
-    if len < HEADER {
+    if len < HEADER as u64 {
         return Err(AttachError::NoRange { len });
     }
     Ok(Found {

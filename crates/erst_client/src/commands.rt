@@ -10,17 +10,12 @@ use crate::requests::{Request, perform};
 use crate::sequences::sequence;
 use apei_bytes::get_u32;
 use apei_space::Space;
-use cper_frame::Record;
+use cper_frame::{HEADER, LENGTH_AT, Record};
 use erst_entries::{Action, ErstTable};
 use erst_interp::Budget;
 
-/// Where a record says its length, and where it is marked as one in persistent storage (UEFI 2.8, N.2.1).
-const LENGTH_AT: u64 = 20;
-
+/// Where a record is marked as one in persistent storage (UEFI 2.8, N.2.1).
 const MARK_AT: u64 = 108;
-
-/// The bytes of a record's header.
-const HEADER: u64 = 128;
 
 /// An action that isn't given a value.
 fn plain(action: Action) -> Request
@@ -100,7 +95,7 @@ pub fn read_record<S: Space>(
 {
     ask_read(table, found, id, budget, space)?;
     let mut field = [0; 4];
-    match space.read_bytes(found.address.wrapping_add(LENGTH_AT), &mut field) {
+    match space.read_bytes(found.address.wrapping_add(LENGTH_AT as u64), &mut field) {
         Ok(()) => {}
         Err(fault) => return Err(ClientError::Range(fault)),
     }
@@ -140,7 +135,7 @@ fn ask_read<S: Space>(
 fn copy_refusal(len: u64, range: u64, room: u64) -> Option<ClientError>
     ensures { result ≡ copy_refusal len range room }
 {
-    if len < HEADER || range < len {
+    if len < HEADER as u64 || range < len {
         return Some(ClientError::BadLength { found: len });
     }
     if room < len {

@@ -1,7 +1,7 @@
 -- The walk over a block's entries.
-use Rattle.std.proofs.Common.{◌≡◌, ℕ, ◌+◌, ◌<◌, ◌≤◌, List, [], ◌∷◌, ◌++◌, length, take, drop, Ok, Err, refl, sym, ap, ◌∙◌, arith, length-append}
+use Rattle.std.proofs.Common.{◌≡◌, ℕ, ◌+◌, ◌≤◌, List, [], ◌∷◌, ◌++◌, length, take, drop, Ok, Err, refl, sym, ap, ◌∙◌, arith, length-append}
 use Rattle.std.specs.Prelude.{All, nat_lt}
-use Rattle.std.proofs.lemmas.Bool.{eqb-true, eq-eqb, ne_eqb, ltb-false, lt-ltb, le-ltb, cond-true, cond-false}
+use Rattle.std.proofs.lemmas.Bool.{eqb-true, eq-eqb, ne_eqb, ltb-false, le-ltb, cond-false}
 use Rattle.std.proofs.lemmas.List.{nil_from_length, drop_at}
 use Rattle.std.proofs.lemmas.List.Elements.{All-nil, All-cons, All-head, All-tail}
 use Rattle.base_model.specs.Bytes.{part, AreBytes}
@@ -19,16 +19,6 @@ unfolding whole_entry_size
 size_whole index at rest long fits =
     cond-false (nat_lt (length rest) 64) (Err (Rest (length rest))) _ (le-ltb (length rest) 64 long)
     ∙ cond-false (nat_lt (length rest) (entry_size rest)) (Err (Entry index at)) _ (le-ltb (length rest) (entry_size rest) fits)
-
-pub size_rest : (index at : ℕ) (rest : List ℕ) → length rest < 64 → whole_entry_size index at rest ≡ Err (Rest (length rest))
-unfolding whole_entry_size
-size_rest index at rest h = cond-true (nat_lt (length rest) 64) _ _ (lt-ltb (length rest) 64 h)
-
-pub size_entry : (index at : ℕ) (rest : List ℕ) → 64 ≤ length rest → length rest < entry_size rest → whole_entry_size index at rest ≡ Err (Entry index at)
-unfolding whole_entry_size
-size_entry index at rest long h =
-    cond-false (nat_lt (length rest) 64) (Err (Rest (length rest))) _ (le-ltb (length rest) 64 long)
-    ∙ cond-true (nat_lt (length rest) (entry_size rest)) _ _ (lt-ltb (length rest) (entry_size rest) h)
 
 record IsWholeEntry (n : ℕ) (rest : List ℕ) : Type 0 where
   pub long : 64 ≤ length rest
