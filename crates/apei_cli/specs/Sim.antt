@@ -40,6 +40,7 @@ new_flash plan sector image = record {
   reads = 0;
   faults = 0;
   starved = 0;
+  dark = 0;
 }
 
 -- a new flash of the plan's geometry, with erased bytes

@@ -13,4 +13,5 @@ state_of flash = record {
   reads = flash.reads;
   faults = flash.faults;
   powered = true;
+  dark = 0;
 }

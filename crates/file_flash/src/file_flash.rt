@@ -1,5 +1,5 @@
 // A flash in a file.
-ghost use Rattle.std.specs.Prelude.{true, ◌≡◌, ◌↔◌, ◌+◌, ◌-◌, ◌*◌, ◌^◌, ◌<◌, ◌≤◌, length, replicate, OnOk, IsErr, IsOk, IsTrue};
+ghost use Rattle.std.specs.Prelude.{true, ◌≡◌, ◌↔◌, ◌+◌, ◌-◌, ◌*◌, ◌^◌, ◌<◌, ◌≤◌, length, replicate, OnOk, OnErr, IsErr, IsOk, IsTrue};
 ghost use Rattle.base_model.specs.Faults.{HasCause};
 ghost use Rattle.base_model.specs.Bytes.{part, put_at};
 ghost use Rattle.flash_words.specs.Flash.{OnlyReads, AsksChange, next_count};
@@ -72,6 +72,7 @@ impl FileFlash {
         ensures failed { IsTrue self.new.failed ↔ IsErr result }
         ensures done { IsOk result ↔ IsTrue done }
         ensures cause { HasCause self.old.faults self.new.faults result }
+        ensures once { OnErr result (self.new.faults ≡ next_count self.old.faults) }
     {
         self.steps = next_count(self.steps);
         self.failed = !done;

@@ -5,7 +5,7 @@ use Rattle.std.proofs.lemmas.List.{length-replicate}
 use Rattle.base_model.specs.Bytes.{put_at, SameOutside}
 use Rattle.base_model.specs.Faults.{Rose}
 use Rattle.base_model.proofs.BytesLemmas.{SameOutside-refl, SameOutside-put_at}
-use Rattle.flash_words.specs.Flash.{Told, Changed, MayChange, AsksChange, LosesOnlyByChange, next_count}
+use Rattle.flash_words.specs.Flash.{Told, Changed, MayChange, AsksChange, LosesOnlyByChange, next_count, dark_after}
 use Rattle.flash_model.specs.declared.tear.Tear.{Tear}
 use Rattle.flash_model.specs.declared.tear.Tear.TheVariants.{Nothing, Whole, Zeros, Marks}
 use Rattle.flash_model.specs.declared.power.Power.{Power}
@@ -96,13 +96,35 @@ reaches_powered : (old : Simulation) → fate_of old ≡ Reaches None → has_po
 unfolding fate_of
 reaches_powered old whole = fate-powered (steps_of old == 2 ^ 64 - 1) old.power old.failing (steps_of old) whole
 
+-- whether a change finds power, by its fate
+abbrev FindsPower : Fate → Power → Type 0
+FindsPower Uncounted power = Unit {0}
+FindsPower Unpowered power = has_power power ≡ false
+FindsPower (Reaches tear) power = has_power power ≡ true
+
+finds_under : (last : Bool) (power : Power) (tear : Option Tear) → FindsPower (cond last Uncounted (fate_under power tear)) power
+finds_under true power tear = tt
+finds_under false On tear = refl
+finds_under false (Until cut) tear = refl
+finds_under false Lost tear = refl
+
+finds_power : (old : Simulation) → FindsPower (fate_of old) old.power
+unfolding fate_of
+finds_power old = finds_under (steps_of old == 2 ^ 64 - 1) old.power (tear_at old.power old.failing (steps_of old))
+
+dark-lit : (old : Simulation) (dark : ℕ) → has_power old.power ≡ true → dark ≡ old.dark → dark ≡ dark_after (state_of old)
+dark-lit old dark on same = same ∙ sym (ap (λ (b : Bool). cond {A = ℕ} b old.dark (next_count old.dark)) on)
+
+dark-lost : (old : Simulation) (dark : ℕ) → has_power old.power ≡ false → dark ≡ next_count old.dark → dark ≡ dark_after (state_of old)
+dark-lost old dark off more = more ∙ sym (ap (λ (b : Bool). cond {A = ℕ} b old.dark (next_count old.dark)) off)
+
 -- what a failed call for a change owes
 AsksChange-failed : {T E : Type 0} (at len : ℕ) (old new : Simulation) (result : Result T E) → IsErr result
     → MayChange at len old.told new.told → length new.told.image ≡ length old.told.image → new.sector_size ≡ old.sector_size
     → steps_of new ≡ next_count (steps_of old) → new.reads ≡ old.reads → old.faults < 2 ^ 64 → new.faults ≡ next_count old.faults
-    → LosesOnlyByChange (state_of old) (state_of new) → AsksChange (Unit {0}) at len (state_of old) (state_of new) result
-AsksChange-failed at len old new (Ok x) failed told size sector steps reads small faults power = (cc)
-AsksChange-failed at len old new (Err e) failed told size sector steps reads small faults power = record {
+    → LosesOnlyByChange (state_of old) (state_of new) → new.dark ≡ dark_after (state_of old) → AsksChange (Unit {0}) at len (state_of old) (state_of new) result
+AsksChange-failed at len old new (Ok x) failed told size sector steps reads small faults power dark = (cc)
+AsksChange-failed at len old new (Err e) failed told size sector steps reads small faults power dark = record {
   told = λ _. told;
   size = size;
   sector_size = sector;
@@ -110,7 +132,9 @@ AsksChange-failed at len old new (Err e) failed told size sector steps reads sma
   reads = reads;
   power = power;
   powered = tt;
+  dark = dark;
   cause = record { never_falls = omega (arith, faults); ok = tt; err = rose old.faults new.faults small faults };
+  once = faults;
   counted = tt;
   done = tt;
 }
@@ -122,9 +146,10 @@ AsksChange-failed at len old new (Err e) failed told size sector steps reads sma
 AsksChange-done : {T E : Type 0} (at len : ℕ) (old new : Simulation) (result : Result T E) → (IsErr result → ⊥)
     → Changed at len old.told new.told → new.sector_size ≡ old.sector_size
     → steps_of new ≡ next_count (steps_of old) → new.reads ≡ old.reads → new.faults ≡ old.faults
-    → LosesOnlyByChange (state_of old) (state_of new) → has_power new.power ≡ true → AsksChange (Unit {0}) at len (state_of old) (state_of new) result
-AsksChange-done at len old new (Err e) succeeded changed sector steps reads faults power powered = absurd (succeeded refl)
-AsksChange-done at len old new (Ok x) succeeded changed sector steps reads faults power powered = record {
+    → LosesOnlyByChange (state_of old) (state_of new) → has_power new.power ≡ true → new.dark ≡ dark_after (state_of old)
+    → AsksChange (Unit {0}) at len (state_of old) (state_of new) result
+AsksChange-done at len old new (Err e) succeeded changed sector steps reads faults power powered dark = absurd (succeeded refl)
+AsksChange-done at len old new (Ok x) succeeded changed sector steps reads faults power powered dark = record {
   told = λ _. inr (inl changed);
   size = changed.image.same_length;
   sector_size = sector;
@@ -132,41 +157,46 @@ AsksChange-done at len old new (Ok x) succeeded changed sector steps reads fault
   reads = reads;
   power = power;
   powered = powered;
+  dark = dark;
   cause = record { never_falls = omega (arith, faults); ok = faults; err = tt };
+  once = tt;
   counted = ap length changed.past ∙ length-append old.told.past (record { before = old.told.image; at = at; len = len } ∷ []);
   done = λ _. changed;
 }
 
 AsksChange-starved : {T E : Type 0} (at len : ℕ) (old new : Simulation) (result : Result T E) → IsErr result
-    → steps_of new ≡ next_count (steps_of old) → old.faults < 2 ^ 64 → new ≡ after_starved old
+    → steps_of new ≡ next_count (steps_of old) → old.faults < 2 ^ 64 → has_power old.power ≡ true → new ≡ after_starved old
     → AsksChange (Unit {0}) at len (state_of old) (state_of new) result
-AsksChange-starved at len old new result failed steps small follows =
+AsksChange-starved at len old new result failed steps small on follows =
     AsksChange-failed at len old new result failed
     (inr (inr (Changed-with_change old.told new.told 0 0 old.told.image (ap (λ (flash : Simulation). flash.told) follows) (SameOutside-refl 0 0 old.told.image))))
     (ap (λ (flash : Simulation). length flash.told.image) follows)
     (ap (λ (flash : Simulation). flash.sector_size) follows) steps (ap (λ (flash : Simulation). flash.reads) follows) small
     (ap (λ (flash : Simulation). flash.faults) follows)
     (power-changed 0 0 old.told.image old new (ap (λ (flash : Simulation). flash.told) follows) (ap (λ (flash : Simulation). flash.power) follows))
+    (dark-lit old new.dark on (ap (λ (flash : Simulation). flash.dark) follows))
 
 -- whatever its fate
 AsksChange-by : {T E : Type 0} (fate : Fate) (at : ℕ) (bytes : List ℕ) (old new : Simulation) (result : Result T E)
     → at + length bytes ≤ length old.told.image → steps_of new ≡ next_count (steps_of old) → old.faults < 2 ^ 64
-    → (fate ≡ Reaches None → has_power (power_after old.power (steps_of old)) ≡ true) → MayFollow fate old at bytes new → IsErr result ↔ FailsBy fate old new
+    → (fate ≡ Reaches None → has_power (power_after old.power (steps_of old)) ≡ true) → FindsPower fate old.power → MayFollow fate old at bytes new → IsErr result ↔ FailsBy fate old new
     → AsksChange (Unit {0}) at (length bytes) (state_of old) (state_of new) result
-AsksChange-by Uncounted at bytes old new result within steps small powered follows fails =
+AsksChange-by Uncounted at bytes old new result within steps small powered finds follows fails =
     AsksChange-failed at (length bytes) old new result (fails.1 tt)
     (inl (ap (λ (flash : Simulation). flash.told) follows)) (ap (λ (flash : Simulation). length flash.told.image) follows)
     (ap (λ (flash : Simulation). flash.sector_size) follows) steps (ap (λ (flash : Simulation). flash.reads) follows) small
     (ap (λ (flash : Simulation). flash.faults) follows)
     (power-kept old new (ap (λ (flash : Simulation). flash.power) follows))
-AsksChange-by Unpowered at bytes old new result within steps small powered follows fails =
+    (ap (λ (flash : Simulation). flash.dark) follows)
+AsksChange-by Unpowered at bytes old new result within steps small powered finds follows fails =
     AsksChange-failed at (length bytes) old new result (fails.1 tt)
     (inr (inr (Changed-with_change old.told new.told 0 0 old.told.image (ap (λ (flash : Simulation). flash.told) follows) (SameOutside-refl 0 0 old.told.image))))
     (ap (λ (flash : Simulation). length flash.told.image) follows)
     (ap (λ (flash : Simulation). flash.sector_size) follows) steps (ap (λ (flash : Simulation). flash.reads) follows) small
     (ap (λ (flash : Simulation). flash.faults) follows)
     (power-kept old new (ap (λ (flash : Simulation). flash.power) follows))
-AsksChange-by (Reaches None) at bytes old new result within steps small powered (inl follows) fails =
+    (dark-lost old new.dark finds (ap (λ (flash : Simulation). flash.dark) follows))
+AsksChange-by (Reaches None) at bytes old new result within steps small powered finds (inl follows) fails =
     AsksChange-done at (length bytes) old new result
     (λ failed. let rose : old.starved < new.starved = fails.0 failed in
     let same : new.starved ≡ old.starved = ap (λ (flash : Simulation). flash.starved) follows in absurd (omega arith))
@@ -176,7 +206,8 @@ AsksChange-by (Reaches None) at bytes old new result within steps small powered 
     (ap (λ (flash : Simulation). flash.faults) follows)
     (power-changed at (length bytes) (image_left None old.told.image at bytes) old new (ap (λ (flash : Simulation). flash.told) follows) (ap (λ (flash : Simulation). flash.power) follows))
     (ap has_power (ap (λ (flash : Simulation). flash.power) follows) ∙ powered refl)
-AsksChange-by (Reaches (Some tear)) at bytes old new result within steps small powered (inl follows) fails =
+    (dark-lit old new.dark finds (ap (λ (flash : Simulation). flash.dark) follows))
+AsksChange-by (Reaches (Some tear)) at bytes old new result within steps small powered finds (inl follows) fails =
     let changed = Changed-with_change old.told new.told at (length bytes) (image_left (Some tear) old.told.image at bytes)
     (ap (λ (flash : Simulation). flash.told) follows) (SameOutside-image_left (Some tear) old.told.image at bytes within) in
     AsksChange-failed at (length bytes) old new result (fails.1 tt)
@@ -184,18 +215,19 @@ AsksChange-by (Reaches (Some tear)) at bytes old new result within steps small p
     (ap (λ (flash : Simulation). flash.sector_size) follows) steps (ap (λ (flash : Simulation). flash.reads) follows) small
     (ap (λ (flash : Simulation). flash.faults) follows)
     (power-changed at (length bytes) (image_left (Some tear) old.told.image at bytes) old new (ap (λ (flash : Simulation). flash.told) follows) (ap (λ (flash : Simulation). flash.power) follows))
-AsksChange-by (Reaches None) at bytes old new result within steps small powered (inr follows) fails =
+    (dark-lit old new.dark finds (ap (λ (flash : Simulation). flash.dark) follows))
+AsksChange-by (Reaches None) at bytes old new result within steps small powered finds (inr follows) fails =
     let rose : new.starved ≡ old.starved + 1 = ap (λ (flash : Simulation). flash.starved) follows in
-    AsksChange-starved at (length bytes) old new result (fails.1 (omega arith)) steps small follows
-AsksChange-by (Reaches (Some tear)) at bytes old new result within steps small powered (inr follows) fails =
-    AsksChange-starved at (length bytes) old new result (fails.1 tt) steps small follows
+    AsksChange-starved at (length bytes) old new result (fails.1 (omega arith)) steps small finds follows
+AsksChange-by (Reaches (Some tear)) at bytes old new result within steps small powered finds (inr follows) fails =
+    AsksChange-starved at (length bytes) old new result (fails.1 tt) steps small finds follows
 
 pub AsksChange-follows : {T E : Type 0} (at : ℕ) (bytes : List ℕ) (old new : Simulation) (result : Result T E)
     → at + length bytes ≤ length old.told.image → steps_of new ≡ next_count (steps_of old) → old.faults < 2 ^ 64
     → MayFollow (fate_of old) old at bytes new → IsErr result ↔ ChangeFails old new
     → AsksChange (Unit {0}) at (length bytes) (state_of old) (state_of new) result
 AsksChange-follows at bytes old new result within steps small follows fails =
-    AsksChange-by (fate_of old) at bytes old new result within steps small (reaches_powered old) follows fails
+    AsksChange-by (fate_of old) at bytes old new result within steps small (reaches_powered old) (finds_power old) follows fails
 
 -- an Ok did the change
 image-by : {T E : Type 0} (fate : Fate) (at : ℕ) (bytes : List ℕ) (old new : Simulation) (result : Result T E)

@@ -2,7 +2,7 @@
 use Rattle.std.specs.Prelude.{◌≡◌, ◌⊎◌, ℕ, ◌+◌, ◌-◌, ◌^◌, ◌<◌, Bool, true, false, ◌==◌, if◌then◌else◌, List, [], ◌∷◌, ◌++◌, length, replicate, Contains, find, Option, Some, None}
 use Rattle.std.specs.Option.{option_map}
 use Rattle.base_model.specs.Bytes.{put_at}
-use Rattle.flash_words.specs.Flash.{Told, FlashState, next_count}
+use Rattle.flash_words.specs.Flash.{Told, FlashState, next_count, dark_after}
 use Rattle.flash_model.specs.declared.cut.Cut.{Cut}
 use Rattle.flash_model.specs.declared.tear.Tear.{Tear}
 use Rattle.flash_model.specs.declared.tear.Tear.TheVariants.{Nothing, Whole, Zeros, Marks}
@@ -10,7 +10,7 @@ use Rattle.flash_model.specs.declared.power.Power.{Power}
 use Rattle.flash_model.specs.declared.power.Power.TheVariants.{On, Until, Lost}
 
 -- what it tells, its sector size in bytes, its power, the changes and the reads that fail, each by its number, and its
--- counts of reads, of faults, and of changes that found no memory
+-- counts of reads, of faults, of changes that found no memory, and of calls that found no power
 pub record Simulation : Type 0 where
   pub told : Told
   pub sector_size : ℕ
@@ -20,6 +20,7 @@ pub record Simulation : Type 0 where
   pub reads : ℕ
   pub faults : ℕ
   pub starved : ℕ
+  pub dark : ℕ
 
 -- the changes that were asked for so far: each is told
 abbrev pub steps_of : Simulation → ℕ
@@ -39,6 +40,7 @@ state_of flash = record {
   reads = flash.reads;
   faults = flash.faults;
   powered = has_power flash.power;
+  dark = flash.dark;
 }
 
 -- power as a flash begins with it
@@ -99,11 +101,15 @@ faults_after (Some tear) faults = next_count faults
 
 -- after a change that can't be counted: one fault more
 abbrev pub after_uncounted : Simulation → Simulation
-after_uncounted flash = record flash { faults = next_count flash.faults }
+after_uncounted flash = record flash { faults = next_count flash.faults; dark = dark_after (state_of flash) }
 
 -- after a change without power: one change of nothing and one fault more
 abbrev pub after_unpowered : Simulation → Simulation
-after_unpowered flash = record flash { told = with_change flash.told 0 0 flash.told.image; faults = next_count flash.faults }
+after_unpowered flash = record flash {
+  told = with_change flash.told 0 0 flash.told.image;
+  faults = next_count flash.faults;
+  dark = next_count flash.dark;
+}
 
 -- after a change that found no memory: one change of nothing and one fault more, and a cut at this step has come
 abbrev pub after_starved : Simulation → Simulation
@@ -145,7 +151,7 @@ ReadFails flash = Contains flash.failing_reads flash.reads ⊎ (flash.power ≡ 
 -- after a read, by whether it failed
 abbrev pub after_read : Bool → Simulation → Simulation
 after_read false flash = record flash { reads = next_count flash.reads }
-after_read true flash = record flash { reads = next_count flash.reads; faults = next_count flash.faults }
+after_read true flash = record flash { reads = next_count flash.reads; faults = next_count flash.faults; dark = dark_after (state_of flash) }
 
 -- power comes back where it was lost
 abbrev pub power_restored : Power → Power

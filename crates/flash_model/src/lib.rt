@@ -2,6 +2,7 @@
 #![tactic(auto)]
 
 mod content;
+mod counts;
 mod cut;
 mod flash;
 mod geometry;

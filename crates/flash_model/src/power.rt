@@ -1,6 +1,8 @@
 // The power of a simulated flash.
-ghost use Rattle.std.specs.Prelude.{◌≡◌, ◌↔◌, IsTrue};
+ghost use Rattle.std.specs.Prelude.{◌≡◌, ◌↔◌, if◌then◌else◌, IsTrue};
+ghost use Rattle.flash_words.specs.Flash.{next_count};
 
+use crate::counts::next_count;
 use crate::tear::listed_tear;
 use crate::{Cut, Tear};
 
@@ -13,7 +15,7 @@ pub enum Power {
 }
 
 impl Power {
-    ghost use Rattle.flash_model.specs.Simulation.{first_power, power_after, power_restored, tear_at};
+    ghost use Rattle.flash_model.specs.Simulation.{first_power, has_power, power_after, power_restored, tear_at};
     ghost use Rattle.flash_model.specs.declared.power.Power.TheVariants.{Lost};
 
     pub(crate) fn new(cut: Option<Cut>) -> Power
@@ -31,6 +33,16 @@ impl Power {
         match self {
             Power::Lost => true,
             _ => false,
+        }
+    }
+
+    /// The calls that found no power, after one more.
+    pub(crate) fn count_dark(self, dark: u64) -> u64
+        ensures { result ≡ (if has_power self then dark else next_count dark) }
+    {
+        match self {
+            Power::Lost => next_count(dark),
+            _ => dark,
         }
     }
 

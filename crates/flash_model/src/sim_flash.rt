@@ -1,9 +1,10 @@
 // A flash in memory.
 ghost use Rattle.std.specs.Prelude.{true, ◌≡◌, ◌↔◌, ℕ, ◌+◌, ◌*◌, ◌^◌, ◌<◌, ◌≤◌, [], ◌∷◌, ◌++◌, length, replicate, Result, OnOk, OnErr, is_err, IsErr};
 ghost use Rattle.base_model.specs.Bytes.{part, put_at};
-ghost use Rattle.flash_words.specs.Flash.{FlashState, OnlyReads, AsksChange, IsErased, next_count};
+ghost use Rattle.flash_words.specs.Flash.{FlashState, OnlyReads, AsksChange, IsErased, next_count, dark_after};
 
 use crate::content::Content;
+use crate::counts::next_count;
 use crate::journal::Journal;
 use crate::power::Power;
 use crate::{Cut, Flash, FlashFailed, Tear};
@@ -29,6 +30,8 @@ pub struct SimFlash {
     reads: u64,
     faults: u64,
     starved: u64,
+    // How many calls for a change or a read found no power.
+    dark: u64,
 }
 
 impl Model for SimFlash {
@@ -47,16 +50,10 @@ impl Model for SimFlash {
       reads = flash.reads;
       faults = flash.faults;
       starved = flash.starved;
+      dark = flash.dark;
     } };
 
     ghost invariant = { λ flash. AreBelow flash.steps flash.journal × (flash.starved ≤ flash.steps) };
-}
-
-// A count that stands still at the last value of its type.
-fn next_count(count: u64) -> u64
-    ensures { result ≡ next_count count }
-{
-    count.saturating_add(1)
 }
 
 impl SimFlash {
@@ -84,6 +81,7 @@ impl SimFlash {
           reads = 0;
           faults = 0;
           starved = 0;
+          dark = 0;
         } }
         ensures tells { ⟦<SimFlash as Flash>⟧.tells }
     {
@@ -98,6 +96,7 @@ impl SimFlash {
             reads: 0,
             faults: 0,
             starved: 0,
+            dark: 0,
         }
     }
 
@@ -125,11 +124,13 @@ impl SimFlash {
     {
         if self.steps == u64::MAX {
             self.faults = next_count(self.faults);
+            self.dark = self.power.count_dark(self.dark);
             return Err(FlashFailed);
         }
         if self.power.is_lost() {
             self.steps += 1;
             self.faults = next_count(self.faults);
+            self.dark = next_count(self.dark);
             return Err(FlashFailed);
         }
         let step = self.steps;
@@ -178,6 +179,7 @@ impl Flash for SimFlash {
         ensures bytes { OnOk result (buf.new ≡ part self.old.told.image at (length buf.old)) }
         ensures stays { OnlyReads (Unit {0}) 1 (state_of self.old) (state_of self.new) result }
         ensures counted { self.new.reads ≡ next_count self.old.reads }
+        ensures dark { self.new.dark ≡ dark_after (state_of self.old) }
         ensures fails { IsErr result ↔ ReadFails self.old }
         ensures after { self.new ≡ after_read (is_err result) self.old }
     {
@@ -185,6 +187,7 @@ impl Flash for SimFlash {
         self.reads = next_count(self.reads);
         if fails {
             self.faults = next_count(self.faults);
+            self.dark = self.power.count_dark(self.dark);
             return Err(FlashFailed);
         }
         let at = at as usize;

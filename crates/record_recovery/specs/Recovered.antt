@@ -1,7 +1,7 @@
 -- What a scan leaves.
-use Rattle.std.specs.Prelude.{◌≡◌, ℕ, ◌+◌, ◌*◌, ◌≤◌, true, Result, OnOk}
+use Rattle.std.specs.Prelude.{◌≡◌, ℕ, ◌+◌, ◌*◌, ◌≤◌, true, Result, OnOk, OnErr}
 use Rattle.base_model.specs.Faults.{HasCause}
-use Rattle.flash_words.specs.Flash.{Told, FlashState, Leaves, LosesOnlyByChange, raised}
+use Rattle.flash_words.specs.Flash.{Told, FlashState, Leaves, LosesOnlyByChange, StaysLit, raised, next_count}
 use Rattle.record_model.specs.Records.{entry_at, stored_in, OnlyFirstUp, NearlyOnlyFirstUp, second_copies}
 use Rattle.record_recovery.specs.declared.found.Found.{Found}
 use Rattle.record_recovery.specs.Listed.{AreListed, free_slots, first_records}
@@ -32,7 +32,8 @@ pub record IsRecovered (slot_size slots : ℕ) (old new : FlashState) (found : F
   pub steps : new.steps ≡ old.steps + second_copies slot_size slots old.told.image
 
 -- of a flash that was scanned the size and the size of its sectors stay, head and tail mark of each slot are read once,
--- power is lost only by a change, and a failure has its cause
+-- power is lost only by a change, no call found the flash without it that had it at the start, and a failure has its cause, one
+-- fault, after which the flash is left alone
 pub record KeepsShape {T E : Type 0} (slots : ℕ) (old new : FlashState) (result : Result T E) : Type 0 where
   pub size : new.size ≡ old.size
   pub sector_size : new.sector_size ≡ old.sector_size
@@ -40,4 +41,6 @@ pub record KeepsShape {T E : Type 0} (slots : ℕ) (old new : FlashState) (resul
   pub counted : OnOk result (new.reads ≡ raised (2 * slots) old.reads)
   pub power : LosesOnlyByChange old new
   pub powered : OnOk result (new.powered ≡ true)
+  pub lit : StaysLit old new
   pub cause : HasCause old.faults new.faults result
+  pub once : OnErr result (new.faults ≡ next_count old.faults)

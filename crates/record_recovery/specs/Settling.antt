@@ -1,7 +1,7 @@
 -- How far the third pass of a scan has come.
-use Rattle.std.specs.Prelude.{◌≡◌, ℕ, ◌+◌, ◌-◌, ◌<◌, ◌≤◌, true, Result, OnOk}
+use Rattle.std.specs.Prelude.{◌≡◌, ℕ, ◌+◌, ◌-◌, ◌<◌, ◌≤◌, true, Result, OnOk, OnErr}
 use Rattle.base_model.specs.Faults.{HasCause}
-use Rattle.flash_words.specs.Flash.{FlashState, LosesOnlyByChange}
+use Rattle.flash_words.specs.Flash.{FlashState, LosesOnlyByChange, StaysLit, next_count}
 use Rattle.record_model.specs.Records.{entry_at, slot_at, is_up, second_copies}
 use Rattle.record_recovery.specs.declared.found.Found.{Found}
 use Rattle.record_recovery.specs.Listed.{AreListed, HasFirst}
@@ -17,7 +17,8 @@ abbrev pub CountsCopies : ℕ → ℕ → FlashState → FlashState → Type 0
 CountsCopies slot_size slots old now =
     now.steps + second_copies slot_size slots now.told.image ≡ old.steps + second_copies slot_size slots old.told.image
 
--- of a flash that was changed and not read: what stays, and power, which no change that was made has lost
+-- of a flash that was changed and not read: what stays, and power, which no change that was made has lost. No change comes
+-- after one that failed
 pub record OnlyChanges {T E : Type 0} (old new : FlashState) (result : Result T E) : Type 0 where
   pub size : new.size ≡ old.size
   pub sector_size : new.sector_size ≡ old.sector_size
@@ -25,4 +26,6 @@ pub record OnlyChanges {T E : Type 0} (old new : FlashState) (result : Result T 
   pub power : LosesOnlyByChange old new
   pub same_power : OnOk result (new.powered ≡ old.powered)
   pub later : OnOk result (old.steps ≤ new.steps)
+  pub lit : StaysLit old new
   pub cause : HasCause old.faults new.faults result
+  pub once : OnErr result (new.faults ≡ next_count old.faults)

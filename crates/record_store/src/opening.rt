@@ -1,6 +1,6 @@
 // The opening of a flash: all memory of a store, and a look at each slot.
 ghost use Rattle.std.specs.Prelude.{◌≡◌, ◌+◌, ◌*◌, ◌≤◌, ◌-◌, length, OnOk, IfOk};
-ghost use Rattle.flash_words.specs.Flash.{LosesOnlyByChange, raised};
+ghost use Rattle.flash_words.specs.Flash.{LosesOnlyByChange, StaysLit, raised};
 ghost use Rattle.flash_words.specs.Layout.{reach_of};
 ghost use Rattle.flash_model.specs.Layouts.{layout_of};
 ghost use Rattle.record_slots.specs.Slots.{Fits};
@@ -32,6 +32,7 @@ pub fn open<F: Flash>(
         ≤ (F.state flash.old).steps + second_copies geometry.now.slot_size geometry.now.slots (F.state flash.old).told.image }
     ensures reads { OnOk result ((F.state flash.new).reads ≡ raised (2 * geometry.now.slots) (F.state flash.old).reads) }
     ensures power { LosesOnlyByChange (F.state flash.old) (F.state flash.new) }
+    ensures lit { StaysLit (F.state flash.old) (F.state flash.new) }
     ensures size { (F.state flash.new).size ≡ (F.state flash.old).size }
     ensures sector_size { (F.state flash.new).sector_size ≡ (F.state flash.old).sector_size }
 {

@@ -1,7 +1,7 @@
 // The store.
 ghost use Rattle.std.specs.Prelude.{◌≡◌, ◌↔◌, ◌⊎◌, ℕ, ◌+◌, ◌-◌, ◌*◌, ◌<◌, ◌≤◌, List, true, false, length, IsOk, OnOk, OnErr, IfOk, IfErr};
 ghost use Rattle.std.specs.FinMap.{len};
-ghost use Rattle.flash_words.specs.Flash.{LosesOnlyByChange, raised};
+ghost use Rattle.flash_words.specs.Flash.{LosesOnlyByChange, StaysLit, raised};
 ghost use Rattle.flash_words.specs.Layout.{room_of, reach_of};
 ghost use Rattle.flash_model.specs.Layouts.{layout_of};
 ghost use Rattle.record_model.specs.Records.{second_copies, parts_of};
@@ -77,6 +77,8 @@ impl<F: Flash> Store<F> {
         ensures back { IfErr result (λ refused. F.tells → KeepsRecordsOf geometry (F.state flash) (F.state refused.flash)) }
         ensures power { IfOk result (λ store. LosesOnlyByChange (F.state flash) store.flash) }
         ensures power_back { IfErr result (λ refused. LosesOnlyByChange (F.state flash) (F.state refused.flash)) }
+        ensures lit { IfOk result (λ store. StaysLit (F.state flash) store.flash) }
+        ensures lit_back { IfErr result (λ refused. StaysLit (F.state flash) (F.state refused.flash)) }
     {
         let size = flash.size();
         let sector = u64::from(flash.sector_size());
@@ -334,6 +336,7 @@ impl<F: Flash> Store<F> {
         ensures settled { OnOk result (F.tells → IsSettled self.new) }
         ensures reads { OnOk result (self.new.flash.reads ≡ raised (2 * self.old.layout.slots) self.old.flash.reads) }
         ensures powered { OnOk result (self.new.flash.powered ≡ true) }
+        ensures lit { StaysLit self.old.flash self.new.flash }
 
         // It leaves what a call that looks leaves of a store in doubt.
         ensures leaves { OnlyLooks F.tells (doubted self.old) self.new result }
@@ -353,6 +356,9 @@ impl<F: Flash> Store<F> {
         // Power is back, unless a change on the way lost it again.
         ensures powered { OnOk result (self.new.flash.powered ≡ true) }
         ensures back { (self.new.flash.powered ≡ true) ⊎ (self.old.flash.steps < self.new.flash.steps) }
+
+        // It comes back first: no call of the remount finds the flash without power.
+        ensures lit { self.new.flash.dark ≡ self.old.flash.dark }
 
         ensures leaves { OnlyLooks F.tells (restarted self.old) self.new result }
     {
@@ -399,6 +405,7 @@ impl<F: Flash> Store<F> {
         ensures looked { self.old.in_doubt ≡ true → HasLooked self.old self.new result }
         ensures reads { TakesReads (λ _ reads. reads) self.old self.new result }
         ensures free { OnOk result (F.tells → free_in self.new ≡ free_in self.old) }
+        ensures lit { StaysLit self.old.flash self.new.flash }
         ensures leaves { OnlyLooks F.tells self.old self.new result }
     {
         if !self.in_doubt {

@@ -34,6 +34,7 @@ loop-slot-preserved g c =
       unread = λ none. absurd (omega arith);
       counted = λ some. one_look c.loop-slot.slot (g.F.Flash.state c.args.flash.now).reads (g.F.Flash.state c.loop-slot.flash).reads (g.F.Flash.state c.look.new.flash).reads before.unread before.counted count;
       powered = λ some. c.in_ok-head.ensures.stays.powered;
+      lit = λ on. c.look.ensures.stays.lit (before.power ∙ on) ∙ before.lit on;
       faults = c.in_ok-head.ensures.stays.cause.ok ∙ before.faults;
       seen = λ tells.
           let image = (g.F.Flash.state c.args.flash.now).told.image in

@@ -15,7 +15,7 @@ pub returns-then-self-clause-after : goal.returns-then-self-clause-after
 returns-then-self-clause-after c =
     let steps = length-first_changes c.self.inside.journal c.self.inside.steps c.self.inside.image.items in
     let fate = fate_of-last (the_view c.self.inside) (steps ∙ c.if-self.true) in
-    rw (← c.self.view_is, fate, c.next_count-self-inside.ensures) refl
+    rw (← c.self.view_is, fate, c.next_count-self-inside.ensures, c.count_dark-self-inside.ensures) refl
 
 pub returns-then-self-clause-fails : goal.returns-then-self-clause-fails
 returns-then-self-clause-fails c =
@@ -31,7 +31,7 @@ returns-then-is_lost-clause-after c =
     let more = λ (e : steps_of (the_view c.self.inside) ≡ 2 ^ 64 - 1). c.if-self.false (sym steps ∙ e) in
     let fate = fate_of-lost (the_view c.self.inside) more (c.is_lost.ensures.0 c.if-is_lost.true) in
     let past = first_changes-unnoted c.self.inside.journal c.self.inside.steps c.self.inside.image.items c.self.invariant.0 in
-    rw (← c.self.view_is, fate, past, c.next_count-self-inside-then-is_lost.ensures) refl
+    rw (← c.self.view_is, fate, past, c.next_count-self-inside-then-is_lost.ensures, c.next_count-self-inside-then-is_lost-2.ensures) refl
 
 pub returns-then-is_lost-clause-fails : goal.returns-then-is_lost-clause-fails
 returns-then-is_lost-clause-fails c =
