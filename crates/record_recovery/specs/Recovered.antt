@@ -38,6 +38,7 @@ pub record KeepsShape {T E : Type 0} (slots : ℕ) (old new : FlashState) (resul
   pub size : new.size ≡ old.size
   pub sector_size : new.sector_size ≡ old.sector_size
   pub reads : old.reads ≤ new.reads
+  pub later : OnOk result (old.steps ≤ new.steps)
   pub counted : OnOk result (new.reads ≡ raised (2 * slots) old.reads)
   pub power : LosesOnlyByChange old new
   pub powered : OnOk result (new.powered ≡ true)

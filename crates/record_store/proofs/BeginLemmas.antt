@@ -31,6 +31,7 @@ use Rattle.record_store.specs.declared.errors.StoreError.TheVariants.{NoSpace, L
 use Rattle.record_store.specs.declared.work.Work.{Work}
 use Rattle.record_store.specs.declared.work.Work.TheVariants as works
 use Rattle.record_store.proofs.StartLemmas.{planned_draft, planned_takes, planned_stands, planned_generation, planned_replaces, planned_newest, planned_taken, first_made, refused_no_space, refused_at_last}
+use Rattle.record_store.proofs.FaultLemmas.{ends_none, ends_refused, ends_read, ends_read_failed}
 use Rattle.record_store.proofs.StoreLemmas.{idle_work, ready_inside, looks_ready, starts_by}
 
 -- a slice that was lent is a whole vector again
@@ -161,7 +162,8 @@ begun_starts tells geometry flash new doubt pending later v count plan x is read
     subst_starts (starts_by tells (view_of geometry flash doubt pending) (view_of geometry flash doubt pending) (view_of geometry new doubt later) x (Ok x)
     (looks_ready tells (view_of geometry flash doubt pending) x (record { certain = ap (λ (u : StoreView). u.in_doubt) is ∙ ready.certain; idle = ap (λ (u : StoreView). u.pending) is ∙ ready.idle }))
     reads.told reads.steps reads.power (record { layout = refl; size = reads.size; sector_size = reads.sector_size }) (ap (λ (u : StoreView). u.in_doubt) is ∙ ready.certain) reads.cause.ok
-    (λ told. reads.steps ∙ (looks_ready {T = Unit {0}} tells (view_of geometry flash doubt pending) x (record { certain = ap (λ (u : StoreView). u.in_doubt) is ∙ ready.certain; idle = ap (λ (u : StoreView). u.pending) is ∙ ready.idle })).ended told))
+    (λ told. reads.steps ∙ (looks_ready {T = Unit {0}} tells (view_of geometry flash doubt pending) x (record { certain = ap (λ (u : StoreView). u.in_doubt) is ∙ ready.certain; idle = ap (λ (u : StoreView). u.pending) is ∙ ready.idle })).ended told)
+    (ends_read tells count flash new plan x reads))
   where
     subst_starts : OnlyStarts tells (view_of geometry flash doubt pending) (view_of geometry new doubt later) (Ok x) → OnlyStarts tells v (view_of geometry new doubt later) (Ok x)
     subst_starts had = subst (λ (u : StoreView). OnlyStarts tells u (view_of geometry new doubt later) (Ok x)) is had
@@ -180,7 +182,7 @@ same_view geometry flash new doubt pending v is ready same =
 starts_none : (tells : Type 0) (v : StoreView) → IsReady v → OnlyStarts tells v v (Err NotFound)
 starts_none tells v ready =
     let looks = looks_ready {T = Unit {0}} tells v tt ready in
-    record { kept = looks.kept; few = looks.few; ended = looks.ended; at_most = looks.at_most; doubt = ready; alike = looks.alike; power = looks.power; cause = refl }
+    record { kept = looks.kept; few = looks.few; ended = looks.ended; at_most = looks.at_most; doubt = ready; alike = looks.alike; power = looks.power; cause = refl; ends = ends_refused v.flash v.flash tt NotFound (λ e. cc) looks.ends }
 
 pub refused_start : (tells : Type 0) (count : Unit {0} → ℕ) (reads : ℕ) (geometry : Geometry) (flash new : FlashState) (found : Found) (buffer : List ℕ) (doubt : Bool) (work : Work) (v : StoreView) (id : ℕ) (bytes : List ℕ)
     (error : StoreError) (T : Type 0) → IsStore tells geometry flash found buffer doubt work → view_of geometry flash doubt (pending_of (layout_of geometry) buffer work) ≡ v → IsReady v
@@ -197,7 +199,7 @@ refused_start tells count reads geometry flash new found buffer doubt work v id 
           let refused = refused_no_space geometry found flash.told.image id free bytes (by.1).0 by.0 (by.1).1 (by.1).2 (by.1).3 store.listing known (sized told) in
           (refused.0, refused.1, refl));
       still = refl;
-      leaves = record { kept = none.kept; few = none.few; ended = none.ended; at_most = none.at_most; doubt = ready; alike = none.alike; power = none.power; cause = refl };
+      leaves = record { kept = none.kept; few = none.few; ended = none.ended; at_most = none.at_most; doubt = ready; alike = none.alike; power = none.power; cause = refl; ends = ends_refused {T = Unit {0}} v.flash v.flash tt (NoSpace free) (λ e. cc) (ends_none {T = Unit {0}} v.flash tt) };
     })
 refused_start tells count reads geometry flash new found buffer doubt work v id bytes (LastGeneration number) T store is ready sized by same =
     let view = same_view geometry flash new doubt (pending_of (layout_of geometry) buffer work) v is ready same in
@@ -210,7 +212,7 @@ refused_start tells count reads geometry flash new found buffer doubt work v id 
           let refused = refused_at_last geometry flash.told.image id bytes place.0 by.0 place.1 (place.2 (entry_at geometry.slot_size geometry.slots flash.told.image) known.list) in
           (refused.0, by.1, refused.1, refl));
       still = refl;
-      leaves = record { kept = none.kept; few = none.few; ended = none.ended; at_most = none.at_most; doubt = ready; alike = none.alike; power = none.power; cause = refl };
+      leaves = record { kept = none.kept; few = none.few; ended = none.ended; at_most = none.at_most; doubt = ready; alike = none.alike; power = none.power; cause = refl; ends = ends_refused {T = Unit {0}} v.flash v.flash tt (LastGeneration number) (λ e. cc) (ends_none {T = Unit {0}} v.flash tt) };
     })
 refused_start tells count reads geometry flash new found buffer doubt work v id bytes NotFound T store is ready sized by same = absurd by
 refused_start tells count reads geometry flash new found buffer doubt work v id bytes Empty T store is ready sized by same = absurd by
@@ -223,7 +225,7 @@ refused_start tells count reads geometry flash new found buffer doubt work v id 
       still = record { told = read.told; steps = read.steps; power = read.power };
       leaves = starts_by tells (view_of geometry flash doubt pending) (view_of geometry flash doubt pending) (view_of geometry new true pending) tt (Err Flash)
           (looks_ready tells (view_of geometry flash doubt pending) tt inside) read.told read.steps read.power (record { layout = refl; size = read.size; sector_size = read.sector_size })
-          (record { doubt = refl; idle = idle }) (read.cause.never_falls, read.cause.err) (λ told. tt);
+          (record { doubt = refl; idle = idle }) (read.cause.never_falls, read.cause.err) (λ told. tt) (ends_read_failed tells reads flash new Flash read);
     })
 refused_start tells count reads geometry flash new found buffer doubt work v id bytes (Small need) T store is ready sized by same = absurd by
 

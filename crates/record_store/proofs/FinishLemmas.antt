@@ -4,6 +4,7 @@ use Rattle.std.specs.Prelude.{nat_le, is_some, OnOk}
 use Rattle.std.specs.FinMap.{get}
 use Rattle.std.proofs.lemmas.Bool.{cases_eq, cases_lt, cond-true, cond-false, eq-eqb, ne_eqb, le-leb, lt-leb}
 use Rattle.std.proofs.lemmas.Result.{on_ok_weaker}
+use Rattle.flash_words.specs.Flash.{LosesOnlyByChange, StaysLit}
 use Rattle.flash_words.specs.Layout.{Layout}
 use Rattle.flash_words.proofs.CrashLemmas.{Leaves-none, Leaves-weaker, Leaves-then, Leaves-exit}
 use Rattle.record_model.specs.Records.{Stored}
@@ -11,11 +12,12 @@ use Rattle.record_model.specs.RecordMap.{Command, Write, Clear, Refusal, Failed,
 use Rattle.record_model.proofs.MapLemmas.{after-done}
 use Rattle.record_model.proofs.RefusalLemmas.{changes_of-refused, changes_of-new, changes_of-over, changes_of-clear}
 use Rattle.record_store.specs.Store.{StoreView, Pending, Idle, Writing, Clearing, stored, records_of, map_after, pending_after, changes_before_gate, changes_in_all, StandsIn, slots_for, PlacedAfter, KeepsOrMakes, KeepsMap, DividesAlike}
-use Rattle.record_store.specs.Answers.{FailsByFlash, AnswersWrite, AnswersClear, RefusesWrite, RefusesClear, UnlessFlash, HasFaultsOf, HasDoubtOf, StartsWrite, StartsClear, TakesReads, copies_of}
+use Rattle.record_store.specs.Answers.{FailsByFlash, AnswersWrite, AnswersClear, RefusesWrite, RefusesClear, UnlessFlash, HasFaultsOf, HasDoubtOf, EndsAtFault, StartsWrite, StartsClear, TakesReads, copies_of}
 use Rattle.record_store.specs.Calls.{OnlyStarts, Changes}
 use Rattle.record_store.specs.declared.errors.StoreError.{StoreError}
 use Rattle.record_store.specs.declared.errors.StoreError.TheVariants.{NoSpace, LastGeneration, NotFound, Empty, Flash, Small}
 use Rattle.record_store.specs.Finish.{IsUnfinished, changes_left, map_at_end, PlacedAtEnd, PlacesAlike, IsOnWay}
+use Rattle.record_store.proofs.FaultLemmas.{ends_then, loses_then}
 use Rattle.record_store.proofs.StoreLemmas.{kept_map, alike_refl, alike_then}
 
 -- the tests of a write that has made so many changes, of which so many come before the gate
@@ -167,6 +169,9 @@ IsOnWay-none tells v some = record {
   left = refl;
   faults = refl;
   reads = refl;
+  power = refl;
+  lit = λ on. refl;
+  later = omega arith;
   alike = alike_refl v;
   places = λ image at_end. at_end;
   end = λ told. refl;
@@ -206,14 +211,18 @@ pub record HasGoneOn (tells : Type 0) (old new : StoreView) : Type 0 where
   pub left : new.flash.steps + changes_left new.layout new.pending ≡ old.flash.steps + changes_left old.layout old.pending
   pub faults : new.flash.faults ≡ old.flash.faults
   pub reads : new.flash.reads ≡ old.flash.reads
+  pub power : new.flash.powered ≡ old.flash.powered
+  pub lit : StaysLit old.flash new.flash
+  pub later : old.flash.steps ≤ new.flash.steps
   pub alike : DividesAlike old new
   pub end : tells → map_at_end new.layout new.pending (stored new) ≡ map_at_end old.layout old.pending (stored old)
   pub crash : tells → KeepsOrMakes old new (map_at_end old.layout old.pending (stored old))
 
 pub gone_on : (tells : Type 0) (old mid new : StoreView) → IsOnWay tells old mid → new.pending ≡ pending_after mid.layout mid.pending
     → (tells → stored new ≡ map_after mid.layout mid.pending (stored mid)) → (tells → KeepsOrMakes mid new (map_after mid.layout mid.pending (stored mid)))
-    → new.flash.steps ≡ mid.flash.steps + 1 → DividesAlike mid new → new.flash.faults ≡ mid.flash.faults → new.flash.reads ≡ mid.flash.reads → HasGoneOn tells old new
-gone_on tells old mid new way pending made crash step alike faults reads =
+    → new.flash.steps ≡ mid.flash.steps + 1 → DividesAlike mid new → new.flash.faults ≡ mid.flash.faults → new.flash.reads ≡ mid.flash.reads
+    → {T : Type 0} (x : T) → EndsAtFault {T = T} mid.flash new.flash (Ok x) → HasGoneOn tells old new
+gone_on tells old mid new way pending made crash step alike faults reads x ends =
     let layout : new.layout ≡ mid.layout = alike.layout in
     let at_new : changes_left new.layout new.pending ≡ changes_left mid.layout (pending_after mid.layout mid.pending) =
     ap (λ (l : Layout). changes_left l new.pending) layout ∙ ap (changes_left mid.layout) pending in
@@ -223,6 +232,9 @@ gone_on tells old mid new way pending made crash step alike faults reads =
       left = omega arith;
       faults = faults ∙ way.faults;
       reads = reads ∙ way.reads;
+      power = ends.same_power ∙ way.power;
+      lit = λ on. ends.lit (way.power ∙ on) ∙ way.lit on;
+      later = let before = way.later in omega arith;
       alike = alike_then old mid new way.alike alike;
       end = λ told.
           ap (λ (l : Layout). map_at_end l new.pending (stored new)) layout ∙ ap (λ (p : Pending). map_at_end mid.layout p (stored new)) pending
@@ -240,6 +252,9 @@ IsOnWay-more tells old mid new way pending goes_on layout gone = record {
   left = gone.left;
   faults = gone.faults;
   reads = gone.reads;
+  power = gone.power;
+  lit = gone.lit;
+  later = gone.later;
   alike = gone.alike;
   places = λ image at_end. way.places image
       (subst (λ (l : Layout). PlacedAtEnd l mid.pending image) way.alike.layout
@@ -249,6 +264,14 @@ IsOnWay-more tells old mid new way pending goes_on layout gone = record {
   end = gone.end;
   crash = gone.crash;
 }
+
+-- what a call leaves that follows the changes so far
+pub way_ends : {T : Type 0} (tells : Type 0) (old mid new : StoreView) (y : Result T StoreError) → IsOnWay tells old mid → EndsAtFault {T = T} mid.flash new.flash y → EndsAtFault {T = T} old.flash new.flash y
+way_ends tells old mid new y way ends =
+    ends_then {T = Unit {0}} old.flash mid.flash new.flash tt y way.faults (record { once = tt; lit = way.lit; same_power = way.power; later = way.later }) ends
+
+pub way_power : (tells : Type 0) (old mid new : StoreView) → IsOnWay tells old mid → LosesOnlyByChange mid.flash new.flash → LosesOnlyByChange old.flash new.flash
+way_power tells old mid new way power = loses_then old.flash mid.flash new.flash way.power way.later power
 
 -- and it was: the record that was written is in its slots
 pub way_placed : (tells : Type 0) (old mid new : StoreView) → IsOnWay tells old mid → new.pending ≡ pending_after mid.layout mid.pending → new.pending ≡ Idle
@@ -359,8 +382,10 @@ pub record IsFinished (tells : Type 0) (old new : StoreView) (result : Result (U
   pub doubt : HasDoubtOf new result
   pub idle : new.pending ≡ Idle
   pub alike : DividesAlike old new
+  pub power : LosesOnlyByChange old.flash new.flash
   pub powered : OnOk result (new.flash.powered ≡ true)
   pub cause : HasFaultsOf old.flash.faults new.flash.faults result
+  pub ends : EndsAtFault old.flash new.flash result
 
 finish_cause : (before mid after : ℕ) (result : Result (Unit {0}) StoreError) → FailsByFlash result → mid ≡ before → HasFaultsOf mid after result → HasFaultsOf before after result
 finish_cause before mid after result fails same cause = subst (λ (n : ℕ). HasFaultsOf n after result) same cause
@@ -381,8 +406,10 @@ changes_begun tells old mid new command x result starts finished end left = reco
   doubt = finished.doubt;
   idle = finished.idle;
   alike = alike_then old mid new starts.alike finished.alike;
+  power = loses_then old.flash mid.flash new.flash starts.ends.same_power starts.ends.later finished.power;
   powered = finished.powered;
   cause = finish_cause old.flash.faults mid.flash.faults new.flash.faults result finished.error starts.cause finished.cause;
+  ends = ends_then old.flash mid.flash new.flash x result starts.cause starts.ends finished.ends;
 }
   where
     few_in_all : (m n o l all : ℕ) → m ≤ o + 1 → n ≤ m + l → l ≡ all → n ≤ o + 1 + all
@@ -406,8 +433,10 @@ changes_refused tells old new command error starts steps doubt idle = record {
   doubt = doubt;
   idle = idle;
   alike = starts.alike;
+  power = starts.power;
   powered = tt;
   cause = starts.cause;
+  ends = starts.ends;
 }
 
 pub idle_after : (new : StoreView) (error : StoreError) → HasDoubtOf {T = Unit {0}} new (Err error) → new.pending ≡ Idle

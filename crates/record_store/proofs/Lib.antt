@@ -6,6 +6,7 @@ pub mod AnswerLemmas
 pub mod ReadLemmas
 pub mod PartLemmas
 pub mod WorkLemmas
+pub mod FaultLemmas
 pub mod StoreLemmas
 pub mod ScanLemmas
 pub mod CopiesLemmas

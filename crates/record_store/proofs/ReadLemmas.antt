@@ -2,7 +2,7 @@
 use Rattle.std.proofs.Common.{◌≡◌, ℕ, ◌+◌, ◌-◌, ◌^◌, ◌<◌, min, Ok, Err, refl, ap, subst, ◌∙◌, arith, inl, inr}
 use Rattle.std.proofs.lemmas.Bool.{cases_eq}
 use Rattle.base_model.specs.Faults.{Rose}
-use Rattle.flash_words.specs.Flash.{FlashState, OnlyReads, raised}
+use Rattle.flash_words.specs.Flash.{FlashState, OnlyReads, StaysLit, raised, next_count}
 use Rattle.record_store.specs.Start.{ReadsTimes}
 
 -- a flash was read so many times, and failed in none
@@ -12,6 +12,7 @@ pub record HasRead (tells : Type 0) (n : ℕ) (old now : FlashState) : Type 0 wh
   pub sector_size : now.sector_size ≡ old.sector_size
   pub steps : now.steps ≡ old.steps
   pub power : now.powered ≡ old.powered
+  pub lit : StaysLit old now
   pub unread : n ≡ 0 → now.reads ≡ old.reads
   pub counted : 0 < n → now.reads ≡ raised n old.reads
   pub faults : now.faults ≡ old.faults
@@ -23,6 +24,7 @@ reads_none tells flash = record {
   sector_size = refl;
   steps = refl;
   power = refl;
+  lit = λ on. refl;
   unread = λ none. refl;
   counted = λ some. absurd (omega arith);
   faults = refl;
@@ -42,6 +44,7 @@ reads_more tells n k old mid new x had more some = record {
   sector_size = more.sector_size ∙ had.sector_size;
   steps = more.steps ∙ had.steps;
   power = more.power ∙ had.power;
+  lit = λ on. more.lit (had.power ∙ on) ∙ had.lit on;
   unread = λ none. absurd (omega arith);
   counted = λ any. elim (cases_eq n 0) [
     | inl first ↦ more.counted ∙ ap (raised k) (had.unread first) ∙ ap (λ (m : ℕ). raised m old.reads) (with_none n k first)
@@ -60,8 +63,10 @@ reads_ok tells n total old new x had is some = record {
   sector_size = had.sector_size;
   steps = had.steps;
   power = had.power;
+  lit = had.lit;
   counted = had.counted some ∙ ap (λ (m : ℕ). raised m old.reads) is;
   cause = record { never_falls = (let same = had.faults in omega arith); ok = had.faults; err = tt };
+  once = tt;
 }
 
 pub reads_failed : {T U E D : Type 0} (tells : Type 0) (n k total : ℕ) (old mid new : FlashState) (e : E) (d : D) → HasRead tells n old mid → ReadsTimes {T = T} {E = E} tells k mid new (Err e)
@@ -72,12 +77,14 @@ reads_failed tells n k total old mid new e d had more = record {
   sector_size = more.sector_size ∙ had.sector_size;
   steps = more.steps ∙ had.steps;
   power = more.power ∙ had.power;
+  lit = λ on. more.lit (had.power ∙ on) ∙ had.lit on;
   counted = tt;
   cause = record {
     never_falls = (let same = had.faults in let up = more.cause.never_falls in omega arith);
     ok = tt;
     err = subst (λ (f : ℕ). Rose f new.faults) had.faults more.cause.err;
   };
+  once = more.once ∙ ap next_count had.faults;
 }
 
 -- what a single call that reads says
@@ -88,8 +95,10 @@ reads_of_ok tells k old new x stays = record {
   sector_size = stays.sector_size;
   steps = stays.steps;
   power = stays.power;
+  lit = stays.lit;
   counted = stays.counted;
   cause = stays.cause;
+  once = tt;
 }
 
 pub reads_of_err : {T E : Type 0} (tells : Type 0) (k : ℕ) (old new : FlashState) (e : E) → OnlyReads {T = T} {E = E} tells k old new (Err e) → ReadsTimes {T = T} {E = E} tells k old new (Err e)
@@ -99,6 +108,8 @@ reads_of_err tells k old new e stays = record {
   sector_size = stays.sector_size;
   steps = stays.steps;
   power = stays.power;
+  lit = stays.lit;
   counted = tt;
   cause = stays.cause;
+  once = stays.once;
 }

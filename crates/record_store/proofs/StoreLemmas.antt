@@ -4,7 +4,7 @@ use Rattle.std.specs.Prelude.{is_some}
 use Rattle.std.specs.FinMap.{get}
 use Rattle.flash_model.specs.declared.geometry.Geometry.{Geometry}
 use Rattle.flash_model.specs.Layouts.{layout_of}
-use Rattle.flash_words.specs.Flash.{Told, FlashState, Leaves, LosesOnlyByChange, raised}
+use Rattle.flash_words.specs.Flash.{Told, FlashState, Leaves, LosesOnlyByChange, StaysLit, raised, next_count}
 use Rattle.flash_words.specs.Layout.{Layout, room_of}
 use Rattle.flash_words.proofs.CrashLemmas.{Leaves-none, Leaves-exit}
 use Rattle.base_model.specs.Faults.{Rose}
@@ -18,7 +18,7 @@ use Rattle.record_recovery.proofs.FirstRecords.{free_slots-only}
 use Rattle.record_store.specs.Index.{IsListing, IsListOf, IsPlaceFound}
 use Rattle.record_store.specs.Store.{StoreView, Pending, Idle, Writing, stored, records_of, free_in, slots_for, map_after, IsReady, IsInDoubt, KeepsMap, DividesAlike, doubted, restarted}
 use Rattle.record_model.specs.RecordMap.{Write, Failed, NoSpace as no_space, LAST_GENERATION, refusal_of}
-use Rattle.record_store.specs.Answers.{StartsWrite, copies_in, copies_of, HasDoubtOf, HasDoubtAtStart, HasFaultsOf, EndsCopies, ReadsExactly, TakesReads, reads_to_know, ReadsFlash}
+use Rattle.record_store.specs.Answers.{StartsWrite, copies_in, copies_of, HasDoubtOf, HasDoubtAtStart, HasFaultsOf, EndsAtFault, EndsCopies, ReadsExactly, TakesReads, reads_to_know, ReadsFlash}
 use Rattle.record_store.specs.Calls.{OnlyLooks, OnlyStarts}
 use Rattle.record_store.specs.Start.{ReadsTimes}
 use Rattle.record_store.specs.Kept.{IsStore, IsWork, IsUnderWay, Knows, KnowsSlots, MayMake, view_of, pending_of}
@@ -26,6 +26,7 @@ use Rattle.record_store.specs.declared.errors.StoreError.{StoreError}
 use Rattle.record_store.specs.declared.errors.StoreError.TheVariants.{NoSpace, LastGeneration, NotFound, Empty, Flash, Small}
 use Rattle.record_store.specs.declared.work.Work.{Work}
 use Rattle.record_store.specs.declared.work.Work.TheVariants as works
+use Rattle.record_store.proofs.FaultLemmas.{ends_none, ends_ok, ends_refused, ends_err, ends_then, ends_read, ends_read_failed}
 
 -- power lost in nothing, or in what kept the records
 pub KeepsMap-none : (v : StoreView) → KeepsMap v v
@@ -116,8 +117,8 @@ pub power_refl : (flash : FlashState) → LosesOnlyByChange flash flash
 power_refl flash = record { never_back = λ on. on; lost = inl refl }
 
 looks_by : {T U : Type 0} (tells : Type 0) (old new : StoreView) (x : Result T StoreError) (y : Result U StoreError) → (tells → EndsCopies old new y) → HasDoubtOf new y
-    → HasFaultsOf old.flash.faults new.flash.faults y → OnlyLooks tells old new x → OnlyLooks tells old new y
-looks_by tells old new x y ended doubt cause had = record {
+    → HasFaultsOf old.flash.faults new.flash.faults y → EndsAtFault old.flash new.flash y → OnlyLooks tells old new x → OnlyLooks tells old new y
+looks_by tells old new x y ended doubt cause ends had = record {
   kept = had.kept;
   few = had.few;
   ended = ended;
@@ -127,29 +128,30 @@ looks_by tells old new x y ended doubt cause had = record {
   alike = had.alike;
   power = had.power;
   cause = cause;
+  ends = ends;
 }
 
 -- an answer of a store that has looked
 pub looks_ok : {T U : Type 0} (tells : Type 0) (old new : StoreView) (x : T) (y : U) → OnlyLooks {T = T} tells old new (Ok x) → OnlyLooks {T = U} tells old new (Ok y)
-looks_ok tells old new x y had = looks_by tells old new (Ok x) (Ok y) had.ended had.doubt had.cause had
+looks_ok tells old new x y had = looks_by tells old new (Ok x) (Ok y) had.ended had.doubt had.cause (ends_ok old.flash new.flash x y had.ends) had
 
 pub looks_not_found : {T U : Type 0} (tells : Type 0) (old new : StoreView) (x : T) → OnlyLooks {T = T} tells old new (Ok x) → OnlyLooks {T = U} tells old new (Err NotFound)
-looks_not_found tells old new x had = looks_by tells old new (Ok x) (Err NotFound) had.ended had.doubt had.cause had
+looks_not_found tells old new x had = looks_by tells old new (Ok x) (Err NotFound) had.ended had.doubt had.cause (ends_refused old.flash new.flash x NotFound (λ e. cc) had.ends) had
 
 pub looks_empty : {T U : Type 0} (tells : Type 0) (old new : StoreView) (x : T) → OnlyLooks {T = T} tells old new (Ok x) → OnlyLooks {T = U} tells old new (Err Empty)
-looks_empty tells old new x had = looks_by tells old new (Ok x) (Err Empty) had.ended had.doubt had.cause had
+looks_empty tells old new x had = looks_by tells old new (Ok x) (Err Empty) had.ended had.doubt had.cause (ends_refused old.flash new.flash x Empty (λ e. cc) had.ends) had
 
 pub looks_small : {T U : Type 0} (tells : Type 0) (old new : StoreView) (x : T) (need : ℕ) → OnlyLooks {T = T} tells old new (Ok x) → OnlyLooks {T = U} tells old new (Err (Small need))
-looks_small tells old new x need had = looks_by tells old new (Ok x) (Err (Small need)) had.ended had.doubt had.cause had
+looks_small tells old new x need had = looks_by tells old new (Ok x) (Err (Small need)) had.ended had.doubt had.cause (ends_refused old.flash new.flash x (Small need) (λ e. cc) had.ends) had
 
 -- the fault of a look
 pub looks_err : {T U : Type 0} (tells : Type 0) (old new : StoreView) (error : StoreError) → OnlyLooks {T = T} tells old new (Err error) → OnlyLooks {T = U} tells old new (Err error)
-looks_err tells old new (NoSpace free) had = looks_by tells old new (Err (NoSpace free)) (Err (NoSpace free)) had.ended had.doubt had.cause had
-looks_err tells old new (LastGeneration id) had = looks_by tells old new (Err (LastGeneration id)) (Err (LastGeneration id)) had.ended had.doubt had.cause had
-looks_err tells old new NotFound had = looks_by tells old new (Err NotFound) (Err NotFound) had.ended had.doubt had.cause had
-looks_err tells old new Empty had = looks_by tells old new (Err Empty) (Err Empty) had.ended had.doubt had.cause had
-looks_err tells old new Flash had = looks_by tells old new (Err Flash) (Err Flash) had.ended had.doubt had.cause had
-looks_err tells old new (Small need) had = looks_by tells old new (Err (Small need)) (Err (Small need)) had.ended had.doubt had.cause had
+looks_err tells old new (NoSpace free) had = looks_by tells old new (Err (NoSpace free)) (Err (NoSpace free)) had.ended had.doubt had.cause (ends_err old.flash new.flash (NoSpace free) had.ends) had
+looks_err tells old new (LastGeneration id) had = looks_by tells old new (Err (LastGeneration id)) (Err (LastGeneration id)) had.ended had.doubt had.cause (ends_err old.flash new.flash (LastGeneration id) had.ends) had
+looks_err tells old new NotFound had = looks_by tells old new (Err NotFound) (Err NotFound) had.ended had.doubt had.cause (ends_err old.flash new.flash NotFound had.ends) had
+looks_err tells old new Empty had = looks_by tells old new (Err Empty) (Err Empty) had.ended had.doubt had.cause (ends_err old.flash new.flash Empty had.ends) had
+looks_err tells old new Flash had = looks_by tells old new (Err Flash) (Err Flash) had.ended had.doubt had.cause (ends_err old.flash new.flash Flash had.ends) had
+looks_err tells old new (Small need) had = looks_by tells old new (Err (Small need)) (Err (Small need)) had.ended had.doubt had.cause (ends_err old.flash new.flash (Small need) had.ends) had
 
 -- A look at the slots
 
@@ -170,6 +172,7 @@ looks_ready tells v x ready = record {
   alike = alike_refl v;
   power = power_refl v.flash;
   cause = refl;
+  ends = ends_none v.flash x;
 }
 
 rescanned_few : (geometry : Geometry) (flash new : FlashState) → ChangesFew geometry.slot_size geometry.slots flash new → NearlyOnlyFirstUp geometry.slot_size geometry.slots flash.told.image → new.steps ≤ flash.steps + 1
@@ -189,8 +192,8 @@ pub record IsScanned (tells : Type 0) (geometry : Geometry) (old new : FlashStat
 
 looks_scanned : {T : Type 0} (tells : Type 0) (geometry : Geometry) (old new : FlashState) (doubt after : Bool) (pending : Pending) (y : Result T StoreError) → IsScanned tells geometry old new
     → doubt ≡ true → pending ≡ Idle → (tells → EndsCopies (view_of geometry old doubt pending) (view_of geometry new after pending) y) → HasDoubtOf (view_of geometry new after pending) y → HasFaultsOf old.faults new.faults y
-    → OnlyLooks {T = T} tells (view_of geometry old doubt pending) (view_of geometry new after pending) y
-looks_scanned tells geometry old new doubt after pending y scanned unsure idle ended has_doubt cause = record {
+    → EndsAtFault {T = T} old new y → OnlyLooks {T = T} tells (view_of geometry old doubt pending) (view_of geometry new after pending) y
+looks_scanned tells geometry old new doubt after pending y scanned unsure idle ended has_doubt cause ends = record {
   kept = scanned.crash;
   few = λ told. rescanned_few geometry old new (scanned.changes told) (scanned.nearly told);
   ended = ended;
@@ -204,23 +207,24 @@ looks_scanned tells geometry old new doubt after pending y scanned unsure idle e
   alike = record { layout = refl; size = scanned.size; sector_size = scanned.sector_size };
   power = scanned.power;
   cause = cause;
+  ends = ends;
 }
 
 pub looks_again : {T : Type 0} (tells : Type 0) (geometry : Geometry) (old new : FlashState) (found : Found) (doubt : Bool) (pending : Pending) (v : StoreView) (x : T) → view_of geometry old doubt pending ≡ v
     → doubt ≡ true → pending ≡ Idle → IsScanned tells geometry old new → (tells → IsRecovered geometry.slot_size geometry.slots old new found) → new.faults ≡ old.faults
-    → OnlyLooks {T = T} tells v (view_of geometry new false pending) (Ok x)
-looks_again {T} tells geometry old new found doubt pending v x is unsure idle scanned recovered same =
+    → EndsAtFault {T = T} old new (Ok x) → OnlyLooks {T = T} tells v (view_of geometry new false pending) (Ok x)
+looks_again {T} tells geometry old new found doubt pending v x is unsure idle scanned recovered same ends =
     subst (λ (u : StoreView). OnlyLooks {T = T} tells u (view_of geometry new false pending) (Ok x)) is
     (looks_scanned {T = T} tells geometry old new doubt false pending (Ok x) scanned unsure idle
     (λ told. (recovered told).steps ∙ ap (λ (n : ℕ). old.steps + n) (sym (ap (λ (b : Bool). cond {A = ℕ} b (second_copies geometry.slot_size geometry.slots old.told.image) 0) unsure)))
-    (record { certain = refl; idle = idle }) same)
+    (record { certain = refl; idle = idle }) same ends)
 
 pub looks_failed : {T : Type 0} (tells : Type 0) (geometry : Geometry) (old new : FlashState) (doubt : Bool) (pending : Pending) (v : StoreView) → view_of geometry old doubt pending ≡ v
     → doubt ≡ true → pending ≡ Idle → IsScanned tells geometry old new → old.faults ≤ new.faults → Rose old.faults new.faults
-    → OnlyLooks {T = T} tells v (view_of geometry new doubt pending) (Err Flash)
-looks_failed {T} tells geometry old new doubt pending v is unsure idle scanned up rose =
+    → StaysLit old new → new.faults ≡ next_count old.faults → OnlyLooks {T = T} tells v (view_of geometry new doubt pending) (Err Flash)
+looks_failed {T} tells geometry old new doubt pending v is unsure idle scanned up rose lit once =
     subst (λ (u : StoreView). OnlyLooks {T = T} tells u (view_of geometry new doubt pending) (Err Flash)) is
-    (looks_scanned {T = T} tells geometry old new doubt doubt pending (Err Flash) scanned unsure idle (λ told. tt) (record { doubt = unsure; idle = idle }) (up, rose))
+    (looks_scanned {T = T} tells geometry old new doubt doubt pending (Err Flash) scanned unsure idle (λ told. tt) (record { doubt = unsure; idle = idle }) (up, rose) (record { once = once; lit = lit; same_power = tt; later = tt }))
 
 -- by a store that was put in doubt, and one whose flash got its power back
 pub looks_doubted : {T : Type 0} (tells : Type 0) (geometry : Geometry) (flash : FlashState) (doubt : Bool) (pending : Pending) (v new : StoreView) (y : Result T StoreError) → view_of geometry flash doubt pending ≡ v
@@ -291,6 +295,7 @@ looks_read tells old mid new count x z y had reads layout ready = record {
   alike = record { layout = layout ∙ had.alike.layout; size = reads.size ∙ had.alike.size; sector_size = reads.sector_size ∙ had.alike.sector_size };
   power = power_read old.flash mid.flash new.flash reads.power reads.steps had.power;
   cause = reads.cause.ok ∙ had.cause;
+  ends = ends_then old.flash mid.flash new.flash x (Ok y) had.cause had.ends (ends_read tells count mid.flash new.flash z y reads);
 }
 
 looks_read_failed : {T V U E : Type 0} (tells : Type 0) (old mid new : StoreView) (count : ℕ) (x : T) (e : E) → OnlyLooks {T = T} tells old mid (Ok x) → ReadsTimes {T = U} {E = E} tells count mid.flash new.flash (Err e)
@@ -305,6 +310,7 @@ looks_read_failed tells old mid new count x e had reads layout doubt = record {
   alike = record { layout = layout ∙ had.alike.layout; size = reads.size ∙ had.alike.size; sector_size = reads.sector_size ∙ had.alike.sector_size };
   power = power_read old.flash mid.flash new.flash reads.power reads.steps had.power;
   cause = (let up = reads.cause.never_falls in let same = had.cause in omega arith, subst (λ (f : ℕ). Rose f new.flash.faults) had.cause reads.cause.err);
+  ends = ends_then old.flash mid.flash new.flash x (Err Flash) had.cause had.ends (ends_read_failed tells count mid.flash new.flash e reads);
 }
 
 -- A start
@@ -327,8 +333,8 @@ same_slots_for old new len layout free =
 
 -- what a store that knows its records leaves of a start, whatever it answers
 pub starts_by : (tells : Type 0) (old mid new : StoreView) (x : Unit {0}) (y : Result (Unit {0}) StoreError) → OnlyLooks tells old mid (Ok x) → (tells → new.flash.told ≡ mid.flash.told) → new.flash.steps ≡ mid.flash.steps
-    → new.flash.powered ≡ mid.flash.powered → DividesAlike mid new → HasDoubtAtStart new y → HasFaultsOf old.flash.faults new.flash.faults y → (tells → EndsCopies old new y) → OnlyStarts tells old new y
-starts_by tells old mid new x y had told steps power alike doubt cause ended = record {
+    → new.flash.powered ≡ mid.flash.powered → DividesAlike mid new → HasDoubtAtStart new y → HasFaultsOf old.flash.faults new.flash.faults y → (tells → EndsCopies old new y) → EndsAtFault old.flash new.flash y → OnlyStarts tells old new y
+starts_by tells old mid new x y had told steps power alike doubt cause ended ends = record {
   kept = λ t. same_told (λ image. records_of old.layout image ≡ stored old) old.flash.told mid.flash.told new.flash.told (told t) (had.kept t);
   few = λ t. let before = had.few t in omega arith;
   ended = ended;
@@ -337,42 +343,43 @@ starts_by tells old mid new x y had told steps power alike doubt cause ended = r
   alike = alike_then old mid new had.alike alike;
   power = power_read old.flash mid.flash new.flash power steps had.power;
   cause = cause;
+  ends = ends;
 }
 
 -- a look that failed
 pub starts_err : (tells : Type 0) (old new : StoreView) (error : StoreError) → OnlyLooks {T = Unit {0}} tells old new (Err error) → OnlyStarts tells old new (Err error)
-starts_err tells old new error had = record { kept = had.kept; few = had.few; ended = had.ended; at_most = had.at_most; doubt = had.doubt; alike = had.alike; power = had.power; cause = had.cause }
+starts_err tells old new error had = record { kept = had.kept; few = had.few; ended = had.ended; at_most = had.at_most; doubt = had.doubt; alike = had.alike; power = had.power; cause = had.cause; ends = had.ends }
 
 -- a start that follows a look
 pub starts_then : (count : Unit {0} → ℕ) (tells : Type 0) (old mid new : StoreView) (x : Unit {0}) (y : Result (Unit {0}) StoreError) → OnlyLooks tells old mid (Ok x) → ReadsExactly tells count mid new y
     → OnlyStarts tells mid new y → OnlyStarts tells old new y
 starts_then count tells old mid new x (Ok done) had still starts =
-    starts_by tells old mid new x (Ok done) had still.only.told still.only.steps still.only.power starts.alike starts.doubt (starts.cause ∙ had.cause) (λ told. still.only.steps ∙ had.ended told)
+    starts_by tells old mid new x (Ok done) had still.only.told still.only.steps still.only.power starts.alike starts.doubt (starts.cause ∙ had.cause) (λ told. still.only.steps ∙ had.ended told) (ends_then old.flash mid.flash new.flash x (Ok done) had.cause had.ends starts.ends)
 starts_then count tells old mid new x (Err (NoSpace free)) had still starts =
     let steps : new.flash.steps ≡ mid.flash.steps = ap (λ (v : StoreView). v.flash.steps) still in
     starts_by tells old mid new x (Err (NoSpace free)) had (λ t. ap (λ (v : StoreView). v.flash.told) still) steps (ap (λ (v : StoreView). v.flash.powered) still) starts.alike starts.doubt (starts.cause ∙ had.cause)
-    (λ told. steps ∙ had.ended told)
+    (λ told. steps ∙ had.ended told) (ends_then old.flash mid.flash new.flash x (Err (NoSpace free)) had.cause had.ends starts.ends)
 starts_then count tells old mid new x (Err (LastGeneration id)) had still starts =
     let steps : new.flash.steps ≡ mid.flash.steps = ap (λ (v : StoreView). v.flash.steps) still in
     starts_by tells old mid new x (Err (LastGeneration id)) had (λ t. ap (λ (v : StoreView). v.flash.told) still) steps (ap (λ (v : StoreView). v.flash.powered) still) starts.alike starts.doubt (starts.cause ∙ had.cause)
-    (λ told. steps ∙ had.ended told)
+    (λ told. steps ∙ had.ended told) (ends_then old.flash mid.flash new.flash x (Err (LastGeneration id)) had.cause had.ends starts.ends)
 starts_then count tells old mid new x (Err NotFound) had still starts =
     let steps : new.flash.steps ≡ mid.flash.steps = ap (λ (v : StoreView). v.flash.steps) still in
     starts_by tells old mid new x (Err NotFound) had (λ t. ap (λ (v : StoreView). v.flash.told) still) steps (ap (λ (v : StoreView). v.flash.powered) still) starts.alike starts.doubt (starts.cause ∙ had.cause)
-    (λ told. steps ∙ had.ended told)
+    (λ told. steps ∙ had.ended told) (ends_then old.flash mid.flash new.flash x (Err NotFound) had.cause had.ends starts.ends)
 starts_then count tells old mid new x (Err Empty) had still starts =
     let steps : new.flash.steps ≡ mid.flash.steps = ap (λ (v : StoreView). v.flash.steps) still in
     starts_by tells old mid new x (Err Empty) had (λ t. ap (λ (v : StoreView). v.flash.told) still) steps (ap (λ (v : StoreView). v.flash.powered) still) starts.alike starts.doubt (starts.cause ∙ had.cause)
-    (λ told. steps ∙ had.ended told)
+    (λ told. steps ∙ had.ended told) (ends_then old.flash mid.flash new.flash x (Err Empty) had.cause had.ends starts.ends)
 starts_then count tells old mid new x (Err Flash) had still starts =
     let cause = starts.cause in
     let same = had.cause in
     starts_by tells old mid new x (Err Flash) had still.told still.steps still.power starts.alike starts.doubt
-    (let up : mid.flash.faults ≤ new.flash.faults = cause.0 in omega arith, subst (λ (f : ℕ). Rose f new.flash.faults) same cause.1) (λ told. tt)
+    (let up : mid.flash.faults ≤ new.flash.faults = cause.0 in omega arith, subst (λ (f : ℕ). Rose f new.flash.faults) same cause.1) (λ told. tt) (ends_then old.flash mid.flash new.flash x (Err Flash) had.cause had.ends starts.ends)
 starts_then count tells old mid new x (Err (Small need)) had still starts =
     let steps : new.flash.steps ≡ mid.flash.steps = ap (λ (v : StoreView). v.flash.steps) still in
     starts_by tells old mid new x (Err (Small need)) had (λ t. ap (λ (v : StoreView). v.flash.told) still) steps (ap (λ (v : StoreView). v.flash.powered) still) starts.alike starts.doubt (starts.cause ∙ had.cause)
-    (λ told. steps ∙ had.ended told)
+    (λ told. steps ∙ had.ended told) (ends_then old.flash mid.flash new.flash x (Err (Small need)) had.cause had.ends starts.ends)
 
 -- a clear that starts, or is refused, after a look
 pub starts_clear : (tells : Type 0) (old mid new : StoreView) (x : Unit {0}) (y : Unit {0}) → OnlyLooks {T = Unit {0}} tells old mid (Ok x) → new.flash ≡ mid.flash → new.layout ≡ mid.layout → new.in_doubt ≡ false
@@ -382,9 +389,10 @@ starts_clear tells old mid new x y had flash layout certain =
     starts_by tells old mid new x (Ok y) had (λ t. ap (λ (f : FlashState). f.told) flash) steps (ap (λ (f : FlashState). f.powered) flash)
     (record { layout = layout; size = ap (λ (f : FlashState). f.size) flash; sector_size = ap (λ (f : FlashState). f.sector_size) flash }) certain
     (ap (λ (f : FlashState). f.faults) flash ∙ had.cause) (λ told. steps ∙ had.ended told)
+    (subst (λ (f : FlashState). EndsAtFault old.flash f (Ok y)) (sym flash) (ends_ok old.flash mid.flash x y had.ends))
 
 pub starts_refused : (tells : Type 0) (old mid : StoreView) (x : Unit {0}) → OnlyLooks {T = Unit {0}} tells old mid (Ok x) → OnlyStarts tells old mid (Err NotFound)
-starts_refused tells old mid x had = record { kept = had.kept; few = had.few; ended = had.ended; at_most = had.at_most; doubt = had.doubt; alike = had.alike; power = had.power; cause = had.cause }
+starts_refused tells old mid x had = record { kept = had.kept; few = had.few; ended = had.ended; at_most = had.at_most; doubt = had.doubt; alike = had.alike; power = had.power; cause = had.cause; ends = ends_refused old.flash mid.flash x NotFound (λ e. cc) had.ends }
 
 -- what a start answered a store that knows its records is the answer to the store at first
 at_old : (old mid : StoreView) → mid.layout ≡ old.layout → stored mid ≡ stored old → (P : Layout → Stored → Type 0) → P mid.layout (stored mid) → P old.layout (stored old)

@@ -3,7 +3,7 @@ use Rattle.std.specs.Prelude.{◌≡◌, ℕ, ◌+◌, ◌*◌, ◌<◌, ◌≤�
 use Rattle.std.specs.FinMap.{get}
 use Rattle.base_model.specs.Faults.{Rose}
 use Rattle.flash_model.specs.declared.geometry.Geometry.{Geometry}
-use Rattle.flash_words.specs.Flash.{FlashState, raised}
+use Rattle.flash_words.specs.Flash.{FlashState, StaysLit, raised, next_count}
 use Rattle.flash_words.specs.Layout.{Layout, room_of}
 use Rattle.record_model.specs.Records.{second_copies, parts_in}
 use Rattle.record_model.specs.RecordMap.{Command, Write, Clear, Read, Failed, NoSpace as no_space, NotFound as not_found, Empty as empty, LAST_GENERATION, refusal_of, after, changes_of}
@@ -145,6 +145,24 @@ UnlessFlash (Err NotFound) P = P
 UnlessFlash (Err Empty) P = P
 UnlessFlash (Err Flash) P = Unit {0}
 UnlessFlash (Err (Small need)) P = P
+
+-- the fault that is answered is the only one
+abbrev pub FailsOnce : {T : Type 0} → ℕ → ℕ → Result T StoreError → Type 0
+FailsOnce before after (Ok done) = Unit {0}
+FailsOnce before after (Err (NoSpace free)) = Unit {0}
+FailsOnce before after (Err (LastGeneration id)) = Unit {0}
+FailsOnce before after (Err NotFound) = Unit {0}
+FailsOnce before after (Err Empty) = Unit {0}
+FailsOnce before after (Err Flash) = after ≡ next_count before
+FailsOnce before after (Err (Small need)) = Unit {0}
+
+-- A call ends at its first fault: nothing is asked of the flash behind it. Up to there power stays, and no call found a
+-- flash without it that had it at the start
+pub record EndsAtFault {T : Type 0} (old new : FlashState) (result : Result T StoreError) : Type 0 where
+  pub once : FailsOnce old.faults new.faults result
+  pub lit : StaysLit old new
+  pub same_power : UnlessFlash result (new.powered ≡ old.powered)
+  pub later : UnlessFlash result (old.steps ≤ new.steps)
 
 -- a flash was at most read
 pub record OnlyReadsFlash (tells : Type 0) (old new : FlashState) : Type 0 where

@@ -3,7 +3,7 @@ use Rattle.std.specs.Prelude.{◌≡◌, ◌+◌, ◌≤◌, true, Result, OnOk}
 use Rattle.flash_words.specs.Flash.{LosesOnlyByChange}
 use Rattle.record_model.specs.RecordMap.{Command, changes_of}
 use Rattle.record_store.specs.Store.{StoreView, Idle, stored, KeepsMap, DividesAlike, IsBeforeOrAfter}
-use Rattle.record_store.specs.Answers.{HasFaultsOf, HasDoubtOf, HasDoubtAtStart, EndsCopies, TakesExactly, copies_of}
+use Rattle.record_store.specs.Answers.{HasFaultsOf, HasDoubtOf, HasDoubtAtStart, EndsAtFault, EndsCopies, TakesExactly, copies_of}
 use Rattle.record_store.specs.declared.errors.StoreError.{StoreError}
 
 -- A call that only looks. A store in doubt first looks at its slots again, and ends a second copy by one change: power lost
@@ -18,6 +18,7 @@ pub record OnlyLooks {T : Type 0} (tells : Type 0) (old new : StoreView) (result
   pub alike : DividesAlike old new
   pub power : LosesOnlyByChange old.flash new.flash
   pub cause : HasFaultsOf old.flash.faults new.flash.faults result
+  pub ends : EndsAtFault old.flash new.flash result
 
 -- the start of a write or of a clear, which looks too and makes no other change
 pub record OnlyStarts (tells : Type 0) (old new : StoreView) (result : Result (Unit {0}) StoreError) : Type 0 where
@@ -29,9 +30,10 @@ pub record OnlyStarts (tells : Type 0) (old new : StoreView) (result : Result (U
   pub alike : DividesAlike old new
   pub power : LosesOnlyByChange old.flash new.flash
   pub cause : HasFaultsOf old.flash.faults new.flash.faults result
+  pub ends : EndsAtFault old.flash new.flash result
 
 -- A whole write or clear. Power lost at any step on the way leaves the records from before, or those that an Ok makes. A
--- store in doubt first ends a second copy, by one change. A fault ends the command: no change comes after one that failed
+-- store in doubt first ends a second copy, by one change. A command ends at its first fault, and brings no power back
 pub record Changes (tells : Type 0) (old new : StoreView) (command : Command) (result : Result (Unit {0}) StoreError) : Type 0 where
   pub crash : tells → IsBeforeOrAfter old new command
   pub steps : tells → TakesExactly old new command result
@@ -40,5 +42,7 @@ pub record Changes (tells : Type 0) (old new : StoreView) (command : Command) (r
   pub doubt : HasDoubtOf new result
   pub idle : new.pending ≡ Idle
   pub alike : DividesAlike old new
+  pub power : LosesOnlyByChange old.flash new.flash
   pub powered : OnOk result (new.flash.powered ≡ true)
   pub cause : HasFaultsOf old.flash.faults new.flash.faults result
+  pub ends : EndsAtFault old.flash new.flash result

@@ -1,5 +1,6 @@
 -- What is left of a command that is pending.
-use Rattle.std.specs.Prelude.{◌≡◌, ℕ, ◌+◌, ◌-◌, ◌<◌, nat_le, if◌then◌else◌, List}
+use Rattle.std.specs.Prelude.{◌≡◌, ℕ, ◌+◌, ◌-◌, ◌<◌, ◌≤◌, nat_le, if◌then◌else◌, List}
+use Rattle.flash_words.specs.Flash.{StaysLit}
 use Rattle.flash_words.specs.Layout.{Layout}
 use Rattle.record_model.specs.Records.{Stored}
 use Rattle.record_model.specs.RecordMap.{Write, Clear, made_by}
@@ -40,6 +41,9 @@ pub record IsOnWay (tells : Type 0) (old now : StoreView) : Type 0 where
   pub left : now.flash.steps + changes_left now.layout now.pending ≡ old.flash.steps + changes_left old.layout old.pending
   pub faults : now.flash.faults ≡ old.flash.faults
   pub reads : now.flash.reads ≡ old.flash.reads
+  pub power : now.flash.powered ≡ old.flash.powered
+  pub lit : StaysLit old.flash now.flash
+  pub later : old.flash.steps ≤ now.flash.steps
   pub alike : DividesAlike old now
   pub places : PlacesAlike old.layout old.pending now.pending
   pub end : tells → map_at_end now.layout now.pending (stored now) ≡ map_at_end old.layout old.pending (stored old)

@@ -1,8 +1,8 @@
 -- What a write begins with.
-use Rattle.std.specs.Prelude.{◌≡◌, ◌≢◌, ℕ, ◌+◌, ◌*◌, ◌-◌, ◌^◌, ◌<◌, ◌≤◌, ◌==◌, Bool, false, List, length, slice_index, slice_index_or, Option, Some, None, IfSome, Result, Ok, Err, OnOk}
+use Rattle.std.specs.Prelude.{◌≡◌, ◌≢◌, ℕ, ◌+◌, ◌*◌, ◌-◌, ◌^◌, ◌<◌, ◌≤◌, ◌==◌, Bool, false, List, length, slice_index, slice_index_or, Option, Some, None, IfSome, Result, Ok, Err, OnOk, OnErr}
 use Rattle.base_model.specs.Faults.{HasCause}
 use Rattle.flash_model.specs.declared.geometry.Geometry.{Geometry}
-use Rattle.flash_words.specs.Flash.{FlashState, raised}
+use Rattle.flash_words.specs.Flash.{FlashState, StaysLit, raised, next_count}
 use Rattle.record_model.specs.Records.{Entry, parts_of, tail_at, is_reserved, tail_mark}
 use Rattle.record_model.specs.RecordMap.{LAST_GENERATION}
 use Rattle.record_draft.specs.declared.draft.Draft.{Draft}
@@ -69,7 +69,7 @@ IsRefusedBy geometry found id len Empty = ⊥
 IsRefusedBy geometry found id len Flash = Unit {0}
 IsRefusedBy geometry found id len (Small need) = ⊥
 
--- a flash was read so many times, or fewer where it failed
+-- a flash was read so many times, or fewer where it failed, and not again then
 pub record ReadsTimes {T E : Type 0} (tells : Type 0) (count : ℕ) (old new : FlashState) (result : Result T E) : Type 0 where
   pub told : tells → new.told ≡ old.told
   pub size : new.size ≡ old.size
@@ -77,7 +77,9 @@ pub record ReadsTimes {T E : Type 0} (tells : Type 0) (count : ℕ) (old new : F
   pub steps : new.steps ≡ old.steps
   pub power : new.powered ≡ old.powered
   pub counted : OnOk result (new.reads ≡ raised count old.reads)
+  pub lit : StaysLit old new
   pub cause : HasCause old.faults new.faults result
+  pub once : OnErr result (new.faults ≡ next_count old.faults)
 
 -- a flash is read for a plan so many times, and not where the lists refuse it
 abbrev pub ReadsToPlan : {T : Type 0} → Type 0 → ℕ → FlashState → FlashState → Result T StoreError → Type 0

@@ -7,9 +7,10 @@ ghost use Rattle.flash_model.specs.Layouts.{layout_of};
 ghost use Rattle.record_model.specs.Records.{second_copies, parts_of};
 ghost use Rattle.record_model.specs.RecordMap.{Write, Clear, Read, IsNextAbove};
 ghost use Rattle.record_slots.specs.Slots.{Fits};
+ghost use Rattle.record_recovery.specs.Answers.{IsOneFault};
 ghost use Rattle.record_store.specs.Store.{Idle, Clearing, stored, free_in, slots_for, map_after, IsBusy, IsWriteOf, IsSettled, IsReady, IsOpened, IsFlashOf, StandsIn, PlacedAfter, DividesAlike, KeepsMap, KeepsOrMakes, KeepsRecordsOf, abandoned, doubted, restarted};
 ghost use Rattle.record_store.specs.Finish.{IsUnfinished, map_at_end, changes_left, PlacedAtEnd};
-ghost use Rattle.record_store.specs.Answers.{HasFaultsOf, HasDoubtOf, StartsWrite, StartsClear, IsStep, HasStepped, AnswersWrite, AnswersClear, AnswersRead, AnswersLength, FailsByFlash, RefusesFlash, ReadsExactly, StartsByItself, AnswersByItself, HasLooked, TakesReads, copies_in, copies_pending};
+ghost use Rattle.record_store.specs.Answers.{HasFaultsOf, HasDoubtOf, EndsAtFault, StartsWrite, StartsClear, IsStep, HasStepped, AnswersWrite, AnswersClear, AnswersRead, AnswersLength, FailsByFlash, RefusesFlash, ReadsExactly, StartsByItself, AnswersByItself, HasLooked, TakesReads, copies_in, copies_pending};
 ghost use Rattle.record_store.specs.Calls.{OnlyLooks, OnlyStarts, Changes};
 
 use crate::errors::{StoreError, StoreRefused};
@@ -79,6 +80,7 @@ impl<F: Flash> Store<F> {
         ensures power_back { IfErr result (λ refused. LosesOnlyByChange (F.state flash) (F.state refused.flash)) }
         ensures lit { IfOk result (λ store. StaysLit (F.state flash) store.flash) }
         ensures lit_back { IfErr result (λ refused. StaysLit (F.state flash) (F.state refused.flash)) }
+        ensures once { IfErr result (λ refused. IsOneFault (F.state flash) (F.state refused.flash) refused.why) }
     {
         let size = flash.size();
         let sector = u64::from(flash.sector_size());
@@ -164,6 +166,7 @@ impl<F: Flash> Store<F> {
         ensures power { LosesOnlyByChange self.old.flash self.new.flash }
         ensures powered { OnOk result (self.new.flash.powered ≡ true) }
         ensures cause { HasFaultsOf self.old.flash.faults self.new.flash.faults result }
+        ensures ends { EndsAtFault self.old.flash self.new.flash result }
     {
         let made = make_change(
             &mut self.flash,
@@ -405,7 +408,6 @@ impl<F: Flash> Store<F> {
         ensures looked { self.old.in_doubt ≡ true → HasLooked self.old self.new result }
         ensures reads { TakesReads (λ _ reads. reads) self.old self.new result }
         ensures free { OnOk result (F.tells → free_in self.new ≡ free_in self.old) }
-        ensures lit { StaysLit self.old.flash self.new.flash }
         ensures leaves { OnlyLooks F.tells self.old self.new result }
     {
         if !self.in_doubt {
@@ -469,8 +471,10 @@ impl<F: Flash> Store<F> {
         ensures doubt { HasDoubtOf self.new result }
         ensures idle { self.new.pending ≡ Idle }
         ensures alike { DividesAlike self.old self.new }
+        ensures power { LosesOnlyByChange self.old.flash self.new.flash }
         ensures powered { OnOk result (self.new.flash.powered ≡ true) }
         ensures cause { HasFaultsOf self.old.flash.faults self.new.flash.faults result }
+        ensures ends { EndsAtFault self.old.flash self.new.flash result }
     {
         while !self.step()? {}
         Ok(())

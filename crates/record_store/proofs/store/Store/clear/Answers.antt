@@ -16,8 +16,10 @@ returns-in-Ok g c =
       doubt = c.finish.ensures.doubt;
       idle = c.finish.ensures.idle;
       alike = c.finish.ensures.alike;
+      power = c.finish.ensures.power;
       powered = c.finish.ensures.powered;
       cause = c.finish.ensures.cause;
+      ends = c.finish.ensures.ends;
     }) in
     record {
       answer = made.answer;

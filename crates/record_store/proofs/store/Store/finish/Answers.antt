@@ -17,7 +17,7 @@ loop-preserved g c =
     (λ idle. elim stepped.2 [ inl last ↦ absurd (both_ways c.in_ok-step.field-0 c.if-not-branch.true last) | inr more ↦ more.1 idle ])
     c.step.ensures.alike.layout
     (gone_on g.F.Flash.tells c.args.self.now c.loop.self c.step.new.self c.loop.invariant stepped.1 c.in_ok-step.ensures.answer c.step.ensures.crash
-    c.in_ok-step.ensures.one c.step.ensures.alike c.in_ok-step.ensures.cause c.step.ensures.reads)
+    c.in_ok-step.ensures.one c.step.ensures.alike c.in_ok-step.ensures.cause c.step.ensures.reads c.in_ok-step.field-0 c.in_ok-step.ensures.ends)
 
 pub returns-clause-crash : goal.returns-clause-crash
 returns-clause-crash g c tells =

@@ -66,6 +66,12 @@ returns-in-Ok-clause-leaves g c =
     } in
     looks_again g.F.Flash.tells i.geometry (g.F.Flash.state i.flash) (g.F.Flash.state c.rescan.new.flash) c.rescan.new.found i.in_doubt (pending_of (layout_of i.geometry) i.buffer.items i.work) c.args.self.now _ c.self.view_is
     c.if-not-self.false (ap (λ (u : StoreView). u.pending) c.self.view_is ∙ c.requires.idle) scanned c.in-Ok.ensures.recovered c.in-Ok.ensures.shape.cause.ok
+    (record {
+      once = tt;
+      lit = shape.lit;
+      same_power = c.in-Ok.ensures.shape.powered ∙ sym (shape.power.never_back c.in-Ok.ensures.shape.powered);
+      later = c.in-Ok.ensures.shape.later;
+    })
 
 pub returns-in-Err-clause-leaves : goal.returns-in-Err-clause-leaves
 returns-in-Err-clause-leaves g c =
@@ -80,7 +86,7 @@ returns-in-Err-clause-leaves g c =
       power = shape.power;
     } in
     looks_failed g.F.Flash.tells i.geometry (g.F.Flash.state i.flash) (g.F.Flash.state c.rescan.new.flash) i.in_doubt (pending_of (layout_of i.geometry) i.buffer.items i.work) c.args.self.now c.self.view_is
-    c.if-not-self.false (ap (λ (u : StoreView). u.pending) c.self.view_is ∙ c.requires.idle) scanned shape.cause.never_falls c.in-Err.ensures.shape.cause.err
+    c.if-not-self.false (ap (λ (u : StoreView). u.pending) c.self.view_is ∙ c.requires.idle) scanned shape.cause.never_falls c.in-Err.ensures.shape.cause.err shape.lit c.in-Err.ensures.shape.once
 
 pub returns-in-Ok-clause-free : goal.returns-in-Ok-clause-free
 returns-in-Ok-clause-free g c tells =
