@@ -15,6 +15,8 @@ import time
 TOP = os.path.dirname(os.path.dirname(os.path.abspath(__file__)))
 JOBS = [
     ("goto", 10_000_000, 1, "ns a step of a GOTO loop"),
+    ("short", 10_000_000, 1, "ns a step by a table of 4 entries whose two actions alternate"),
+    ("long", 10_000_000, 1, "ns a step by one of 2,000 entries"),
     ("dummies", 1_000_000, 1, "ns a client's dummy write of nine steps over plain memory"),
     ("move", 10_000, 65_536, "GB a second by MOVE_DATA of 65,536 bytes"),
     ("records", 100_000, 4_096, "GB a second through a reader of error records, in pieces of 4 KiB"),

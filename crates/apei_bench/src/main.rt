@@ -34,6 +34,8 @@ fn counted(rt: &HostRuntime) -> Option<u64> {
 fn done(alloc: Global, job: &str, times: u64) -> Option<u64> {
     match job {
         "goto" => programs::go_round(alloc, times),
+        "short" => programs::go_round_table(alloc, 2, times),
+        "long" => programs::go_round_table(alloc, 1000, times),
         "move" => programs::move_bytes(alloc, times),
         "dummies" => clients::write_dummies(alloc, times),
         "records" => frames::read_records(alloc, times),

@@ -1,7 +1,8 @@
 // Register programs over plain memory.
 use apei_gas::{Gas, Place, Width};
 use apei_space::{Ram, Space, Window};
-use erst_entries::{Action, Entry, Instruction, Program};
+use apei_tables::Header;
+use erst_entries::{Action, Entry, ErstTable, Instruction, Program};
 use erst_interp::{Budget, RunStop, run};
 use std::alloc::Global;
 
@@ -55,6 +56,50 @@ pub fn go_round(alloc: Global, steps: u64) -> Option<u64> {
         Err(RunStop::Budget) => Some(budget.left()),
         _ => None,
     }
+}
+
+/// The program of one of two actions that alternate in a table of `pairs` entries each. Each goes on at the next, and the last
+/// at the first, for so many steps. It answers the steps that are left.
+pub fn go_round_table(alloc: Global, pairs: u64, steps: u64) -> Option<u64> {
+    let table = alternating(alloc, pairs)?;
+    let mut ram = memory(alloc)?;
+    let mut budget = Budget::new(steps);
+    match run(&table.program(action()), 0, &mut budget, &mut ram) {
+        Err(RunStop::Budget) => Some(budget.left()),
+        _ => None,
+    }
+}
+
+fn alternating(alloc: Global, pairs: u64) -> Option<ErstTable> {
+    let header = Header {
+        signature: *b"ERST",
+        length: 48,
+        revision: 1,
+        checksum: 0,
+        oem_id: [0; 6],
+        oem_table_id: [0; 8],
+        oem_revision: 1,
+        creator_id: [0; 4],
+        creator_revision: 1,
+    };
+    let mut table = ErstTable::blank(alloc, header);
+    for index in 0..pairs {
+        let next = if index + 1 < pairs { index + 1 } else { 0 };
+        let mut round = entry(Instruction::Goto, MEMORY);
+        round.value = next;
+        add(&mut table, round)?;
+        round.action = Action::GetRecordCount.code();
+        add(&mut table, round)?;
+    }
+    table.finish();
+    Some(table)
+}
+
+fn add(table: &mut ErstTable, entry: Entry) -> Option<()> {
+    if table.len() >= 4096 {
+        return None;
+    }
+    table.push(entry).ok()
 }
 
 /// A program that copies 65,536 bytes, so many times. It answers how often it was done.

@@ -2,3 +2,4 @@ pub mod Listing
 pub mod EntryBytes
 pub mod TableBytes
 pub mod Finding
+pub mod Grouping

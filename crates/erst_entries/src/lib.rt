@@ -3,6 +3,7 @@
 
 mod actions;
 mod entries;
+mod groups;
 mod instructions;
 mod programs;
 mod tables;

@@ -36,6 +36,18 @@ impl<'a> Program<'a> {
         Program { span, action, len }
     }
 
+    /// The program whose entries are these alone.
+    pub(crate) fn alone(entries: &'a [Entry], action: u8) -> Program<'a>
+        requires { entries_of action entries.now ≡ entries.now }
+        ensures { result ≡ record { action = action; entries = entries.now } }
+    {
+        Program {
+            span: entries,
+            action,
+            len: entries.len(),
+        }
+    }
+
     /// The action that it carries out.
     pub fn action(&self) -> u8
         ensures { result ≡ self.now.action }

@@ -1,13 +1,15 @@
 // The table: read, written, and built entry by entry.
-ghost use Rattle.std.specs.Prelude.{◌≡◌, ◌+◌, ◌*◌, ◌≤◌, ◌<◌, ◌^◌, ◌⊎◌, ℕ, List, [], ◌∷◌, ◌++◌, Some, None, length, take, sum, slice_get, ◌%◌, ◌↔◌, IsTrue, OnOk, OnErr, IfOk, MatchResult};
+ghost use Rattle.std.specs.Prelude.{◌≡◌, ◌+◌, ◌*◌, ◌≤◌, ◌<◌, ◌^◌, ◌⊎◌, ℕ, List, [], ◌∷◌, ◌++◌, Some, None, length, take, sum, slice_get, ◌%◌, ◌↔◌, IsTrue, true, OnOk, OnErr, IfOk, MatchResult};
 ghost use Rattle.base_model.specs.Bytes.{part, number_at, AreBytes};
 ghost use Rattle.apei_tables.specs.Layout.{HasSizes};
 ghost use Rattle.apei_tables.specs.Tables.{IsSealed};
 ghost use Rattle.erst_entries.specs.Layout.{Erst, FitsErst, AreEntries, entries_spelling, front_spelling, spelling};
 ghost use Rattle.erst_entries.specs.Programs.{program_of};
+ghost use Rattle.erst_entries.specs.Groups.{Kept};
 ghost use Rattle.erst_entries.specs.Tables.{IsErst, FindsErst, AreRead, refusal, Refuses, Gives, Finished};
 
 use crate::entries::{ENTRY, Entry};
+use crate::groups::{ACTIONS, group, start_of};
 use crate::programs::Program;
 use apei_bytes::{Memory, get_u32, put_u32};
 use apei_tables::{Header, TableError, sum_of};
@@ -38,17 +40,23 @@ pub struct ErstTable {
     reserved: u32,
     count: u32,
     entries: Vec<Entry>,
+    /// Room for as many, and where they stand by action, the place behind each action's last one.
+    by_action: Vec<Entry>,
+    ends: [u32; ACTIONS],
+    /// Whether they stand there, and none was pushed since.
+    is_grouped: bool,
 }
 
 impl Model for ErstTable {
     ghost use Rattle.std.specs.Prelude.{◌+◌, ◌*◌, ◌<◌, ◌^◌, length};
     ghost use Rattle.erst_entries.specs.Layout.{Erst};
+    ghost use Rattle.erst_entries.specs.Groups.{Kept};
 
     ghost Value = { Erst };
 
     ghost view = { λ t. record { header = t.header; header_size = t.header_size; reserved = t.reserved; count = t.count; entries = t.entries.items } };
 
-    ghost invariant = { λ t. 48 + 32 * length t.entries.items < 2 ^ 32 };
+    ghost invariant = { λ t. (48 + 32 * length t.entries.items < 2 ^ 32) × Kept t.is_grouped t.entries.items t.ends t.by_action.items };
 }
 
 impl ErstTable {
@@ -67,12 +75,19 @@ impl ErstTable {
         let Ok(entries) = read_entries(alloc, table, count as usize) else {
             return Err(ErstError::Memory);
         };
+        let Ok(grouped) = by_action(alloc, &entries) else {
+            return Err(ErstError::Memory);
+        };
+        let ends = grouped.1;
         let erst = ErstTable {
             header,
             header_size: get_u32(bytes, 36),
             reserved: get_u32(bytes, 40),
             count,
             entries,
+            by_action: grouped.0,
+            ends,
+            is_grouped: true,
         };
         Ok((erst, table.len()))
     }
@@ -97,6 +112,9 @@ impl ErstTable {
             reserved: 0,
             count: 0,
             entries: Vec::new(alloc),
+            by_action: Vec::new(alloc),
+            ends: [0; ACTIONS],
+            is_grouped: false,
         }
     }
 
@@ -106,6 +124,8 @@ impl ErstTable {
         ensures ok { OnOk result (self.new ≡ record self.old { entries = self.old.entries ++ entry ∷ [] }) }
         ensures err { OnErr result (self.new ≡ self.old) }
     {
+        self.is_grouped = false;
+        self.by_action.push(entry)?;
         self.entries.push(entry)?;
         Ok(())
     }
@@ -114,7 +134,10 @@ impl ErstTable {
     pub fn finish(&mut self)
         ensures sealed { IsSealed (spelling self.new) }
         ensures finished { Finished self.old self.new }
+        ensures byte { self.new.header.checksum < 256 }
     {
+        self.ends = group(&self.entries, &mut self.by_action);
+        self.is_grouped = true;
         self.count = self.entries.len() as u32;
         self.header.length = (FIXED + ENTRY * self.entries.len()) as u32;
         self.header.checksum = 0;
@@ -147,7 +170,12 @@ impl ErstTable {
     pub fn program(&self, action: u8) -> Program<'_>
         ensures { result ≡ program_of action self.now.entries }
     {
-        Program::of(&self.entries, action)
+        if !self.is_grouped {
+            return Program::of(&self.entries, action);
+        }
+        let start = start_of(&self.ends, action);
+        let end = self.ends[usize::from(action)];
+        Program::alone(&self.by_action[start as usize..end as usize], action)
     }
 
     /// What all its bytes add to, modulo 256.
@@ -210,6 +238,16 @@ fn read_entries(alloc: Global, table: &[u8], count: usize) -> Result<Vec<Entry>,
         entries.push(Entry::read(&table[at..at + ENTRY]))?;
     }
     Ok(entries)
+}
+
+/// The entries once more, by action, and the place behind each action's last one.
+fn by_action(alloc: Global, entries: &[Entry]) -> Result<(Vec<Entry>, [u32; ACTIONS]), AllocError>
+    requires { length entries.now < 2 ^ 32 }
+    ensures { IfOk result (λ found. Kept true entries.now found.1 found.0.items) }
+{
+    let mut grouped = Vec::from_slice(alloc, entries)?;
+    let ends = group(entries, &mut grouped);
+    Ok((grouped, ends))
 }
 
 /// Puts the bytes of entries behind others.

@@ -2,4 +2,4 @@ pub mod Rules
 mod WorkLemmas
 mod Walking
 pub mod Consequences
-mod StraightLemmas
+pub mod StraightLemmas

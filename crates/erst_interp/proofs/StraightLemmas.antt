@@ -34,7 +34,7 @@ same_register r s answer e f = cc
 no_register : (r : Register) (why : BadRegister) (answer : Result Register BadRegister) → answer ≡ Ok r → answer ≡ Err why → ⊥
 no_register r why answer e f = absurd (cc)
 
-whole_of : {W : Type 0} (allows : W → Call → W → Type 0) (register : Register) (entry : Entry) (value : ℕ) (old : W) (answer : Result (Unit {0}) SpaceFault) (new : W) →
+pub whole_of : {W : Type 0} (allows : W → Call → W → Type 0) (register : Register) (entry : Entry) (value : ℕ) (old : W) (answer : Result (Unit {0}) SpaceFault) (new : W) →
     Store allows register entry value old answer new → bit_and entry.flags 1 ≡ 0 → allows old (Write register.place register.access (stored value register.offset entry.mask) answer) new
 whole_of allows register entry value old answer new done plain =
     elim done as (λ answer new done. allows old (Write register.place register.access (stored value register.offset entry.mask) answer) new) [
@@ -43,7 +43,7 @@ whole_of allows register entry value old answer new done plain =
       | Unread fault new keeps h ↦ absurd (keeps plain)
     ]
 
-got_of : {W : Type 0} (allows : W → Call → W → Type 0) (register : Register) (mask : ℕ) (old : W) (answer : Result ℕ SpaceFault) (new : W) (x : ℕ) → FieldRead allows register mask old answer new → answer ≡ Ok x →
+pub got_of : {W : Type 0} (allows : W → Call → W → Type 0) (register : Register) (mask : ℕ) (old : W) (answer : Result ℕ SpaceFault) (new : W) (x : ℕ) → FieldRead allows register mask old answer new → answer ≡ Ok x →
     (number : ℕ) × ((x ≡ field number register.offset mask) × allows old (Read register.place register.access (Ok number)) new)
 got_of allows register mask old answer new x read =
     elim read as (λ answer new read. answer ≡ Ok x → (number : ℕ) × ((x ≡ field number register.offset mask) × allows old (Read register.place register.access (Ok number)) new)) [
@@ -51,7 +51,7 @@ got_of allows register mask old answer new x read =
       | Refused fault new h ↦ λ e. absurd (cc)
     ]
 
-refused_of : {W : Type 0} (allows : W → Call → W → Type 0) (register : Register) (mask : ℕ) (old : W) (answer : Result ℕ SpaceFault) (new : W) (fault : SpaceFault) → FieldRead allows register mask old answer new → answer ≡ Err fault →
+pub refused_of : {W : Type 0} (allows : W → Call → W → Type 0) (register : Register) (mask : ℕ) (old : W) (answer : Result ℕ SpaceFault) (new : W) (fault : SpaceFault) → FieldRead allows register mask old answer new → answer ≡ Err fault →
     allows old (Read register.place register.access (Err fault)) new
 refused_of allows register mask old answer new fault read =
     elim read as (λ answer new read. answer ≡ Err fault → allows old (Read register.place register.access (Err fault)) new) [
@@ -60,11 +60,11 @@ refused_of allows register mask old answer new fault read =
     ]
 
 -- the step of a straight entry
-record DoesStep {W : Type 0} (allows : W → Call → W → Type 0) (program : Listed) (given : ℕ) (entry : Entry) (straight : IsStraight entry) (c : Configuration) (old : W)
+pub record DoesStep {W : Type 0} (allows : W → Call → W → Type 0) (program : Listed) (given : ℕ) (entry : Entry) (straight : IsStraight entry) (c : Configuration) (old : W)
     (d : Configuration) (more : ℕ) (new : W) : Type 0 where
-  only : more ≡ 0
-  place : d.place ≡ c.place + 1
-  does : Does allows program given entry straight c old d new
+  pub only : more ≡ 0
+  pub place : d.place ≡ c.place + 1
+  pub does : Does allows program given entry straight c old d new
 
 step_takes : {W : Type 0} (allows : W → Call → W → Type 0) (program : Listed) (given : ℕ) (entry : Entry) (c : Configuration)
     (i : Instruction) (taken : Task → ℕ → Configuration) (register : Register) (code : instruction_of entry.code ≡ Some i)
@@ -119,7 +119,7 @@ step_stores allows program given entry c i value register code work flags region
       | Moves other x mid new has at h less k ↦ let clash = same_work task i (StoreValue (value task)) MoveBytes code is has in absurd (cc clash)
     ]
 
-step_does : {W : Type 0} (allows : W → Call → W → Type 0) (program : Listed) (given : ℕ) (entry : Entry) (straight : IsStraight entry) (c : Configuration) (old : W) (d : Configuration) (more : ℕ) (new : W) →
+pub step_does : {W : Type 0} (allows : W → Call → W → Type 0) (program : Listed) (given : ℕ) (entry : Entry) (straight : IsStraight entry) (c : Configuration) (old : W) (d : Configuration) (more : ℕ) (new : W) →
     Step allows (task_of program given entry c) old d more new → DoesStep allows program given entry straight c old d more new
 step_does allows program given entry (TakesOnly i taken register code work on region) c old d more new step = step_takes allows program given entry c i taken register code work on region old d more new step
 step_does allows program given entry (StoresOnly i value register code work flags region) c old d more new step = step_stores allows program given entry c i value register code work flags region old d more new step
@@ -177,7 +177,7 @@ no_other task (StoresOnly i value register code work flags region) =
       no_moving = λ has. let clash = same_work task i (StoreValue (value task)) MoveBytes code is has in absurd (cc clash);
     }
 
-halt_never : {W : Type 0} (allows : W → Call → W → Type 0) (program : Listed) (given : ℕ) (entry : Entry) (straight : IsStraight entry) → Serves allows entry straight → (c : Configuration) (paid : ℕ) (old : W)
+pub halt_never : {W : Type 0} (allows : W → Call → W → Type 0) (program : Listed) (given : ℕ) (entry : Entry) (straight : IsStraight entry) → Serves allows entry straight → (c : Configuration) (paid : ℕ) (old : W)
     (stop : RunStop) (left : ℕ) (new : W) → Halt allows (task_of program given entry c) paid old stop left new → ⊥
 halt_never allows program given entry straight serves c paid old stop left new halt =
     let other = no_other (task_of program given entry c) straight in

@@ -17,7 +17,7 @@ invariant_of-erst c =
     let count = c.get_u32-count.ensures in
     let each = AreBytes-each c.args.bytes.now (λ k. omega (arith, c.type_inv.bytes k)) in
     let size : length c.in-Ok.found.1.now < 2 ^ 32 = size_small c.args.bytes.now c.in-Ok.found.0 c.in-Ok.found.1.now each found in
-    omega (arith, found.counted, read.many, count)
+    (omega (arith, found.counted, read.many, count), rw c.deref.ensures.value at c.in-Ok-by_action.ensures)
 
 pub returns-clause-found : goal.returns-clause-found
 returns-clause-found c =
