@@ -6,7 +6,7 @@ use Rattle.script_text.specs.CheckText.{IsCheckText, IsCheckWritten, checked_lin
 use Rattle.script_text.specs.declared.check_line.CheckLine.{CheckLine}
 use Rattle.script_text.specs.declared.check_line.CheckLine.TheVariants.{Blank, Erst, Hest, Bert, Record, Block}
 use Rattle.script_lines.specs.Lines.{Line, lines_of, IsTooLong}
-use Rattle.check_text.specs.declared.show.Show.{Show}
+use Rattle.apei_check.specs.declared.text.show.Show.{Show}
 use Rattle.apei_check.specs.Texts.{AreInGrammar, AreShownBy, TakesMemory}
 use Rattle.apei_check.specs.Checks.{ChecksScript, HasSourceCause, HasSinkCause}
 use Rattle.apei_check.specs.declared.ending.CheckEnd.{CheckEnd}

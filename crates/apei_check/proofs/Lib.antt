@@ -1,3 +1,11 @@
+pub mod WrittenLemmas
+pub mod AnswerLemmas
+pub mod PartLemmas
+pub mod TableLemmas
+pub mod OneTable
+pub mod PlaceLemmas
+pub mod FrameLemmas
+pub mod OneFrame
 pub mod TextLemmas
 pub mod GrammarLemmas
 pub mod RunLemmas

@@ -3,11 +3,13 @@ use Rattle.std.proofs.Common.{◌≡◌, ℕ, List, [], ◌∷◌, ◌++◌, Res
 use Rattle.hex.specs.declared.error.FromHexError.{FromHexError}
 use Rattle.script_lines.specs.Lines.{Line}
 use Rattle.script_text.specs.CheckGrammar.{CheckedLine, IsValidCheck, check_text_of, blank, comment, erst, hest, bert, one_record, block}
-use Rattle.check_text.specs.Shown.{lines_text}
-use Rattle.check_text.specs.declared.show.Show.{Show}
-use Rattle.check_tables.specs.Tables.{AreErstLines, AreHestLines, AreBertLines}
-use Rattle.check_frames.specs.Frames.{AreRecordLines, AreBlockLines}
+use Rattle.apei_check.specs.Shown.{lines_text}
+use Rattle.apei_check.specs.declared.text.show.Show.{Show}
+use Rattle.apei_check.specs.Tables.{AreErstLines, AreHestLines, AreBertLines}
+use Rattle.apei_check.specs.Frames.{AreRecordLines, AreBlockLines}
 use Rattle.apei_check.specs.Texts.{ShowsBytes, AreShownBy, IsTextOf, IsTextOfAll}
+use Rattle.apei_check.proofs.OneTable.{one_erst, one_hest, one_bert}
+use Rattle.apei_check.proofs.OneFrame.{one_list_of_record_lines, one_list_of_block_lines}
 
 -- bytes have one list of lines
 abbrev pub IsOne : (Show → List ℕ → List (List ℕ) → Type 0) → Type 0
@@ -22,16 +24,15 @@ one_shown : (Are : Show → List ℕ → List (List ℕ) → Type 0) → IsOne A
 one_shown Are one show hex lines others a b =
     one show a.bytes lines others a.are (subst (λ (bytes : List ℕ). Are show bytes others) (same_bytes b.bytes a.bytes (sym b.decoded ∙ a.decoded)) b.are)
 
-module _ (one_line : (a b : CheckedLine) → IsValidCheck a → IsValidCheck b → check_text_of a ≡ check_text_of b → a ≡ b)
-    (one_erst : IsOne AreErstLines) (one_hest : IsOne AreHestLines) (one_bert : IsOne AreBertLines) (one_frame : IsOne AreRecordLines) (one_block : IsOne AreBlockLines) where
+module _ (one_line : (a b : CheckedLine) → IsValidCheck a → IsValidCheck b → check_text_of a ≡ check_text_of b → a ≡ b) where
   one_list : (show : Show) (asked : CheckedLine) (lines others : List (List ℕ)) → AreShownBy show asked lines → AreShownBy show asked others → lines ≡ others
   one_list show blank lines others a b = a ∙ sym b
   one_list show (comment rest) lines others a b = a ∙ sym b
   one_list show (erst hex) lines others a b = one_shown AreErstLines one_erst show hex lines others a b
   one_list show (hest hex) lines others a b = one_shown AreHestLines one_hest show hex lines others a b
   one_list show (bert hex) lines others a b = one_shown AreBertLines one_bert show hex lines others a b
-  one_list show (one_record hex) lines others a b = one_shown AreRecordLines one_frame show hex lines others a b
-  one_list show (block hex) lines others a b = one_shown AreBlockLines one_block show hex lines others a b
+  one_list show (one_record hex) lines others a b = one_shown AreRecordLines one_list_of_record_lines show hex lines others a b
+  one_list show (block hex) lines others a b = one_shown AreBlockLines one_list_of_block_lines show hex lines others a b
 
   one_text : (show : Show) (line : Line) (text other : List ℕ) → IsTextOf show line text → IsTextOf show line other → text ≡ other
   one_text show line text other a b =

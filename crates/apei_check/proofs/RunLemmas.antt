@@ -8,8 +8,8 @@ use Rattle.script_text.specs.CheckText.{IsCheckText, checked_line_of}
 use Rattle.script_text.specs.declared.check_line.CheckLine.{CheckLine}
 use Rattle.script_lines.specs.Lines.{Line, Reading, IsTooLong, IsNextLine}
 use Rattle.script_lines.specs.Reads.{HasRead, StandsAt, last_line}
-use Rattle.check_text.specs.Shown.{Shows, ShowsPart}
-use Rattle.check_text.specs.declared.show.Show.{Show}
+use Rattle.apei_check.specs.Shown.{Shows, ShowsPart}
+use Rattle.apei_check.specs.declared.text.show.Show.{Show}
 use Rattle.apei_check.specs.Texts.{IsLineOf, AreShownBy, TakesMemory}
 use Rattle.apei_check.specs.Checks.{ChecksScript, WritesAll}
 use Rattle.apei_check.specs.declared.ending.CheckEnd.TheVariants.{BadLine, SinkFault, Memory}

@@ -1,12 +1,12 @@
 -- Laws of what was written of the lines of a script.
 use Rattle.std.proofs.Common.{◌≡◌, ℕ, List, [], ◌∷◌, ◌++◌, take, refl, sym, ap, ◌∙◌, append_assoc}
 use Rattle.std.proofs.lemmas.List.{append-nil}
-use Rattle.check_text.specs.Shown.{Shows, ShowsPart, lines_text}
-use Rattle.check_text.specs.declared.show.Show.{Show}
+use Rattle.apei_check.specs.Shown.{Shows, ShowsPart, lines_text}
+use Rattle.apei_check.specs.declared.text.show.Show.{Show}
 use Rattle.script_lines.specs.Lines.{Line}
 use Rattle.script_text.specs.CheckGrammar.{CheckedLine}
 use Rattle.apei_check.specs.Texts.{AreShownBy, IsLineOf, IsTextOf, IsTextOfAll}
-use Rattle.apei_check.specs.Checks.{WritesAll, WritesPart}
+use Rattle.apei_check.specs.Checks.{WritesAll, WritesUpTo}
 
 -- nothing was shown
 pub shows_none : (told : Type 0) (written : List ℕ) → Shows told (λ shown. shown ≡ []) written written
@@ -32,7 +32,7 @@ writes_next told show lines line asked written middle now before is shows = reco
 
 -- one more in part
 pub writes_part : (told : Type 0) (show : Show) (lines : List Line) (line : Line) (asked : CheckedLine) (written middle now : List ℕ) → WritesAll told show lines written middle
-    → IsLineOf line asked → ShowsPart told (AreShownBy show asked) middle now → WritesPart told show (lines ++ line ∷ []) written now
+    → IsLineOf line asked → ShowsPart told (AreShownBy show asked) middle now → WritesUpTo told show (lines ++ line ∷ []) written now
 writes_part told show lines line asked written middle now before is shows = record {
   first = lines;
   last = line;

@@ -5,7 +5,7 @@ use Rattle.line_grammar.specs.Columns.{BreaksAt}
 use Rattle.script_text.specs.CheckGrammar.{CheckedLine, IsCheckLine}
 use Rattle.script_lines.specs.Lines.{Line, lines_of, IsTooLong}
 use Rattle.script_lines.specs.Reads.{StandsAt, AreTaken}
-use Rattle.check_text.specs.declared.show.Show.{Show}
+use Rattle.apei_check.specs.declared.text.show.Show.{Show}
 use Rattle.apei_check.specs.Texts.{IsLineOf, IsTextOf, IsTextOfAll, TakesMemory}
 use Rattle.apei_check.specs.declared.ending.CheckEnd.{CheckEnd}
 use Rattle.apei_check.specs.declared.ending.CheckEnd.TheVariants.{Done, BadLine, SourceFault, SinkFault, TooLong, Memory}
@@ -38,7 +38,7 @@ pub record WritesAll (told : Type 0) (show : Show) (lines : List Line) (written 
   pub wrote : told → written_now ≡ written ++ text
 
 -- of the last line's only a beginning
-pub record WritesPart (told : Type 0) (show : Show) (lines : List Line) (written written_now : List ℕ) : Type 0 where
+pub record WritesUpTo (told : Type 0) (show : Show) (lines : List Line) (written written_now : List ℕ) : Type 0 where
   pub first : List Line
   pub last : Line
   pub lines_are : lines ≡ first ++ last ∷ []
@@ -49,15 +49,15 @@ pub record WritesPart (told : Type 0) (show : Show) (lines : List Line) (written
   pub count : ℕ
   pub wrote : told → written_now ≡ written ++ text ++ take count last_text
 
-abbrev pub Writes : Type 0 → Show → List Line → List ℕ → List ℕ → CheckEnd → Type 0
-Writes told show lines written written_now SinkFault = WritesPart told show lines written written_now
-Writes told show lines written written_now ending = WritesAll told show lines written written_now
+abbrev pub WritesByEnd : Type 0 → Show → List Line → List ℕ → List ℕ → CheckEnd → Type 0
+WritesByEnd told show lines written written_now SinkFault = WritesUpTo told show lines written written_now
+WritesByEnd told show lines written written_now ending = WritesAll told show lines written written_now
 
 -- lines of a script were shown, each once and in order, and what was written is what they show
 pub record ChecksScript (told_source told_sink : Type 0) (show : Show) (script rest written written_now : List ℕ) (ending : CheckEnd) : Type 0 where
   pub lines : List Line
   pub ends : told_source → EndsBehind script rest lines ending
-  pub writes : Writes told_sink show lines written written_now ending
+  pub writes : WritesByEnd told_sink show lines written written_now ending
 
 -- a fault comes only where its count rose, and every other end leaves the count
 abbrev pub HasSourceCause : ℕ → ℕ → CheckEnd → Type 0

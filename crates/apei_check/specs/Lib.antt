@@ -1,2 +1,7 @@
+pub mod Shown
+pub mod Written
+pub mod TableLines
+pub mod Tables
+pub mod Frames
 pub mod Texts
 pub mod Checks

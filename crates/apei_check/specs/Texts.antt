@@ -4,10 +4,10 @@ use Rattle.hex.specs.Hex.{decode_of}
 use Rattle.script_lines.specs.Lines.{Line, IsTooLong}
 use Rattle.script_text.specs.CheckGrammar.{CheckedLine, IsCheckLine, blank, comment, erst, hest, bert, one_record, block}
 use Rattle.script_text.specs.CheckText.{IsCheckWritten}
-use Rattle.check_text.specs.Shown.{lines_text}
-use Rattle.check_text.specs.declared.show.Show.{Show}
-use Rattle.check_tables.specs.Tables.{AreErstLines, AreHestLines, AreBertLines}
-use Rattle.check_frames.specs.Frames.{AreRecordLines, AreBlockLines}
+use Rattle.apei_check.specs.Shown.{lines_text}
+use Rattle.apei_check.specs.declared.text.show.Show.{Show}
+use Rattle.apei_check.specs.Tables.{AreErstLines, AreHestLines, AreBertLines}
+use Rattle.apei_check.specs.Frames.{AreRecordLines, AreBlockLines}
 
 -- digits stand for bytes that show these lines
 pub record ShowsBytes (Are : List ℕ → List (List ℕ) → Type 0) (hex : List ℕ) (shown : List (List ℕ)) : Type 0 where

@@ -8,8 +8,8 @@ ghost use Rattle.apei_check.specs.Checks.{ChecksScript, HasSourceCause, HasSinkC
 
 use crate::ending::CheckEnd;
 use crate::item::show_line;
+use crate::text::{CheckStop, Show};
 use apei_bytes::{Sink, Source};
-use check_text::{CheckStop, Show};
 use script_lines::{LineReader, LineStop, MAX_LINE, lines_are_read_in_order};
 use script_text::CheckLine;
 use std::alloc::Global;

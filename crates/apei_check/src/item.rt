@@ -2,15 +2,14 @@
 ghost use Rattle.std.specs.Prelude.{◌≡◌, ◌≤◌, length, OnOk};
 ghost use Rattle.script_text.specs.CheckGrammar.{IsValidCheck, check_text_of};
 ghost use Rattle.script_text.specs.CheckText.{checked_line_of};
-ghost use Rattle.check_text.specs.Shown.{Shows, ShowsPart, HasStopCause};
+ghost use Rattle.apei_check.specs.Shown.{Shows, ShowsPart, HasStopCause};
 ghost use Rattle.apei_check.specs.Texts.{AreShownBy, TakesMemory};
 
-use crate::digits::decode;
+use crate::frames::{check_block, check_record};
+use crate::tables::{check_bert, check_erst, check_hest};
+use crate::text::{CheckStop, Show};
 use apei_bytes::Sink;
-use check_frames::{check_block, check_record};
-use check_tables::{check_bert, check_erst, check_hest};
-use check_text::{CheckStop, Show};
-use script_text::CheckLine;
+use script_text::{CheckLine, decode};
 use std::alloc::Global;
 
 /// Writes the lines that a line of a script shows.
@@ -31,10 +30,25 @@ pub fn show_line<O: Sink>(
 {
     match line {
         CheckLine::Blank => Ok(()),
-        CheckLine::Erst { hex } => check_erst(alloc, decode(hex, buffer), show, out),
-        CheckLine::Hest { hex } => check_hest(alloc, decode(hex, buffer), show, out),
-        CheckLine::Bert { hex } => check_bert(decode(hex, buffer), show, out),
-        CheckLine::Record { hex } => check_record(decode(hex, buffer), show, out),
-        CheckLine::Block { hex } => check_block(decode(hex, buffer), show, out),
+        CheckLine::Erst { hex } => {
+            let count = decode(hex, buffer);
+            check_erst(alloc, &buffer[..count], show, out)
+        }
+        CheckLine::Hest { hex } => {
+            let count = decode(hex, buffer);
+            check_hest(alloc, &buffer[..count], show, out)
+        }
+        CheckLine::Bert { hex } => {
+            let count = decode(hex, buffer);
+            check_bert(&buffer[..count], show, out)
+        }
+        CheckLine::Record { hex } => {
+            let count = decode(hex, buffer);
+            check_record(&buffer[..count], show, out)
+        }
+        CheckLine::Block { hex } => {
+            let count = decode(hex, buffer);
+            check_block(&buffer[..count], show, out)
+        }
     }
 }

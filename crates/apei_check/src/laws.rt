@@ -1,21 +1,41 @@
-// The law on what a script shows: the function does nothing, and its clause is the law.
+// Laws on what is shown: the functions do nothing, and their clauses are the laws.
 ghost use Rattle.std.specs.Prelude.{◌≡◌, ℕ, List};
 ghost use Rattle.script_lines.specs.Lines.{Line};
-ghost use Rattle.check_text.specs.declared.show.Show.{Show};
+ghost use Rattle.apei_check.specs.declared.text.show.Show.{Show};
+ghost use Rattle.apei_check.specs.Tables.{AreErstLines, AreHestLines, AreBertLines};
+ghost use Rattle.apei_check.specs.Frames.{AreRecordLines, AreBlockLines};
 ghost use Rattle.apei_check.specs.Texts.{IsTextOfAll};
 
-use check_frames::{block_lines_are_one_list, record_lines_are_one_list};
-use check_tables::{bert_lines_are_one_list, erst_lines_are_one_list, hest_lines_are_one_list};
 use script_text::one_check_line;
+
+/// What a check of an Error Record Serialization Table shows is one list of lines: what is asked for and the bytes say which.
+pub fn erst_lines_are_one_list()
+    ensures { (show : Show) (bytes : List ℕ) (lines others : List (List ℕ)) → AreErstLines show bytes lines → AreErstLines show bytes others → lines ≡ others }
+{}
+
+/// So is what a check of a Hardware Error Source Table shows.
+pub fn hest_lines_are_one_list()
+    ensures { (show : Show) (bytes : List ℕ) (lines others : List (List ℕ)) → AreHestLines show bytes lines → AreHestLines show bytes others → lines ≡ others }
+{}
+
+/// So is what a check of a Boot Error Record Table shows.
+pub fn bert_lines_are_one_list()
+    ensures { (show : Show) (bytes : List ℕ) (lines others : List (List ℕ)) → AreBertLines show bytes lines → AreBertLines show bytes others → lines ≡ others }
+{}
+
+/// So is what a check of an error record shows.
+pub fn record_lines_are_one_list()
+    ensures { (show : Show) (bytes : List ℕ) (lines others : List (List ℕ)) → AreRecordLines show bytes lines → AreRecordLines show bytes others → lines ≡ others }
+{}
+
+/// So is what a check of an error status block shows.
+pub fn block_lines_are_one_list()
+    ensures { (show : Show) (bytes : List ℕ) (lines others : List (List ℕ)) → AreBlockLines show bytes lines → AreBlockLines show bytes others → lines ≡ others }
+{}
 
 /// What lines of a script show is one text.
 pub fn lines_have_one_text()
     ensures { (show : Show) (lines : List Line) (text other : List ℕ) → IsTextOfAll show lines text → IsTextOfAll show lines other → text ≡ other }
 {
     one_check_line();
-    erst_lines_are_one_list();
-    hest_lines_are_one_list();
-    bert_lines_are_one_list();
-    record_lines_are_one_list();
-    block_lines_are_one_list();
 }

@@ -1,6 +1,6 @@
 -- What a run does with a plan, whatever flash it is made on.
 use Rattle.std.specs.Prelude.{ℕ, Option}
-use Rattle.check_text.specs.declared.show.Show.{Show}
+use Rattle.apei_check.specs.declared.text.show.Show.{Show}
 use Rattle.apei_words.specs.declared.job.Job.{Job}
 use Rattle.apei_words.specs.declared.job.Plan.{Plan}
 

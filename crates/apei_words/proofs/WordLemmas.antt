@@ -2,7 +2,7 @@
 use Rattle.std.proofs.Common.{◌≡◌, ◌∙◌, ℕ, List, Option, Some, None, refl, sym, ap}
 use Rattle.std.specs.Prelude.{String, string_bytes, option_map}
 use Rattle.std.specs.declared.alloc.Global.{Global}
-use Rattle.check_text.specs.declared.show.Show.{Show}
+use Rattle.apei_check.specs.declared.text.show.Show.{Show}
 use Rattle.clap.specs.Words.{Text, Row, matches_of}
 use Rattle.apei_words.proofs.DecimalLemmas.{same_number}
 use Rattle.apei_words.specs.Commands.{the_command}

@@ -1,10 +1,10 @@
--- The plan that the words make.
+-- The plan that a command line makes.
 use Rattle.std.specs.Prelude.{◌≡◌, ◌||◌, ℕ, ⊤, ◌^◌, ◌-◌, ◌<◌, ◌≤◌, Bool, true, false, not, List, length, map, Option, Some, None, is_some, option_and_then, String, string_bytes, Ok, codes}
 use Rattle.std.specs.List.{AllPass}
 use Rattle.std.specs.declared.alloc.Global.{Global}
 use Rattle.bitflags.specs.Text.{name_piece, read_text}
-use Rattle.check_text.specs.Shown.{shown_flags}
-use Rattle.check_text.specs.declared.show.Show.{Show}
+use Rattle.apei_check.specs.Shown.{shown_flags}
+use Rattle.apei_check.specs.declared.text.show.Show.{Show}
 use Rattle.clap.specs.Words.{Row, Text, first_of, matches_of, takes}
 use Rattle.apei_words.specs.Commands.{belongs, is_gen, is_play, job_of, name_of, settings, the_command}
 use Rattle.apei_words.specs.Decimals.{IsNumber}
@@ -22,7 +22,7 @@ texts_of words = map string_bytes words
 abbrev pub given : Setting → List Row → Option Text
 given setting rows = first_of (name_of setting) rows
 
--- the job that the positional word names
+-- the job that the positional names
 abbrev pub job_in : List Row → Option Job
 job_in rows = option_and_then job_of (first_of (codes "job") rows)
 
@@ -67,7 +67,7 @@ abbrev pub IsShow : Option Text → Show → Type 0
 IsShow None show = show.0 ≡ 1
 IsShow (Some text) show = read_text (name_piece shown_flags) text ≡ Ok show.0
 
--- nothing fits: the words are bad
+-- nothing fits
 abbrev pub NoneFits : {X : Type 0} → (X → Type 0) → PlanError → Type 0
 NoneFits {X} Fits error = (error ≡ BadWords) × ((x : X) → ¬ Fits x)
 
@@ -93,6 +93,6 @@ pub record IsPlanOf (words : List (String Global)) (plan : Plan) : Type 0 where
   pub taken : takes the_command (texts_of words) ≡ true
   pub values : IsPlanIn (matches_of the_command (texts_of words)) plan
 
--- the words are not of the program's form
+-- the words are no command line of the program
 abbrev pub AreBad : List (String Global) → Type 0
 AreBad words = (plan : Plan) → ¬ IsPlanOf words plan

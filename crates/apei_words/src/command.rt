@@ -1,4 +1,4 @@
-// The command that the words are read by.
+// The command that clap reads: the job and the options.
 ghost use Rattle.std.specs.Prelude.{◌≡◌, IfOk, Err, true, false};
 ghost use Rattle.clap.specs.Words.{app_of, found_of, matches_of, rows_of, takes};
 ghost use Rattle.apei_words.specs.Commands.{the_command};
@@ -11,7 +11,7 @@ use clap::error::ErrorKind;
 use clap::{Arg, ArgMatches, Command};
 use std::alloc::{AllocError, Global};
 
-/// The name of the one positional word.
+/// The name of the one positional.
 pub(crate) const JOB: &str = "job";
 
 /// What the command reads of the words, where it takes them.
@@ -33,7 +33,7 @@ pub(crate) fn matches_in<'a>(
     }
 }
 
-// One positional word, the job, and options with one value each. clap's own help and version are switched off.
+// One positional, the job, and options with one value each. clap's own help and version are switched off.
 fn command<'a>(alloc: Global) -> Result<Command<'a>, AllocError>
     ensures { IfOk result (λ command. app_of command ≡ the_command) }
 {

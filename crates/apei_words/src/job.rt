@@ -1,8 +1,8 @@
-// What the words of the command line ask for.
+// What a command line asks for.
 ghost use Rattle.apei_words.specs.declared.job.PlanError.TheVariants.{Memory as NoMemory};
 ghost use Rattle.std.specs.Prelude.{◌≡◌};
 
-use check_text::Show;
+use apei_check::Show;
 use std::alloc::AllocError;
 use thiserror::Error;
 
@@ -19,7 +19,7 @@ pub enum Job {
     Gen,
 }
 
-/// What the words ask for. An option that they don't give has its default.
+/// What a command line asks for. An option that it doesn't give has its default.
 #[derive(Debug, PartialEq, Eq, Drop)]
 pub struct Plan {
     pub job: Job,
@@ -51,7 +51,7 @@ pub struct Plan {
 /// Why there is no plan.
 #[derive(Clone, Copy, Debug, PartialEq, Eq, Error)]
 pub enum PlanError {
-    /// The words are not of the program's form.
+    /// The command line is not of the program's form.
     #[error("bad words")]
     BadWords,
     /// There was no memory.

@@ -1,4 +1,4 @@
-// The law on what words ask for: the function does nothing, and its clauses are the law.
+// The law on what a command line asks for: the function does nothing, and its clauses are the law.
 ghost use Rattle.std.specs.Prelude.{◌≡◌, List, String, option_map, string_bytes};
 ghost use Rattle.std.specs.declared.alloc.Global.{Global};
 ghost use Rattle.apei_words.specs.Plan.{IsPlanOf};

@@ -1,4 +1,4 @@
-//! The words of the command line, and the plan that they make.
+//! The command line, which is a job and its options, and the plan that it makes. Its words are those behind the program's name.
 #![tactic(auto)]
 
 mod command;
@@ -9,7 +9,7 @@ mod setting;
 mod values;
 mod words;
 
-pub use check_text::Show;
+pub use apei_check::Show;
 pub use job::{Job, Plan, PlanError};
 pub use laws::words_ask_for_one_plan;
 pub use words::plan;

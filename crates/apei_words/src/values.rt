@@ -1,4 +1,4 @@
-// The values that the words give.
+// The job and the values of the options.
 ghost use Rattle.std.specs.Prelude.{◌≡◌, ◌↔◌, ◌≤◌, Err, IfOk, IsTrue, MatchResult, MatchOption, None, Some, codes, option_map};
 ghost use Rattle.std.specs.List.{AllPass};
 ghost use Rattle.clap.specs.Words.{first_of, found_of, rows_of};
@@ -18,7 +18,7 @@ use std::alloc::Global;
 /// The most commands that are made.
 const MOST_COMMANDS: u64 = 100_000;
 
-/// The job that the words name.
+/// The job that is named.
 pub(crate) fn job(matches: &ArgMatches<'_>) -> Result<Job, PlanError>
     ensures { MatchResult result (λ job. job_in (rows_of (found_of matches.now)) ≡ Some job) (λ error. (error ≡ BadWords) × (job_in (rows_of (found_of matches.now)) ≡ None)) }
 {
@@ -149,7 +149,7 @@ fn text<'a>(matches: &ArgMatches<'a>, setting: Setting) -> Option<&'a str>
     matches.get_str(setting.name())
 }
 
-// The word for the job.
+// The name of the job.
 fn job_text<'a>(matches: &ArgMatches<'a>) -> Option<&'a str>
     ensures { option_map (λ text. text.now) result ≡ first_of (codes "job") (rows_of (found_of matches.now)) }
 {

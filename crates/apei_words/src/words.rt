@@ -1,4 +1,4 @@
-// The plan that the words make.
+// The plan that a command line makes.
 ghost use Rattle.std.specs.Prelude.{◌≡◌, Err, IfOk};
 ghost use Rattle.clap.specs.Words.{found_of, rows_of};
 ghost use Rattle.apei_words.specs.Plan.{AreBad, IsPlanIn, IsPlanOf, NoneFits};
@@ -17,7 +17,7 @@ const MOST_STEPS: u64 = 0xFFFF_FFFF;
 /// The greatest number of a tear.
 const LAST_TEAR: u64 = 3;
 
-/// The plan that the words behind the program's name ask for: one word for the job, and options as `--slots=16` or `--slots 16`, in any
+/// The plan that the words behind the program's name ask for: one job, and options as `--slots=16` or `--slots 16`, in any
 /// order and each at most once. Whether the geometry is in its limits is not tried here.
 pub fn plan(alloc: Global, words: &[String]) -> Result<Plan, PlanError>
     ensures plan { IfOk result (IsPlanOf words.now) }
@@ -27,7 +27,7 @@ pub fn plan(alloc: Global, words: &[String]) -> Result<Plan, PlanError>
     plan_in(alloc, &matches)
 }
 
-// The plan that the values ask for.
+// The plan that the job and the values ask for.
 fn plan_in(alloc: Global, matches: &ArgMatches<'_>) -> Result<Plan, PlanError>
     ensures plan { IfOk result (IsPlanIn (rows_of (found_of matches.now))) }
     ensures bad_words { result ≡ Err BadWords → NoneFits (IsPlanIn (rows_of (found_of matches.now))) BadWords }

@@ -2,6 +2,4 @@ use Rattle.apei_check.proofs.OneText.{one_text_of_all}
 use Rattle.apei_check.proofs.laws.lines_have_one_text.Goals as goal
 
 pub returns : goal.returns
-returns c =
-    one_text_of_all c.one_check_line.ensures c.erst_lines_are_one_list.ensures c.hest_lines_are_one_list.ensures c.bert_lines_are_one_list.ensures
-    c.record_lines_are_one_list.ensures c.block_lines_are_one_list.ensures
+returns c = one_text_of_all c.one_check_line.ensures

@@ -1,0 +1,47 @@
+-- A line for each part, which are counted from 0.
+use Rattle.std.proofs.Common.{◌≡◌, ℕ, ◌+◌, ◌<◌, List, [], length, get_or, map, sym, ap, ◌∙◌, arith}
+use Rattle.std.specs.Prelude.{slice_get, Some}
+use Rattle.std.specs.List.{enumerate_from}
+use Rattle.std.proofs.lemmas.List.{get_or-map, length-map}
+use Rattle.std.proofs.lemmas.List.FromFn.{get_or-enumerate_from, length-enumerate_from}
+use Rattle.std.proofs.lemmas.Option.{slice_get_within, get_or_from_slice_get}
+use Rattle.cper_frame.specs.Grammar.{SectionValue}
+use Rattle.ghes_block.specs.Grammar.{EntryValue}
+use Rattle.apei_check.specs.Frames.{section_line, section_lines, entry_line, entry_lines}
+
+abbrev pub numbered : {X : Type 0} → (ℕ → X → List ℕ) → List X → List (List ℕ)
+numbered line parts = map (λ part. line part.0 part.1) (enumerate_from 0 parts)
+
+pub length_numbered : {X : Type 0} (line : ℕ → X → List ℕ) (parts : List X) → length (numbered line parts) ≡ length parts
+length_numbered line parts = length-map (enumerate_from 0 parts) (λ part. line part.0 part.1) ∙ length-enumerate_from 0 parts
+
+-- whatever is read where there is none
+pub numbered_at : {X : Type 0} (line : ℕ → X → List ℕ) (parts : List X) (i : ℕ) (d : X) → i < length parts
+    → line i (get_or parts i d) ≡ get_or (numbered line parts) i []
+numbered_at line parts i d within =
+    sym (get_or-map (λ part. line part.0 part.1) (enumerate_from 0 parts) i (i, d) [] (omega (arith, length-enumerate_from 0 parts))
+    ∙ ap (λ p. line p.0 p.1) (get_or-enumerate_from 0 parts i (i, d) within)
+    ∙ ap (λ (k : ℕ). line k (get_or parts i d)) zero_more)
+  where
+    zero_more : 0 + i ≡ i
+    zero_more = omega arith
+
+pub numbered_of : {X : Type 0} (line : ℕ → X → List ℕ) (parts : List X) (i : ℕ) (part : X) → i < length parts → slice_get parts i ≡ Some part
+    → line i part ≡ get_or (numbered line parts) i []
+numbered_of line parts i part within is = ap (λ p. line i p) (sym (get_or_from_slice_get parts i part part is)) ∙ numbered_at line parts i part within
+
+pub length-section_lines : (sections : List SectionValue) → length (section_lines sections) ≡ length sections
+unfolding section_lines
+length-section_lines sections = length_numbered section_line sections
+
+pub section_line_at : (sections : List SectionValue) (k : ℕ) (section : SectionValue) → slice_get sections k ≡ Some section → section_line k section ≡ get_or (section_lines sections) k []
+unfolding section_lines
+section_line_at sections k section found = numbered_of section_line sections k section (slice_get_within sections k section found) found
+
+pub length-entry_lines : (entries : List EntryValue) → length (entry_lines entries) ≡ length entries
+unfolding entry_lines
+length-entry_lines entries = length_numbered entry_line entries
+
+pub entry_line_at : (entries : List EntryValue) (k : ℕ) (entry : EntryValue) → slice_get entries k ≡ Some entry → entry_line k entry ≡ get_or (entry_lines entries) k []
+unfolding entry_lines
+entry_line_at entries k entry found = numbered_of entry_line entries k entry (slice_get_within entries k entry found) found

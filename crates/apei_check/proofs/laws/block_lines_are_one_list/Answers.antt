@@ -1,0 +1,5 @@
+use Rattle.apei_check.proofs.OneFrame.{one_list_of_block_lines}
+use Rattle.apei_check.proofs.laws.block_lines_are_one_list.Goals as goal
+
+pub returns : goal.returns
+returns c = λ show bytes lines others a b. one_list_of_block_lines show bytes lines others a b

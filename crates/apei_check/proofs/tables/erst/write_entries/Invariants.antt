@@ -1,0 +1,10 @@
+use Rattle.std.proofs.Common.{◌≡◌, take}
+use Rattle.apei_check.specs.Written.{Writes}
+use Rattle.apei_check.specs.TableLines.{entry_lines}
+use Rattle.apei_check.proofs.tables.erst.write_entries.Given as goal
+
+abbrev pub invariant-loop-index : goal.invariant-loop-index
+invariant-loop-index g l = record {
+  wrote : Writes g.O.Sink.tells (take l.index (entry_lines l.table.entries)) (g.O.Sink.written l.fn.out) (g.O.Sink.written l.out);
+  faults : g.O.Sink.faults l.out ≡ g.O.Sink.faults l.fn.out;
+}

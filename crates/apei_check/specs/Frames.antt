@@ -1,0 +1,92 @@
+-- The lines of an error record (UEFI 2.8, appendix N) and of an error status block (ACPI 6.4, 18.3.2.7).
+use Rattle.std.specs.Prelude.{◌≡◌, ℕ, ◌-◌, ◌^◌, ◌≤◌, ◌⊎◌, List, [], ◌∷◌, ◌++◌, length, take, map, codes, decimal, Err}
+use Rattle.std.specs.List.{enumerate_from}
+use Rattle.apei_bytes.specs.Guid.{guid_text}
+use Rattle.apei_check.specs.Shown.{lines_shown}
+use Rattle.apei_check.specs.declared.text.show.Show.{Show}
+use Rattle.cper_frame.specs.Grammar.{SectionValue, RecordValue, IsRecord}
+use Rattle.cper_frame.specs.Reading.{checked as checked_record}
+use Rattle.cper_frame.specs.declared.error.FrameError.{FrameError}
+use Rattle.ghes_block.specs.Grammar.{EntryValue, BlockValue, IsBlock}
+use Rattle.ghes_block.specs.Reading.{checked as checked_block}
+use Rattle.ghes_block.specs.declared.error.BlockError.{BlockError}
+use Rattle.script_text.specs.FrameWords.{words_of_frame, words_of_block}
+
+-- a section, by its descriptor
+unfoldable pub section_line : ℕ → SectionValue → List ℕ
+section_line index section =
+    codes "section " ++ decimal index
+    ++ codes " kind " ++ guid_text section.head.kind
+    ++ codes " at " ++ decimal section.offset
+    ++ codes " bytes " ++ decimal (length section.body)
+    ++ codes " severity " ++ decimal section.head.severity
+
+-- a line for each section, which are counted from 0
+unfoldable pub section_lines : List SectionValue → List (List ℕ)
+section_lines sections = map (λ part. section_line part.0 part.1) (enumerate_from 0 sections)
+
+-- a record of so many bytes, with so many bytes behind it
+unfoldable pub record_line : RecordValue → ℕ → ℕ → List ℕ
+record_line value size rest =
+    codes "record " ++ decimal size
+    ++ codes " sections " ++ decimal (length value.sections)
+    ++ codes " severity " ++ decimal value.head.severity
+    ++ codes " id " ++ decimal value.head.id
+    ++ codes " rest " ++ decimal rest
+
+-- an entry of a block, by its head and its data
+unfoldable pub entry_line : ℕ → EntryValue → List ℕ
+entry_line index entry =
+    codes "part " ++ decimal index
+    ++ codes " kind " ++ guid_text entry.head.kind
+    ++ codes " bytes " ++ decimal (length entry.body)
+    ++ codes " severity " ++ decimal entry.head.severity
+
+-- a line for each entry, which are counted from 0
+unfoldable pub entry_lines : List EntryValue → List (List ℕ)
+entry_lines entries = map (λ part. entry_line part.0 part.1) (enumerate_from 0 entries)
+
+-- a block, with so many bytes behind it
+unfoldable pub block_line : BlockValue → ℕ → List ℕ
+block_line value rest =
+    codes "block " ++ decimal value.size
+    ++ codes " entries " ++ decimal (length value.entries)
+    ++ codes " status " ++ decimal value.status
+    ++ codes " severity " ++ decimal value.severity
+    ++ codes " raw " ++ decimal (length value.raw)
+    ++ codes " rest " ++ decimal rest
+
+-- the bytes begin with a record, and these are the lines of it and of its sections
+pub record AreLinesOfRecord (show : Show) (bytes : List ℕ) (lines : List (List ℕ)) : Type 0 where
+  pub value : RecordValue
+  pub size : ℕ
+  pub within : size ≤ length bytes
+  pub is_record : IsRecord value (take size bytes)
+  pub lines_are : lines ≡ lines_shown show (record_line value size (length bytes - size)) (section_lines value.sections)
+
+-- the bytes begin with no record, and the one line says why
+pub record AreLinesOfNoRecord (bytes : List ℕ) (lines : List (List ℕ)) : Type 0 where
+  pub error : FrameError
+  pub refused : checked_record (2 ^ 32 - 1) bytes ≡ Err error
+  pub lines_are : lines ≡ (codes "bad record " ++ words_of_frame error) ∷ []
+
+-- what a check of a record shows
+abbrev pub AreRecordLines : Show → List ℕ → List (List ℕ) → Type 0
+AreRecordLines show bytes lines = AreLinesOfRecord show bytes lines ⊎ AreLinesOfNoRecord bytes lines
+
+-- the bytes begin with a block, and these are the lines of it and of its entries
+pub record AreLinesOfBlock (show : Show) (bytes : List ℕ) (lines : List (List ℕ)) : Type 0 where
+  pub value : BlockValue
+  pub within : value.size ≤ length bytes
+  pub is_block : IsBlock value (take value.size bytes)
+  pub lines_are : lines ≡ lines_shown show (block_line value (length bytes - value.size)) (entry_lines value.entries)
+
+-- the bytes begin with no block, and the one line says why
+pub record AreLinesOfNoBlock (bytes : List ℕ) (lines : List (List ℕ)) : Type 0 where
+  pub error : BlockError
+  pub refused : checked_block bytes ≡ Err error
+  pub lines_are : lines ≡ (codes "bad block " ++ words_of_block error) ∷ []
+
+-- what a check of a block shows
+abbrev pub AreBlockLines : Show → List ℕ → List (List ℕ) → Type 0
+AreBlockLines show bytes lines = AreLinesOfBlock show bytes lines ⊎ AreLinesOfNoBlock bytes lines

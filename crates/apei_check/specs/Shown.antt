@@ -1,0 +1,45 @@
+-- Which lines of an item are shown.
+use Rattle.std.specs.Prelude.{◌≡◌, ℕ, Bool, ◌==◌, List, [], ◌∷◌, ◌++◌, take, codes, if◌then◌else◌, Result, Ok, Err}
+use Rattle.base_model.specs.Faults.{Rose}
+use Rattle.std.specs.Int.RustNames.{bit_and}
+use Rattle.apei_check.specs.declared.text.show.Show.{Show}
+use Rattle.apei_check.specs.declared.text.stop.CheckStop.{CheckStop}
+use Rattle.apei_check.specs.declared.text.stop.CheckStop.TheVariants.{SinkFault, Memory}
+
+-- the flags by name
+abbrev pub shown_flags : List (List ℕ × ℕ)
+shown_flags = (codes "HEAD", 1) ∷ (codes "PARTS", 2) ∷ []
+
+abbrev pub shows_head : Show → Bool
+shows_head show = bit_and show.0 1 == 1
+
+abbrev pub shows_parts : Show → Bool
+shows_parts show = bit_and show.0 2 == 2
+
+-- the lines of an item: the one on the whole, and those on its parts
+abbrev pub lines_shown : Show → List ℕ → List (List ℕ) → List (List ℕ)
+lines_shown show head parts = (if shows_head show then head ∷ [] else []) ++ (if shows_parts show then parts else [])
+
+-- a newline behind each line
+unfoldable pub lines_text : List (List ℕ) → List ℕ
+lines_text [] = []
+lines_text (line ∷ lines) = line ++ 10 ∷ lines_text lines
+
+-- lines of a kind were written, each with its newline, to a sink of which `told` says whether it tells what was written
+pub record Shows (told : Type 0) (Are : List (List ℕ) → Type 0) (written written_now : List ℕ) : Type 0 where
+  pub lines : List (List ℕ)
+  pub are : Are lines
+  pub text : told → written_now ≡ written ++ lines_text lines
+
+-- of such lines a beginning was written
+pub record ShowsPart (told : Type 0) (Are : List (List ℕ) → Type 0) (written written_now : List ℕ) : Type 0 where
+  pub lines : List (List ℕ)
+  pub are : Are lines
+  pub count : ℕ
+  pub text : told → written_now ≡ written ++ take count (lines_text lines)
+
+-- a sink's count of faults rose where it refused a line, and is as it was where it did not
+abbrev pub HasStopCause : ℕ → ℕ → Result (Unit {0}) CheckStop → Type 0
+HasStopCause before after (Ok _) = after ≡ before
+HasStopCause before after (Err SinkFault) = Rose before after
+HasStopCause before after (Err Memory) = after ≡ before

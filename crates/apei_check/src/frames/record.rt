@@ -1,0 +1,110 @@
+// What a check of an error record shows.
+ghost use Rattle.std.specs.Prelude.{◌≡◌, ◌≢◌, ℕ, ◌≤◌, [], ◌∷◌, length, if◌then◌else◌, OnOk, OnErr, Err};
+ghost use Rattle.base_model.specs.Faults.{HasCause};
+ghost use Rattle.apei_check.specs.Shown.{shows_parts, lines_shown, Shows, ShowsPart, HasStopCause};
+ghost use Rattle.apei_check.specs.Written.{Writes, WritesPart};
+ghost use Rattle.cper_frame.specs.Sections.{value_of};
+ghost use Rattle.apei_check.specs.Frames.{AreRecordLines, record_line, section_line, section_lines};
+
+use crate::text::{CheckStop, Show, write_line, write_refused};
+use apei_bytes::{Sink, SinkFault};
+use cper_frame::{Record, Section};
+use line_text::LineText;
+
+/// The line of a section.
+#[tactic(auto, unfolding(crate::specs::Frames::section_line))]
+fn section_line(index: u16, section: &Section<'_>) -> LineText
+    ensures text { result ≡ section_line index (value_of section.now) }
+    ensures short { length result ≤ 255 }
+{
+    let mut kind = [0; 36];
+    section.head.kind.text(&mut kind);
+    let mut line = LineText::new();
+    line.add_one(b"section ", u64::from(index));
+    line.add(b" kind ");
+    line.add(&kind);
+    line.add_one(b" at ", u64::from(section.offset));
+    line.add_one(b" bytes ", section.body.len() as u64);
+    line.add_one(b" severity ", u64::from(section.head.severity));
+    line
+}
+
+/// The line of a record of so many bytes, with so many bytes behind it.
+#[tactic(auto, unfolding(crate::specs::Frames::record_line))]
+fn record_line(framed: &Record<'_>, size: usize, rest: usize) -> LineText
+    ensures text { result ≡ record_line framed.now size rest }
+    ensures short { length result ≤ 255 }
+{
+    let head = framed.head();
+    let mut line = LineText::new();
+    line.add_one(b"record ", size as u64);
+    line.add_one(b" sections ", u64::from(framed.sections()));
+    line.add_one(b" severity ", u64::from(head.severity));
+    line.add_one(b" id ", head.id);
+    line.add_one(b" rest ", rest as u64);
+    line
+}
+
+/// Writes the line of each section.
+fn write_sections<O: Sink>(framed: &Record<'_>, out: &mut O) -> Result<(), SinkFault>
+    ensures all { OnOk result (Writes O.tells (section_lines framed.now.sections) (O.written out.old) (O.written out.new)) }
+    ensures part { OnErr result (WritesPart O.tells (section_lines framed.now.sections) (O.written out.old) (O.written out.new)) }
+    ensures cause { HasCause (O.faults out.old) (O.faults out.new) result }
+{
+    for index in 0..framed.sections() {
+        write_line(section_line(index, &framed.section(index)), out)?;
+    }
+    Ok(())
+}
+
+/// Writes the lines of the sections where they are to be shown.
+fn write_parts<O: Sink>(framed: &Record<'_>, show: Show, out: &mut O) -> Result<(), SinkFault>
+    ensures all { OnOk result (Writes O.tells (if shows_parts show then section_lines framed.now.sections else []) (O.written out.old) (O.written out.new)) }
+    ensures part { OnErr result (WritesPart O.tells (if shows_parts show then section_lines framed.now.sections else []) (O.written out.old) (O.written out.new)) }
+    ensures cause { HasCause (O.faults out.old) (O.faults out.new) result }
+{
+    if !show.parts() {
+        return Ok(());
+    }
+    write_sections(framed, out)
+}
+
+/// Writes the lines of a record that are to be shown.
+fn write_record<O: Sink>(
+    framed: &Record<'_>,
+    size: usize,
+    rest: usize,
+    show: Show,
+    out: &mut O,
+) -> Result<(), SinkFault>
+    ensures all { OnOk result (Writes O.tells (lines_shown show (record_line framed.now size rest) (section_lines framed.now.sections)) (O.written out.old) (O.written out.new)) }
+    ensures part { OnErr result (WritesPart O.tells (lines_shown show (record_line framed.now size rest) (section_lines framed.now.sections)) (O.written out.old) (O.written out.new)) }
+    ensures cause { HasCause (O.faults out.old) (O.faults out.new) result }
+{
+    show.write_head(record_line(framed, size, rest), out)?;
+    write_parts(framed, show, out)
+}
+
+/// Writes what a check of a record shows.
+fn write_check<O: Sink>(bytes: &[u8], show: Show, out: &mut O) -> Result<(), SinkFault>
+    ensures all { OnOk result (Shows O.tells (AreRecordLines show bytes.now) (O.written out.old) (O.written out.new)) }
+    ensures part { OnErr result (ShowsPart O.tells (AreRecordLines show bytes.now) (O.written out.old) (O.written out.new)) }
+    ensures cause { HasCause (O.faults out.old) (O.faults out.new) result }
+{
+    match Record::decode(bytes) {
+        Ok((framed, size)) => write_record(&framed, size, bytes.len() - size, show, out),
+        Err(error) => write_refused(b"bad record ", &error, out),
+    }
+}
+
+/// Shows the record that the bytes begin with: a line on it, and one on each of its sections, as far as they are to be shown.
+/// Bytes that begin with no record have one line that says why, whatever is to be shown.
+pub fn check_record<O: Sink>(bytes: &[u8], show: Show, out: &mut O) -> Result<(), CheckStop>
+    ensures shown { OnOk result (Shows O.tells (AreRecordLines show bytes.now) (O.written out.old) (O.written out.new)) }
+    ensures part { result ≡ Err CheckStop.SinkFault → ShowsPart O.tells (AreRecordLines show bytes.now) (O.written out.old) (O.written out.new) }
+    ensures no_memory { result ≢ Err CheckStop.Memory }
+    ensures cause { HasStopCause (O.faults out.old) (O.faults out.new) result }
+{
+    write_check(bytes, show, out)?;
+    Ok(())
+}

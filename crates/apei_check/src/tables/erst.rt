@@ -1,0 +1,106 @@
+// The lines of an Error Record Serialization Table.
+ghost use Rattle.std.specs.Prelude.{◌≡◌, ◌≤◌, ◌<◌, ◌^◌, length, Err, OnOk, OnErr, if◌then◌else◌, []};
+ghost use Rattle.base_model.specs.Faults.{HasCause};
+ghost use Rattle.apei_check.specs.Shown.{Shows, ShowsPart, HasStopCause, lines_shown, shows_parts};
+ghost use Rattle.apei_check.specs.Written.{Writes, WritesPart};
+ghost use Rattle.apei_check.specs.TableLines.{erst_line, entry_line, entry_lines};
+ghost use Rattle.apei_check.specs.Tables.{AreErstLines};
+
+use crate::text::{CheckStop, Show, write_line, write_refused};
+use apei_bytes::{Sink, SinkFault};
+use erst_entries::{Entry, ErstError, ErstTable};
+use line_text::LineText;
+use std::alloc::Global;
+
+/// Shows the Error Record Serialization Table that the bytes begin with: a line on the table, and one for each instruction entry. Where
+/// they begin with none, a line says why.
+pub fn check_erst<O: Sink>(
+    alloc: Global,
+    bytes: &[u8],
+    show: Show,
+    out: &mut O,
+) -> Result<(), CheckStop>
+    ensures shown { OnOk result (Shows O.tells (AreErstLines show bytes.now) (O.written out.old) (O.written out.new)) }
+    ensures part { result ≡ Err CheckStop.SinkFault → ShowsPart O.tells (AreErstLines show bytes.now) (O.written out.old) (O.written out.new) }
+    ensures memory { result ≡ Err CheckStop.Memory → out.new ≡ out.old }
+    ensures cause { HasStopCause (O.faults out.old) (O.faults out.new) result }
+{
+    match ErstTable::decode(alloc, bytes) {
+        Ok((table, len)) => Ok(show_table(&table, len, bytes.len() - len, show, out)?),
+        Err(ErstError::Memory) => Err(CheckStop::Memory),
+        Err(why) => Ok(write_refused(b"bad erst ", &why, out)?),
+    }
+}
+
+/// Writes the lines of a table of `len` bytes with `rest` behind it.
+fn show_table<O: Sink>(
+    table: &ErstTable,
+    len: usize,
+    rest: usize,
+    show: Show,
+    out: &mut O,
+) -> Result<(), SinkFault>
+    ensures all { OnOk result (Writes O.tells (lines_shown show (erst_line len (length table.now.entries) rest) (entry_lines table.now.entries)) (O.written out.old) (O.written out.new)) }
+    ensures part { OnErr result (WritesPart O.tells (lines_shown show (erst_line len (length table.now.entries) rest) (entry_lines table.now.entries)) (O.written out.old) (O.written out.new)) }
+    ensures cause { HasCause (O.faults out.old) (O.faults out.new) result }
+{
+    show.write_head(table_line(table, len, rest), out)?;
+    show_entries(table, show, out)
+}
+
+/// The line on a table.
+fn table_line(table: &ErstTable, len: usize, rest: usize) -> LineText
+    ensures text { result ≡ erst_line len (length table.now.entries) rest }
+    ensures short { length result ≤ 255 }
+{
+    let mut line = LineText::new();
+    line.add_one(b"erst ", len as u64);
+    line.add_one(b" entries ", table.len() as u64);
+    line.add_one(b" rest ", rest as u64);
+    line
+}
+
+/// Writes the lines of the entries where they are asked for.
+fn show_entries<O: Sink>(table: &ErstTable, show: Show, out: &mut O) -> Result<(), SinkFault>
+    ensures all { OnOk result (Writes O.tells (if shows_parts show then entry_lines table.now.entries else []) (O.written out.old) (O.written out.new)) }
+    ensures part { OnErr result (WritesPart O.tells (if shows_parts show then entry_lines table.now.entries else []) (O.written out.old) (O.written out.new)) }
+    ensures cause { HasCause (O.faults out.old) (O.faults out.new) result }
+{
+    if show.parts() {
+        write_entries(table, out)
+    } else {
+        Ok(())
+    }
+}
+
+/// Writes a line for each entry.
+fn write_entries<O: Sink>(table: &ErstTable, out: &mut O) -> Result<(), SinkFault>
+    ensures all { OnOk result (Writes O.tells (entry_lines table.now.entries) (O.written out.old) (O.written out.new)) }
+    ensures part { OnErr result (WritesPart O.tells (entry_lines table.now.entries) (O.written out.old) (O.written out.new)) }
+    ensures cause { HasCause (O.faults out.old) (O.faults out.new) result }
+{
+    for index in 0..table.len() {
+        write_line(entry_line(index, &table.entry(index)), out)?;
+    }
+    Ok(())
+}
+
+/// The line on an entry.
+fn entry_line(index: usize, entry: &Entry) -> LineText
+    ensures text { result ≡ entry_line index entry.now }
+    ensures short { length result ≤ 255 }
+{
+    let mut line = LineText::new();
+    line.add_one(b"entry ", index as u64);
+    line.add_byte(b" action ", entry.action);
+    line.add_byte(b" instruction ", entry.code);
+    line.add_byte(b" flags ", entry.flags);
+    line.add_byte(b" space ", entry.region.space);
+    line.add_byte(b" width ", entry.region.width);
+    line.add_byte(b" offset ", entry.region.offset);
+    line.add_byte(b" access ", entry.region.access);
+    line.add_one(b" address ", entry.region.address);
+    line.add_one(b" value ", entry.value);
+    line.add_one(b" mask ", entry.mask);
+    line
+}

@@ -1,0 +1,132 @@
+// The lines of a Hardware Error Source Table.
+ghost use Rattle.std.specs.Prelude.{◌≡◌, ◌≤◌, length, Err, OnOk, OnErr, if◌then◌else◌, []};
+ghost use Rattle.base_model.specs.Faults.{HasCause};
+ghost use Rattle.apei_check.specs.Shown.{Shows, ShowsPart, HasStopCause, lines_shown, shows_parts};
+ghost use Rattle.apei_check.specs.Written.{Writes, WritesPart};
+ghost use Rattle.apei_check.specs.TableLines.{hest_line, kind_line, source_line, source_lines};
+ghost use Rattle.apei_check.specs.Tables.{AreHestLines};
+ghost use Rattle.hest_sources.specs.declared.sources.HestSource.TheVariants.{Ghes as Generic};
+ghost use Rattle.hest_sources.specs.Layout.{type_of};
+
+use crate::text::{CheckStop, Show, write_line, write_refused};
+use apei_bytes::{Sink, SinkFault};
+use hest_sources::{Ghes, Hest, HestError, HestSource};
+use line_text::LineText;
+use std::alloc::Global;
+
+/// Shows the Hardware Error Source Table that the bytes begin with: a line on the table, and one for each error source. Where they begin
+/// with none, a line says why.
+pub fn check_hest<O: Sink>(
+    alloc: Global,
+    bytes: &[u8],
+    show: Show,
+    out: &mut O,
+) -> Result<(), CheckStop>
+    ensures shown { OnOk result (Shows O.tells (AreHestLines show bytes.now) (O.written out.old) (O.written out.new)) }
+    ensures part { result ≡ Err CheckStop.SinkFault → ShowsPart O.tells (AreHestLines show bytes.now) (O.written out.old) (O.written out.new) }
+    ensures memory { result ≡ Err CheckStop.Memory → out.new ≡ out.old }
+    ensures cause { HasStopCause (O.faults out.old) (O.faults out.new) result }
+{
+    match Hest::decode(alloc, bytes) {
+        Ok((table, len)) => Ok(show_table(table.sources(), len, bytes.len() - len, show, out)?),
+        Err(HestError::Memory) => Err(CheckStop::Memory),
+        Err(why) => Ok(write_refused(b"bad hest ", &why, out)?),
+    }
+}
+
+/// Writes the lines of a table of these sources, of `len` bytes with `rest` behind it.
+fn show_table<O: Sink>(
+    sources: &[HestSource],
+    len: usize,
+    rest: usize,
+    show: Show,
+    out: &mut O,
+) -> Result<(), SinkFault>
+    ensures all { OnOk result (Writes O.tells (lines_shown show (hest_line len (length sources.now) rest) (source_lines sources.now)) (O.written out.old) (O.written out.new)) }
+    ensures part { OnErr result (WritesPart O.tells (lines_shown show (hest_line len (length sources.now) rest) (source_lines sources.now)) (O.written out.old) (O.written out.new)) }
+    ensures cause { HasCause (O.faults out.old) (O.faults out.new) result }
+{
+    show.write_head(table_line(sources, len, rest), out)?;
+    show_sources(sources, show, out)
+}
+
+/// The line on a table.
+fn table_line(sources: &[HestSource], len: usize, rest: usize) -> LineText
+    ensures text { result ≡ hest_line len (length sources.now) rest }
+    ensures short { length result ≤ 255 }
+{
+    let mut line = LineText::new();
+    line.add_one(b"hest ", len as u64);
+    line.add_one(b" sources ", sources.len() as u64);
+    line.add_one(b" rest ", rest as u64);
+    line
+}
+
+/// Writes the lines of the sources where they are asked for.
+fn show_sources<O: Sink>(sources: &[HestSource], show: Show, out: &mut O) -> Result<(), SinkFault>
+    ensures all { OnOk result (Writes O.tells (if shows_parts show then source_lines sources.now else []) (O.written out.old) (O.written out.new)) }
+    ensures part { OnErr result (WritesPart O.tells (if shows_parts show then source_lines sources.now else []) (O.written out.old) (O.written out.new)) }
+    ensures cause { HasCause (O.faults out.old) (O.faults out.new) result }
+{
+    if show.parts() {
+        write_sources(sources, out)
+    } else {
+        Ok(())
+    }
+}
+
+/// Writes a line for each source.
+fn write_sources<O: Sink>(sources: &[HestSource], out: &mut O) -> Result<(), SinkFault>
+    ensures all { OnOk result (Writes O.tells (source_lines sources.now) (O.written out.old) (O.written out.new)) }
+    ensures part { OnErr result (WritesPart O.tells (source_lines sources.now) (O.written out.old) (O.written out.new)) }
+    ensures cause { HasCause (O.faults out.old) (O.faults out.new) result }
+{
+    for index in 0..sources.len() {
+        write_line(source_line(index, &sources[index]), out)?;
+    }
+    Ok(())
+}
+
+/// The line on a source.
+fn source_line(index: usize, source: &HestSource) -> LineText
+    ensures text { result ≡ source_line index source.now }
+    ensures short { length result ≤ 255 }
+{
+    match source {
+        HestSource::Ghes(source) => ghes_line(index, source),
+        HestSource::Other { kind, .. } => kind_line(index, *kind),
+    }
+}
+
+/// The line on a source by its type alone.
+fn kind_line(index: usize, kind: u16) -> LineText
+    ensures text { result ≡ kind_line index kind }
+    ensures short { length result ≤ 53 }
+{
+    let mut line = LineText::new();
+    line.add_one(b"source ", index as u64);
+    line.add_one(b" kind ", u64::from(kind));
+    line
+}
+
+/// The line on a generic source.
+fn ghes_line(index: usize, source: &Ghes) -> LineText
+    ensures text { result ≡ source_line index (Generic source.now) }
+    ensures short { length result ≤ 255 }
+{
+    let mut line = kind_line(index, kind_of(source));
+    line.add_one(b" id ", u64::from(source.id));
+    line.add_one(b" enabled ", u64::from(source.enabled));
+    line.add_one(b" block ", u64::from(source.block_len));
+    line
+}
+
+/// The type of a generic source.
+fn kind_of(source: &Ghes) -> u16
+    ensures { result ≡ type_of source.now.ack }
+{
+    match source.ack {
+        Some(_) => 10,
+        None => 9,
+    }
+}

@@ -1,5 +1,0 @@
-mod Are
-mod One
-mod Parts
-mod Places
-mod Shown

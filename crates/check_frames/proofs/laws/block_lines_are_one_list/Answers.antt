@@ -1,5 +1,0 @@
-use Rattle.check_frames.proofs.One.{one_list_of_block_lines}
-use Rattle.check_frames.proofs.laws.block_lines_are_one_list.Goals as goal
-
-pub returns : goal.returns
-returns c = λ show bytes lines others a b. one_list_of_block_lines show bytes lines others a b

@@ -1,5 +1,0 @@
-use Rattle.check_frames.proofs.One.{one_list_of_record_lines}
-use Rattle.check_frames.proofs.laws.record_lines_are_one_list.Goals as goal
-
-pub returns : goal.returns
-returns c = λ show bytes lines others a b. one_list_of_record_lines show bytes lines others a b

@@ -1,4 +1,0 @@
-pub mod AnswerLemmas
-pub mod OneList
-pub mod PartLemmas
-pub mod TableLemmas
