@@ -5,12 +5,14 @@
 
 PROGRAM is the built program, by default crates/apei/out/apei. The script stores a record of two sections, counts, walks, reads and
 clears. Each reply is compared with what the records allow: a command that the flash failed is in or out, and every other one is answered
-by the records that are there. The last line is 'N runs, M wrong'; the exit status is 0 where none is.
+by the records that are there. A second script replaces and clears records over several slots; power is lost at each of its changes too. The last line is 'N runs, M wrong'; the exit status is 0 where none is.
 """
 
 import os
 import subprocess
 import sys
+
+import file_model
 
 TOP = os.path.dirname(os.path.dirname(os.path.abspath(__file__)))
 program = sys.argv[1] if len(sys.argv) > 1 else os.path.join(TOP, "crates/apei/out/apei")
@@ -125,5 +127,23 @@ while True:
     if quiet:
         break
     read += 1
+
+# Records over several slots: power is lost at each change, with each tear, and all that follows fails until it is back.
+lines = [file_model.write(*fields) for fields in ((1, 900), (2, 128), (1, 500), (3, 449), (2, 1345))] + ["clear 1", file_model.write(3, 128)]
+asks = [f"read {identifier}" for identifier in (1, 2, 3)] + ["count"]
+status, replies, steps = play(lines, file_model.FLASH)
+states = [{}]
+for line, reply in zip(lines, replies):
+    wanted, now = file_model.answer(line, states[-1])
+    states.append(now)
+    expect(status == 0 and reply == wanted, file_model.FLASH, replies)
+for cut in range(steps[-1]):
+    ended = sum(step <= cut for step in steps)
+    shown = [[f"power {len(records)}"] + [file_model.answer(ask, records)[0] for ask in asks] for records in states[ended : ended + 2]]
+    for torn in range(4):
+        words = [*file_model.FLASH, f"--cut={cut}", f"--torn={torn}"]
+        status, found, _ = play(lines + ["power", *asks], words)
+        failed = ["refused hardware"] * (len(lines) - ended)
+        expect(status == 0 and found[: len(lines)] == replies[:ended] + failed and found[len(lines) :] in shown, words, found)
 print(f"{runs} runs, {wrong} wrong")
 sys.exit(wrong != 0)

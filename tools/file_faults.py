@@ -1,0 +1,128 @@
+#!/usr/bin/env python3
+"""Has each write and each sync of a real file fail once, by strace, and opens the file again; the gate runs it.
+
+    tools/file_faults.py [PROGRAM]
+
+PROGRAM is the built program, by default crates/apei/out/apei. `play` writes, replaces and clears records over several slots; the write or
+sync of each of its flash changes fails with EIO, and with ENOSPC. Afterwards the file is opened again: the records are those that the
+replies acknowledged, a command that was refused as `hardware` being in or out. So it is where the first write of that opening fails as
+well. A file that is made meets the same faults, and those of its two names; then it is there, whole and erased, or it is not, and the next
+run makes it. A file in a folder that is missing is refused. The last line is 'N runs, M wrong'; the exit status is 0 where none is, and
+where there is no strace, or none that may trace, which is said.
+"""
+
+import os
+import shutil
+import subprocess
+import sys
+import tempfile
+from concurrent.futures import ThreadPoolExecutor
+
+from file_model import SIZE, after, play, records_in, write
+
+TOP = os.path.dirname(os.path.dirname(os.path.abspath(__file__)))
+ERRORS = ["EIO", "ENOSPC"]
+IDENTIFIERS = [1, 2, 3]
+# One record over three slots, one of one, replacements over two slots and over four, a second record of two, and clears.
+LINES = [write(1, 900), "count", write(2, 128), write(1, 500), "read 1", write(3, 449), write(2, 1345), "read 2", "clear 1", "count", write(1, 128),
+         write(3, 128), "clear 3", "read 3", "count"]
+
+
+def traced(call, error, when):
+    # What strace says of itself goes to a file of its own; the program is not told apart from another one.
+    return ["strace", "-f", "-qq", "-o", os.devnull, "-e", f"trace={call}", "-e", f"inject={call}:error={error}:when={when}"]
+
+
+def calls_of(program, image, lines):
+    """How often each of these calls of the kernel is made."""
+    names = ["pwrite64", "fdatasync", "fsync", "link", "unlink"]
+    with tempfile.NamedTemporaryFile() as log:
+        status, _, said = play(program, image, lines, ["strace", "-f", "-qq", "-o", log.name, "-e", "trace=" + ",".join(names)])
+        text = log.read().decode()
+    return status, {name: sum(f" {name}(" in line for line in text.splitlines()) for name in names}
+
+
+def opened_again(program, image, states, what):
+    """What is wrong of a file that is opened again: first with a fault in its first write, where it makes one, and then without."""
+    status, replies, _ = play(program, image, [], traced("pwrite64", "EIO", 1))
+    if status not in (0, 5) or replies:
+        return [f"{what}: the next opening ended with status {status}"]
+    records = records_in(program, image, IDENTIFIERS)
+    if records not in states:
+        held = records and {identifier: len(data) for identifier, data in records.items()}
+        return [f"{what}: the file holds {held}"]
+    return []
+
+
+def change_fails(program, folder, call, error, when):
+    image = os.path.join(folder, f"{call}-{error}-{when}")
+    with open(image, "wb") as file:
+        file.write(b"\xff" * SIZE)
+    what = f"{call} {when} with {error}"
+    status, replies, said = play(program, image, LINES, traced(call, error, when))
+    refused = replies.count("refused hardware")
+    states = after(LINES, replies, [{}])
+    if status or len(replies) != len(LINES) or refused != 1 or not states:
+        return [f"{what}: status {status}, {[reply[:30] for reply in replies]}, {said}"]
+    return opened_again(program, image, states, what)
+
+
+def making_fails(program, folder, call, error, when):
+    inside = os.path.join(folder, f"new-{call}-{error}-{when}")
+    os.mkdir(inside)
+    image = os.path.join(inside, "image")
+    what = f"a new file, {call} {when} with {error}"
+    status, replies, said = play(program, image, ["count"], traced(call, error, when))
+    left = os.listdir(inside)
+    if (status, replies, said) != (5, [], "apei: flash failed\n"):
+        return [f"{what}: status {status}, {replies}, {said}"]
+    if "image" in left:
+        with open(image, "rb") as file:
+            if file.read() != b"\xff" * SIZE:
+                return [f"{what}: the file that was made is not erased"]
+    if call != "unlink" and left not in ([], ["image"]):
+        return [f"{what}: {left} is left"]
+    status, replies, _ = play(program, image, LINES)
+    states = after(LINES, replies, [{}])
+    if status or "refused hardware" in replies or len(states) != 1:
+        return [f"{what}: the next run ended with status {status}, {[reply[:30] for reply in replies]}"]
+    return opened_again(program, image, states, what)
+
+
+def main():
+    program = sys.argv[1] if len(sys.argv) > 1 else os.path.join(TOP, "crates/apei/out/apei")
+    if not shutil.which("strace"):
+        print("file faults: not tried, since there is no strace here (a Debian package)")
+        return 0
+    if subprocess.run(["strace", "-qq", "-o", os.devnull, "-e", "trace=fsync", "true"], capture_output=True).returncode:
+        print("file faults: not tried, since strace may not trace here")
+        return 0
+    with tempfile.TemporaryDirectory() as folder:
+        wrong = []
+        image = os.path.join(folder, "image")
+        status, made = calls_of(program, image, [])
+        if status or not made["pwrite64"] or not made["fsync"]:
+            wrong.append(f"a new file: status {status}, {made}")
+        status, changed = calls_of(program, image, LINES)
+        if status or changed["pwrite64"] < 80 or changed["pwrite64"] != changed["fdatasync"]:
+            wrong.append(f"the script: status {status}, {changed}")
+        full = play(program, os.path.join(folder, "whole"), LINES)
+        states = after(LINES, full[1], [{}])
+        if full[0] or "refused hardware" in full[1] or records_in(program, image, IDENTIFIERS) not in states:
+            wrong.append(f"the script without a fault: {full[0]}, {[reply[:30] for reply in full[1]]}")
+        nowhere = play(program, os.path.join(folder, "missing", "image"), ["count"])
+        if nowhere != (5, [], "apei: flash failed\n") or os.path.exists(os.path.join(folder, "missing")):
+            wrong.append(f"a folder that is missing: {nowhere}")
+        jobs = [(change_fails, call, error, when) for call in ("pwrite64", "fdatasync") for error in ERRORS for when in range(1, changed[call] + 1)]
+        jobs += [(making_fails, call, error, when) for call, count in made.items() for error in ERRORS for when in range(1, count + 1)]
+        with ThreadPoolExecutor(os.cpu_count()) as lanes:
+            for found in lanes.map(lambda job: job[0](program, folder, *job[1:]), jobs):
+                wrong += found
+    for what in wrong:
+        print(what, file=sys.stderr)
+    print(f"{len(jobs) + 4} runs, {len(wrong)} wrong")
+    return 1 if wrong else 0
+
+
+if __name__ == "__main__":
+    sys.exit(main())
