@@ -1,3 +1,4 @@
 pub mod Telling
 pub mod Changes
 pub mod Entries
+pub mod Erasures

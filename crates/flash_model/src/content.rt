@@ -3,6 +3,7 @@ ghost use Rattle.std.specs.Prelude.{◌≡◌, ◌+◌, ◌≤◌, length, repli
 ghost use Rattle.base_model.specs.Bytes.{put_at};
 
 use crate::Tear;
+use crate::replaced::Replaced;
 
 const ZERO: u8 = 0x00;
 
@@ -24,7 +25,7 @@ fn fill(image: &mut [u8], at: usize, len: usize, byte: u8)
 }
 
 impl Content<'_> {
-    ghost use Rattle.flash_model.specs.Content.{bytes_of};
+    ghost use Rattle.flash_model.specs.Content.{bytes_of, MayReplace};
     ghost use Rattle.flash_model.specs.Simulation.{image_left};
 
     pub(crate) fn len(self) -> usize
@@ -33,6 +34,18 @@ impl Content<'_> {
         match self {
             Content::Bytes(bytes) => bytes.len(),
             Content::Fill { byte: _, len } => len,
+        }
+    }
+
+    /// What it replaces, by the bytes that stand there.
+    pub(crate) fn replaced<'a>(self, old: &'a [u8]) -> Replaced<'a>
+        requires may { MayReplace self old.now }
+        requires all { length old.now ≡ length (bytes_of self) }
+        ensures { result ≡ old.now }
+    {
+        match self {
+            Content::Bytes(_) => Replaced::erased(old),
+            Content::Fill { byte: _, len: _ } => Replaced::of(old),
         }
     }
 

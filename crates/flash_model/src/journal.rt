@@ -1,18 +1,22 @@
 // The journal of a simulated flash.
 ghost use Rattle.std.specs.Prelude.{◌≡◌, [], ◌∷◌, ◌++◌, OnOk, OnErr};
 
+use crate::replaced::Replaced;
 use std::alloc::{AllocError, Global};
 use std::marker::Model;
 
-/// A change: its number, its place, and how many bytes it replaced.
+/// A change: its number, its place, how many of the bytes that it replaced are kept, and how many erased ones stood before and
+/// after those.
 #[derive(Clone, Copy)]
 struct Entry {
     step: u64,
     at: usize,
-    len: usize,
+    before: usize,
+    kept: usize,
+    after: usize,
 }
 
-/// The changes so far, with the bytes that they replaced, all in one list.
+/// The changes so far, with what they keep of the bytes that they replaced, all in one list.
 #[derive(Drop)]
 pub struct Journal {
     entries: Vec<Entry>,
@@ -44,16 +48,24 @@ impl Journal {
     }
 
     /// Notes change number `step`, before it replaces these bytes from `at` on.
-    pub(crate) fn note(&mut self, step: u64, at: usize, replaced: &[u8]) -> Result<(), AllocError>
-        ensures ok { OnOk result (self.new ≡ self.old ++ (record { step = step; at = at; replaced = replaced.now }) ∷ []) }
+    pub(crate) fn note(
+        &mut self,
+        step: u64,
+        at: usize,
+        replaced: Replaced,
+    ) -> Result<(), AllocError>
+        ensures ok { OnOk result (self.new ≡ self.old ++ (record { step = step; at = at; replaced = replaced.entry }) ∷ []) }
         ensures err { OnErr result (self.new ≡ self.old) }
     {
-        self.bytes.reserve(replaced.len())?;
+        let kept = replaced.kept;
+        self.bytes.reserve(kept.len())?;
         self.entries.push(Entry {
             step,
             at,
-            len: replaced.len(),
+            before: replaced.before,
+            kept: kept.len(),
+            after: replaced.after,
         })?;
-        self.bytes.extend_from_slice(replaced)
+        self.bytes.extend_from_slice(kept)
     }
 }

@@ -8,6 +8,7 @@ mod flash;
 mod geometry;
 mod journal;
 mod power;
+mod replaced;
 mod sim_flash;
 mod tear;
 

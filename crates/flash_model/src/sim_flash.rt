@@ -57,7 +57,7 @@ impl Model for SimFlash {
 }
 
 impl SimFlash {
-    ghost use Rattle.flash_model.specs.Content.{bytes_of};
+    ghost use Rattle.flash_model.specs.Content.{bytes_of, MayReplace};
     ghost use Rattle.flash_model.specs.Simulation.{first_power, steps_of, fate_of, MayFollow, ChangeFails};
 
     /// A flash with these bytes, with sectors of `sector` bytes from the first one on. Bytes behind the last whole sector
@@ -116,7 +116,8 @@ impl SimFlash {
 
     // Makes one change of the range that the content fills from `at` on.
     fn change(&mut self, at: usize, content: Content) -> Result<(), FlashFailed>
-        requires { at + length (bytes_of content) ≤ length self.old.told.image }
+        requires within { at + length (bytes_of content) ≤ length self.old.told.image }
+        requires may { MayReplace content (part self.old.told.image at (length (bytes_of content))) }
         ensures after { MayFollow (fate_of self.old) self.old at (bytes_of content.entry) self.new }
         ensures fails { IsErr result ↔ ChangeFails self.old self.new }
         ensures counted { steps_of self.new ≡ next_count (steps_of self.old) }
@@ -135,9 +136,8 @@ impl SimFlash {
         }
         let step = self.steps;
         let tear = self.power.tear_at(&self.failing, step);
-        let noted = self
-            .journal
-            .note(step, at, &self.image[at..at + content.len()]);
+        let replaced = content.replaced(&self.image[at..at + content.len()]);
+        let noted = self.journal.note(step, at, replaced);
         self.power = self.power.after(step);
         self.steps += 1;
         if noted.is_err() {

@@ -1,7 +1,7 @@
 use Rattle.std.proofs.Common.{◌≡◌, ℕ, ◌≤◌, true, false, List, [], ◌∷◌, ◌++◌, subst, ap, is_some, ◌+◌, ◌-◌, ◌^◌, length, refl, sym, ◌∙◌, arith, inl, inr}
 use Rattle.std.proofs.lemmas.List.{with_items_is}
 use Rattle.base_model.specs.Bytes.{SameOutside}
-use Rattle.flash_model.specs.Content.{bytes_of}
+use Rattle.flash_model.specs.Content.{bytes_of, MayReplace}
 use Rattle.flash_model.specs.Journal.{Noted, first_changes}
 use Rattle.flash_model.specs.contracts.sim_flash.SimFlash.{the_view}
 use Rattle.flash_model.specs.declared.tear.Tear.{Tear}
@@ -10,6 +10,11 @@ use Rattle.flash_model.specs.Simulation.{steps_of, tear_at, image_left}
 use Rattle.flash_model.proofs.Telling.{length-first_changes, first_changes-unnoted, first_changes-noted, AreBelow-more, AreBelow-append, part-range}
 use Rattle.flash_model.proofs.Changes.{SameOutside-image_left, fate_of-last, fate_of-lost, fate_of-powered, at_err, at_ok, ChangeFails-last, ChangeFails-lost, ChangeFails-reaches, ChangeFails-whole, faults_after-torn, faults_after-whole}
 use Rattle.flash_model.proofs.sim_flash.SimFlash.change.Goals as goal
+
+pub replaced-replaced-requires-clause-may : goal.replaced-replaced-requires-clause-may
+replaced-replaced-requires-clause-may c =
+    let is = part-range c.self.inside.image.items c.deref-2.result.now c.args.at c.len.result (length (bytes_of c.args.content)) c.deref-2.ensures.value c.len.ensures in
+    subst (λ (old : List ℕ). MayReplace c.args.content old) (sym is) (rw (← c.self.view_is) at c.requires.may)
 
 pub returns-then-self-clause-after : goal.returns-then-self-clause-after
 returns-then-self-clause-after c =
@@ -80,8 +85,8 @@ returns-then-is_some-clause-after c =
     let written = with_items_is c.self.inside.image c.leave.new.image (c.leave.auto.image ∙ c.deref_mut.ensures.len) in
     let left : c.leave.new.image ≡ image_left c.tear_at-tear.result c.self.inside.image.items c.args.at (bytes_of c.args.content) =
     c.leave.ensures ∙ ap (λ (image : List ℕ). image_left c.tear_at-tear.result image c.args.at (bytes_of c.args.content)) c.deref_mut.ensures.value in
-    let within : c.args.at + length (bytes_of c.args.content) ≤ length c.self.inside.image.items = rw (← c.self.view_is) at c.requires in
-    let replaced = part-range c.self.inside.image.items c.deref-2.result.now c.args.at c.len.result (length (bytes_of c.args.content)) c.deref-2.ensures.value c.len.ensures in
+    let within : c.args.at + length (bytes_of c.args.content) ≤ length c.self.inside.image.items = rw (← c.self.view_is) at c.requires.within in
+    let replaced = c.replaced-replaced.ensures ∙ part-range c.self.inside.image.items c.deref-2.result.now c.args.at c.len.result (length (bytes_of c.args.content)) c.deref-2.ensures.value c.len.ensures in
     let past : first_changes c.note-noted.new.self (c.self.inside.steps + 1) c.leave.new.image
     ≡ first_changes c.self.inside.journal c.self.inside.steps c.self.inside.image.items
     ++ (record { before = c.self.inside.image.items; at = c.args.at; len = length (bytes_of c.args.content) }) ∷ [] =
@@ -120,8 +125,8 @@ returns-clause-after c =
     let written = with_items_is c.self.inside.image c.leave.new.image (c.leave.auto.image ∙ c.deref_mut.ensures.len) in
     let left : c.leave.new.image ≡ image_left c.tear_at-tear.result c.self.inside.image.items c.args.at (bytes_of c.args.content) =
     c.leave.ensures ∙ ap (λ (image : List ℕ). image_left c.tear_at-tear.result image c.args.at (bytes_of c.args.content)) c.deref_mut.ensures.value in
-    let within : c.args.at + length (bytes_of c.args.content) ≤ length c.self.inside.image.items = rw (← c.self.view_is) at c.requires in
-    let replaced = part-range c.self.inside.image.items c.deref-2.result.now c.args.at c.len.result (length (bytes_of c.args.content)) c.deref-2.ensures.value c.len.ensures in
+    let within : c.args.at + length (bytes_of c.args.content) ≤ length c.self.inside.image.items = rw (← c.self.view_is) at c.requires.within in
+    let replaced = c.replaced-replaced.ensures ∙ part-range c.self.inside.image.items c.deref-2.result.now c.args.at c.len.result (length (bytes_of c.args.content)) c.deref-2.ensures.value c.len.ensures in
     let past : first_changes c.note-noted.new.self (c.self.inside.steps + 1) c.leave.new.image
     ≡ first_changes c.self.inside.journal c.self.inside.steps c.self.inside.image.items
     ++ (record { before = c.self.inside.image.items; at = c.args.at; len = length (bytes_of c.args.content) }) ∷ [] =

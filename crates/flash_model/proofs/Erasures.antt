@@ -1,0 +1,68 @@
+-- How far bytes are erased.
+use Rattle.std.proofs.Common.{◌≡◌, ℕ, ◌+◌, ◌-◌, ◌^◌, ◌<◌, ◌≤◌, List, [], ◌∷◌, ◌++◌, length, take, drop, replicate, get_or, refl, sym, ap, ◌∙◌, arith, drop-cons, take-add, append_assoc}
+use Rattle.std.proofs.lemmas.List.{take-append-drop, drop-drop, replicate-append-replicate, drop_all}
+use Rattle.base_model.specs.Bytes.{part, number_at, spelled, AreBytes}
+use Rattle.base_model.proofs.BytesLemmas.{spelled-number_at}
+use Rattle.flash_model.specs.Entries.{among_erased}
+
+-- a word of ones, and a byte
+pub word-erased : (bytes : List ℕ) (at : ℕ) → AreBytes bytes → at + 8 ≤ length bytes → number_at bytes at 8 ≡ 2 ^ 64 - 1 → part bytes at 8 ≡ replicate 8 0xFF
+unfolding spelled
+word-erased bytes at each within ones = sym (spelled-number_at bytes at 8 each within) ∙ ap (spelled 8) ones
+
+pub byte-erased : (bytes : List ℕ) (at : ℕ) → at < length bytes → get_or bytes at 0 ≡ 0xFF → part bytes at 1 ≡ replicate 1 0xFF
+unfolding part
+byte-erased bytes at within is = ap (take 1) (drop-cons bytes at 0 within) ∙ ap (λ (x : ℕ). x ∷ []) is
+
+-- erased bytes in front and behind, and some more
+pub front-more : (bytes : List ℕ) (count n : ℕ) → take count bytes ≡ replicate count 0xFF → part bytes count n ≡ replicate n 0xFF → take (count + n) bytes ≡ replicate (count + n) 0xFF
+unfolding part
+front-more bytes count n front more = take-add count n bytes ∙ ap (λ (xs : List ℕ). xs ++ take n (drop count bytes)) front ∙ ap (λ (xs : List ℕ). replicate count 0xFF ++ xs) more ∙ replicate-append-replicate count n 0xFF
+
+pub back-more : (bytes : List ℕ) (from n end : ℕ) → from + n ≡ end → end ≤ length bytes → drop end bytes ≡ replicate (length bytes - end) 0xFF → part bytes from n ≡ replicate n 0xFF →
+    drop from bytes ≡ replicate (length bytes - from) 0xFF
+unfolding part
+back-more bytes from n end is within back more =
+    let all : n + (length bytes - end) ≡ length bytes - from = omega arith in
+    sym (take-append-drop n (drop from bytes))
+    ∙ ap (λ (xs : List ℕ). xs ++ drop n (drop from bytes)) more
+    ∙ ap (λ (xs : List ℕ). replicate n 0xFF ++ xs) (drop-drop n from bytes ∙ ap (λ (k : ℕ). drop k bytes) is ∙ back)
+    ∙ replicate-append-replicate n (length bytes - end) 0xFF
+    ∙ ap (λ (k : ℕ). replicate k 0xFF) all
+
+-- the first bytes are erased, or those from a place on
+pub record FrontErased (bytes : List ℕ) (count : ℕ) : Type 0 where
+  pub within : count ≤ length bytes
+  pub erased : take count bytes ≡ replicate count 0xFF
+
+pub record BackErased (bytes : List ℕ) (end : ℕ) : Type 0 where
+  pub within : end ≤ length bytes
+  pub erased : drop end bytes ≡ replicate (length bytes - end) 0xFF
+
+pub front-none : (bytes : List ℕ) → FrontErased bytes 0
+front-none bytes = record { within = omega arith; erased = refl }
+
+pub front-next : (bytes : List ℕ) (count n : ℕ) → count + n ≤ length bytes → part bytes count n ≡ replicate n 0xFF → FrontErased bytes count → FrontErased bytes (count + n)
+front-next bytes count n within more front = record { within = within; erased = front-more bytes count n front.erased more }
+
+pub back-none : (bytes : List ℕ) → BackErased bytes (length bytes)
+back-none bytes =
+    let none : length bytes - length bytes ≡ 0 = omega arith in
+    record { within = omega arith; erased = drop_all (length bytes) bytes (omega arith) ∙ ap (λ (n : ℕ). replicate n 0xFF) (sym none) }
+
+pub back-next : (bytes : List ℕ) (end n : ℕ) → n ≤ end → part bytes (end - n) n ≡ replicate n 0xFF → BackErased bytes end → BackErased bytes (end - n)
+back-next bytes end n low more back =
+    let is : (end - n) + n ≡ end = omega arith in
+    record { within = omega (arith, back.within); erased = back-more bytes (end - n) n end is back.within back.erased more }
+
+-- bytes by those in front that are erased, those behind that are, and the others
+pub among : (bytes : List ℕ) (before end : ℕ) → take before bytes ≡ replicate before 0xFF → drop end (drop before bytes) ≡ replicate (length (drop before bytes) - end) 0xFF →
+    among_erased before (take end (drop before bytes)) (length (drop before bytes) - end) ≡ bytes
+among bytes before end front back =
+    let rest = drop before bytes in
+    let after = replicate (length (drop before bytes) - end) 0xFF in
+    append_assoc (replicate before 0xFF) (take end rest) after
+    ∙ ap (λ (xs : List ℕ). replicate before 0xFF ++ (take end rest ++ xs)) (sym back)
+    ∙ ap (λ (xs : List ℕ). replicate before 0xFF ++ xs) (take-append-drop end rest)
+    ∙ ap (λ (xs : List ℕ). xs ++ rest) (sym front)
+    ∙ take-append-drop before bytes
