@@ -79,8 +79,8 @@ module _ (steps : ℕ) (old : MachineState) (enough : enough_steps (own_client o
   command_runs : (id : ℕ) (new : MachineState) (result : Result (Unit {0}) ClientError) (left : ℕ) → ReadCommand old new id steps result left → result ≡ Err (Stopped Budget) → ⊥
   command_runs id new result left command = elim command as (λ result left command. result ≡ Err (Stopped Budget) → ⊥) [
     | read_answers result left made spent ↦ made_well id new result made
-    | read_behind result made short ↦ λ e. absurd (omega (arith, short, enough, enough-most old, needs-read id))
-    | read_before leaves range cursor short ↦ λ e. absurd (omega (arith, short, enough, enough-most old, needs-read id))
+    | read_behind result made least short ↦ λ e. absurd (omega (arith, short, enough, enough-most old, needs-read id))
+    | read_before leaves range cursor which short ↦ λ e. absurd (omega (arith, short, enough, enough-most old, needs-read id))
   ]
 
   read_runs : (id : ℕ) (out after : List ℕ) (result : Result ℕ ClientError) (left : ℕ) (new : MachineState) → ReadAnswered id out steps old result after left new → result ≡ Err (Stopped Budget) → ⊥

@@ -82,8 +82,8 @@ read_keeps old new id result made = elim made as (λ result made. KeepsMap old.d
 command_keeps : (old new : MachineState) (id budget : ℕ) (result : Result (Unit {0}) ClientError) (left : ℕ) → ReadCommand old new id budget result left → KeepsMap old.device.store new.device.store
 command_keeps old new id budget result left command = elim command as (λ result left command. KeepsMap old.device.store new.device.store) [
   | read_answers result left made spent ↦ read_keeps old new id result made
-  | read_behind result made short ↦ read_keeps old new id result made
-  | read_before leaves range cursor short ↦ leaves.kept
+  | read_behind result made least short ↦ read_keeps old new id result made
+  | read_before leaves range cursor which short ↦ leaves.kept
 ]
 
 answer_keeps : (old : MachineState) (id : ℕ) (out : List ℕ) (budget : ℕ) (result : Result ℕ ClientError) (after : List ℕ) (left : ℕ) (new : MachineState) →

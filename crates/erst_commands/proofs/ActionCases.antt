@@ -1,20 +1,16 @@
 -- What each action of the table does to a device, from its one case.
 use Rattle.std.proofs.Common.{◌≡◌, ℕ, Bool, true, List, ◌++◌, take, drop, Option, Some, None, Result, refl, sym, ap, subst, ◌∙◌}
 use Rattle.std.proofs.lemmas.Option.{none-some, same_Some}
-use Rattle.flash_words.specs.Layout.{room_of, reach_of}
 use Rattle.record_store.specs.Store.{StoreView, IsBusy}
 use Rattle.record_store.specs.declared.errors.StoreError.{StoreError}
 use Rattle.erst_entries.specs.declared.actions.Action.{Action}
-use Rattle.erst_entries.specs.declared.actions.Action.TheVariants.{BeginWriteOperation, BeginReadOperation, BeginClearOperation, EndOperation, SetRecordOffset, ExecuteOperation, CheckBusyStatus, GetCommandStatus, GetRecordIdentifier, SetRecordIdentifier, GetRecordCount, BeginDummyWriteOperation, GetErrorLogAddressRange, GetErrorLogAddressRangeLength, GetErrorLogAddressRangeAttributes, GetExecuteOperationTimings}
-use Rattle.erst_device.specs.declared.device.TheConstants.{LOG_RANGE}
+use Rattle.erst_entries.specs.declared.actions.Action.TheVariants.{BeginWriteOperation, BeginReadOperation, BeginClearOperation, EndOperation, SetRecordOffset, ExecuteOperation, CheckBusyStatus, GetRecordIdentifier, SetRecordIdentifier, GetRecordCount, BeginDummyWriteOperation}
 use Rattle.erst_device.specs.declared.registers.Operation.{Operation}
 use Rattle.erst_device.specs.declared.status.CommandStatus.TheVariants.{Success}
-use Rattle.erst_device.specs.Statuses.{number_of}
-use Rattle.erst_device.specs.Timings.{timings_of}
 use Rattle.erst_device.specs.StoreCalls.{Stepped, ReadOut, FoundNext, Counted}
 use Rattle.erst_device.specs.DeviceState.{DeviceState, IsStill, IsRunning, Reads, Changes, given_up}
 use Rattle.erst_device.specs.Starts.{Starts}
-use Rattle.erst_device.specs.Actions.{begun_by, waits, IsAllowed, stepped, shown, found, counted, Acts, Begins, Ends, SetsOffset, SetsId, Waits, Executes, NoneRuns, Steps, Shows, TellsStatus, FindsNext, Counts, TellsAddress, TellsLength, TellsAttributes, TellsTimings, Ignores}
+use Rattle.erst_device.specs.Actions.{told_by, begun_by, waits, IsAllowed, stepped, shown, found, counted, Acts, Begins, Ends, SetsOffset, SetsId, Waits, Executes, NoneRuns, Steps, Shows, Tells, FindsNext, Counts, Ignores}
 use Rattle.erst_commands.proofs.SharedLemmas.{idle_busy}
 
 -- the device afterwards, with the log range as before
@@ -79,6 +75,11 @@ pub record CountMade (tells : Type 0) (old : DeviceState) (range : List ℕ) (ne
   pub new_is : new ≡ counted result store (given_up old)
   pub range_is : after ≡ range
 
+-- an action that begins an operation, and one that only tells a number
+record BeginsOrTells (old : DeviceState) (range : List ℕ) (action : Action) (new : DeviceState) (after : List ℕ) : Type 0 where
+  begins : (operation : Operation) → begun_by action ≡ Some operation → Becomes (begun old operation) range new after
+  tells : (number : ℕ) → told_by action old.status old.store.layout ≡ Some number → Becomes (record old { value = number }) range new after
+
 -- what each action leaves
 abbrev Outcome : (tells : Type 0) (old : DeviceState) (range : List ℕ) → Option Action → DeviceState → List ℕ → Type 0
 Outcome tells old range None new after = Becomes old range new after
@@ -87,26 +88,46 @@ Outcome tells old range (Some SetRecordOffset) new after = IsStill old → Becom
 Outcome tells old range (Some SetRecordIdentifier) new after = IsStill old → Becomes (record old { id = old.value }) range new after
 Outcome tells old range (Some ExecuteOperation) new after = IsStill old → StartsWith tells old range new after
 Outcome tells old range (Some CheckBusyStatus) new after = Checked tells old range new after
-Outcome tells old range (Some GetCommandStatus) new after = Becomes (record old { value = number_of old.status }) range new after
 Outcome tells old range (Some GetRecordIdentifier) new after = LookMade tells old range new after
 Outcome tells old range (Some GetRecordCount) new after = CountMade tells old range new after
-Outcome tells old range (Some GetErrorLogAddressRange) new after = Becomes (record old { value = LOG_RANGE }) range new after
-Outcome tells old range (Some GetErrorLogAddressRangeLength) new after = Becomes (record old { value = reach_of (room_of old.store.layout) }) range new after
-Outcome tells old range (Some GetErrorLogAddressRangeAttributes) new after = Becomes (record old { value = 0 }) range new after
-Outcome tells old range (Some GetExecuteOperationTimings) new after = Becomes (record old { value = timings_of old.store.layout }) range new after
-Outcome tells old range (Some action) new after = (operation : Operation) → begun_by action ≡ Some operation → Becomes (begun old operation) range new after
+Outcome tells old range (Some action) new after = BeginsOrTells old range action new after
 
 -- an action begins one operation
-one_begun : (old : DeviceState) (range : List ℕ) (action : Action) (operation : Operation) → begun_by action ≡ Some operation → (other : Operation) → begun_by action ≡ Some other
-    → Becomes (begun old other) range (begun old operation) range
-one_begun old range action operation by other also = record { new_is = ap (begun old) (same_Some _ _ (sym by ∙ also)); range_is = refl }
+one_begun : (old : DeviceState) (range : List ℕ) (action : Action) (operation : Operation) → begun_by action ≡ Some operation → told_by action old.status old.store.layout ≡ None
+    → BeginsOrTells old range action (begun old operation) range
+one_begun old range action operation by none = record {
+  begins = λ other also. record { new_is = ap (begun old) (same_Some _ _ (sym by ∙ also)); range_is = refl };
+  tells = λ number told. absurd (none-some number (sym none ∙ told));
+}
 
 begins_outcome : (tells : Type 0) (old : DeviceState) (range : List ℕ) (action : Action) (operation : Operation) → begun_by action ≡ Some operation → Outcome tells old range (Some action) (begun old operation) range
-begins_outcome tells old range BeginWriteOperation operation by = one_begun old range BeginWriteOperation operation by
-begins_outcome tells old range BeginReadOperation operation by = one_begun old range BeginReadOperation operation by
-begins_outcome tells old range BeginClearOperation operation by = one_begun old range BeginClearOperation operation by
-begins_outcome tells old range BeginDummyWriteOperation operation by = one_begun old range BeginDummyWriteOperation operation by
+begins_outcome tells old range BeginWriteOperation operation by = one_begun old range BeginWriteOperation operation by refl
+begins_outcome tells old range BeginReadOperation operation by = one_begun old range BeginReadOperation operation by refl
+begins_outcome tells old range BeginClearOperation operation by = one_begun old range BeginClearOperation operation by refl
+begins_outcome tells old range BeginDummyWriteOperation operation by = one_begun old range BeginDummyWriteOperation operation by refl
 begins_outcome tells old range action operation by = absurd (cc)
+
+-- and tells one number
+one_told : (old : DeviceState) (range : List ℕ) (action : Action) (number : ℕ) → told_by action old.status old.store.layout ≡ Some number → begun_by action ≡ None
+    → BeginsOrTells old range action (record old { value = number }) range
+one_told old range action number told none = record {
+  begins = λ operation by. absurd (none-some operation (sym none ∙ by));
+  tells = λ other also. record { new_is = ap (λ (n : ℕ). record old { value = n }) (same_Some _ _ (sym told ∙ also)); range_is = refl };
+}
+
+tells_outcome : (tells : Type 0) (old : DeviceState) (range : List ℕ) (action : Action) (number : ℕ) → told_by action old.status old.store.layout ≡ Some number → Outcome tells old range (Some action) (record old { value = number }) range
+tells_outcome tells old range BeginWriteOperation number told = absurd (cc)
+tells_outcome tells old range BeginReadOperation number told = absurd (cc)
+tells_outcome tells old range BeginClearOperation number told = absurd (cc)
+tells_outcome tells old range BeginDummyWriteOperation number told = absurd (cc)
+tells_outcome tells old range EndOperation number told = absurd (cc)
+tells_outcome tells old range SetRecordOffset number told = absurd (cc)
+tells_outcome tells old range SetRecordIdentifier number told = absurd (cc)
+tells_outcome tells old range ExecuteOperation number told = absurd (cc)
+tells_outcome tells old range CheckBusyStatus number told = absurd (cc)
+tells_outcome tells old range GetRecordIdentifier number told = absurd (cc)
+tells_outcome tells old range GetRecordCount number told = absurd (cc)
+tells_outcome tells old range action number told = one_told old range action number told refl
 
 waits_outcome : (tells : Type 0) (old : DeviceState) (range : List ℕ) (action : Action) → waits action ≡ true → IsRunning old → Outcome tells old range (Some action) old range
 waits_outcome tells old range SetRecordOffset w runs = λ still. absurd (not_both old still runs)
@@ -146,27 +167,39 @@ outcome tells old range which new after acts = elim acts as (λ which new after 
           range_is = refl;
         };
   }
-  | TellsStatus ↦ become _ range
+  | Tells action number told ↦ tells_outcome tells old range action number told
   | FindsNext store result next allowed ↦ record { store = store; result = result; next = next; allowed = allowed; new_is = refl; range_is = refl }
   | Counts store result count ↦ record { store = store; result = result; count = count; new_is = refl; range_is = refl }
-  | TellsAddress ↦ become _ range
-  | TellsLength ↦ become _ range
-  | TellsAttributes ↦ become _ range
-  | TellsTimings ↦ become _ range
   | Ignores ↦ become _ range
 ]
 
 -- a beginning
 begins_of : (tells : Type 0) (old : DeviceState) (range : List ℕ) (new : DeviceState) (after : List ℕ) (action : Action) (operation : Operation) → begun_by action ≡ Some operation → Outcome tells old range (Some action) new after → Becomes (begun old operation) range new after
-begins_of tells old range new after BeginWriteOperation operation by leaves = leaves operation by
-begins_of tells old range new after BeginReadOperation operation by leaves = leaves operation by
-begins_of tells old range new after BeginClearOperation operation by leaves = leaves operation by
-begins_of tells old range new after BeginDummyWriteOperation operation by leaves = leaves operation by
+begins_of tells old range new after BeginWriteOperation operation by leaves = leaves.begins operation by
+begins_of tells old range new after BeginReadOperation operation by leaves = leaves.begins operation by
+begins_of tells old range new after BeginClearOperation operation by leaves = leaves.begins operation by
+begins_of tells old range new after BeginDummyWriteOperation operation by leaves = leaves.begins operation by
 begins_of tells old range new after action operation by leaves = absurd (cc)
 
 pub begins : (tells : Type 0) (action : Action) (operation : Operation) (old : DeviceState) (range : List ℕ) (new : DeviceState) (after : List ℕ) → begun_by action ≡ Some operation
     → Acts tells old range (Some action) new after → Becomes (begun old operation) range new after
 begins tells action operation old range new after by acts = begins_of tells old range new after action operation by (outcome tells old range (Some action) new after acts)
+
+-- a number that is only told
+told_of : (tells : Type 0) (old : DeviceState) (range : List ℕ) (new : DeviceState) (after : List ℕ) (action : Action) (number : ℕ) → told_by action old.status old.store.layout ≡ Some number
+    → Outcome tells old range (Some action) new after → Becomes (record old { value = number }) range new after
+told_of tells old range new after EndOperation number told leaves = absurd (cc)
+told_of tells old range new after SetRecordOffset number told leaves = absurd (cc)
+told_of tells old range new after SetRecordIdentifier number told leaves = absurd (cc)
+told_of tells old range new after ExecuteOperation number told leaves = absurd (cc)
+told_of tells old range new after CheckBusyStatus number told leaves = absurd (cc)
+told_of tells old range new after GetRecordIdentifier number told leaves = absurd (cc)
+told_of tells old range new after GetRecordCount number told leaves = absurd (cc)
+told_of tells old range new after action number told leaves = leaves.tells number told
+
+pub tells_number : (tells : Type 0) (action : Action) (number : ℕ) (old : DeviceState) (range : List ℕ) (new : DeviceState) (after : List ℕ) → told_by action old.status old.store.layout ≡ Some number
+    → Acts tells old range (Some action) new after → Becomes (record old { value = number }) range new after
+tells_number tells action number old range new after told acts = told_of tells old range new after action number told (outcome tells old range (Some action) new after acts)
 
 -- the other actions, each by its name
 pub ends : (tells : Type 0) (old : DeviceState) (range : List ℕ) (new : DeviceState) (after : List ℕ) → Acts tells old range (Some EndOperation) new after → Becomes (record (given_up old) { operation = None }) range new after
@@ -181,26 +214,11 @@ sets_id tells old range new after still acts = outcome tells old range (Some Set
 pub executes : (tells : Type 0) (old : DeviceState) (range : List ℕ) (new : DeviceState) (after : List ℕ) → IsStill old → Acts tells old range (Some ExecuteOperation) new after → StartsWith tells old range new after
 executes tells old range new after still acts = outcome tells old range (Some ExecuteOperation) new after acts still
 
-pub tells_status : (tells : Type 0) (old : DeviceState) (range : List ℕ) (new : DeviceState) (after : List ℕ) → Acts tells old range (Some GetCommandStatus) new after → Becomes (record old { value = number_of old.status }) range new after
-tells_status tells old range new after acts = outcome tells old range (Some GetCommandStatus) new after acts
-
 pub finds_next : (tells : Type 0) (old : DeviceState) (range : List ℕ) (new : DeviceState) (after : List ℕ) → Acts tells old range (Some GetRecordIdentifier) new after → LookMade tells old range new after
 finds_next tells old range new after acts = outcome tells old range (Some GetRecordIdentifier) new after acts
 
 pub counts : (tells : Type 0) (old : DeviceState) (range : List ℕ) (new : DeviceState) (after : List ℕ) → Acts tells old range (Some GetRecordCount) new after → CountMade tells old range new after
 counts tells old range new after acts = outcome tells old range (Some GetRecordCount) new after acts
-
-pub tells_address : (tells : Type 0) (old : DeviceState) (range : List ℕ) (new : DeviceState) (after : List ℕ) → Acts tells old range (Some GetErrorLogAddressRange) new after → Becomes (record old { value = LOG_RANGE }) range new after
-tells_address tells old range new after acts = outcome tells old range (Some GetErrorLogAddressRange) new after acts
-
-pub tells_length : (tells : Type 0) (old : DeviceState) (range : List ℕ) (new : DeviceState) (after : List ℕ) → Acts tells old range (Some GetErrorLogAddressRangeLength) new after → Becomes (record old { value = reach_of (room_of old.store.layout) }) range new after
-tells_length tells old range new after acts = outcome tells old range (Some GetErrorLogAddressRangeLength) new after acts
-
-pub tells_attributes : (tells : Type 0) (old : DeviceState) (range : List ℕ) (new : DeviceState) (after : List ℕ) → Acts tells old range (Some GetErrorLogAddressRangeAttributes) new after → Becomes (record old { value = 0 }) range new after
-tells_attributes tells old range new after acts = outcome tells old range (Some GetErrorLogAddressRangeAttributes) new after acts
-
-pub tells_timings : (tells : Type 0) (old : DeviceState) (range : List ℕ) (new : DeviceState) (after : List ℕ) → Acts tells old range (Some GetExecuteOperationTimings) new after → Becomes (record old { value = timings_of old.store.layout }) range new after
-tells_timings tells old range new after acts = outcome tells old range (Some GetExecuteOperationTimings) new after acts
 
 pub checks_still : (tells : Type 0) (old : DeviceState) (range : List ℕ) (new : DeviceState) (after : List ℕ) → IsStill old → Acts tells old range (Some CheckBusyStatus) new after → Becomes (record old { value = 0 }) range new after
 checks_still tells old range new after still acts = (outcome tells old range (Some CheckBusyStatus) new after acts).still still

@@ -1,10 +1,10 @@
 -- Attaching to the machine's own table never fails.
-use Rattle.std.proofs.Common.{◌≡◌, ℕ, ◌+◌, ◌*◌, ◌/◌, ◌%◌, ◌^◌, ◌≤◌, Bool, List, [], ◌∷◌, Some, Result, Ok, Err, refl, sym, ap, subst, ◌∙◌, arith, cond}
+use Rattle.std.proofs.Common.{◌≡◌, ℕ, ◌+◌, ◌*◌, ◌/◌, ◌%◌, ◌^◌, ◌≤◌, Bool, List, [], ◌∷◌, Option, Some, Result, Ok, Err, refl, sym, ap, subst, ◌∙◌, arith, cond}
 use Rattle.std.proofs.lemmas.Bool.{le-ltb}
 use Rattle.flash_words.specs.Layout.{room_of, reach_of}
 use Rattle.erst_entries.specs.declared.actions.Action.{Action}
 use Rattle.erst_entries.specs.declared.actions.Action.TheVariants.{GetErrorLogAddressRange, GetErrorLogAddressRangeLength, GetErrorLogAddressRangeAttributes, GetExecuteOperationTimings}
-use Rattle.erst_entries.specs.Actions.{code_of}
+use Rattle.erst_entries.specs.Actions.{action_of, code_of}
 use Rattle.erst_entries.specs.Programs.{entries_of}
 use Rattle.erst_interp.specs.declared.stops.RunStop.{RunStop}
 use Rattle.erst_client.specs.declared.errors.AttachError.{AttachError}
@@ -17,12 +17,13 @@ use Rattle.erst_client.specs.Attaching.{Attaches, attach_requests, attached, cli
 use Rattle.erst_device.specs.declared.device.TheConstants.{LOG_RANGE}
 use Rattle.erst_device.specs.Timings.{most_changes, timings_of}
 use Rattle.erst_device.specs.DeviceState.{DeviceState}
+use Rattle.erst_device.specs.Actions.{told_by, Acts}
 use Rattle.erst_machine.specs.MachineState.{MachineState}
 use Rattle.erst_machine.specs.Allowed.{Allows, ActsOn}
 use Rattle.erst_machine.specs.OwnTables.{own_entries, own_erst}
 use Rattle.erst_commands.specs.OwnPrograms.{with_value, given_to, answer_of, OwnProgramsRun}
 use Rattle.erst_commands.specs.Attached.{own_client, AttachesOwn}
-use Rattle.erst_commands.proofs.ActionCases.{Becomes, tells_address, tells_length, tells_attributes, tells_timings}
+use Rattle.erst_commands.proofs.ActionCases.{tells_number}
 use Rattle.erst_commands.proofs.MachineSteps.{acted_is}
 use Rattle.erst_commands.proofs.OwnProgramLemmas.{has_steps}
 use Rattle.erst_commands.proofs.AskLemmas.{with_answer, FirstAsked, Went, Halted, first_asked, none_asked}
@@ -50,18 +51,19 @@ record IsTold (budget value : ℕ) (base : MachineState) (answer left : ℕ) (la
 same_answer : (x y : ℕ) → ◌≡◌ {A = Result ℕ RunStop} (Ok x) (Ok y) → x ≡ y
 same_answer x y e = cc
 
--- the action says this of whatever device
-abbrev Says : Type 0 → Action → (DeviceState → ℕ) → Type 0
-Says tells action value = (old : MachineState) (new : MachineState) → ActsOn tells old (code_of action) new → Becomes (record old.device { value = value old.device }) old.memory.range new.device new.memory.range
+-- the action tells this of whatever device
+abbrev Says : Action → (DeviceState → ℕ) → Type 0
+Says action value = (device : DeviceState) → told_by action device.status device.store.layout ≡ Some (value device)
 
-module _ (tells : Type 0) (own : OwnProgramsRun tells) (action : Action) (value : DeviceState → ℕ) (says : Says tells action value) (two : steps_of own_entries action ≡ 2) (takes : (given : ℕ) (m : MachineState) → given_to action given m ≡ m)
+module _ (tells : Type 0) (own : OwnProgramsRun tells) (action : Action) (value : DeviceState → ℕ) (says : Says action value) (code : action_of (code_of action) ≡ Some action) (two : steps_of own_entries action ≡ 2) (takes : (given : ℕ) (m : MachineState) → given_to action given m ≡ m)
     (shows : (given v : ℕ) → answer_of action given v ≡ v % 2 ^ 64) where
   is_told : (budget before : ℕ) (base old : MachineState) (result : Result ℕ RunStop) (left : ℕ) (last : MachineState) → 2 ≤ budget → old ≡ with_value before base → value old.device ≡ value base.device
       → Performs (Allows tells) own_entries action 0 budget old result left last → (result ≡ Ok (value base.device % 2 ^ 64)) × (left + 2 ≡ budget) × (last ≡ with_value (value base.device) base)
   is_told budget before base old result left last enough old_is same run =
       let made = has_steps tells action 0 budget old result left last enough (own action 0 budget old result left last run) in
       let acted : ActsOn tells old (code_of action) last = subst (λ (m : MachineState). ActsOn tells m (code_of action) last) (takes 0 old) made.acted in
-      let told = says old last acted in
+      let acts = subst (λ (a : Option Action). Acts tells old.device old.memory.range a last.device last.memory.range) code acted.acts in
+      let told = tells_number tells action (value old.device) old.device old.memory.range last.device last.memory.range (says old.device) acts in
       let there : last ≡ record old { device = record old.device { value = value old.device } } =
       acted_is tells old (code_of action) last (record old.device { value = value old.device }) acted told.new_is told.range_is in
       let last_is : last ≡ with_value (value base.device) base = there ∙ ap (λ (n : ℕ). with_value n old) same ∙ ap (λ (m : MachineState). with_value (value base.device) m) old_is in
@@ -94,40 +96,28 @@ pub attach_own : (tells : Type 0) → OwnProgramsRun tells → (budget : ℕ) (f
 attach_own tells own budget first result left last enough attaches =
     by_first (first_asked (Allows tells) own_entries _ _ budget first attaches.answers left last (subst (λ (rs : List Request). Asks (Allows tells) own_entries rs budget first attaches.answers left last) requests-own attaches.asks))
   where
-    says_address : Says tells GetErrorLogAddressRange (λ d. LOG_RANGE)
-    says_address old new acted = tells_address tells old.device old.memory.range new.device new.memory.range acted.acts
-
-    says_length : Says tells GetErrorLogAddressRangeLength (λ d. reach_of (room_of d.store.layout))
-    says_length old new acted = tells_length tells old.device old.memory.range new.device new.memory.range acted.acts
-
-    says_attributes : Says tells GetErrorLogAddressRangeAttributes (λ d. 0)
-    says_attributes old new acted = tells_attributes tells old.device old.memory.range new.device new.memory.range acted.acts
-
-    says_timings : Says tells GetExecuteOperationTimings (λ d. timings_of d.store.layout)
-    says_timings old new acted = tells_timings tells old.device old.memory.range new.device new.memory.range acted.acts
-
     told_address : (budget before : ℕ) (base old : MachineState) (result : Result ℕ RunStop) (left : ℕ) (last : MachineState) → 2 ≤ budget → old ≡ with_value before base
         → Performs (Allows tells) own_entries GetErrorLogAddressRange 0 budget old result left last → (result ≡ Ok (LOG_RANGE % 2 ^ 64)) × (left + 2 ≡ budget) × (last ≡ with_value LOG_RANGE base)
     told_address budget before base old result left last more is run =
-        is_told tells own GetErrorLogAddressRange (λ d. LOG_RANGE) says_address steps_two.0 (λ given m. refl) (λ given v. refl) budget before base old result left last more is refl run
+        is_told tells own GetErrorLogAddressRange (λ d. LOG_RANGE) (λ d. refl) refl steps_two.0 (λ given m. refl) (λ given v. refl) budget before base old result left last more is refl run
 
     told_length : (budget before : ℕ) (base old : MachineState) (result : Result ℕ RunStop) (left : ℕ) (last : MachineState) → 2 ≤ budget → old ≡ with_value before base
         → Performs (Allows tells) own_entries GetErrorLogAddressRangeLength 0 budget old result left last
         → (result ≡ Ok (reach_of (room_of base.device.store.layout) % 2 ^ 64)) × (left + 2 ≡ budget) × (last ≡ with_value (reach_of (room_of base.device.store.layout)) base)
     told_length budget before base old result left last more is run =
-        is_told tells own GetErrorLogAddressRangeLength (λ d. reach_of (room_of d.store.layout)) says_length steps_two.1 (λ given m. refl) (λ given v. refl) budget before base old result left last more is
+        is_told tells own GetErrorLogAddressRangeLength (λ d. reach_of (room_of d.store.layout)) (λ d. refl) refl steps_two.1 (λ given m. refl) (λ given v. refl) budget before base old result left last more is
         (ap (λ (m : MachineState). reach_of (room_of m.device.store.layout)) is) run
 
     told_attributes : (budget before : ℕ) (base old : MachineState) (result : Result ℕ RunStop) (left : ℕ) (last : MachineState) → 2 ≤ budget → old ≡ with_value before base
         → Performs (Allows tells) own_entries GetErrorLogAddressRangeAttributes 0 budget old result left last → (result ≡ Ok (0 % 2 ^ 64)) × (left + 2 ≡ budget) × (last ≡ with_value 0 base)
     told_attributes budget before base old result left last more is run =
-        is_told tells own GetErrorLogAddressRangeAttributes (λ d. 0) says_attributes steps_two.2 (λ given m. refl) (λ given v. refl) budget before base old result left last more is refl run
+        is_told tells own GetErrorLogAddressRangeAttributes (λ d. 0) (λ d. refl) refl steps_two.2 (λ given m. refl) (λ given v. refl) budget before base old result left last more is refl run
 
     told_timings : (budget before : ℕ) (base old : MachineState) (result : Result ℕ RunStop) (left : ℕ) (last : MachineState) → 2 ≤ budget → old ≡ with_value before base
         → Performs (Allows tells) own_entries GetExecuteOperationTimings 0 budget old result left last
         → (result ≡ Ok (timings_of base.device.store.layout % 2 ^ 64)) × (left + 2 ≡ budget) × (last ≡ with_value (timings_of base.device.store.layout) base)
     told_timings budget before base old result left last more is run =
-        is_told tells own GetExecuteOperationTimings (λ d. timings_of d.store.layout) says_timings steps_two.3 (λ given m. refl) (λ given v. refl) budget before base old result left last more is
+        is_told tells own GetExecuteOperationTimings (λ d. timings_of d.store.layout) (λ d. refl) refl steps_two.3 (λ given m. refl) (λ given v. refl) budget before base old result left last more is
         (ap (λ (m : MachineState). timings_of m.device.store.layout) is) run
 
     by_fourth : (a b c left3 : ℕ) (w3 : MachineState) (others : Result (List ℕ) RunStop) → w3 ≡ with_value 0 first → a ≡ LOG_RANGE % 2 ^ 64 → b ≡ reach_of (room_of first.device.store.layout) % 2 ^ 64 → c ≡ 0 % 2 ^ 64

@@ -10,11 +10,11 @@ use Rattle.record_store.specs.Store.{StoreView}
 use Rattle.erst_entries.specs.declared.actions.Action.TheVariants.{BeginWriteOperation, BeginReadOperation, BeginClearOperation, BeginDummyWriteOperation, SetRecordOffset, SetRecordIdentifier, ExecuteOperation}
 use Rattle.erst_client.specs.declared.errors.ClientError.{ClientError}
 use Rattle.erst_client.specs.declared.errors.ClientError.TheVariants.{Hardware, Range}
-use Rattle.erst_client.specs.Commands.{frame_refusal, write_refusal, copy_refusal, Puts, NotPut, NotMarked, IsPut, Writes, IsNoRecord, IsNotPut, IsAsked, CopiesOut, IsFilled, IsNotFilled, copied, Reads, IsNotRead, HasNoLength, IsNotCopied, IsCopied}
+use Rattle.erst_client.specs.Commands.{ClientState, frame_refusal, write_refusal, copy_refusal, Puts, NotPut, NotMarked, IsPut, Writes, IsNoRecord, IsNotPut, IsAsked, CopiesOut, IsFilled, IsNotFilled, copied, Reads, IsNotRead, HasNoLength, IsNotCopied, IsCopied}
 use Rattle.erst_client.specs.Sequences.{write_requests, read_requests, clear_requests, dummy_requests, Sequence}
 use Rattle.erst_device.specs.declared.registers.Operation.TheVariants as operations
 use Rattle.erst_machine.specs.declared.areas.Spot.{Spot}
-use Rattle.erst_machine.specs.MachineState.{MachineState, reach_in}
+use Rattle.erst_machine.specs.MachineState.{MachineState}
 use Rattle.erst_machine.specs.Allowed.{Allows, bytes_stored}
 use Rattle.erst_machine.specs.OwnTables.{own_entries}
 use Rattle.erst_machine.proofs.CrashTrail.{stored_store}
@@ -101,25 +101,27 @@ cause_same first last result is well = record {
   hardware = λ e. absurd (well e);
 }
 
--- A client's write and read
+-- The write and the read of any client whose sequences have their cause
 
-module _ (tells : Type 0) (own : OwnProgramsRun tells) where
+module _ (tells : Type 0) (client : ClientState) where
   cause_from : {T : Type 0} (first mid last : MachineState) (result : Result T ClientError) → mid.device.store ≡ first.device.store → HasItsCause mid last result → HasItsCause first last result
   cause_from first mid last result is cause = record {
     never_falls = subst (λ (s : StoreView). s.flash.faults ≤ last.device.store.flash.faults) is cause.never_falls;
     hardware = λ e. subst (λ (s : StoreView). Rose s.flash.faults last.device.store.flash.faults) is (cause.hardware e);
   }
 
-  pub client_write_cause : (bytes : List ℕ) (budget : ℕ) (first : MachineState) (result : Result (Unit {0}) ClientError) (left : ℕ) (last : MachineState)
-      → Writes (Allows tells) (own_client first) bytes budget first result left last → HasItsCause first last result
-  client_write_cause bytes budget first result left last writes = elim writes as (λ result left last writes. HasItsCause first last result) [
+  pub writes_cause : (bytes : List ℕ) (budget : ℕ) (first : MachineState) (result : Result (Unit {0}) ClientError) (left : ℕ) (last : MachineState)
+      → ((mid : MachineState) (result : Result (Unit {0}) ClientError) (left : ℕ) (last : MachineState)
+      → Sequence (Allows tells) client.table.entries client.timings write_requests budget mid result left last → HasItsCause mid last result)
+      → Writes (Allows tells) client bytes budget first result left last → HasItsCause first last result
+  writes_cause bytes budget first result left last by_sequence writes = elim writes as (λ result left last writes. HasItsCause first last result) [
     | IsNoRecord error is ↦
         cause_same first first (Err error) refl
-        (λ e. write_well bytes (reach_in first.device) (is ∙ ap (λ (x : ClientError). Some x) (same_error error e)))
+        (λ e. write_well bytes client.range (is ∙ ap (λ (x : ClientError). Some x) (same_error error e)))
     | IsNotPut error last is puts ↦ let put = has_put tells _ bytes first (Err error) last puts in cause_same first last (Err error) put.store put.well
     | IsAsked mid result left last is puts sequence ↦
         let put = has_put tells _ bytes first (Ok tt) mid puts in
-        cause_from first mid last result put.store (write_cause tells own (own_client first).timings budget mid result left last sequence)
+        cause_from first mid last result put.store (by_sequence mid result left last sequence)
   ]
 
   -- behind a read's sequence nothing is changed, and no error is `Hardware`
@@ -139,19 +141,34 @@ module _ (tells : Type 0) (own : OwnProgramsRun tells) where
     | IsNotFilled fault new allowed ↦ record { same = allowed.2; well = λ len e. not_range fault e }
   ]
 
-  pub client_read_cause : (id : ℕ) (out : List ℕ) (budget : ℕ) (first : MachineState) (result : Result ℕ ClientError) (after : List ℕ) (left : ℕ) (last : MachineState)
-      → Reads (Allows tells) (own_client first) id out budget first result after left last → HasItsCause first last result
-  client_read_cause id out budget first result after left last reads = elim reads as (λ result after left last reads. HasItsCause first last result) [
+  pub reads_cause : (id : ℕ) (out : List ℕ) (budget : ℕ) (first : MachineState) (result : Result ℕ ClientError) (after : List ℕ) (left : ℕ) (last : MachineState)
+      → ((result : Result (Unit {0}) ClientError) (left : ℕ) (last : MachineState)
+      → Sequence (Allows tells) client.table.entries client.timings (read_requests id) budget first result left last → HasItsCause first last result)
+      → Reads (Allows tells) client id out budget first result after left last → HasItsCause first last result
+  reads_cause id out budget first result after left last by_sequence reads = elim reads as (λ result after left last reads. HasItsCause first last result) [
     | IsNotRead error left last sequence ↦
-        let cause = read_cause tells own id (own_client first).timings budget first (Err error) left last sequence in
+        let cause = by_sequence (Err error) left last sequence in
         record { never_falls = cause.never_falls; hardware = λ e. cause.hardware (ap (λ (x : ClientError). Err x) (same_error error e)) }
     | HasNoLength left mid field fault last sequence length_at ↦
-        read_behind first mid last (Err (Range fault)) (read_cause tells own id (own_client first).timings budget first (Ok tt) left mid sequence) length_at.2 (λ e. not_range fault e)
+        read_behind first mid last (Err (Range fault)) (by_sequence (Ok tt) left mid sequence) length_at.2 (λ e. not_range fault e)
     | IsNotCopied left mid field error last sequence length_at refused ↦
-        read_behind first mid last (Err error) (read_cause tells own id (own_client first).timings budget first (Ok tt) left mid sequence) length_at.2
-        (λ e. copy_well (number_at field 0 4) (reach_in first.device) (length out) (refused ∙ ap (λ (x : ClientError). Some x) (same_error error e)))
+        read_behind first mid last (Err error) (by_sequence (Ok tt) left mid sequence) length_at.2
+        (λ e. copy_well (number_at field 0 4) client.range (length out) (refused ∙ ap (λ (x : ClientError). Some x) (same_error error e)))
     | IsCopied left mid field next whole answer last sequence length_at fits copies ↦
         let done = has_copied _ _ whole next answer last copies in
-        read_behind first mid last (copied answer (number_at field 0 4)) (read_cause tells own id (own_client first).timings budget first (Ok tt) left mid sequence) (done.same ∙ length_at.2)
+        read_behind first mid last (copied answer (number_at field 0 4)) (by_sequence (Ok tt) left mid sequence) (done.same ∙ length_at.2)
         (done.well (number_at field 0 4))
   ]
+
+-- by the machine's own table
+
+module _ (tells : Type 0) (own : OwnProgramsRun tells) where
+  pub client_write_cause : (bytes : List ℕ) (budget : ℕ) (first : MachineState) (result : Result (Unit {0}) ClientError) (left : ℕ) (last : MachineState)
+      → Writes (Allows tells) (own_client first) bytes budget first result left last → HasItsCause first last result
+  client_write_cause bytes budget first result left last =
+      writes_cause tells (own_client first) bytes budget first result left last (λ mid result left last. write_cause tells own (own_client first).timings budget mid result left last)
+
+  pub client_read_cause : (id : ℕ) (out : List ℕ) (budget : ℕ) (first : MachineState) (result : Result ℕ ClientError) (after : List ℕ) (left : ℕ) (last : MachineState)
+      → Reads (Allows tells) (own_client first) id out budget first result after left last → HasItsCause first last result
+  client_read_cause id out budget first result after left last =
+      reads_cause tells (own_client first) id out budget first result after left last (read_cause tells own id (own_client first).timings budget first)

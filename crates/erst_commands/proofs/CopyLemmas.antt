@@ -32,17 +32,17 @@ kept_length first last id result made = elim made as (λ result made. length las
 ok_length : (first last : MachineState) (id budget : ℕ) (result : Result (Unit {0}) ClientError) (left : ℕ) → ReadCommand first last id budget result left → length last.memory.range ≡ length first.memory.range
 ok_length first last id budget result left command = elim command as (λ result left command. length last.memory.range ≡ length first.memory.range) [
   | Answers result left made spent ↦ kept_length first last id result made
-  | StopsBehind result made short ↦ kept_length first last id result made
-  | StopsBefore leaves range cursor short ↦ ap length range
+  | StopsBehind result made least short ↦ kept_length first last id result made
+  | StopsBefore leaves range cursor which short ↦ ap length range
 ]
 
 -- bytes that are copied out are those of a record in the range and fit the buffer
-record Copies (len range room : ℕ) : Type 0 where
-  least : 128 ≤ len
-  within : len ≤ range
-  fits : len ≤ room
+pub record Copies (len range room : ℕ) : Type 0 where
+  pub least : 128 ≤ len
+  pub within : len ≤ range
+  pub fits : len ≤ room
 
-copies : (len range room : ℕ) → copy_refusal len range room ≡ None → Copies len range room
+pub copies : (len range room : ℕ) → copy_refusal len range room ≡ None → Copies len range room
 copies len range room is =
     let tests = by_tests (nat_lt len 128) (nat_lt range len) (nat_lt room len) _ _ is in
     record { least = ltb-false len 128 tests.0; within = ltb-false range len tests.1; fits = ltb-false room len tests.2 }

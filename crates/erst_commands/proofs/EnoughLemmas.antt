@@ -36,7 +36,7 @@ refused_no_stop error refusal is = elim is as (λ refusal error is. error ≡ St
   | OfEmpty ↦ λ e. absurd (cc e)
 ]
 
-same_error : (x y : ClientError) → ◌≡◌ {A = Result (Unit {0}) ClientError} (Err x) (Err y) → x ≡ y
+pub same_error : (x y : ClientError) → ◌≡◌ {A = Result (Unit {0}) ClientError} (Err x) (Err y) → x ≡ y
 same_error x y e = cc
 
 -- a command with the steps of all its changes is not stopped

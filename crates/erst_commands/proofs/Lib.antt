@@ -17,3 +17,5 @@ pub mod CopyLemmas
 pub mod EnoughLemmas
 pub mod CauseLemmas
 pub mod CallCauses
+pub mod BusyLemmas
+pub mod ThroughLemmas

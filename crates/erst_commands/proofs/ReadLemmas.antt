@@ -1,5 +1,5 @@
 -- A read by the machine's own table is the map's.
-use Rattle.std.proofs.Common.{◌≡◌, ◌≢◌, ◌⊎◌, ℕ, zero, suc, ◌+◌, ◌^◌, ◌<◌, ◌≤◌, Bool, false, cond, eqb, List, ◌++◌, length, take, drop, Option, Some, None, Result, Ok, Err, refl, sym, ap, subst, ◌∙◌, arith, inl, inr}
+use Rattle.std.proofs.Common.{◌≡◌, ◌≢◌, ◌⊎◌, ℕ, zero, suc, ◌+◌, ◌^◌, ◌<◌, ◌≤◌, Bool, true, false, cond, eqb, List, ◌++◌, length, take, drop, Option, Some, None, Result, Ok, Err, refl, sym, ap, subst, ◌∙◌, arith, inl, inr}
 use Rattle.std.specs.Prelude.{◌||◌, is_some, IsSome}
 use Rattle.std.specs.Ordering.{nat_cmp}
 use Rattle.std.specs.FinMap.{empty, get, len, get-empty, len-empty, same_map, nat_cmp-IsAntisymmetric}
@@ -43,7 +43,7 @@ use Rattle.erst_machine.specs.OwnTables.{own_entries}
 use Rattle.erst_commands.specs.OwnPrograms.{with_value, answer_of, IsMade, StopsAtOnce, StopsBefore as stops_before, StopsBehind as stops_behind, OwnProgramsRun}
 use Rattle.erst_commands.specs.Looks.{OnlyLooked, HasAsked}
 use Rattle.erst_commands.specs.Changes.{OfEmpty, OfNotFound}
-use Rattle.erst_commands.specs.Reads.{ReadLeaves, ReadAsked, ReadMade, IsRead, IsRefused, IsFailed, ReadCommand, Answers, StopsBehind, StopsBefore}
+use Rattle.erst_commands.specs.Reads.{ReadLeaves, ReadAsked, ReadMade, IsRead, IsRefused, IsFailed, steps_to, ReadCommand, Answers, StopsBehind, StopsBefore}
 use Rattle.erst_commands.proofs.ActionCases.{checks_reading}
 use Rattle.erst_commands.proofs.MachineSteps.{on_device, acted_range}
 use Rattle.erst_commands.proofs.OwnProgramLemmas.{steps-begin_read, steps-check}
@@ -134,6 +134,22 @@ read_absent layout id map some other absent =
     ∙ ap (λ (b : Bool). cond {A = Option Refusal} (b || is_some (get map id)) None (Some not_found)) (ne_eqb id 0 other)
     ∙ ap (λ (o : Option (List ℕ × ℕ)). cond {A = Option Refusal} (is_some o) None (Some not_found)) absent
 
+either_way : (a b : Bool) → (a ≡ true) ⊎ (b ≡ true) → (a || b) ≡ true
+either_way true b either = refl
+either_way false b (inl is) = absurd (cc)
+either_way false b (inr is) = is
+
+named_stands : (id found : ℕ) (map : Stored) (kept : List ℕ × ℕ) → IsNamed id found map → get map found ≡ Some kept → (eqb id 0 ≡ true) ⊎ (is_some (get map id) ≡ true)
+named_stands id found map kept (inl other) here = inr (ap (λ (o : Option (List ℕ × ℕ)). is_some o) (ap (λ (n : ℕ). get map n) (sym other.1) ∙ here))
+named_stands id found map kept (inr least) here = inl (eq-eqb id 0 least.0)
+
+read_named : (layout : Layout) (id found : ℕ) (map : Stored) (kept : List ℕ × ℕ) → IsNamed id found map → get map found ≡ Some kept → refusal_of layout (Read id) map ≡ None
+unfolding refusal_of
+read_named layout id found map kept is_named here =
+    let some = len_some map found kept here in
+    ap (λ (b : Bool). cond {A = Option Refusal} b (Some empty_map) (cond (eqb id 0 || is_some (get map id)) None (Some not_found))) (ne_eqb (len map) 0 (λ e. absurd (omega (arith, some, e))))
+    ∙ ap (λ (b : Bool). cond {A = Option Refusal} b None (Some not_found)) (either_way (eqb id 0) (is_some (get map id)) (named_stands id found map kept is_named here))
+
 least_named : (id least : ℕ) (map : Stored) → IsNextAbove 0 map (Some least) → IsNamed id (named id least) map
 least_named id least map next = elim (cases_eq id 0) [
   | inl zero_id ↦
@@ -159,7 +175,7 @@ missing_not_zero id least map next none = elim (cases_eq id 0) [
 
 -- nothing runs, and all is done; or the record of an identifier is to be shown
 pub data ReadStarted (first start : MachineState) (id : ℕ) : Type 0 where
-  IsQuiet : (result : Result (Unit {0}) ClientError) → IsStill start.device → judged (status_in start) ≡ result → ReadMade first start id result → ReadStarted first start id
+  IsQuiet : (error : ClientError) → IsStill start.device → judged (status_in start) ≡ Err error → ReadMade first start id (Err error) → ReadStarted first start id
   IsReading : (found : ℕ) (body : List ℕ) (generation : ℕ) → HasAsked first start → start.device.reading ≡ Some found → start.device.offset ≡ 0 → start.device.status ≡ statuses.Success
       → start.device.cursor ≡ first.device.cursor → IsNamed id found (records_of first) → get (records_of first) found ≡ Some (body, generation) → length body ≤ length first.memory.range → ReadStarted first start id
 
@@ -176,7 +192,7 @@ module _ (tells : Type 0) (told : tells) (first start : MachineState) (machine :
       let kept = some_kept (get (records_of first) least) next.here in
       let other = missing_not_zero id least (records_of first) next none in
       let some = len_some (records_of first) least kept.0 kept.1 in
-      IsQuiet (Err NotFound) (record { no_read = ap (λ (d : DeviceState). d.reading) is; no_change = asked.looked.idle }) (ap (λ (d : DeviceState). judged (number_of d.status)) is)
+      IsQuiet NotFound (record { no_read = ap (λ (d : DeviceState). d.reading) is; no_change = asked.looked.idle }) (ap (λ (d : DeviceState). judged (number_of d.status)) is)
       (IsRefused not_found NotFound (of_asked first start asked) (read_absent first.device.store.layout id (records_of first) (λ e. absurd (omega (arith, some, e))) other.0 other.1) OfNotFound
       (same_range first start asked.looked) (ap (λ (d : DeviceState). d.cursor) is))
 
@@ -186,7 +202,7 @@ module _ (tells : Type 0) (told : tells) (first start : MachineState) (machine :
       let there : start.device.store ≡ store = ap (λ (d : DeviceState). d.store) is in
       let asked = has_asked tells told first start store None looks.leaves there elsewhere in
       let none = none_above first.device.store.layout first.device.store.flash.told.image (looks.answer told) in
-      IsQuiet (Err Empty) (record { no_read = ap (λ (d : DeviceState). d.reading) is; no_change = asked.looked.idle }) (ap (λ (d : DeviceState). judged (number_of d.status)) is)
+      IsQuiet Empty (record { no_read = ap (λ (d : DeviceState). d.reading) is; no_change = asked.looked.idle }) (ap (λ (d : DeviceState). judged (number_of d.status)) is)
       (IsRefused empty_map Empty (of_asked first start asked) (read_empty first.device.store.layout id (records_of first) (is_empty (records_of first) none)) OfEmpty
       (same_range first start asked.looked) (ap (λ (d : DeviceState). d.cursor) is))
 
@@ -196,7 +212,7 @@ module _ (tells : Type 0) (told : tells) (first start : MachineState) (machine :
       let there : start.device.store ≡ store = ap (λ (d : DeviceState). d.store) is in
       let failed = has_failed {T = Option ℕ} tells told first start store error looks.leaves looks.error there elsewhere (ap (λ (d : DeviceState). d.cursor) is) in
       let status : start.device.status ≡ statuses.HardwareNotAvailable = ap (λ (d : DeviceState). d.status) is ∙ ap status_of looks.error in
-      IsQuiet (Err Hardware) (record { no_read = ap (λ (d : DeviceState). d.reading) is; no_change = failed.looked.idle }) (ap (λ (s : CommandStatus). judged (number_of s)) status)
+      IsQuiet Hardware (record { no_read = ap (λ (d : DeviceState). d.reading) is; no_change = failed.looked.idle }) (ap (λ (s : CommandStatus). judged (number_of s)) status)
       (IsFailed (of_looked first start failed.looked) failed.rose (same_range first start failed.looked) failed.cursor)
 
   fits_range : (found size : ℕ) (long : HasLength (records_of first) found size) → length long.body ≤ length first.memory.range
@@ -315,7 +331,7 @@ module _ (tells : Type 0) (told : tells) (first start : MachineState) (id found 
       let made = checks_reading tells start.device start.memory.range new.device new.memory.range found reading acted.acts in
       shown_by new made.store made.result made.out made.read made.new_is made.range_is (acted_range tells start 0x6 new acted)
 
-value_shown : (id : ℕ) (result : Result ℕ StoreError) (store : StoreView) (old : DeviceState) → (shown id result store old).value ≡ 0
+pub value_shown : (id : ℕ) (result : Result ℕ StoreError) (store : StoreView) (old : DeviceState) → (shown id result store old).value ≡ 0
 value_shown id (Ok size) store old = refl
 value_shown id (Err error) store old = refl
 
@@ -390,6 +406,10 @@ module _ (tells : Type 0) (own : OwnProgramsRun tells) (w : MachineState) (answe
         | ChecksHalf new acted one ↦ λ e. subst (λ (s : RunStop). OnceWaited budget (Err (Stopped s)) 0 new) (same_stop Budget stop e) (IsHalf new acted one)
       ]) is
 
+few_to : (result : Result (Unit {0}) ClientError) → steps_to result ≤ 7
+few_to (Ok done) = omega arith
+few_to (Err error) = omega arith
+
 -- The whole sequence
 
 module _ (tells : Type 0) (own : OwnProgramsRun tells) (told : tells) (first : MachineState) (machine : IsMachine first) (id : ℕ) (small : id < 2 ^ 64) where
@@ -430,14 +450,14 @@ module _ (tells : Type 0) (own : OwnProgramsRun tells) (told : tells) (first : M
     | Opens others left w holds sum ↦ λ e. absurd (cc e)
     | Halts w untouched short ↦ λ e.
         subst (λ (s : RunStop). ReadCommand first (ended_from w) id budget (Err (Stopped s)) 0) (same_end Budget stop e)
-        (StopsBefore (untouched_end first w untouched) (ap (λ (m : MachineState). m.memory.range) untouched.elsewhere) untouched.cursor (omega (arith, short)))
+        (StopsBefore (untouched_end first w untouched) (ap (λ (m : MachineState). m.memory.range) untouched.elsewhere) untouched.cursor (inl short) (omega (arith, short)))
   ]) is
     where
       same_end : (x y : RunStop) → ◌≡◌ {A = Result (List ℕ) RunStop} (Err x) (Err y) → x ≡ y
       same_end x y e = cc
 
   -- a quiet device
-  module _ (start : MachineState) (result : Result (Unit {0}) ClientError) (status : judged (status_in start) ≡ result) (made : ReadMade first start id result) (budget asked : ℕ) (opened : asked + 6 ≡ budget) where
+  module _ (start : MachineState) (why : ClientError) (status : judged (status_in start) ≡ Err why) (made : ReadMade first start id (Err why)) (budget asked : ℕ) (opened : asked + 6 ≡ budget) where
     quiet_told : (waited left : ℕ) (idle : MachineState) (answer : Result (Unit {0}) ClientError) → answer ≡ Ok tt → left + 2 ≡ waited → StillWaited start asked answer waited idle
         → ReadCommand first (ended_from (with_value (status_in idle) idle)) id budget (judged (status_in idle)) left
     quiet_told waited left idle answer is spent ends =
@@ -445,14 +465,14 @@ module _ (tells : Type 0) (own : OwnProgramsRun tells) (told : tells) (first : M
           | IsAtOnce waited idle at sum ↦ λ e behind.
               subst (λ (m : MachineState). ReadCommand first (ended_from (with_value (status_in m) m)) id budget (judged (status_in m)) left) (sym at)
               (subst (λ (r : Result (Unit {0}) ClientError). ReadCommand first (ended_from (with_value (status_in start) start)) id budget r left) (sym status)
-              (Answers result left (made_end first start (status_in start) id result made) (omega (arith, opened, sum, behind, needs-read id))))
+              (Answers (Err why) left (made_end first start (status_in start) id (Err why) made) (omega (arith, opened, sum, behind, needs-read id))))
           | IsShort idle which few ↦ λ e behind. absurd (cc e)
         ]) is spent
 
     quiet_cut : (other : MachineState) → other ≡ with_value other.device.value start → budget < 10 → ReadCommand first (ended_from other) id budget (Err (Stopped Budget)) 0
     quiet_cut other is few =
         subst (λ (m : MachineState). ReadCommand first (ended_from m) id budget (Err (Stopped Budget)) 0) (sym is)
-        (StopsBehind result (made_end first start other.device.value id result made) (omega (arith, few, needs-read id)))
+        (StopsBehind (Err why) (made_end first start other.device.value id (Err why) made) (omega (arith, opened)) (omega (arith, few, needs-read id)))
 
     quiet_not_told : (waited : ℕ) (idle other : MachineState) (answer : Result (Unit {0}) ClientError) → answer ≡ Ok tt → waited < 2 → other ≡ with_value other.device.value idle → StillWaited start asked answer waited idle
         → ReadCommand first (ended_from other) id budget (Err (Stopped Budget)) 0
@@ -484,7 +504,8 @@ module _ (tells : Type 0) (own : OwnProgramsRun tells) (told : tells) (first : M
 
   -- one that shows the record by its first check
   module _ (start : MachineState) (zero_is : (new : MachineState) → ActsOn tells start 0x6 new → new.device.value ≡ 0) (shows : (new : MachineState) → ActsOn tells start 0x6 new → ReadMade first new id (judged (status_in new)))
-      (before : ReadLeaves first start) (range_is : start.memory.range ≡ first.memory.range) (cursor_is : start.device.cursor ≡ first.device.cursor) (budget asked : ℕ) (opened : asked + 6 ≡ budget) where
+      (before : ReadLeaves first start) (range_is : start.memory.range ≡ first.memory.range) (cursor_is : start.device.cursor ≡ first.device.cursor)
+      (taken : refusal_of first.device.store.layout (Read id) (records_of first) ≡ None) (budget asked : ℕ) (opened : asked + 6 ≡ budget) where
     shown_told : (waited left : ℕ) (idle : MachineState) (answer : Result (Unit {0}) ClientError) → answer ≡ Ok tt → left + 2 ≡ waited → OnceWaited tells own start zero_is asked answer waited idle
         → ReadCommand first (ended_from (with_value (status_in idle) idle)) id budget (judged (status_in idle)) left
     shown_told waited left idle answer is spent ends =
@@ -494,16 +515,16 @@ module _ (tells : Type 0) (own : OwnProgramsRun tells) (told : tells) (first : M
           | IsHalf idle acted one ↦ λ e behind. absurd (cc e)
         ]) is spent
 
-    shown_cut : (idle other : MachineState) → ActsOn tells start 0x6 idle → other ≡ with_value other.device.value idle → budget < 10 → ReadCommand first (ended_from other) id budget (Err (Stopped Budget)) 0
-    shown_cut idle other acted is few =
+    shown_cut : (idle other : MachineState) → ActsOn tells start 0x6 idle → other ≡ with_value other.device.value idle → 7 ≤ budget → budget < 10 → ReadCommand first (ended_from other) id budget (Err (Stopped Budget)) 0
+    shown_cut idle other acted is behind few =
         subst (λ (m : MachineState). ReadCommand first (ended_from m) id budget (Err (Stopped Budget)) 0) (sym is)
-        (StopsBehind (judged (status_in idle)) (made_end first idle other.device.value id (judged (status_in idle)) (shows idle acted)) (omega (arith, few, needs-read id)))
+        (StopsBehind (judged (status_in idle)) (made_end first idle other.device.value id (judged (status_in idle)) (shows idle acted)) (omega (arith, behind, few_to (judged (status_in idle)))) (omega (arith, few, needs-read id)))
 
     shown_not_told : (waited : ℕ) (idle other : MachineState) (answer : Result (Unit {0}) ClientError) → answer ≡ Ok tt → waited < 2 → other ≡ with_value other.device.value idle
         → OnceWaited tells own start zero_is asked answer waited idle → ReadCommand first (ended_from other) id budget (Err (Stopped Budget)) 0
     shown_not_told waited idle other answer is short same ends =
         (elim ends as (λ answer waited idle ends. answer ≡ Ok tt → waited < 2 → other ≡ with_value other.device.value idle → ReadCommand first (ended_from other) id budget (Err (Stopped Budget)) 0) [
-          | IsOnce waited idle acted sum ↦ λ e few is_value. shown_cut idle other acted is_value (omega (arith, opened, sum, few))
+          | IsOnce waited idle acted sum ↦ λ e few is_value. shown_cut idle other acted is_value (omega (arith, opened, sum)) (omega (arith, opened, sum, few))
           | IsNone none ↦ λ e few is_value. absurd (cc e)
           | IsHalf idle acted one ↦ λ e few is_value. absurd (cc e)
         ]) is short same
@@ -514,9 +535,9 @@ module _ (tells : Type 0) (own : OwnProgramsRun tells) (told : tells) (first : M
       | IsOnce left last acted sum ↦ λ e. absurd (cc e)
       | IsNone none ↦ λ e.
           subst (λ (r : Result (Unit {0}) ClientError). ReadCommand first (ended_from start) id budget r 0) e
-          (StopsBefore (leaves_end first start start.device.value before) range_is cursor_is (omega (arith, opened, none)))
+          (StopsBefore (leaves_end first start start.device.value before) range_is cursor_is (inr (omega (arith, opened, none), taken)) (omega (arith, opened, none)))
       | IsHalf last acted one ↦ λ e.
-          subst (λ (r : Result (Unit {0}) ClientError). ReadCommand first (ended_from last) id budget r 0) e (shown_cut last last acted refl (omega (arith, opened, one)))
+          subst (λ (r : Result (Unit {0}) ClientError). ReadCommand first (ended_from last) id budget r 0) e (shown_cut last last acted refl (omega (arith, opened, one)) (omega (arith, opened, one)))
     ]) is
 
   reading_zero : (start : MachineState) (found : ℕ) → start.device.reading ≡ Some found → (new : MachineState) → ActsOn tells start 0x6 new → new.device.value ≡ 0
@@ -527,28 +548,28 @@ module _ (tells : Type 0) (own : OwnProgramsRun tells) (told : tells) (first : M
   by_told : (timings : Option (ℕ × ℕ)) (budget asked waited left : ℕ) (start idle : MachineState) → ReadStarted first start id → asked + 6 ≡ budget → left + 2 ≡ waited
       → Waits (Allows tells) own_entries timings asked start (Ok tt) waited idle → ReadCommand first (ended_from (with_value (status_in idle) idle)) id budget (judged (status_in idle)) left
   by_told timings budget asked waited left start idle started opened spent waits = elim started [
-    | IsQuiet result still status made ↦ quiet_told start result status made budget asked opened waited left idle (Ok tt) refl spent (wait_still tells own timings start still asked (Ok tt) waited idle waits)
+    | IsQuiet why still status made ↦ quiet_told start why status made budget asked opened waited left idle (Ok tt) refl spent (wait_still tells own timings start still asked (Ok tt) waited idle waits)
     | IsReading found body generation has reading offset success at is_named here fits ↦
         shown_told start (reading_zero start found reading) (is_shown tells told first start id found body generation has offset success at is_named here fits reading) (of_looked first start has.looked)
-        (same_range first start has.looked) at budget asked opened waited left idle (Ok tt) refl spent (wait_once tells own start (reading_zero start found reading) timings asked (Ok tt) waited idle waits)
+        (same_range first start has.looked) at (read_named first.device.store.layout id found (records_of first) (body, generation) is_named here) budget asked opened waited left idle (Ok tt) refl spent (wait_once tells own start (reading_zero start found reading) timings asked (Ok tt) waited idle waits)
   ]
 
   by_not_told : (timings : Option (ℕ × ℕ)) (budget asked waited : ℕ) (start idle other : MachineState) → ReadStarted first start id → asked + 6 ≡ budget → waited < 2 → other ≡ with_value other.device.value idle
       → Waits (Allows tells) own_entries timings asked start (Ok tt) waited idle → ReadCommand first (ended_from other) id budget (Err (Stopped Budget)) 0
   by_not_told timings budget asked waited start idle other started opened short same waits = elim started [
-    | IsQuiet result still status made ↦ quiet_not_told start result status made budget asked opened waited idle other (Ok tt) refl short same (wait_still tells own timings start still asked (Ok tt) waited idle waits)
+    | IsQuiet why still status made ↦ quiet_not_told start why status made budget asked opened waited idle other (Ok tt) refl short same (wait_still tells own timings start still asked (Ok tt) waited idle waits)
     | IsReading found body generation has reading offset success at is_named here fits ↦
         shown_not_told start (reading_zero start found reading) (is_shown tells told first start id found body generation has offset success at is_named here fits reading) (of_looked first start has.looked)
-        (same_range first start has.looked) at budget asked opened waited idle other (Ok tt) refl short same (wait_once tells own start (reading_zero start found reading) timings asked (Ok tt) waited idle waits)
+        (same_range first start has.looked) at (read_named first.device.store.layout id found (records_of first) (body, generation) is_named here) budget asked opened waited idle other (Ok tt) refl short same (wait_once tells own start (reading_zero start found reading) timings asked (Ok tt) waited idle waits)
   ]
 
   by_not_waited : (timings : Option (ℕ × ℕ)) (budget asked : ℕ) (error : ClientError) (left : ℕ) (start last : MachineState) → ReadStarted first start id → asked + 6 ≡ budget
       → Waits (Allows tells) own_entries timings asked start (Err error) left last → ReadCommand first (ended_from last) id budget (Err error) left
   by_not_waited timings budget asked error left start last started opened waits = elim started [
-    | IsQuiet result still status made ↦ quiet_not_waited start result status made budget asked opened error (Err error) left last refl (wait_still tells own timings start still asked (Err error) left last waits)
+    | IsQuiet why still status made ↦ quiet_not_waited start why status made budget asked opened error (Err error) left last refl (wait_still tells own timings start still asked (Err error) left last waits)
     | IsReading found body generation has reading offset success at is_named here fits ↦
         shown_not_waited start (reading_zero start found reading) (is_shown tells told first start id found body generation has offset success at is_named here fits reading) (of_looked first start has.looked)
-        (same_range first start has.looked) at budget asked opened error (Err error) left last refl (wait_once tells own start (reading_zero start found reading) timings asked (Err error) left last waits)
+        (same_range first start has.looked) at (read_named first.device.store.layout id found (records_of first) (body, generation) is_named here) budget asked opened error (Err error) left last refl (wait_once tells own start (reading_zero start found reading) timings asked (Err error) left last waits)
   ]
 
   pub read_command : (timings : Option (ℕ × ℕ)) (budget : ℕ) (result : Result (Unit {0}) ClientError) (left : ℕ) (last : MachineState) → Sequence (Allows tells) own_entries timings (read_requests id) budget first result left last

@@ -24,7 +24,7 @@ use Rattle.erst_machine.specs.MachineState.{MachineState}
 use Rattle.erst_machine.specs.Allowed.{Allows, ActsOn}
 use Rattle.erst_machine.specs.OwnTables.{own_entries}
 use Rattle.erst_commands.specs.OwnPrograms.{with_value, takes_value, tells_value, given_to, answer_of, IsMade, StopsAtOnce, StopsBefore, StopsBehind, OwnProgramsRun}
-use Rattle.erst_commands.proofs.ActionCases.{begins, ends, sets_offset, sets_id, executes, checks_still, tells_status}
+use Rattle.erst_commands.proofs.ActionCases.{begins, ends, sets_offset, sets_id, executes, checks_still, tells_number}
 use Rattle.erst_commands.proofs.MachineSteps.{on_device, acted_is}
 use Rattle.erst_commands.proofs.AskLemmas.{with_answer, Went, Halted, first_asked, none_asked}
 use Rattle.erst_commands.proofs.OwnProgramLemmas.{has_steps, steps-offset, steps-identifier, steps-execute, steps-check, steps-status}
@@ -304,7 +304,7 @@ module _ (tells : Type 0) (own : OwnProgramsRun tells) where
     where
       became : (last : MachineState) → ActsOn tells idle 0x7 last → last ≡ with_value (status_in idle) idle
       became last acted =
-          let becomes = tells_status tells idle.device idle.memory.range last.device last.memory.range acted.acts in
+          let becomes = tells_number tells GetCommandStatus (status_in idle) idle.device idle.memory.range last.device last.memory.range refl acted.acts in
           acted_is tells idle 0x7 last (record idle.device { value = status_in idle }) acted becomes.new_is becomes.range_is
 
   pub end_run : (told : MachineState) (result : Result ℕ RunStop) (left : ℕ) (last : MachineState) → Performs (Allows tells) own_entries EndOperation 0 end_steps told result left last

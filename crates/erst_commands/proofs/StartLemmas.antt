@@ -92,7 +92,7 @@ base_unasked first start there cursor elsewhere = record {
   elsewhere = elsewhere;
 }
 
-idle_after : (new : StoreView) (error : StoreError) → HasDoubtAtStart new (Err error) → new.pending ≡ Idle
+pub idle_after : (new : StoreView) (error : StoreError) → HasDoubtAtStart new (Err error) → new.pending ≡ Idle
 idle_after new (errors.NoSpace free) doubt = doubt.idle
 idle_after new (errors.LastGeneration id) doubt = doubt.idle
 idle_after new errors.NotFound doubt = doubt.idle

@@ -324,7 +324,7 @@ pause_ok tells known busy old result new is pauses = (elim pauses as (λ result 
 same_known : (x y : ℕ × ℕ) → Some x ≡ Some y → x ≡ y
 same_known x y e = cc
 
-pause_late : (tells : Type 0) (known : ℕ × ℕ) (busy : ℕ) (old : MachineState) (result : Result (Unit {0}) ClientError) (new : MachineState) (error : ClientError) → result ≡ Err error
+pub pause_late : (tells : Type 0) (known : ℕ × ℕ) (busy : ℕ) (old : MachineState) (result : Result (Unit {0}) ClientError) (new : MachineState) (error : ClientError) → result ≡ Err error
     → Pauses (Allows tells) (Some known) busy old result new → known.0 < 10 * busy
 pause_late tells known busy old result new error is pauses = (elim pauses as (λ result new pauses. result ≡ Err error → known.0 < 10 * busy) [
   | Untimed none ↦ λ e. absurd (cc none)

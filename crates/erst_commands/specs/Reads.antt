@@ -1,5 +1,5 @@
 -- A read by the machine's own table, on the records of its flash.
-use Rattle.std.specs.Prelude.{◌≡◌, ℕ, ◌+◌, ◌≤◌, ◌<◌, false, List, ◌++◌, length, drop, Some, None, Result, Ok, Err}
+use Rattle.std.specs.Prelude.{◌≡◌, ◌⊎◌, ℕ, ◌+◌, ◌≤◌, ◌<◌, false, List, ◌++◌, length, drop, Some, None, Result, Ok, Err}
 use Rattle.std.specs.FinMap.{get}
 use Rattle.base_model.specs.Bytes.{part, number_at, put_at}
 use Rattle.base_model.specs.Faults.{Rose}
@@ -44,11 +44,20 @@ pub data ReadMade (first last : MachineState) (id : ℕ) : Result (Unit {0}) Cli
   IsFailed : ReadLeaves first last → Rose first.device.store.flash.faults last.device.store.flash.faults → last.memory.range ≡ first.memory.range → last.device.cursor ≡ first.device.cursor
       → ReadMade first last id (Err Hardware)
 
--- answered, or stopped behind what it does or before it, where there are fewer steps than it needs
+-- the steps up to what a read does: those up to EXECUTE_OPERATION, which refuses it, and one more for the check that shows a record
+abbrev pub steps_to : Result (Unit {0}) ClientError → ℕ
+steps_to (Ok done) = 7
+steps_to (Err error) = 6
+
+-- answered, or stopped behind what it does or before it, where there are fewer steps than it needs. One that is stopped before it has not
+-- come to EXECUTE_OPERATION, or has and is to show a record
 pub data ReadCommand (first last : MachineState) (id budget : ℕ) : Result (Unit {0}) ClientError → ℕ → Type 0 where
   Answers : (result : Result (Unit {0}) ClientError) (left : ℕ) → ReadMade first last id result → left + steps_needed own_entries (read_requests id) 1 ≡ budget → ReadCommand first last id budget result left
-  StopsBehind : (result : Result (Unit {0}) ClientError) → ReadMade first last id result → budget < steps_needed own_entries (read_requests id) 1 → ReadCommand first last id budget (Err (Stopped Budget)) 0
-  StopsBefore : ReadLeaves first last → last.memory.range ≡ first.memory.range → last.device.cursor ≡ first.device.cursor → budget < 7 → ReadCommand first last id budget (Err (Stopped Budget)) 0
+  StopsBehind : (result : Result (Unit {0}) ClientError) → ReadMade first last id result → steps_to result ≤ budget → budget < steps_needed own_entries (read_requests id) 1
+      → ReadCommand first last id budget (Err (Stopped Budget)) 0
+  StopsBefore : ReadLeaves first last → last.memory.range ≡ first.memory.range → last.device.cursor ≡ first.device.cursor
+      → (budget < 6) ⊎ ((budget ≡ 6) × (refusal_of first.device.store.layout (Read id) (records_of first) ≡ None)) → budget < 7
+      → ReadCommand first last id budget (Err (Stopped Budget)) 0
 
 -- a client's read: the record's length is read from the log range, and so many bytes of the range are copied out
 pub data ReadAnswered (id : ℕ) (out : List ℕ) (budget : ℕ) (first : MachineState) : Result ℕ ClientError → List ℕ → ℕ → MachineState → Type 0 where

@@ -21,7 +21,7 @@ ghost use Rattle.erst_commands.specs.Looks.{CountMade, NextMade, AsksOnce};
 ghost use Rattle.erst_commands.specs.Changes.{HoldsRecord, ChangeCommand, DummyCommand};
 ghost use Rattle.erst_commands.specs.Writes.{WriteAnswered};
 ghost use Rattle.erst_commands.specs.Reads.{ReadCommand, ReadAnswered};
-ghost use Rattle.erst_commands.specs.Causes.{HasItsCause};
+ghost use Rattle.erst_commands.specs.Causes.{HasItsCause, GoesThrough};
 
 use erst_interp::a_straight_program_runs_through;
 use erst_machine::Machine;
@@ -133,6 +133,29 @@ pub fn hardware_has_its_cause<F: Flash>()
         → Writes (Allows F.tells) (own_client first) bytes budget first result left last → HasItsCause first last result }
     ensures read { (id : ℕ) (out : List ℕ) (budget : ℕ) (first : MachineState) (result : Result ℕ ClientError) (after : List ℕ) (left : ℕ) (last : MachineState)
         → Reads (Allows F.tells) (own_client first) id out budget first result after left last → HasItsCause first last result }
+{
+    own_programs_run_through::<F>();
+}
+
+/// On every flash, whether it tells its content or not: with the steps that are enough by the machine's timings a command is never
+/// stopped, and never late. What the store has begun itself says how often the device is busy.
+pub fn enough_steps_go_through<F: Flash>()
+    ensures write_sequence { (first : MachineState) → IsMachine first → (budget : ℕ) → enough_steps (own_client first).timings ≤ budget → (result : Result (Unit {0}) ClientError) (left : ℕ) (last : MachineState)
+        → Sequence (Allows F.tells) own_entries (own_client first).timings write_requests budget first result left last → GoesThrough result }
+    ensures clear_sequence { (first : MachineState) → IsMachine first → (budget : ℕ) → enough_steps (own_client first).timings ≤ budget → (id : ℕ) → id < 2 ^ 64 → (result : Result (Unit {0}) ClientError) (left : ℕ) (last : MachineState)
+        → Sequence (Allows F.tells) own_entries (own_client first).timings (clear_requests id) budget first result left last → GoesThrough result }
+    ensures read_sequence { (first : MachineState) → IsMachine first → (budget : ℕ) → enough_steps (own_client first).timings ≤ budget → (id : ℕ) → id < 2 ^ 64 → (result : Result (Unit {0}) ClientError) (left : ℕ) (last : MachineState)
+        → Sequence (Allows F.tells) own_entries (own_client first).timings (read_requests id) budget first result left last → GoesThrough result }
+    ensures dummy_sequence { (first : MachineState) → IsMachine first → (budget : ℕ) → enough_steps (own_client first).timings ≤ budget → (result : Result (Unit {0}) ClientError) (left : ℕ) (last : MachineState)
+        → Sequence (Allows F.tells) own_entries (own_client first).timings dummy_requests budget first result left last → GoesThrough result }
+    ensures count { (first : MachineState) (budget : ℕ) → enough_steps (own_client first).timings ≤ budget → (result : Result ℕ ClientError) (left : ℕ) (last : MachineState)
+        → Counts (Allows F.tells) own_entries budget first result left last → GoesThrough result }
+    ensures next { (first : MachineState) (budget : ℕ) → enough_steps (own_client first).timings ≤ budget → (result : Result (Option ℕ) ClientError) (left : ℕ) (last : MachineState)
+        → Names (Allows F.tells) own_entries budget first result left last → GoesThrough result }
+    ensures write { (first : MachineState) → IsMachine first → (budget : ℕ) → enough_steps (own_client first).timings ≤ budget → (bytes : List ℕ) (result : Result (Unit {0}) ClientError) (left : ℕ) (last : MachineState)
+        → Writes (Allows F.tells) (own_client first) bytes budget first result left last → GoesThrough result }
+    ensures read { (first : MachineState) → IsMachine first → (budget : ℕ) → enough_steps (own_client first).timings ≤ budget → (id : ℕ) → id < 2 ^ 64 → (out : List ℕ) (result : Result ℕ ClientError) (after : List ℕ) (left : ℕ) (last : MachineState)
+        → Reads (Allows F.tells) (own_client first) id out budget first result after left last → GoesThrough result }
 {
     own_programs_run_through::<F>();
 }

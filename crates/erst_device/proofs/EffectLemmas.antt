@@ -21,7 +21,7 @@ use Rattle.erst_device.specs.Statuses.{status_of}
 use Rattle.erst_device.specs.StoreCalls.{Stepped, ReadOut, FoundNext, Counted}
 use Rattle.erst_device.specs.DeviceState.{DeviceState, records, IsStill, IsRunning, Reads, Changes, is_busy, is_running, given_up}
 use Rattle.erst_device.specs.Starts.{Starts, NoneBegun, WritesDummy, NoDraft, Writes, LookFails, FindsNone, Misses, GoesBeyond, Finds, NoneToClear, Clears, status_after}
-use Rattle.erst_device.specs.Actions.{Acts, Begins, Ends, SetsOffset, SetsId, Waits, Executes, NoneRuns, Steps, Shows, TellsStatus, FindsNext, Counts, TellsAddress, TellsLength, TellsAttributes, TellsTimings, Ignores, begun_by, waits, IsAllowed, stepped, shown, found, counted}
+use Rattle.erst_device.specs.Actions.{Acts, Begins, Ends, SetsOffset, SetsId, Waits, Executes, NoneRuns, Steps, Shows, Tells, FindsNext, Counts, Ignores, told_by, begun_by, waits, IsAllowed, stepped, shown, found, counted}
 use Rattle.erst_device.specs.Effects.{start_asks, asks, makes_change, Effect}
 
 alike_refl : (store : StoreView) → DividesAlike store store
@@ -189,6 +189,20 @@ effect_of_none tells old range action new plain changes_is asks_is same status =
 
 is_plain_end : IsPlain (Some EndOperation)
 is_plain_end = record { no_start = λ e. cc; no_next = λ e. cc; no_count = λ e. cc }
+
+-- a number is only told
+tells_plain : (action : Action) (old : DeviceState) (number : ℕ) → told_by action old.status old.store.layout ≡ Some number → IsPlain (Some action)
+tells_plain ExecuteOperation old number told = absurd (cc)
+tells_plain GetRecordIdentifier old number told = absurd (cc)
+tells_plain GetRecordCount old number told = absurd (cc)
+tells_plain action old number told = record { no_start = λ e. cc; no_next = λ e. cc; no_count = λ e. cc }
+
+tells_quietly : (action : Action) (old : DeviceState) (range : List ℕ) (number : ℕ) → told_by action old.status old.store.layout ≡ Some number → (makes_change (Some action) old ≡ false) × (asks (Some action) old range ≡ false)
+tells_quietly ExecuteOperation old range number told = absurd (cc)
+tells_quietly CheckBusyStatus old range number told = absurd (cc)
+tells_quietly GetRecordIdentifier old range number told = absurd (cc)
+tells_quietly GetRecordCount old range number told = absurd (cc)
+tells_quietly action old range number told = (refl, refl)
 
 -- an operation is begun
 begins_plain : (action : Action) (operation : Operation) → begun_by action ≡ Some operation → IsPlain (Some action)
@@ -414,12 +428,10 @@ effect_of tells old range action new after acts =
       | NoneRuns still ↦ effect_of_none tells old range (Some CheckBusyStatus) _ plain_step (ap is_busy still.no_change) refl refl refl
       | Steps store result none busy step ↦ effect_of_step tells old range store result busy step
       | Shows id store out result runs read ↦ effect_of_show tells old range id store _ out result read
-      | TellsStatus ↦ effect_of_none tells old range (Some GetCommandStatus) _ (record { no_start = λ e. cc; no_next = λ e. cc; no_count = λ e. cc }) refl refl refl refl
+      | Tells action number told ↦
+          let quiet = tells_quietly action old range number told in
+          effect_of_none tells old range (Some action) _ (tells_plain action old number told) quiet.0 quiet.1 refl refl
       | FindsNext store result next allowed ↦ effect_of_look tells old range store result next allowed
       | Counts store result count ↦ effect_of_count tells old range store result count
-      | TellsAddress ↦ effect_of_none tells old range (Some GetErrorLogAddressRange) _ (record { no_start = λ e. cc; no_next = λ e. cc; no_count = λ e. cc }) refl refl refl refl
-      | TellsLength ↦ effect_of_none tells old range (Some GetErrorLogAddressRangeLength) _ (record { no_start = λ e. cc; no_next = λ e. cc; no_count = λ e. cc }) refl refl refl refl
-      | TellsAttributes ↦ effect_of_none tells old range (Some GetErrorLogAddressRangeAttributes) _ (record { no_start = λ e. cc; no_next = λ e. cc; no_count = λ e. cc }) refl refl refl refl
-      | TellsTimings ↦ effect_of_none tells old range (Some GetExecuteOperationTimings) _ (record { no_start = λ e. cc; no_next = λ e. cc; no_count = λ e. cc }) refl refl refl refl
       | Ignores ↦ effect_of_none tells old range None old (record { no_start = λ e. cc; no_next = λ e. cc; no_count = λ e. cc }) refl refl refl refl
     ]

@@ -1,7 +1,7 @@
 -- The serialization actions (ACPI 6.4, section 18.5.1.1) as the device carries them out, one case for each row of its table.
 -- `tells` says whether the flash tells its content; `range` is the log range.
 use Rattle.std.specs.Prelude.{◌≡◌, ℕ, ◌-◌, ◌^◌, ◌<◌, Bool, true, false, if◌then◌else◌, List, take, drop, ◌++◌, Option, Some, None, Result, Ok, Err}
-use Rattle.flash_words.specs.Layout.{room_of, reach_of}
+use Rattle.flash_words.specs.Layout.{Layout, room_of, reach_of}
 use Rattle.record_model.specs.Records.{is_reserved}
 use Rattle.record_store.specs.Store.{StoreView, IsBusy}
 use Rattle.record_store.specs.declared.errors.StoreError.{StoreError}
@@ -10,12 +10,22 @@ use Rattle.erst_entries.specs.declared.actions.Action.TheVariants.{BeginWriteOpe
 use Rattle.erst_device.specs.declared.device.TheConstants.{LOG_RANGE}
 use Rattle.erst_device.specs.declared.registers.Operation.{Operation}
 use Rattle.erst_device.specs.declared.registers.Operation.TheVariants.{Write, Read, Clear, Dummy}
+use Rattle.erst_device.specs.declared.status.CommandStatus.{CommandStatus}
 use Rattle.erst_device.specs.declared.status.CommandStatus.TheVariants.{Success}
 use Rattle.erst_device.specs.Statuses.{number_of, status_of}
 use Rattle.erst_device.specs.Timings.{timings_of}
 use Rattle.erst_device.specs.StoreCalls.{Stepped, ReadOut, FoundNext, Counted}
 use Rattle.erst_device.specs.DeviceState.{DeviceState, IsStill, IsRunning, given_up}
 use Rattle.erst_device.specs.Starts.{Starts}
+
+-- the number that an action tells where it does nothing else, with the status of the last execution
+abbrev pub told_by : Action → CommandStatus → Layout → Option ℕ
+told_by GetCommandStatus status layout = Some (number_of status)
+told_by GetErrorLogAddressRange status layout = Some LOG_RANGE
+told_by GetErrorLogAddressRangeLength status layout = Some (reach_of (room_of layout))
+told_by GetErrorLogAddressRangeAttributes status layout = Some 0
+told_by GetExecuteOperationTimings status layout = Some (timings_of layout)
+told_by action status layout = None
 
 -- the operation that an action begins
 abbrev pub begun_by : Action → Option Operation
@@ -85,13 +95,9 @@ pub data Acts (tells : Type 0) (old : DeviceState) (range : List ℕ) : Option A
   Shows : (id : ℕ) (store : StoreView) (out : List ℕ) (result : Result ℕ StoreError) → old.reading ≡ Some id
       → ReadOut tells old.store store id (drop old.offset range) out result
       → Acts tells old range (Some CheckBusyStatus) (shown id result store old) (take old.offset range ++ out)
-  TellsStatus : Acts tells old range (Some GetCommandStatus) (record old { value = number_of old.status }) range
+  Tells : (action : Action) (number : ℕ) → told_by action old.status old.store.layout ≡ Some number → Acts tells old range (Some action) (record old { value = number }) range
   FindsNext : (store : StoreView) (result : Result (Option ℕ) StoreError) → FoundNext tells (given_up old).store store old.cursor result → IsAllowed result
       → Acts tells old range (Some GetRecordIdentifier) (found result store (given_up old)) range
   Counts : (store : StoreView) (result : Result ℕ StoreError) → Counted tells (given_up old).store store result
       → Acts tells old range (Some GetRecordCount) (counted result store (given_up old)) range
-  TellsAddress : Acts tells old range (Some GetErrorLogAddressRange) (record old { value = LOG_RANGE }) range
-  TellsLength : Acts tells old range (Some GetErrorLogAddressRangeLength) (record old { value = reach_of (room_of old.store.layout) }) range
-  TellsAttributes : Acts tells old range (Some GetErrorLogAddressRangeAttributes) (record old { value = 0 }) range
-  TellsTimings : Acts tells old range (Some GetExecuteOperationTimings) (record old { value = timings_of old.store.layout }) range
   Ignores : Acts tells old range None old range

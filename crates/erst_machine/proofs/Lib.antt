@@ -3,6 +3,7 @@ pub mod KeptLemmas
 pub mod BootLemmas
 pub mod CountLemmas
 pub mod CrashTrail
+pub mod EntryLemmas
 pub mod EventLemmas
 pub mod FindLemmas
 pub mod PlaceLemmas

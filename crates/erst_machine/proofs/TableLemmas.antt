@@ -19,7 +19,7 @@ use Rattle.erst_machine.specs.OwnTables.{own_header, action_register, value_regi
 use Rattle.erst_machine.proofs.SealLemmas.{own_count}
 
 -- entries fit their fields
-code_fits : (action : Action) → code_of action < 256
+pub code_fits : (action : Action) → code_of action < 256
 code_fits BeginWriteOperation = lit< tt
 code_fits BeginReadOperation = lit< tt
 code_fits BeginClearOperation = lit< tt
@@ -37,13 +37,13 @@ code_fits GetErrorLogAddressRangeLength = lit< tt
 code_fits GetErrorLogAddressRangeAttributes = lit< tt
 code_fits GetExecuteOperationTimings = lit< tt
 
-action_gas : IsGas action_register
+pub action_gas : IsGas action_register
 action_gas = record { space = lit< tt; width = lit< tt; offset = lit< tt; access = lit< tt; address = lit< tt }
 
-value_gas : IsGas value_register
+pub value_gas : IsGas value_register
 value_gas = record { space = lit< tt; width = lit< tt; offset = lit< tt; access = lit< tt; address = lit< tt }
 
-entry_fits : (action : Action) (code : ℕ) (region : Gas) (value mask : ℕ) → code < 256 → IsGas region → value < 2 ^ 64 → mask < 2 ^ 64 → IsEntry (entry_of action code region value mask)
+pub entry_fits : (action : Action) (code : ℕ) (region : Gas) (value mask : ℕ) → code < 256 → IsGas region → value < 2 ^ 64 → mask < 2 ^ 64 → IsEntry (entry_of action code region value mask)
 entry_fits action code region value mask code_is region_is value_is mask_is = record {
   action = code_fits action;
   code = code_is;
@@ -54,16 +54,16 @@ entry_fits action code region value mask code_is region_is value_is mask_is = re
   mask = mask_is;
 }
 
-act_fits : (action : Action) → IsEntry (act action)
+pub act_fits : (action : Action) → IsEntry (act action)
 act_fits action = let small : code_of action < 256 = code_fits action in entry_fits action 3 action_register _ _ (lit< tt) action_gas (omega arith) (lit< tt)
 
-give_fits : (action : Action) → IsEntry (give action)
+pub give_fits : (action : Action) → IsEntry (give action)
 give_fits action = entry_fits action 2 value_register _ _ (lit< tt) value_gas (lit< tt) (lit< tt)
 
-is_one_fits : (action : Action) → IsEntry (is_one action)
+pub is_one_fits : (action : Action) → IsEntry (is_one action)
 is_one_fits action = entry_fits action 1 value_register _ _ (lit< tt) value_gas (lit< tt) (lit< tt)
 
-answer_fits : (action : Action) (mask : ℕ) → mask < 2 ^ 64 → IsEntry (answer action mask)
+pub answer_fits : (action : Action) (mask : ℕ) → mask < 2 ^ 64 → IsEntry (answer action mask)
 answer_fits action mask fits = entry_fits action 0 value_register 0 mask (lit< tt) value_gas (lit< tt) fits
 
 entries_fit : AreEntries own_entries

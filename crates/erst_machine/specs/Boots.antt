@@ -11,6 +11,7 @@ use Rattle.ghes_ack.specs.Machine.{started}
 use Rattle.ghes_ack.specs.Maps.{window, memory_started}
 use Rattle.ghes_ack.specs.Handovers.{StandsFor, fresh}
 use Rattle.erst_device.specs.DeviceState.{at_first}
+use Rattle.erst_machine.specs.declared.areas.TheConstants.{HANDOVER_LEN}
 use Rattle.erst_machine.specs.declared.errors.BootError.{BootError}
 use Rattle.erst_machine.specs.declared.errors.BootError.TheVariants.{Size, Flash, Memory}
 use Rattle.erst_machine.specs.Memories.{shared_windows, zeros, cleared}
@@ -25,11 +26,11 @@ pub record FitsGeometry (geometry : Geometry) (flash : FlashState) : Type 0 wher
 abbrev pub RefusesBoot : Geometry → FlashState → FlashState → BootError → Type 0
 RefusesBoot geometry old back (Size found sector) = (FitsGeometry geometry old → ⊥) × (found ≡ old.size) × (sector ≡ old.sector_size) × (back ≡ old)
 RefusesBoot geometry old back Flash = FitsGeometry geometry old × (old.faults ≤ back.faults) × Rose old.faults back.faults
-RefusesBoot geometry old back Memory = back ≡ old
+RefusesBoot geometry old back Memory = FitsGeometry geometry old × (back ≡ old)
 
 -- the handover's memory before its first start
 abbrev pub blank : RamState
-blank = record { windows = shared_windows; bytes = zeros 8192; waited = 0 }
+blank = record { windows = shared_windows; bytes = zeros HANDOVER_LEN; waited = 0 }
 
 -- a machine right after its boot: nothing is begun, memory is zeros, and the handover is at its start
 pub record IsBooted (geometry : Geometry) (state : MachineState) : Type 0 where

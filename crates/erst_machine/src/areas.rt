@@ -3,6 +3,40 @@ ghost use Rattle.std.specs.Prelude.{◌≡◌, ◌+◌, ◌<◌, ◌≤◌, ◌^
 ghost use Rattle.erst_machine.specs.Areas.{base_of, size_of, area_spot, memory_spot, port_spot, place_spot, IsPlaced, is_plain, register_at};
 
 use apei_gas::{Place, Width};
+use erst_device::LOG_RANGE;
+
+/// The registers ACTION and VALUE, where the device's area begins.
+pub const ACTION: u64 = 0x20_0000;
+
+pub const VALUE: u64 = 0x20_0008;
+
+pub const DEVICE_LEN: usize = 16;
+
+/// Plain memory.
+pub const SCRATCH: u64 = 0x1000;
+
+pub const SCRATCH_LEN: usize = 4096;
+
+/// The handover's window: the status word, where it begins, the acknowledge register, and the block.
+pub const STATUS: u64 = 0x30_0000;
+
+pub const ACKNOWLEDGE: u64 = 0x30_0008;
+
+pub const BLOCK: u64 = 0x30_1000;
+
+pub const BLOCK_LEN: u32 = 4096;
+
+pub const HANDOVER_LEN: usize = 8192;
+
+/// The boot error region.
+pub const BOOT_ERRORS: u64 = 0x40_0000;
+
+pub const BOOT_ERRORS_LEN: usize = 16384;
+
+/// The ports.
+pub const PORTS: u64 = 0x500;
+
+pub const PORTS_LEN: usize = 16;
 
 /// An area of the machine's map: the ports are I/O, all others memory.
 #[derive(Clone, Copy, Debug, PartialEq, Eq)]
@@ -56,12 +90,12 @@ impl Area {
         ensures small { result < 2 ^ 32 }
     {
         match self {
-            Area::Device => 0x20_0000,
-            Area::Scratch => 0x1000,
-            Area::LogRange => 0x10_0000,
-            Area::Handover => 0x30_0000,
-            Area::BootErrors => 0x40_0000,
-            Area::Ports => 0x500,
+            Area::Device => ACTION,
+            Area::Scratch => SCRATCH,
+            Area::LogRange => LOG_RANGE,
+            Area::Handover => STATUS,
+            Area::BootErrors => BOOT_ERRORS,
+            Area::Ports => PORTS,
         }
     }
 
@@ -72,12 +106,12 @@ impl Area {
         ensures small { result < 2 ^ 32 }
     {
         match self {
-            Area::Device => 16,
-            Area::Scratch => 4096,
+            Area::Device => DEVICE_LEN,
+            Area::Scratch => SCRATCH_LEN,
             Area::LogRange => reach,
-            Area::Handover => 8192,
-            Area::BootErrors => 16384,
-            Area::Ports => 16,
+            Area::Handover => HANDOVER_LEN,
+            Area::BootErrors => BOOT_ERRORS_LEN,
+            Area::Ports => PORTS_LEN,
         }
     }
 

@@ -7,6 +7,7 @@ ghost use Rattle.erst_machine.specs.Memories.{memory_of, HasSizes, cleared};
 ghost use Rattle.erst_machine.specs.MachineState.{own_map};
 ghost use Rattle.erst_machine.specs.Boots.{blank};
 
+use crate::areas::{ACKNOWLEDGE, BLOCK, BLOCK_LEN, STATUS};
 use crate::contents::Contents;
 use apei_bytes::Memory;
 use apei_gas::{Place, Register, Width};
@@ -15,16 +16,16 @@ use std::alloc::Global;
 
 /// Where the two sides of the handover meet.
 const OWN_MAP: HandoverMap = HandoverMap {
-    status: 0x30_0000,
+    status: STATUS,
     ack: Register {
-        place: Place::Memory(0x30_0008),
+        place: Place::Memory(ACKNOWLEDGE),
         access: Width::B64,
         offset: 0,
     },
     preserve: u64::MAX - 1,
     write: 1,
-    block: 0x30_1000,
-    len: 4096,
+    block: BLOCK,
+    len: BLOCK_LEN,
 };
 
 /// All memory of a machine but its store's, with a handover at its start.

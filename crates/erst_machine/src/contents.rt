@@ -5,7 +5,7 @@ ghost use Rattle.apei_gas.specs.Access.{bits};
 ghost use Rattle.erst_machine.specs.Areas.{size_of, is_plain};
 ghost use Rattle.erst_machine.specs.Memories.{memory_of, bytes_in, with_bytes, IsReadable, IsWritable, HasSizes, shared_windows, cleared, zeros};
 
-use crate::areas::Area;
+use crate::areas::{Area, BOOT_ERRORS_LEN, HANDOVER_LEN, PORTS_LEN, SCRATCH_LEN, STATUS};
 use apei_bytes::Memory;
 use apei_gas::{Place, Width};
 use apei_space::{Ram, Window, copy_part, get_number, get_part, put_number, put_part};
@@ -24,8 +24,8 @@ pub struct Contents {
 
 /// The handover's window.
 const SHARED: [Window; 1] = [Window {
-    place: Place::Memory(0x30_0000),
-    len: 8192,
+    place: Place::Memory(STATUS),
+    len: HANDOVER_LEN as u32,
 }];
 
 impl Contents {
@@ -34,13 +34,13 @@ impl Contents {
         requires { reach ≤ 65536 }
         ensures zeros { IfOk result (λ contents. memory_of contents ≡ cleared reach contents.shared) }
         ensures sizes { IfOk result (λ contents. HasSizes reach (memory_of contents)) }
-        ensures shared { IfOk result (λ contents. contents.shared ≡ record { windows = shared_windows; bytes = zeros 8192; waited = 0 }) }
+        ensures shared { IfOk result (λ contents. contents.shared ≡ record { windows = shared_windows; bytes = zeros HANDOVER_LEN; waited = 0 }) }
     {
         Ok(Contents {
             range: vec![in alloc; 0; reach]?,
-            scratch: vec![in alloc; 0; 4096]?,
-            ports: vec![in alloc; 0; 16]?,
-            region: vec![in alloc; 0; 16384]?,
+            scratch: vec![in alloc; 0; SCRATCH_LEN]?,
+            ports: vec![in alloc; 0; PORTS_LEN]?,
+            region: vec![in alloc; 0; BOOT_ERRORS_LEN]?,
             shared: Ram::new(alloc, &SHARED)?,
         })
     }
@@ -159,19 +159,19 @@ fn put_from(bytes: &mut [u8], place: usize, others: &[u8], start: usize, n: usiz
 
 fn shared_number(shared: &Ram, start: usize, width: Width) -> u64
     requires windows { shared.now.windows ≡ shared_windows }
-    requires within { start + bits width / 8 ≤ 8192 }
+    requires within { start + bits width / 8 ≤ HANDOVER_LEN }
     ensures value { result ≡ number_at shared.now.bytes start (bits width / 8) }
     ensures small { result < 2 ^ bits width }
 {
-    let at = 0x30_0000 + start as u64;
+    let at = STATUS + start as u64;
     shared.look(Place::Memory(at), width).unwrap_or(0)
 }
 
 fn shared_part(shared: &Ram, start: usize, out: &mut [u8])
     requires windows { shared.now.windows ≡ shared_windows }
-    requires within { start + length out.old ≤ 8192 }
+    requires within { start + length out.old ≤ HANDOVER_LEN }
     ensures { out.new ≡ part shared.now.bytes start (length out.old) }
 {
-    let at = 0x30_0000 + start as u64;
+    let at = STATUS + start as u64;
     let _ = shared.look_bytes(at, out);
 }

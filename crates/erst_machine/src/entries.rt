@@ -1,24 +1,14 @@
-// The instruction entries of the machine's own table.
-ghost use Rattle.std.specs.Prelude.{◌≡◌};
+// Instruction entries over the device's registers, and those of the machine's own table.
+ghost use Rattle.std.specs.Prelude.{◌≡◌, ℕ, Some};
+ghost use Rattle.erst_entries.specs.Instructions.{instruction_of};
 ghost use Rattle.erst_machine.specs.OwnTables.{register_of, action_register, value_register, entry_of, act, give, is_one, answer, own_entries};
 
+use crate::areas::{ACTION, VALUE};
 use apei_gas::Gas;
-use erst_entries::{Action, Entry};
-
-/// READ_REGISTER.
-const READ_REGISTER: u8 = 0x00;
-
-/// READ_REGISTER_VALUE.
-const READ_REGISTER_VALUE: u8 = 0x01;
-
-/// WRITE_REGISTER.
-const WRITE_REGISTER: u8 = 0x02;
-
-/// WRITE_REGISTER_VALUE.
-const WRITE_REGISTER_VALUE: u8 = 0x03;
+use erst_entries::{Action, Entry, Instruction};
 
 /// A register of so many bits in memory. The access size code is 3 for 32 bits and 4 for 64.
-pub fn register_of(width: u8, access: u8, address: u64) -> Gas
+pub(crate) fn register_of(width: u8, access: u8, address: u64) -> Gas
     ensures { result ≡ register_of width access address }
 {
     Gas {
@@ -33,21 +23,21 @@ pub fn register_of(width: u8, access: u8, address: u64) -> Gas
 fn action_register() -> Gas
     ensures { result ≡ action_register }
 {
-    register_of(32, 3, 0x20_0000)
+    register_of(32, 3, ACTION)
 }
 
 fn value_register() -> Gas
     ensures { result ≡ value_register }
 {
-    register_of(64, 4, 0x20_0008)
+    register_of(64, 4, VALUE)
 }
 
-fn entry_of(action: Action, code: u8, region: Gas, value: u64, mask: u64) -> Entry
-    ensures { result ≡ entry_of action code region value mask }
+fn entry_of(action: Action, instruction: Instruction, region: Gas, value: u64, mask: u64) -> Entry
+    ensures { (code : ℕ) → instruction_of code ≡ Some instruction → result ≡ entry_of action code region value mask }
 {
     Entry {
         action: action.code(),
-        code,
+        code: instruction.code(),
         flags: 0,
         spare: 0,
         region,
@@ -56,43 +46,55 @@ fn entry_of(action: Action, code: u8, region: Gas, value: u64, mask: u64) -> Ent
     }
 }
 
-/// Carries out an action.
-fn act(action: Action) -> Entry
+/// The entry that carries out an action: its code goes to ACTION (WRITE_REGISTER_VALUE).
+pub fn act(action: Action) -> Entry
     ensures { result ≡ act action }
 {
     entry_of(
         action,
-        WRITE_REGISTER_VALUE,
+        Instruction::WriteRegisterValue,
         action_register(),
         u64::from(action.code()),
         u64::from(u32::MAX),
     )
 }
 
-/// Gives an action its value.
-fn give(action: Action) -> Entry
+/// The one that gives an action its value, in VALUE (WRITE_REGISTER).
+pub fn give(action: Action) -> Entry
     ensures { result ≡ give action }
 {
-    entry_of(action, WRITE_REGISTER, value_register(), 0, u64::MAX)
+    entry_of(
+        action,
+        Instruction::WriteRegister,
+        value_register(),
+        0,
+        u64::MAX,
+    )
 }
 
-/// Asks whether an action left 1.
-fn is_one(action: Action) -> Entry
+/// The one that asks whether an action left 1 in VALUE (READ_REGISTER_VALUE).
+pub fn is_one(action: Action) -> Entry
     ensures { result ≡ is_one action }
 {
-    entry_of(action, READ_REGISTER_VALUE, value_register(), 1, u64::MAX)
+    entry_of(
+        action,
+        Instruction::ReadRegisterValue,
+        value_register(),
+        1,
+        u64::MAX,
+    )
 }
 
-/// Reads what an action left.
-fn answer(action: Action, mask: u64) -> Entry
+/// The one that reads what an action left in VALUE, under a mask (READ_REGISTER).
+pub fn answer(action: Action, mask: u64) -> Entry
     ensures { result ≡ answer action mask }
 {
-    entry_of(action, READ_REGISTER, value_register(), 0, mask)
+    entry_of(action, Instruction::ReadRegister, value_register(), 0, mask)
 }
 
 /// The entries, in the order of their actions.
 #[tactic(auto, unfolding(crate::specs::OwnTables::own_entries))]
-pub fn own_entries() -> [Entry; 26]
+pub(crate) fn own_entries() -> [Entry; 26]
     ensures { result ≡ own_entries }
 {
     [

@@ -5,7 +5,7 @@ mod accesses;
 mod areas;
 mod boot;
 mod contents;
-mod entries;
+pub mod entries;
 mod errors;
 mod laws;
 mod machine;

@@ -25,7 +25,7 @@ ghost use Rattle.erst_machine.specs.Boots.{FitsGeometry, RefusesBoot, IsBooted};
 ghost use Rattle.erst_machine.specs.Events.{Warms, Powers, Submits, Turns, LaysFatal, fatal_refusal};
 
 use crate::accesses::{copy_bytes, read_bytes, read_number, write_bytes, write_number};
-use crate::areas::{Spot, place_spot};
+use crate::areas::{BOOT_ERRORS_LEN, Spot, place_spot};
 use crate::boot::begin;
 use crate::contents::Contents;
 use crate::errors::{BootError, BootRefused, FatalError};
@@ -65,7 +65,8 @@ impl<F: Flash> Model for Machine<F> {
 
 impl<F: Flash> Machine<F> {
     /// Boots a machine over a flash: it takes all memory that it will have, opens the store of the flash, and begins the
-    /// handover. A flash of another size or sector size, one that failed, or one for which there was no memory is handed back.
+    /// handover. A flash of another size or sector size, one that failed, or one for which there was no memory is handed back;
+    /// its sizes are compared before anything is taken.
     pub fn boot(alloc: Global, flash: F, geometry: Geometry) -> Result<Machine<F>, BootRefused<F>>
         ensures booted { IfOk result (IsBooted geometry) }
         ensures fits { IsOk result → FitsGeometry geometry (F.state flash) }
@@ -87,6 +88,9 @@ impl<F: Flash> Machine<F> {
         ensures power { IfOk result (λ machine. LosesOnlyByChange (F.state flash) machine.device.store.flash) }
         ensures power_back { IfErr result (λ refused. LosesOnlyByChange (F.state flash) (F.state refused.flash)) }
     {
+        if let Some(why) = misfit(&flash, &geometry) {
+            return Err(BootRefused { why, flash });
+        }
         let Ok((contents, handover)) = begin(alloc, geometry.reach() as usize) else {
             let why = BootError::Memory;
             return Err(BootRefused { why, flash });
@@ -208,7 +212,7 @@ impl<F: Flash> Machine<F> {
     /// The block at a place of the boot error region and the place behind it, which is that of the next one; `None` where no
     /// block begins there. The first block is at 0.
     pub fn bert_at(&self, at: u32) -> Result<Option<(Block<'_>, u32)>, BlockError>
-        requires { at ≤ 16384 }
+        requires { at ≤ BOOT_ERRORS_LEN }
         ensures exact { MatchResult result
             (λ found. MatchOption found (next_from self.now.memory.region at ≡ Ok None) (λ x. next_from self.now.memory.region at ≡ Ok (Some x.1)))
             (λ error. next_from self.now.memory.region at ≡ Err error) }
@@ -238,6 +242,23 @@ impl<F: Flash> Machine<F> {
         ensures placed { IsPlaced (length self.now.memory.range) n result }
     {
         place_spot(self.contents.range.len(), at, n)
+    }
+}
+
+/// The refusal of a flash of another size or sector size.
+fn misfit<F: Flash>(flash: &F, geometry: &Geometry) -> Option<BootError>
+    ensures { MatchOption result (FitsGeometry geometry.now (F.state flash.now))
+        (λ why. RefusesBoot geometry.now (F.state flash.now) (F.state flash.now) why) }
+{
+    let size = flash.size();
+    let sector = u64::from(flash.sector_size());
+    if size == geometry.size() && sector == geometry.sector() {
+        None
+    } else {
+        Some(BootError::Size {
+            found: size,
+            sector,
+        })
     }
 }
 

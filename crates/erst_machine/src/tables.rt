@@ -8,6 +8,7 @@ ghost use Rattle.bert_region.specs.Table.{IsBert};
 ghost use Rattle.erst_machine.specs.Memories.{zeros};
 ghost use Rattle.erst_machine.specs.OwnTables.{own_header, own_source, own_erst, own_hest, own_bert, own_bert_bytes};
 
+use crate::areas::{ACKNOWLEDGE, BLOCK_LEN, BOOT_ERRORS, BOOT_ERRORS_LEN, STATUS};
 use crate::entries::{own_entries, register_of};
 use apei_bytes::{Memory, put_u32, put_u64};
 use apei_fields::write_array;
@@ -62,12 +63,12 @@ fn own_source() -> Ghes
         enabled: 1,
         records: 1,
         sections: 4,
-        raw: 4096,
-        status: register_of(64, 4, 0x30_0000),
+        raw: BLOCK_LEN,
+        status: register_of(64, 4, STATUS),
         notify,
-        block_len: 4096,
+        block_len: BLOCK_LEN,
         ack: Some(Ack {
-            register: register_of(64, 4, 0x30_0008),
+            register: register_of(64, 4, ACKNOWLEDGE),
             preserve: u64::MAX - 1,
             write: 1,
         }),
@@ -91,8 +92,8 @@ fn put_bert(out: &mut [u8])
     ensures { out.new ≡ own_bert_bytes }
 {
     header(*b"BERT", 48).put(out);
-    put_u32(out, 36, 16384);
-    put_u64(out, 40, 0x40_0000);
+    put_u32(out, 36, BOOT_ERRORS_LEN as u32);
+    put_u64(out, 40, BOOT_ERRORS);
     seal(out);
 }
 

@@ -6,26 +6,22 @@ use Rattle.std.specs.FinMap.{get, len}
 use Rattle.std.proofs.lemmas.Option.{none-some, same_Some}
 use Rattle.std.proofs.lemmas.Bool.Decides.{nat_tests}
 use Rattle.base_model.specs.Bytes.{part}
-use Rattle.flash_words.specs.Layout.{room_of, reach_of}
 use Rattle.record_model.specs.Records.{Stored, is_reserved}
 use Rattle.record_model.specs.RecordMap.{Refusal, Write as write_command, Clear as clear_command, refusal_of, IsNextAbove}
 use Rattle.record_store.specs.Store.{StoreView, Pending, Idle, Writing, Clearing, stored, IsBusy}
 use Rattle.record_store.specs.Calls.{OnlyLooks}
 use Rattle.record_store.specs.declared.errors.StoreError.{StoreError}
 use Rattle.erst_entries.specs.declared.actions.Action.{Action}
-use Rattle.erst_entries.specs.declared.actions.Action.TheVariants.{BeginWriteOperation, BeginReadOperation, BeginClearOperation, EndOperation, SetRecordOffset, ExecuteOperation, CheckBusyStatus, GetCommandStatus, GetRecordIdentifier, SetRecordIdentifier, GetRecordCount, BeginDummyWriteOperation, GetErrorLogAddressRange, GetErrorLogAddressRangeLength, GetErrorLogAddressRangeAttributes, GetExecuteOperationTimings}
-use Rattle.erst_device.specs.declared.device.TheConstants.{LOG_RANGE}
+use Rattle.erst_entries.specs.declared.actions.Action.TheVariants.{BeginWriteOperation, BeginReadOperation, BeginClearOperation, EndOperation, SetRecordOffset, ExecuteOperation, CheckBusyStatus, GetRecordIdentifier, SetRecordIdentifier, GetRecordCount, BeginDummyWriteOperation}
 use Rattle.erst_device.specs.declared.registers.Operation.{Operation}
 use Rattle.erst_device.specs.declared.registers.Operation.TheVariants.{Write, Read, Clear, Dummy}
 use Rattle.erst_device.specs.declared.status.CommandStatus.{CommandStatus}
 use Rattle.erst_device.specs.declared.status.CommandStatus.TheVariants.{Success, Failed, RecordStoreEmpty, RecordNotFound}
-use Rattle.erst_device.specs.Statuses.{number_of}
-use Rattle.erst_device.specs.Timings.{timings_of}
 use Rattle.erst_device.specs.Drafts.{draft_at}
 use Rattle.erst_device.specs.StoreCalls.{Stepped, StartedWrite, StartedClear, FoundNext, Counted, ReadOut}
 use Rattle.erst_device.specs.DeviceState.{DeviceState, IsStill, IsRunning, Reads, Changes, is_busy, given_up, KnowsCopies}
 use Rattle.erst_device.specs.Starts.{named, HasLength, Starts, NoneBegun, WritesDummy, NoDraft, Writes, LookFails, FindsNone, Misses, GoesBeyond, Finds, NoneToClear, Clears, status_after}
-use Rattle.erst_device.specs.Actions.{begun_by, waits, gives_up, stepped, shown, found, counted, Acts, Begins, Ends, SetsOffset, SetsId, Waits, Executes, NoneRuns, Steps, Shows, TellsStatus, FindsNext, Counts, TellsAddress, TellsLength, TellsAttributes, TellsTimings, Ignores}
+use Rattle.erst_device.specs.Actions.{told_by, begun_by, waits, gives_up, stepped, shown, found, counted, Acts, Begins, Ends, SetsOffset, SetsId, Waits, Executes, NoneRuns, Steps, Shows, Tells, FindsNext, Counts, Ignores}
 use Rattle.erst_twins.specs.Alike.{StoreOutline, DeviceOutline, unplaced, store_outline, device_outline, FailsNothing}
 use Rattle.erst_twins.proofs.StoreOutlines.{looked, gave_up, changed, started, status_by, is_idle, write_pending, given_up_outline, only_looked, has_changed, write_started, clear_started, answers_ok}
 
@@ -92,6 +88,10 @@ abbrev pub find_next : Option ℕ → DeviceOutline → DeviceOutline
 find_next (Some id) o = record o { value = id; cursor = id; store = looked o.store }
 find_next None o = record o { value = 2 ^ 64 - 1; cursor = 0; store = looked o.store }
 
+abbrev pub tell : Option ℕ → DeviceOutline → DeviceOutline
+tell (Some number) o = record o { value = number }
+tell None o = o
+
 abbrev pub become : Option Action → DeviceOutline → List ℕ → Option ℕ → DeviceOutline
 become (Some BeginWriteOperation) o range next = begun Write o
 become (Some BeginReadOperation) o range next = begun Read o
@@ -102,13 +102,9 @@ become (Some SetRecordOffset) o range next = if running o then o else record o {
 become (Some SetRecordIdentifier) o range next = if running o then o else record o { id = o.value }
 become (Some ExecuteOperation) o range next = if running o then o else start o.operation o range next
 become (Some CheckBusyStatus) o range next = go_on o.reading o
-become (Some GetCommandStatus) o range next = record o { value = number_of o.status }
 become (Some GetRecordIdentifier) o range next = find_next next (giving_up o)
 become (Some GetRecordCount) o range next = record (giving_up o) { value = len o.store.records; store = looked (gave_up o.store) }
-become (Some GetErrorLogAddressRange) o range next = record o { value = LOG_RANGE }
-become (Some GetErrorLogAddressRangeLength) o range next = record o { value = reach_of (room_of o.store.layout) }
-become (Some GetErrorLogAddressRangeAttributes) o range next = record o { value = 0 }
-become (Some GetExecuteOperationTimings) o range next = record o { value = timings_of o.store.layout }
+become (Some action) o range next = tell (told_by action o.status o.store.layout) o
 become None o range next = o
 
 abbrev pub range_after : Option Action → DeviceOutline → List ℕ → List ℕ
@@ -218,6 +214,23 @@ waiting ExecuteOperation old range w runs =
     (ap (λ (b : Bool). if b then None else start_looks old.operation) runs)
     (sym (ap (λ (b : Bool). if b then device_outline old else start old.operation (device_outline old) range None) runs)) refl
 waiting action old range w runs = absurd (cc)
+
+-- An action that only tells a number
+
+telling : (action : Action) (old : DeviceState) (range : List ℕ) (number : ℕ) → told_by action old.status old.store.layout ≡ Some number
+    → Became (Some action) (device_outline old) range (record (device_outline old) { value = number }) range
+telling BeginWriteOperation old range number told = absurd (cc)
+telling BeginReadOperation old range number told = absurd (cc)
+telling BeginClearOperation old range number told = absurd (cc)
+telling BeginDummyWriteOperation old range number told = absurd (cc)
+telling EndOperation old range number told = absurd (cc)
+telling SetRecordOffset old range number told = absurd (cc)
+telling SetRecordIdentifier old range number told = absurd (cc)
+telling ExecuteOperation old range number told = absurd (cc)
+telling CheckBusyStatus old range number told = absurd (cc)
+telling GetRecordIdentifier old range number told = absurd (cc)
+telling GetRecordCount old range number told = absurd (cc)
+telling action old range number told = plain (Some action) _ _ range range refl (sym (ap (λ (t : Option ℕ). tell t (device_outline old)) told)) refl
 
 -- A start
 
@@ -378,13 +391,9 @@ module _ (tells : Type 0) (told : tells) (old : DeviceState) (range : List ℕ) 
         (sym (ap (λ (r : Option ℕ). range_shown r (device_outline old) range) still.no_read))
     | Steps store result none busy step ↦ λ knows quiet. step_made store result none busy step quiet
     | Shows id store out result reading read ↦ λ knows quiet. record_shown id store out result reading read quiet
-    | TellsStatus ↦ λ knows quiet. plain (Some GetCommandStatus) _ _ range range refl refl refl
+    | Tells act number told ↦ λ knows quiet. telling act old range number told
     | FindsNext store result look allowed ↦ λ knows quiet. next_found store result (knows refl) look quiet
     | Counts store result count ↦ λ knows quiet. count_made store result (knows refl) count quiet
-    | TellsAddress ↦ λ knows quiet. plain (Some GetErrorLogAddressRange) _ _ range range refl refl refl
-    | TellsLength ↦ λ knows quiet. plain (Some GetErrorLogAddressRangeLength) _ _ range range refl refl refl
-    | TellsAttributes ↦ λ knows quiet. plain (Some GetErrorLogAddressRangeAttributes) _ _ range range refl refl refl
-    | TellsTimings ↦ λ knows quiet. plain (Some GetExecuteOperationTimings) _ _ range range refl refl refl
     | Ignores ↦ λ knows quiet. plain None _ _ range range refl refl refl
   ]
 

@@ -7,8 +7,11 @@ use Rattle.erst_machine.proofs.machine.Machine.boot.Goals as goal
 pub begin-requires : goal.begin-requires
 begin-requires g c = subst (λ (n : ℕ). n ≤ 65536) (sym c.reach.ensures) (reach_small _)
 
-pub returns-in_default-clause-back : goal.returns-in_default-clause-back
-returns-in_default-clause-back g c = λ told. Leaves-none _ _ refl
+pub returns-in-Some-clause-back : goal.returns-in-Some-clause-back
+returns-in-Some-clause-back g c = λ told. Leaves-none _ _ refl
+
+pub returns-in_default-begin-clause-back : goal.returns-in_default-begin-clause-back
+returns-in_default-begin-clause-back g c = λ told. Leaves-none _ _ refl
 
 pub returns-in-Err-clause-refused : goal.returns-in-Err-clause-refused
 returns-in-Err-clause-refused g c = c.refused_boot.ensures.why _ _ c.in-Err.ensures.refused

@@ -1,0 +1,349 @@
+-- With the steps that are enough by the machine's timings every command goes through, whatever the flash tells.
+use Rattle.std.proofs.Common.{◌≡◌, ◌⊎◌, ℕ, ◌+◌, ◌*◌, ◌-◌, ◌^◌, ◌≤◌, ◌<◌, Bool, true, false, cond, List, [], ◌∷◌, length, Option, Some, None, Result, Ok, Err, refl, sym, ap, subst, ◌∙◌, arith, inl, inr}
+use Rattle.std.specs.Prelude.{max, codes, nat_lt, ◌||◌, ◌==◌}
+use Rattle.base_model.specs.Bytes.{number_at}
+use Rattle.apei_space.specs.declared.faults.SpaceFault.{SpaceFault}
+use Rattle.apei_space.specs.Calls.{WriteBytes}
+use Rattle.flash_words.specs.Layout.{Layout, room_of, reach_of}
+use Rattle.record_store.specs.Store.{StoreView}
+use Rattle.cper_frame.specs.declared.error.FrameError.{FrameError}
+use Rattle.cper_frame.specs.Reading.{checked as framed}
+use Rattle.erst_entries.specs.declared.actions.Action.{Action}
+use Rattle.erst_entries.specs.declared.actions.Action.TheVariants.{BeginWriteOperation, BeginReadOperation, BeginClearOperation, BeginDummyWriteOperation, SetRecordOffset, SetRecordIdentifier, ExecuteOperation, GetRecordCount, GetRecordIdentifier}
+use Rattle.erst_interp.specs.declared.stops.RunStop.{RunStop}
+use Rattle.erst_interp.specs.declared.stops.RunStop.TheVariants.{Budget}
+use Rattle.erst_client.specs.declared.errors.ClientError.{ClientError}
+use Rattle.erst_client.specs.declared.errors.ClientError.TheVariants.{Hardware, Frame, Trailing, TooLong, BadLength, SmallBuffer, Stopped, Late, Range}
+use Rattle.erst_client.specs.declared.requests.Request.{Request}
+use Rattle.erst_client.specs.Timings.{enough_steps}
+use Rattle.erst_client.specs.Requests.{Performs, Asks}
+use Rattle.erst_client.specs.Commands.{frame_refusal, write_refusal, copy_refusal, address_in, Puts, NotPut, NotMarked, IsPut, Writes, IsNoRecord, IsNotPut, IsAsked, CopiesOut, IsFilled, IsNotFilled, copied, Reads, IsNotRead, HasNoLength, IsNotCopied, IsCopied, Counts, Names, counted as count_answer, named as next_answer}
+use Rattle.erst_client.specs.Sequences.{Waits, write_requests, read_requests, clear_requests, dummy_requests, judged, Sequence}
+use Rattle.erst_device.specs.declared.registers.Operation.{Operation}
+use Rattle.erst_device.specs.declared.registers.Operation.TheVariants as operations
+use Rattle.erst_device.specs.declared.status.CommandStatus.{CommandStatus}
+use Rattle.erst_device.specs.declared.status.CommandStatus.TheVariants as statuses
+use Rattle.erst_device.specs.Statuses.{number_of}
+use Rattle.erst_device.specs.Timings.{most_changes}
+use Rattle.erst_device.specs.DeviceState.{DeviceState, IsStill}
+use Rattle.erst_device.specs.Starts.{Starts}
+use Rattle.erst_machine.specs.MachineState.{MachineState, IsMachine, reach_in, spot_at}
+use Rattle.erst_machine.specs.Allowed.{Allows}
+use Rattle.erst_machine.specs.OwnTables.{own_entries}
+use Rattle.erst_machine.proofs.KeptLemmas.{kept_allowed}
+use Rattle.erst_machine.proofs.CrashTrail.{stored_store}
+use Rattle.erst_commands.specs.OwnPrograms.{OwnRun, IsMade, StopsAtOnce, StopsBefore, StopsBehind, OwnProgramsRun}
+use Rattle.erst_commands.specs.Attached.{own_client}
+use Rattle.erst_commands.specs.Causes.{GoesThrough}
+use Rattle.erst_commands.proofs.MachineSteps.{on_device}
+use Rattle.erst_commands.proofs.OwnProgramLemmas.{steps-begin_write, steps-begin_read, steps-begin_clear, steps-begin_dummy}
+use Rattle.erst_commands.proofs.SequenceLemmas.{Untouched, RunTo, Opened, Opens, Halts, ask_none, ask_more, begun_device, begin_run, offset_run, identifier_run, execute_run, status_in, HasTold, HasNotTold, HasNotWaited, HasNotAsked, sequence_ends}
+use Rattle.erst_commands.proofs.EnoughLemmas.{enough-most}
+use Rattle.erst_commands.proofs.BusyLemmas.{StartsFinite, starts_finite, WaitsThrough, waits_through}
+
+-- Answers that are neither a stop nor late
+
+through_ok : {T : Type 0} (value : T) → GoesThrough {T = T} (Ok value)
+through_ok value = record { not_stopped = λ stop e. absurd (cc e); in_time = λ waited e. absurd (cc e) }
+
+through_hardware : {T : Type 0} → GoesThrough {T = T} (Err Hardware)
+through_hardware = record { not_stopped = λ stop e. absurd (cc e); in_time = λ waited e. absurd (cc e) }
+
+through_range : {T : Type 0} (fault : SpaceFault) → GoesThrough {T = T} (Err (Range fault))
+through_range fault = record { not_stopped = λ stop e. absurd (cc e); in_time = λ waited e. absurd (cc e) }
+
+judged_through : (status : CommandStatus) → GoesThrough (judged (number_of status))
+judged_through statuses.Success = record { not_stopped = λ stop e. absurd (cc e); in_time = λ waited e. absurd (cc e) }
+judged_through statuses.NotEnoughSpace = record { not_stopped = λ stop e. absurd (cc e); in_time = λ waited e. absurd (cc e) }
+judged_through statuses.HardwareNotAvailable = record { not_stopped = λ stop e. absurd (cc e); in_time = λ waited e. absurd (cc e) }
+judged_through statuses.Failed = record { not_stopped = λ stop e. absurd (cc e); in_time = λ waited e. absurd (cc e) }
+judged_through statuses.RecordStoreEmpty = record { not_stopped = λ stop e. absurd (cc e); in_time = λ waited e. absurd (cc e) }
+judged_through statuses.RecordNotFound = record { not_stopped = λ stop e. absurd (cc e); in_time = λ waited e. absurd (cc e) }
+
+-- Sequences
+
+-- the requests were made, and what runs then ends
+abbrev EndsFrom : MachineState → MachineState → Type 0
+EndsFrom first w = StartsFinite first.device.store.layout w.device
+
+record HasOpened (first : MachineState) (cost budget left : ℕ) (w : MachineState) : Type 0 where
+  finite : EndsFrom first w
+  spent : left + cost ≡ budget
+
+opened_ok : (first : MachineState) (P : MachineState → Type 0) (cost budget : ℕ) (result : Result (List ℕ) RunStop) (left : ℕ) (w : MachineState) (answers : List ℕ) → ((w : MachineState) → P w → EndsFrom first w) → result ≡ Ok answers
+    → Opened first P cost budget result left w → HasOpened first cost budget left w
+opened_ok first P cost budget result left w answers ends is opened = (elim opened as (λ result left w opened. result ≡ Ok answers → HasOpened first cost budget left w) [
+  | Opens others left w holds spent ↦ λ e. record { finite = ends w holds; spent = spent }
+  | Halts w untouched short ↦ λ e. absurd (cc e)
+]) is
+
+opened_short : (first : MachineState) (P : MachineState → Type 0) (cost budget : ℕ) (result : Result (List ℕ) RunStop) (left : ℕ) (w : MachineState) (stop : RunStop) → result ≡ Err stop → Opened first P cost budget result left w → budget < cost
+opened_short first P cost budget result left w stop is opened = (elim opened as (λ result left w opened. result ≡ Err stop → budget < cost) [
+  | Opens others left w holds spent ↦ λ e. absurd (cc e)
+  | Halts w untouched short ↦ λ e. short
+]) is
+
+module _ (tells : Type 0) (own : OwnProgramsRun tells) (first : MachineState) (budget : ℕ) (enough : enough_steps (own_client first).timings ≤ budget) where
+  sequence_through : (P : MachineState → Type 0) (cost : ℕ) (requests : List Request) → cost ≤ 6 → ((w : MachineState) → P w → EndsFrom first w)
+      → ((result : Result (List ℕ) RunStop) (left : ℕ) (last : MachineState) → Asks (Allows tells) own_entries requests budget first result left last → Opened first P cost budget result left last)
+      → (result : Result (Unit {0}) ClientError) (left : ℕ) (last : MachineState) → Sequence (Allows tells) own_entries (own_client first).timings requests budget first result left last → GoesThrough result
+  sequence_through P cost requests few ends opens result left last sequence =
+      elim (sequence_ends tells own (own_client first).timings requests budget first result left last sequence) as (λ result left last ends. GoesThrough result) [
+        | HasTold answers asked mid waited idle left asks waits spent ↦ judged_through idle.device.status
+        | HasNotTold answers asked mid waited idle other asks waits short either ↦
+            let opened = opened_ok first P cost budget (Ok answers) asked mid answers ends refl (opens (Ok answers) asked mid asks) in
+            let started = opened.finite in
+            let through = waited_through asked (Ok tt) mid waited idle started (omega (arith, opened.spent, few)) waits in
+            absurd (omega (arith, through.enough, short, opened.spent, few, enough-most first, enough, started.few))
+        | HasNotWaited answers asked mid error left other asks waits ↦
+            let opened = opened_ok first P cost budget (Ok answers) asked mid answers ends refl (opens (Ok answers) asked mid asks) in
+            let started = opened.finite in
+            let through = waited_through asked (Err error) mid left other started (omega (arith, opened.spent, few)) waits in
+            absurd (cc through.well)
+        | HasNotAsked stop left other asks ↦
+            let short = opened_short first P cost budget (Err stop) left other stop refl (opens (Err stop) left other asks) in
+            absurd (omega (arith, short, few, enough-most first, enough))
+      ]
+    where
+      waited_through : (asked : ℕ) (result : Result (Unit {0}) ClientError) (mid : MachineState) (left : ℕ) (last : MachineState) → (started : EndsFrom first mid) → budget ≤ asked + 6
+          → Waits (Allows tells) own_entries (own_client first).timings asked mid result left last → WaitsThrough started.n asked result left
+      waited_through asked result mid left last started spent waits =
+          waits_through tells own first.device.store.layout (10 * most_changes first.device.store.layout, 10 * (first.device.store.layout.per_slot + 4)) started.n mid started.finite (omega (arith, started.few))
+          asked (omega (arith, spent, enough-most first, enough, started.few)) result left last waits
+
+  -- EXECUTE_OPERATION was made by a device
+  abbrev IsOn : DeviceState → MachineState → Type 0
+  IsOn device w = Starts tells device first.memory.range w.device × (w ≡ on_device first w.device)
+
+  execute_opens : (device : DeviceState) → IsStill device → Untouched first (on_device first device) → (budget : ℕ) (mid : MachineState) (result : Result (List ℕ) RunStop) (left : ℕ) (last : MachineState) → mid ≡ on_device first device
+      → Asks (Allows tells) own_entries (record { action = ExecuteOperation; given = 0 } ∷ []) budget mid result left last → Opened first (IsOn device) 1 budget result left last
+  execute_opens device still untouched budget mid result left last mid_is asks =
+      ask_more tells first (IsOn device) (IsOn device) 1 0 _ _ budget mid result left last
+      (λ result left last run. execute_run tells own first device still untouched budget mid result left last mid_is run)
+      (λ budget mid result left last mid_is asks. ask_none tells first (IsOn device) budget mid result left last mid_is asks)
+      asks
+
+  abbrev BeginsBy : Action → Operation → Type 0
+  BeginsBy action operation = (budget : ℕ) (result : Result ℕ RunStop) (left : ℕ) (last : MachineState) → Performs (Allows tells) own_entries action 0 budget first result left last
+      → RunTo first (λ w. w ≡ on_device first (begun_device operation first.device)) 1 budget result left last
+
+  -- the requests of a write, and of a dummy write
+  abbrev placed : Operation → DeviceState
+  placed operation = record (begun_device operation first.device) { value = 0; offset = 0 }
+
+  offset_opens : (action : Action) (operation : Operation) → BeginsBy action operation → (result : Result (List ℕ) RunStop) (left : ℕ) (last : MachineState)
+      → Asks (Allows tells) own_entries (record { action = action; given = 0 } ∷ record { action = SetRecordOffset; given = 0 } ∷ record { action = ExecuteOperation; given = 0 } ∷ []) budget first result left last
+      → Opened first (IsOn (placed operation)) 4 budget result left last
+  offset_opens action operation begins result left last asks =
+      ask_more tells first (λ w. w ≡ on_device first (begun_device operation first.device)) (IsOn (placed operation)) 1 3 _ _ budget first result left last
+      (λ result left last run. begins budget result left last run)
+      (λ budget mid result left last mid_is asks.
+      ask_more tells first (λ w. w ≡ on_device first (placed operation)) (IsOn (placed operation)) 2 1 _ _ budget mid result left last
+      (λ result left last run. offset_run tells own first (begun_device operation first.device) (record { no_read = refl; no_change = refl })
+      (record { flash = refl; layout = refl; cursor = refl; given_up = refl; elsewhere = refl }) budget mid result left last mid_is run)
+      (λ budget mid result left last mid_is asks.
+      execute_opens (placed operation) (record { no_read = refl; no_change = refl }) (record { flash = refl; layout = refl; cursor = refl; given_up = refl; elsewhere = refl }) budget mid result left last mid_is asks)
+      asks)
+      asks
+
+  -- those of a clear
+  abbrev clearing : ℕ → DeviceState
+  clearing number = record (begun_device operations.Clear first.device) { value = number; id = number }
+
+  clear_opens : (id : ℕ) → id < 2 ^ 64 → (result : Result (List ℕ) RunStop) (left : ℕ) (last : MachineState) → Asks (Allows tells) own_entries (clear_requests id) budget first result left last → Opened first (IsOn (clearing id)) 4 budget result left last
+  clear_opens id small result left last asks =
+      ask_more tells first (λ w. w ≡ on_device first (begun_device operations.Clear first.device)) (IsOn (clearing id)) 1 3 _ _ budget first result left last
+      (λ result left last run. begin_run tells own first BeginClearOperation operations.Clear refl refl refl (λ m. refl) steps-begin_clear refl budget result left last run)
+      (λ budget mid result left last mid_is asks.
+      ask_more tells first (λ w. w ≡ on_device first (clearing id)) (IsOn (clearing id)) 2 1 _ _ budget mid result left last
+      (λ result left last run. identifier_run tells own first id small (begun_device operations.Clear first.device) (record { no_read = refl; no_change = refl })
+      (record { flash = refl; layout = refl; cursor = refl; given_up = refl; elsewhere = refl }) budget mid result left last mid_is run)
+      (λ budget mid result left last mid_is asks.
+      execute_opens (clearing id) (record { no_read = refl; no_change = refl }) (record { flash = refl; layout = refl; cursor = refl; given_up = refl; elsewhere = refl }) budget mid result left last mid_is asks)
+      asks)
+      asks
+
+  -- and those of a read
+  abbrev reading : ℕ → DeviceState
+  reading number = record (begun_device operations.Read first.device) { value = number; offset = 0; id = number }
+
+  read_opens : (id : ℕ) → id < 2 ^ 64 → (result : Result (List ℕ) RunStop) (left : ℕ) (last : MachineState) → Asks (Allows tells) own_entries (read_requests id) budget first result left last → Opened first (IsOn (reading id)) 6 budget result left last
+  read_opens id small result left last asks =
+      ask_more tells first (λ w. w ≡ on_device first (begun_device operations.Read first.device)) (IsOn (reading id)) 1 5 _ _ budget first result left last
+      (λ result left last run. begin_run tells own first BeginReadOperation operations.Read refl refl refl (λ m. refl) steps-begin_read refl budget result left last run)
+      (λ budget mid result left last mid_is asks.
+      ask_more tells first (λ w. w ≡ on_device first (placed operations.Read)) (IsOn (reading id)) 2 3 _ _ budget mid result left last
+      (λ result left last run. offset_run tells own first (begun_device operations.Read first.device) (record { no_read = refl; no_change = refl })
+      (record { flash = refl; layout = refl; cursor = refl; given_up = refl; elsewhere = refl }) budget mid result left last mid_is run)
+      (λ budget mid result left last mid_is asks.
+      ask_more tells first (λ w. w ≡ on_device first (reading id)) (IsOn (reading id)) 2 1 _ _ budget mid result left last
+      (λ result left last run. identifier_run tells own first id small (placed operations.Read) (record { no_read = refl; no_change = refl })
+      (record { flash = refl; layout = refl; cursor = refl; given_up = refl; elsewhere = refl }) budget mid result left last mid_is run)
+      (λ budget mid result left last mid_is asks.
+      execute_opens (reading id) (record { no_read = refl; no_change = refl }) (record { flash = refl; layout = refl; cursor = refl; given_up = refl; elsewhere = refl }) budget mid result left last mid_is asks)
+      asks)
+      asks)
+      asks
+
+  module _ (long : length first.memory.range ≡ reach_in first.device) where
+    ends_on : (device : DeviceState) → IsStill device → device.store.layout ≡ first.device.store.layout → (w : MachineState) → IsOn device w → EndsFrom first w
+    ends_on device still same w on =
+        subst (λ (l : Layout). StartsFinite l w.device) same
+        (starts_finite tells device first.memory.range still (long ∙ ap (λ (l : Layout). reach_of (room_of l)) (sym same)) w.device on.0)
+
+    pub write_through : (result : Result (Unit {0}) ClientError) (left : ℕ) (last : MachineState) → Sequence (Allows tells) own_entries (own_client first).timings write_requests budget first result left last → GoesThrough result
+    write_through =
+        sequence_through (IsOn (placed operations.Write)) 4 write_requests (omega arith) (ends_on (placed operations.Write) (record { no_read = refl; no_change = refl }) refl)
+        (offset_opens BeginWriteOperation operations.Write
+        (λ budget result left last run. begin_run tells own first BeginWriteOperation operations.Write refl refl refl (λ m. refl) steps-begin_write refl budget result left last run))
+
+    pub dummy_through : (result : Result (Unit {0}) ClientError) (left : ℕ) (last : MachineState) → Sequence (Allows tells) own_entries (own_client first).timings dummy_requests budget first result left last → GoesThrough result
+    dummy_through =
+        sequence_through (IsOn (placed operations.Dummy)) 4 dummy_requests (omega arith) (ends_on (placed operations.Dummy) (record { no_read = refl; no_change = refl }) refl)
+        (offset_opens BeginDummyWriteOperation operations.Dummy
+        (λ budget result left last run. begin_run tells own first BeginDummyWriteOperation operations.Dummy refl refl refl (λ m. refl) steps-begin_dummy refl budget result left last run))
+
+    pub clear_through : (id : ℕ) → id < 2 ^ 64 → (result : Result (Unit {0}) ClientError) (left : ℕ) (last : MachineState) → Sequence (Allows tells) own_entries (own_client first).timings (clear_requests id) budget first result left last
+        → GoesThrough result
+    clear_through id small =
+        sequence_through (IsOn (clearing id)) 4 (clear_requests id) (omega arith) (ends_on (clearing id) (record { no_read = refl; no_change = refl }) refl) (clear_opens id small)
+
+    pub read_through : (id : ℕ) → id < 2 ^ 64 → (result : Result (Unit {0}) ClientError) (left : ℕ) (last : MachineState) → Sequence (Allows tells) own_entries (own_client first).timings (read_requests id) budget first result left last
+        → GoesThrough result
+    read_through id small =
+        sequence_through (IsOn (reading id)) 6 (read_requests id) (omega arith) (ends_on (reading id) (record { no_read = refl; no_change = refl }) refl) (read_opens id small)
+
+-- Count and next
+
+one_answers : (tells : Type 0) (action : Action) (given budget : ℕ) (first : MachineState) (result : Result ℕ RunStop) (left : ℕ) (last : MachineState) → 2 ≤ budget → OwnRun tells action given budget first result left last
+    → (answer : ℕ) × (result ≡ Ok answer)
+one_answers tells action given budget first result left last enough run = elim run as (λ result left last run. (answer : ℕ) × (result ≡ Ok answer)) [
+  | IsMade left last acted spent ↦ (_, refl)
+  | StopsAtOnce none ↦ absurd (omega (arith, none, enough))
+  | StopsBefore few took ↦ absurd (omega (arith, few, enough))
+  | StopsBehind last few shows acted ↦ absurd (omega (arith, few, enough))
+]
+
+either_through : {T : Type 0} (test : Bool) (other : Result T ClientError) → GoesThrough other → GoesThrough (cond test (Err Hardware) other)
+either_through true other through = through_hardware
+either_through false other through = through
+
+end_through : (test : Bool) (id : ℕ) → GoesThrough (cond {A = Result (Option ℕ) ClientError} test (Ok None) (Ok (Some id)))
+end_through true id = through_ok None
+end_through false id = through_ok (Some id)
+
+count_answered : (answer : Result ℕ RunStop) (count : ℕ) → answer ≡ Ok count → GoesThrough (count_answer answer)
+count_answered answer count is = subst (λ (a : Result ℕ RunStop). GoesThrough (count_answer a)) (sym is) (either_through (count == 2 ^ 32 - 1) (Ok count) (through_ok count))
+
+next_answered : (answer : Result ℕ RunStop) (id : ℕ) → answer ≡ Ok id → GoesThrough (next_answer answer)
+next_answered answer id is = subst (λ (a : Result ℕ RunStop). GoesThrough (next_answer a)) (sym is) (either_through (id == 0) _ (end_through (id == 2 ^ 64 - 1) id))
+
+module _ (tells : Type 0) (own : OwnProgramsRun tells) (first : MachineState) (budget : ℕ) (enough : enough_steps (own_client first).timings ≤ budget) where
+  pub count_through : (result : Result ℕ ClientError) (left : ℕ) (last : MachineState) → Counts (Allows tells) own_entries budget first result left last → GoesThrough result
+  count_through result left last asked =
+      let answered = one_answers tells GetRecordCount 0 budget first asked.answer left last (omega (arith, enough-most first, enough)) (own GetRecordCount 0 budget first asked.answer left last asked.asks) in
+      subst (λ (r : Result ℕ ClientError). GoesThrough r) (sym asked.result_is) (count_answered asked.answer answered.0 answered.1)
+
+  pub next_through : (result : Result (Option ℕ) ClientError) (left : ℕ) (last : MachineState) → Names (Allows tells) own_entries budget first result left last → GoesThrough result
+  next_through result left last asked =
+      let answered = one_answers tells GetRecordIdentifier 0 budget first asked.answer left last (omega (arith, enough-most first, enough)) (own GetRecordIdentifier 0 budget first asked.answer left last asked.asks) in
+      subst (λ (r : Result (Option ℕ) ClientError). GoesThrough r) (sym asked.result_is) (next_answered asked.answer answered.0 answered.1)
+
+-- A client's write and read
+
+-- a refusal of the client's own is neither
+record IsOwn (refusal : ClientError) : Type 0 where
+  no_stop : (stop : RunStop) → refusal ≡ Stopped stop → ⊥
+  not_late : (waited : ℕ) → refusal ≡ Late waited → ⊥
+
+of_own : {T : Type 0} (refusal : ClientError) → IsOwn refusal → GoesThrough {T = T} (Err refusal)
+of_own {T} refusal is = record { not_stopped = λ stop e. is.no_stop stop (same refusal (Stopped stop) e); in_time = λ waited e. is.not_late waited (same refusal (Late waited) e) }
+  where
+    same : (x y : ClientError) → ◌≡◌ {A = Result T ClientError} (Err x) (Err y) → x ≡ y
+    same x y e = cc
+
+some_own : (test : Bool) (refusal : ClientError) (other : Option ClientError) (error : ClientError) → IsOwn refusal → (other ≡ Some error → IsOwn error) → cond {A = Option ClientError} test (Some refusal) other ≡ Some error → IsOwn error
+some_own true refusal other error own rest e = subst (λ (x : ClientError). IsOwn x) (cc e) own
+some_own false refusal other error own rest e = rest e
+
+none_own : (error : ClientError) → ◌≡◌ {A = Option ClientError} None (Some error) → IsOwn error
+none_own error e = absurd (cc e)
+
+length_own : (len have range : ℕ) (error : ClientError) → frame_refusal (Ok len) have range ≡ Some error → IsOwn error
+length_own len have range error e =
+    some_own (nat_lt len have) (Trailing (have - len)) _ error (record { no_stop = λ stop e. absurd (cc e); not_late = λ waited e. absurd (cc e) })
+    (some_own (nat_lt range have) (TooLong have range) None error (record { no_stop = λ stop e. absurd (cc e); not_late = λ waited e. absurd (cc e) }) (none_own error)) e
+
+frame_own : (answer : Result ℕ FrameError) (have range : ℕ) (error : ClientError) → frame_refusal answer have range ≡ Some error → IsOwn error
+frame_own (Err why) have range error e = some_own true (Frame why) None error (record { no_stop = λ stop e. absurd (cc e); not_late = λ waited e. absurd (cc e) }) (none_own error) e
+frame_own (Ok len) have range error e = length_own len have range error e
+
+copy_own : (len range room : ℕ) (error : ClientError) → copy_refusal len range room ≡ Some error → IsOwn error
+copy_own len range room error e =
+    some_own (nat_lt len 128 || nat_lt range len) (BadLength len) _ error (record { no_stop = λ stop e. absurd (cc e); not_late = λ waited e. absurd (cc e) })
+    (some_own (nat_lt room len) (SmallBuffer len) None error (record { no_stop = λ stop e. absurd (cc e); not_late = λ waited e. absurd (cc e) }) (none_own error)) e
+
+-- bytes that are put leave a machine with the same timings and as long a log range
+record HasPut (tells : Type 0) (old : MachineState) (result : Result (Unit {0}) ClientError) (new : MachineState) : Type 0 where
+  through : GoesThrough result
+  machine : IsMachine old → IsMachine new
+  layout : new.device.store.layout ≡ old.device.store.layout
+
+module _ (tells : Type 0) where
+  put_layout : (old new : MachineState) (at : ℕ) (bytes : List ℕ) (answer : Result (Unit {0}) SpaceFault) → Allows tells old (WriteBytes at bytes answer) new → new.device.store.layout ≡ old.device.store.layout
+  put_layout old new at bytes answer allowed = ap (λ (s : StoreView). s.layout) (ap (λ (m : MachineState). m.device.store) allowed.1 ∙ stored_store (spot_at old at (length bytes)) old at bytes)
+
+  has_put : (address : ℕ) (bytes : List ℕ) (old : MachineState) (result : Result (Unit {0}) ClientError) (new : MachineState) → Puts (Allows tells) address bytes old result new → HasPut tells old result new
+  has_put address bytes old result new puts = elim puts as (λ result new puts. HasPut tells old result new) [
+    | NotPut fault last allowed ↦ record { through = through_range fault; machine = kept_allowed tells old last (WriteBytes address bytes (Err fault)) allowed; layout = put_layout old last address bytes (Err fault) allowed }
+    | NotMarked mid fault last allowed marks ↦ record {
+      through = through_range fault;
+      machine = λ is. kept_allowed tells mid last (WriteBytes (address_in address 108) (codes "ER") (Err fault)) marks (kept_allowed tells old mid (WriteBytes address bytes (Ok tt)) allowed is);
+      layout = put_layout mid last (address_in address 108) (codes "ER") (Err fault) marks ∙ put_layout old mid address bytes (Ok tt) allowed;
+    }
+    | IsPut mid last allowed marks ↦ record {
+      through = through_ok tt;
+      machine = λ is. kept_allowed tells mid last (WriteBytes (address_in address 108) (codes "ER") (Ok tt)) marks (kept_allowed tells old mid (WriteBytes address bytes (Ok tt)) allowed is);
+      layout = put_layout mid last (address_in address 108) (codes "ER") (Ok tt) marks ∙ put_layout old mid address bytes (Ok tt) allowed;
+    }
+  ]
+
+  copied_through : (address : ℕ) (before after : List ℕ) (old : MachineState) (answer : Result (Unit {0}) ClientError) (new : MachineState) (len : ℕ) → CopiesOut (Allows tells) address before after old answer new → GoesThrough (copied answer len)
+  copied_through address before after old answer new len copies = elim copies as (λ answer new copies. GoesThrough (copied answer len)) [
+    | IsFilled new allowed ↦ through_ok len
+    | IsNotFilled fault new allowed ↦ through_range fault
+  ]
+
+error_through : (error : ClientError) → GoesThrough {T = Unit {0}} (Err error) → GoesThrough {T = ℕ} (Err error)
+error_through error is = record { not_stopped = λ stop e. is.not_stopped stop (ap (λ (x : ClientError). Err x) (same error (Stopped stop) e)); in_time = λ waited e. is.in_time waited (ap (λ (x : ClientError). Err x) (same error (Late waited) e)) }
+  where
+    same : (x y : ClientError) → ◌≡◌ {A = Result ℕ ClientError} (Err x) (Err y) → x ≡ y
+    same x y e = cc
+
+module _ (tells : Type 0) (own : OwnProgramsRun tells) (first : MachineState) (machine : IsMachine first) (budget : ℕ) (enough : enough_steps (own_client first).timings ≤ budget) where
+  pub client_write_through : (bytes : List ℕ) (result : Result (Unit {0}) ClientError) (left : ℕ) (last : MachineState) → Writes (Allows tells) (own_client first) bytes budget first result left last → GoesThrough result
+  client_write_through bytes result left last writes = elim writes as (λ result left last writes. GoesThrough result) [
+    | IsNoRecord error is ↦ of_own error (frame_own (framed (2 ^ 32 - 1) bytes) (length bytes) (reach_in first.device) error is)
+    | IsNotPut error last is puts ↦ (has_put tells _ bytes first (Err error) last puts).through
+    | IsAsked mid result left last is puts sequence ↦
+        let put = has_put tells _ bytes first (Ok tt) mid puts in
+        asked mid result left last (put.machine machine) put.layout sequence
+  ]
+    where
+      timings_of_layout : Layout → Option (ℕ × ℕ)
+      timings_of_layout layout = Some (10 * most_changes layout, 10 * (layout.per_slot + 4))
+
+      asked : (mid : MachineState) (result : Result (Unit {0}) ClientError) (left : ℕ) (last : MachineState) → IsMachine mid → mid.device.store.layout ≡ first.device.store.layout
+          → Sequence (Allows tells) own_entries (own_client first).timings write_requests budget mid result left last → GoesThrough result
+      asked mid result left last is layout sequence =
+          write_through tells own mid budget (subst (λ (l : Layout). enough_steps (timings_of_layout l) ≤ budget) (sym layout) enough) is.sizes.range result left last
+          (subst (λ (l : Layout). Sequence (Allows tells) own_entries (timings_of_layout l) write_requests budget mid result left last) (sym layout) sequence)
+
+  pub client_read_through : (id : ℕ) → id < 2 ^ 64 → (out : List ℕ) (result : Result ℕ ClientError) (after : List ℕ) (left : ℕ) (last : MachineState) → Reads (Allows tells) (own_client first) id out budget first result after left last
+      → GoesThrough result
+  client_read_through id small out result after left last reads = elim reads as (λ result after left last reads. GoesThrough result) [
+    | IsNotRead error left last sequence ↦ error_through error (read_through tells own first budget enough machine.sizes.range id small (Err error) left last sequence)
+    | HasNoLength left mid field fault last sequence length_at ↦ through_range fault
+    | IsNotCopied left mid field error last sequence length_at refused ↦ of_own error (copy_own (number_at field 0 4) (reach_in first.device) (length out) error refused)
+    | IsCopied left mid field next whole answer last sequence length_at fits copies ↦ copied_through tells _ _ whole next answer last (number_at field 0 4) copies
+  ]
