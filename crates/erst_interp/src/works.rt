@@ -69,17 +69,13 @@ impl Work {
     {
         let at = task.at;
         match instruction {
-            Instruction::ReadRegister => Work::OnRegister(Access::Field(FieldUse::Take(
-                Taking::Result,
-            ))),
-            Instruction::ReadRegisterValue => Work::OnRegister(Access::Field(FieldUse::Take(
-                Taking::Comparison,
-            ))),
+            Instruction::ReadRegister => Work::take(Taking::Result),
+            Instruction::ReadRegisterValue => Work::take(Taking::Comparison),
             Instruction::WriteRegister => Work::OnRegister(Access::Store(task.given)),
             Instruction::WriteRegisterValue => Work::OnRegister(Access::Store(task.entry.value)),
             Instruction::Noop => Work::GoOn(at.next()),
-            Instruction::LoadVar1 => Work::OnRegister(Access::Field(FieldUse::Take(Taking::Var1))),
-            Instruction::LoadVar2 => Work::OnRegister(Access::Field(FieldUse::Take(Taking::Var2))),
+            Instruction::LoadVar1 => Work::take(Taking::Var1),
+            Instruction::LoadVar2 => Work::take(Taking::Var2),
             Instruction::StoreVar1 => Work::OnRegister(Access::Store(at.var1)),
             Instruction::Add => Work::GoOn(Configuration {
                 var1: at.var1.wrapping_add(at.var2),
@@ -89,26 +85,30 @@ impl Work {
                 var1: at.var2.wrapping_sub(at.var1),
                 ..at.next()
             }),
-            Instruction::AddValue => Work::OnRegister(Access::Field(FieldUse::Change(
-                Changing::AddValue,
-            ))),
-            Instruction::SubtractValue => Work::OnRegister(Access::Field(FieldUse::Change(
-                Changing::SubtractValue,
-            ))),
+            Instruction::AddValue => Work::change(Changing::AddValue),
+            Instruction::SubtractValue => Work::change(Changing::SubtractValue),
             Instruction::Stall => Work::WaitFor(task.entry.value),
             Instruction::StallWhileTrue => Work::OnRegister(Access::Compare),
-            Instruction::SkipNextIfTrue => Work::OnRegister(Access::Field(FieldUse::Take(
-                Taking::Skip,
-            ))),
+            Instruction::SkipNextIfTrue => Work::take(Taking::Skip),
             Instruction::Goto => Work::GoTo(task.entry.value),
-            Instruction::SetSourceBase => Work::OnRegister(Access::Field(FieldUse::Take(
-                Taking::SourceBase,
-            ))),
-            Instruction::SetTargetBase => Work::OnRegister(Access::Field(FieldUse::Take(
-                Taking::TargetBase,
-            ))),
+            Instruction::SetSourceBase => Work::take(Taking::SourceBase),
+            Instruction::SetTargetBase => Work::take(Taking::TargetBase),
             Instruction::MoveData => Work::OnRegister(Access::Copy),
         }
+    }
+
+    // Reads its field, and goes on by it.
+    fn take(how: Taking) -> Work
+        ensures { result ≡ Work.OnRegister (Access.Field (FieldUse.Take how)) }
+    {
+        Work::OnRegister(Access::Field(FieldUse::Take(how)))
+    }
+
+    // Reads its field, and stores what it makes of it.
+    fn change(how: Changing) -> Work
+        ensures { result ≡ Work.OnRegister (Access.Field (FieldUse.Change how)) }
+    {
+        Work::OnRegister(Access::Field(FieldUse::Change(how)))
     }
 }
 
