@@ -1,13 +1,19 @@
--- Accesses of the machine leave the handover as it is.
-use Rattle.std.proofs.Common.{◌≡◌, ℕ, ◌/◌, List, length, Result, Option, Some, None, refl, sym, ap, subst}
+-- The machine as a station: its turns of the reader, and its accesses, which leave the handover as it is.
+use Rattle.std.proofs.Common.{◌≡◌, ℕ, ◌/◌, ◌≤◌, List, length, Result, Option, Some, None, refl, sym, ap, subst}
 use Rattle.apei_gas.specs.declared.widths.Width.{Width}
 use Rattle.apei_gas.specs.Access.{bits}
 use Rattle.apei_space.specs.declared.faults.SpaceFault.{SpaceFault}
 use Rattle.apei_space.specs.Calls.{Call, Read, Write, Wait, Copy, ReadBytes, WriteBytes}
+use Rattle.apei_space.specs.Accesses.{Reaches, Stays, Goes}
 use Rattle.apei_space.specs.RamState.{RamState}
 use Rattle.apei_space.specs.Windows.{address_of}
-use Rattle.ghes_ack.specs.Machine.{Machine as HandoverMachine}
+use Rattle.ghes_ack.specs.declared.events.Side.TheVariants.{Reader}
+use Rattle.ghes_ack.specs.declared.events.Event.{Event}
+use Rattle.ghes_ack.specs.declared.events.Event.TheVariants.{Took}
+use Rattle.ghes_ack.specs.Machine.{Machine as HandoverMachine, turned, last_taken}
 use Rattle.ghes_ack.specs.Handovers.{HandoverState, StandsFor}
+use Rattle.ghes_ack.proofs.TakenLemmas.{taken_fits}
+use Rattle.erst_device.specs.DeviceState.{DeviceState}
 use Rattle.erst_machine.specs.declared.areas.Area.{Area}
 use Rattle.erst_machine.specs.declared.areas.Area.TheVariants.{Device, Scratch, LogRange, Handover, BootErrors, Ports}
 use Rattle.erst_machine.specs.declared.areas.Spot.{Spot}
@@ -17,6 +23,7 @@ use Rattle.erst_machine.specs.declared.areas.Register.TheVariants.{Action, Value
 use Rattle.erst_machine.specs.Areas.{register_at}
 use Rattle.erst_machine.specs.Memories.{MemoryState}
 use Rattle.erst_machine.specs.MachineState.{MachineState, spot_of, spot_at}
+use Rattle.erst_machine.specs.Events.{Turns}
 use Rattle.erst_machine.specs.Allowed.{RegisterWritten, AreaWritten, NumberWritten, put_in, area_stored, bytes_stored, copied_from, copied_to, copied, Allows}
 
 -- the handover and its memory are as before
@@ -90,8 +97,27 @@ same_handover tells old new (Copy from to n answer) h = same_by old _ new h.1 (s
 same_handover tells old new (ReadBytes at before after answer) h = same_itself old new h.2
 same_handover tells old new (WriteBytes at bytes answer) h = same_by old _ new h.1 (same_stored (spot_at old at (length bytes)) old at bytes)
 
-pub apart : (tells : Type 0) (old new : MachineState) (call : Call) (m : HandoverMachine) → Allows tells old call new → StandsFor old.handover old.memory.shared m →
-    StandsFor new.handover new.memory.shared m
-apart tells old new call m allowed stands =
-    let same = same_handover tells old new call allowed in
+-- from here on, what the machine owes as a station
+pub one_turn : (old new : MachineState) (event : Event) (m : HandoverMachine) → Turns Reader old event new → StandsFor old.handover old.memory.shared m
+    → (event ≡ (turned Reader m).0) × StandsFor new.handover new.memory.shared (turned Reader m).1
+one_turn old new event m turns stands = let t = turns.turned m stands in (t.event_is, t.stands)
+
+pub whole : (old new : MachineState) → Turns Reader old Took new → 20 ≤ length new.handover.last
+whole old new turns =
+    let t = turns.turned turns.stood.0 turns.stood.1 in
+    let fits = taken_fits old.handover.map.len turns.stood.0 turns.stood.1.state t.event_is in
+    subst (λ (block : List ℕ). 20 ≤ length block) (sym t.stands.last) fits.head
+
+pub taken_last : (machine : MachineState) (m : HandoverMachine) → StandsFor machine.handover machine.memory.shared m → machine.handover.last ≡ last_taken m
+taken_last machine m stands = stands.last
+
+pub unchanged : (old new : MachineState) (event : Event) → Turns Reader old event new → new.device.store.flash.steps ≡ old.device.store.flash.steps
+unchanged old new event turns = ap (λ (device : DeviceState). device.store.flash.steps) turns.device
+
+stands_on : (old new : MachineState) (m : HandoverMachine) → SameHandover old new → StandsFor old.handover old.memory.shared m → StandsFor new.handover new.memory.shared m
+stands_on old new m same stands =
     subst (λ (h : HandoverState). StandsFor h new.memory.shared m) (sym same.handover) (subst (λ (r : RamState). StandsFor old.handover r m) (sym same.shared) stands)
+
+pub apart : (tells : Type 0) (old new : MachineState) (m : HandoverMachine) → Reaches (Allows tells) old new → StandsFor old.handover old.memory.shared m → StandsFor new.handover new.memory.shared m
+apart tells old new m Stays stands = stands
+apart tells old new m (Goes mid call last before allowed) stands = stands_on mid last m (same_handover tells mid last call allowed) (apart tells old mid m before stands)

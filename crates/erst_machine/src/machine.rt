@@ -397,12 +397,26 @@ impl<F: Flash> Space for Machine<F> {
 
 impl<F: Flash> Station for Machine<F> {
     ghost use Rattle.std.specs.Prelude.{ℕ};
+    ghost use Rattle.ghes_ack.specs.declared.events.Side.TheVariants.{Reader as OfReader};
     ghost use Rattle.ghes_ack.specs.Handovers.{StandsFor};
-    ghost use Rattle.erst_machine.specs.Stations.{apart};
+    ghost use Rattle.erst_machine.specs.Events.{Turns as IsTurn};
+    ghost use Rattle.erst_machine.specs.Stations.{one_turn, whole, taken_last, unchanged, apart};
 
     ghost stands = { λ machine m. StandsFor machine.handover machine.memory.shared m };
 
     ghost changes = { λ machine. machine.device.store.flash.steps };
+
+    ghost reads = { λ old event new. IsTurn OfReader old event new };
+
+    ghost last = { λ machine. machine.handover.last };
+
+    ghost one_turn = { one_turn };
+
+    ghost whole = { whole };
+
+    ghost taken_last = { taken_last };
+
+    ghost unchanged = { unchanged };
 
     ghost apart = { apart F.tells };
 

@@ -1,13 +1,17 @@
 -- What the calls of the two sides leave in memory.
-use Rattle.std.proofs.Common.{◌≡◌, ◌∙◌, ℕ, ◌+◌, ◌-◌, ◌*◌, ◌<◌, ◌≤◌, min, List, length, take, sym, ap, subst, arith, bit_and}
+use Rattle.std.proofs.Common.{◌≡◌, ◌∙◌, ℕ, ◌+◌, ◌-◌, ◌*◌, ◌<◌, ◌≤◌, ◌^◌, min, List, length, take, Result, IfOk, refl, sym, ap, subst, arith, bit_and}
+use Rattle.std.specs.Result.{result_unwrap_or}
+use Rattle.apei_gas.specs.Access.{bits}
+use Rattle.apei_space.specs.declared.faults.SpaceFault.{SpaceFault}
 use Rattle.base_model.specs.Bytes.{part, number_at, spelled, put_at, AreBytes}
 use Rattle.base_model.proofs.BytesLemmas.{length-spelled, spelled-number_at}
-use Rattle.apei_space.specs.RamState.{RamState}
+use Rattle.apei_space.specs.RamState.{RamState, Allows, located}
 use Rattle.ghes_ack.specs.declared.maps.HandoverMap.{HandoverMap}
 use Rattle.ghes_ack.specs.Machine.{hidden, with_piece, with_status}
-use Rattle.ghes_ack.specs.Maps.{HasWindows, IsSet, IsClear, ack_read, ack_mask, with_ack, with_window, with_address, window, with_set, with_clear, memory_started}
+use Rattle.ghes_ack.specs.Maps.{HasWindows, IsSet, IsClear, ack_bytes, ack_read, ack_mask, with_ack, with_window, with_address, window, with_set, with_clear, memory_started}
+use Rattle.ghes_ack.specs.Publications.{ClearsThenShows}
 use Rattle.ghes_ack.proofs.PieceLemmas.{part-front, part_min, length-hidden, hidden_behind, length-with_status}
-use Rattle.ghes_ack.proofs.MemoryLemmas.{length-window, window-with_ack, window-with_address, ack-with_window, ack-with_address, HasWindows-with_window, HasWindows-with_ack, HasWindows-with_address}
+use Rattle.ghes_ack.proofs.MemoryLemmas.{number_read, number_small, clear_bits, status_write_is, length-window, window-with_ack, window-with_address, ack-with_window, ack-with_address, HasWindows-with_window, HasWindows-with_ack, HasWindows-with_address}
 
 pub windows_address : (map : HandoverMap) (ram new : RamState) → new ≡ with_address map ram → HasWindows map ram → HasWindows map new
 windows_address map ram new is w = subst (HasWindows map) (sym is) (HasWindows-with_address map ram w)
@@ -64,6 +68,21 @@ published_memory map ram a new block word w head bytes is_word is_a clear is =
       clear = let e : ack_read map new ≡ ack_read map a = ap (ack_read map) is ∙ ack-with_window map a (put_at (window map a) 0 (spelled 4 word)) w_a n in
           subst (λ (r : ℕ). bit_and r (ack_mask map) ≡ 0) (sym e) clear;
     }
+
+-- a publication of plain memory, by its order
+pub published_in_order : (map : HandoverMap) (ram new : RamState) (block : List ℕ) → HasWindows map ram → 20 ≤ length block → AreBytes block → ClearsThenShows Allows map (number_at block 0 4) ram new → IsPublished map ram new block
+published_in_order map ram new block w head bytes p =
+    let place = located ram.windows map.ack.place (ack_bytes map) in
+    let first = p.order.0 in
+    let second = p.order.1.0 in
+    let third = p.order.1.1.0 in
+    let value : result_unwrap_or p.read 0 ≡ ack_read map ram = ap (λ (r : Result ℕ SpaceFault). result_unwrap_or r 0) first.0 ∙ number_read place ram.bytes (ack_bytes map) in
+    let clear : p.clear ≡ with_ack map ram (with_clear map (ack_read map ram)) =
+    second.1 ∙ ap (λ (v : ℕ). with_ack map p.looked (with_clear map v)) value ∙ ap (λ (r : RamState). with_ack map r (with_clear map (ack_read map ram))) first.1 in
+    let small = number_small place ram.bytes (ack_bytes map) (bits map.ack.access) (subst (λ (r : Result ℕ SpaceFault). IfOk r (λ (v : ℕ). v < 2 ^ bits map.ack.access)) first.0 p.small) in
+    let windows : HasWindows map p.clear = windows_ack map ram p.clear (with_clear map (ack_read map ram)) clear w in
+    published_memory map ram p.clear new block (number_at block 0 4) w head bytes refl clear (subst (IsClear map) (sym clear) (clear_bits map ram w small))
+    (third.1 ∙ status_write_is map p.clear (spelled 4 (number_at block 0 4)) windows (length-spelled 4 (number_at block 0 4)))
 
 -- a piece
 pub filled_first : (map : HandoverMap) (ram new : RamState) (block bytes : List ℕ) → bytes ≡ part (hidden block) 0 64 → new ≡ with_window map ram (put_at (window map ram) 0 bytes) → new ≡ with_window map ram (with_piece (window map ram) block 0)

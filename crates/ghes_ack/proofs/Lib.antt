@@ -1,6 +1,7 @@
 pub mod PieceLemmas
 pub mod MemoryLemmas
 pub mod StepLemmas
+pub mod TakenLemmas
 pub mod ScheduleLemmas
 pub mod CallLemmas
 pub mod EffectLemmas
@@ -8,6 +9,7 @@ pub mod RoomLemmas
 pub mod TurnLemmas
 pub mod RunLemmas
 pub mod SideLemmas
+pub mod JoinLemmas
 pub mod ElsewhereLemmas
 pub mod StartLemmas
 pub mod WriteLemmas

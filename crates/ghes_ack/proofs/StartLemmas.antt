@@ -10,22 +10,21 @@ use Rattle.apei_space.specs.RamState.{RamState}
 use Rattle.ghes_block.specs.declared.error.BlockError.{BlockError}
 use Rattle.ghes_block.specs.Reading.{checked, head_verdict, status_at}
 use Rattle.ghes_ack.specs.declared.maps.HandoverMap.{HandoverMap}
-use Rattle.ghes_ack.specs.declared.ends.Ends.{Ends}
-use Rattle.ghes_ack.specs.declared.ends.Ends.TheVariants.{FirmHolds}
 use Rattle.ghes_ack.specs.declared.blocks.Blocks.{Blocks}
 use Rattle.ghes_ack.specs.Machine.{Machine, Situation, Filling, Published, Reading, Cleared, Acknowledged, Fits, with_status, started, submitted, waiting_in, InSituation, IsState}
-use Rattle.ghes_ack.specs.Maps.{HasWindows, address_in, ack_read, window, with_ack, with_address, with_set, memory_started, IsSet}
+use Rattle.ghes_ack.specs.Maps.{HasAckBits, HasWindows, address_in, ack_read, window, with_ack, with_address, with_set, memory_started, IsSet}
 use Rattle.ghes_ack.specs.Handovers.{HandoverState, fresh, StandsFor, reason, refusal}
 use Rattle.ghes_ack.specs.declared.submission.SubmitError.TheVariants.{Long, Trailing, Full}
 use Rattle.std.specs.VecDeque.{deque_len}
-use Rattle.ghes_ack.specs.Sides.{IsEmpty, Adds, IsConsistent, situation_of, state_of, in_work}
+use Rattle.ghes_ack.specs.declared.ends.Ends.{Ends}
+use Rattle.ghes_ack.specs.Sides.{IsEmpty, Adds, AreConsistent, situation_in, state_of, view_of, in_work}
 use Rattle.ghes_ack.proofs.StepLemmas.{start_is, submit_keeps}
 use Rattle.ghes_ack.proofs.ScheduleLemmas.{state_in_order}
 use Rattle.ghes_ack.proofs.MemoryLemmas.{length-window, window-with_window, address-with_window, address-with_ack, address-with_address, HasWindows-with_ack, HasWindows-with_address}
 use Rattle.ghes_ack.proofs.EffectLemmas.{windows_window, length-status}
 
 -- the two sides of a start, with no block
-pub fresh_is : (b : Blocks) → IsEmpty b → state_of FirmHolds b ≡ fresh b.map
+pub fresh_is : (b : Blocks) → IsEmpty b → state_of Filling b ≡ fresh b.map
 fresh_is b e =
     let waiting : map (λ v. v.items) b.waiting.items ≡ [] = ap (map (λ v. v.items)) e.waiting in
     let work : in_work Filling b.at_work b.last ≡ None = ap (λ (o : Option (Vec ℕ Global)). in_work Filling o b.last) e.at_work in
@@ -61,9 +60,9 @@ pub record IsBegun (at : HandoverMap) (h : HandoverState) (ram new : RamState) :
   pub fresh_is : h ≡ fresh at
   pub stands : StandsFor h new (started (window at ram))
 
-pub begun : (at : HandoverMap) (b : Blocks) (ram new : RamState) → b.map ≡ at → IsEmpty b → HasWindows at ram → new ≡ memory_started at ram → IsSet at new → IsBegun at (state_of FirmHolds b) ram new
+pub begun : (at : HandoverMap) (b : Blocks) (ram new : RamState) → b.map ≡ at → IsEmpty b → HasWindows at ram → new ≡ memory_started at ram → IsSet at new → IsBegun at (state_of Filling b) ram new
 begun at b ram new same e w is set =
-    let all : state_of FirmHolds b ≡ fresh at = fresh_is b e ∙ ap fresh same in
+    let all : state_of Filling b ≡ fresh at = fresh_is b e ∙ ap fresh same in
     record {
       fresh_is = all;
       stands = subst (λ (h : HandoverState). StandsFor h new (started (window at ram))) (sym all) (fresh_stands at ram new w is set);
@@ -124,22 +123,32 @@ submits h ram m block good st =
       last = st.last ∙ sym (get_or_append_left ([] ∷ m.blocks) (block ∷ []) [] m.taken (omega (arith, t, s)));
     }
 
+-- the acknowledge bits
+pub bits_of : (ends : Option Ends) (b : Blocks) → AreConsistent ends b → HasAckBits b.map
+bits_of None b all = absurd all
+bits_of (Some ends) b all = all.bits
+
 -- the blocks that wait
-pub waiting_of : (ends : Ends) (b : Blocks) → IsConsistent ends b → length (state_of ends b).waiting ≡ deque_len b.waiting
-waiting_of ends b all = length-map b.waiting.items (λ v. v.items) ∙ all.room.counted
+pub waiting_of : (ends : Option Ends) (b : Blocks) → AreConsistent ends b → length (view_of ends b).waiting ≡ deque_len b.waiting
+waiting_of None b all = absurd all
+waiting_of (Some ends) b all = length-map b.waiting.items (λ v. v.items) ∙ all.room.counted
 
 -- a block more
-pub added : (ends : Ends) (b after : Blocks) (block : List ℕ) → Adds b after block → state_of ends after ≡ record (state_of ends b) { waiting = (state_of ends b).waiting ++ block ∷ [] }
-added ends b after block a =
+added_in : (s : Situation) (b after : Blocks) (block : List ℕ) → Adds b after block → state_of s after ≡ record (state_of s b) { waiting = (state_of s b).waiting ++ block ∷ [] }
+added_in s b after block a =
     let waiting = a.waiting in
     let map_is = a.same.map in
     let filled = a.same.filled in
     let copied = a.same.copied in
     let last = a.same.last in
     let items : after.last.items ≡ b.last.items = ap (λ v. v.items) a.same.last in
-    let work : in_work (situation_of ends) after.at_work after.last ≡ in_work (situation_of ends) b.at_work b.last =
-    ap (λ (x : Option (Vec ℕ Global)). in_work (situation_of ends) x after.last) a.at_work ∙ ap (λ (x : Vec ℕ Global). in_work (situation_of ends) b.at_work x) a.same.last in
+    let work : in_work s after.at_work after.last ≡ in_work s b.at_work b.last =
+    ap (λ (x : Option (Vec ℕ Global)). in_work s x after.last) a.at_work ∙ ap (λ (x : Vec ℕ Global). in_work s b.at_work x) a.same.last in
     cc
+
+pub added : (ends : Option Ends) (b after : Blocks) (block : List ℕ) → Adds b after block → view_of ends after ≡ record (view_of ends b) { waiting = (view_of ends b).waiting ++ block ∷ [] }
+added ends b after block a =
+    ap (λ (o : Option (Vec ℕ Global)). state_of (situation_in ends o) after) a.at_work ∙ added_in (situation_in ends b.at_work) b after block a
 
 -- 64 blocks wait
 pub full : (h : HandoverState) (block : List ℕ) (size : ℕ) → length block ≤ h.map.len → checked block ≡ Ok size → length block ≤ size → 64 ≤ length h.waiting → refusal h block ≡ Some Full

@@ -23,7 +23,7 @@ use Rattle.ghes_ack.proofs.EffectLemmas.{windows_window, windows_ack, length-sta
 pub in_situation : (h : HandoverState) (ram : RamState) (m : Machine) (s : Situation) → h.situation ≡ s → StandsFor h ram m → InSituation m s
 in_situation h ram m s is st = subst (InSituation m) (st.situation ∙ is) st.state.holds
 
-acks_in : (h : HandoverState) (ram : RamState) (m : Machine) (s : Situation) → h.situation ≡ s → StandsFor h ram m → AcksAre s h.map ram
+pub acks_in : (h : HandoverState) (ram : RamState) (m : Machine) (s : Situation) → h.situation ≡ s → StandsFor h ram m → AcksAre s h.map ram
 acks_in h ram m s is st = subst (λ (x : Situation). AcksAre x h.map ram) is st.acks
 
 same_ack : (at : HandoverMap) (ram new : RamState) → ack_read at new ≡ ack_read at ram → IsSet at ram → IsSet at new

@@ -8,19 +8,29 @@ use Rattle.ghes_ack.specs.declared.events.Event.{Event}
 use Rattle.ghes_ack.specs.declared.events.Event.TheVariants.{Idle}
 use Rattle.ghes_ack.specs.Elsewhere.{SameWhere, IsOffBlock}
 use Rattle.ghes_ack.specs.declared.ends.Ends.{Ends}
-use Rattle.ghes_ack.specs.declared.ends.Ends.TheVariants.{FirmHolds, Shown, OsHolds, Emptied, Returned}
+use Rattle.ghes_ack.specs.declared.ends.FirmwareEnd.{FirmwareEnd}
+use Rattle.ghes_ack.specs.declared.ends.FirmwareEnd.TheVariants.{Writes, Waits}
+use Rattle.ghes_ack.specs.declared.ends.ReaderEnd.{ReaderEnd}
+use Rattle.ghes_ack.specs.declared.ends.ReaderEnd.TheVariants.{Looks, Reads, Acknowledges}
 use Rattle.ghes_ack.specs.declared.blocks.Blocks.{Blocks}
 use Rattle.ghes_ack.specs.Machine.{Machine, Situation, Filling, Published, Reading, Cleared, Acknowledged}
 use Rattle.ghes_ack.specs.Maps.{HasAckBits, window, memory_after, AreLeft}
 use Rattle.ghes_ack.specs.Handovers.{HandoverState, StandsFor, IsTurned, AreTurned}
 
--- where the two sides stand
-abbrev pub situation_of : Ends → Situation
-situation_of FirmHolds = Filling
-situation_of Shown = Published
-situation_of OsHolds = Reading
-situation_of Emptied = Cleared
-situation_of Returned = Acknowledged
+-- while the firmware waits and the reader looks, there is a block at work until it is acknowledged
+abbrev pub looking_at : Option (Vec ℕ Global) → Situation
+looking_at None = Acknowledged
+looking_at (Some block) = Published
+
+abbrev pub waiting_at : ReaderEnd → Option (Vec ℕ Global) → Situation
+waiting_at (Looks look) work = looking_at work
+waiting_at (Reads read) work = Reading
+waiting_at (Acknowledges end) work = Cleared
+
+-- the situation of two sides and the block at work
+abbrev pub situation_of : FirmwareEnd → ReaderEnd → Option (Vec ℕ Global) → Situation
+situation_of (Writes write) reader work = Filling
+situation_of (Waits wait) reader work = waiting_at reader work
 
 -- the block at work: once it is copied whole it is the one taken last
 abbrev pub in_work : Situation → Option (Vec ℕ Global) → Vec ℕ Global → Option (List ℕ)
@@ -31,16 +41,20 @@ in_work Cleared None last = Some last.items
 in_work Acknowledged None last = None
 in_work situation (Some block) last = Some block.items
 
-abbrev pub state_of : Ends → Blocks → HandoverState
-state_of ends b = record {
+-- what the blocks are in a situation
+abbrev pub state_of : Situation → Blocks → HandoverState
+state_of situation b = record {
   map = b.map;
-  situation = situation_of ends;
+  situation = situation;
   waiting = map (λ v. v.items) b.waiting.items;
-  at_work = in_work (situation_of ends) b.at_work b.last;
+  at_work = in_work situation b.at_work b.last;
   filled = b.filled;
   copied = b.copied;
   last = b.last.items;
 }
+
+abbrev pub handover_of : Ends → Blocks → HandoverState
+handover_of ends b = state_of (situation_of ends.firmware ends.reader b.at_work) b
 
 -- how many blocks are at work apart from the one taken last
 abbrev pub count_of : Option (Vec ℕ Global) → ℕ
@@ -73,19 +87,38 @@ abbrev pub IsCopiedSoFar : ℕ → Option (Vec ℕ Global) → Vec ℕ Global �
 IsCopiedSoFar copied None last = length last.items ≤ 64 * copied
 IsCopiedSoFar copied (Some block) last = 64 * copied < length block.items
 
-abbrev pub IsUnderWay : Ends → Blocks → Type 0
-IsUnderWay FirmHolds b = Unit {0}
-IsUnderWay Shown b = count_of b.at_work ≡ 1
-IsUnderWay OsHolds b = IsCopiedSoFar b.copied b.at_work b.last
-IsUnderWay Emptied b = b.at_work ≡ None
-IsUnderWay Returned b = b.at_work ≡ None
+-- where the reader is, as far as its block goes
+abbrev pub IsFar : ReaderEnd → Blocks → Type 0
+IsFar (Looks look) b = Unit {0}
+IsFar (Reads read) b = IsCopiedSoFar b.copied b.at_work b.last
+IsFar (Acknowledges end) b = b.at_work ≡ None
+
+-- while the firmware may write the block, the reader looks for one: never are both at the block
+abbrev pub AreApart : FirmwareEnd → ReaderEnd → Type 0
+AreApart (Writes write) (Looks look) = Unit {0}
+AreApart (Writes write) (Reads read) = ⊥
+AreApart (Writes write) (Acknowledges end) = ⊥
+AreApart (Waits wait) reader = Unit {0}
 
 -- the sides and the blocks belong together
 pub record IsConsistent (ends : Ends) (b : Blocks) : Type 0 where
   pub bits : HasAckBits b.map
   pub short : b.map.len < 2 ^ 32
   pub room : HasRoom 0 b
-  pub under_way : IsUnderWay ends b
+  pub apart : AreApart ends.firmware ends.reader
+  pub far : IsFar ends.reader b
+
+-- the two sides are always there between two calls
+abbrev pub situation_in : Option Ends → Option (Vec ℕ Global) → Situation
+situation_in None work = Filling
+situation_in (Some ends) work = situation_of ends.firmware ends.reader work
+
+abbrev pub view_of : Option Ends → Blocks → HandoverState
+view_of ends b = state_of (situation_in ends b.at_work) b
+
+abbrev pub AreConsistent : Option Ends → Blocks → Type 0
+AreConsistent None b = ⊥
+AreConsistent (Some ends) b = IsConsistent ends b
 
 -- a turn, for each state that it stood for, and what it leaves of the memory
 pub record Turns (side : Side) (event : Event) (old : HandoverState) (ram : RamState) (after : HandoverState) (memory : RamState) (m : Machine) : Type 0 where

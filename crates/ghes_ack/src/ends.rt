@@ -1,16 +1,215 @@
-// Where the two sides of a handover stand.
+// The two sides of a handover as values that must be spent. They are made and spent here alone: the step from each to the next is
+// made by an access of the memory in which the two sides meet.
+ghost use Rattle.std.specs.Prelude.{◌≡◌, ◌+◌, ◌-◌, ◌*◌, ◌<◌, ◌≤◌, length, take, MatchResult};
+ghost use Rattle.base_model.specs.Bytes.{part, spelled};
+ghost use Rattle.ghes_ack.specs.Machine.{with_piece, with_pieces, with_status};
+ghost use Rattle.ghes_ack.specs.Maps.{HasAckBits, HasWindows, IsSet, IsClear, ack_read, window, status_word, with_window, with_ack, with_clear, acknowledged, memory_started};
 
-/// The five situations of a handover: the states of its two sides, which are made of its map for each access.
-#[derive(Clone, Copy, Debug, PartialEq, Eq)]
-pub enum Ends {
-    /// The firmware fills the block, or waits for one.
-    FirmHolds,
-    /// The block is published.
-    Shown,
-    /// The reader reads the block.
-    OsHolds,
-    /// The reader has cleared the block status.
-    Emptied,
-    /// The reader has acknowledged.
-    Returned,
+use crate::maps::HandoverMap;
+use apei_space::Ram;
+
+/// The firmware may write the block.
+pub struct MayWrite {
+    made: (),
+}
+
+/// The firmware waits for the acknowledgement of a published block.
+pub struct MustWait {
+    made: (),
+}
+
+/// The reader waits for a block.
+pub struct MustLook {
+    made: (),
+}
+
+/// The reader may read the block.
+pub struct MayRead {
+    made: (),
+}
+
+/// The reader has cleared the block status, and has still to acknowledge.
+pub struct MustAcknowledge {
+    made: (),
+}
+
+/// Where the firmware stands.
+pub enum FirmwareEnd {
+    Writes(MayWrite),
+    Waits(MustWait),
+}
+
+/// Where the reader stands.
+pub enum ReaderEnd {
+    Looks(MustLook),
+    Reads(MayRead),
+    Acknowledges(MustAcknowledge),
+}
+
+/// Where both sides stand.
+pub struct Ends {
+    pub firmware: FirmwareEnd,
+    pub reader: ReaderEnd,
+}
+
+/// Begins a handover: writes the block's address, sets the acknowledge bits, and sets the block status to 0.
+pub fn begin(map: &HandoverMap, ram: &mut Ram) -> (MayWrite, MustLook)
+    requires { HasWindows map.now ram.old }
+    ensures memory { ram.new ≡ memory_started map.now ram.old }
+    ensures set { HasAckBits map.now → IsSet map.now ram.new }
+{
+    map.write_address(ram);
+    map.set_ack(ram);
+    map.hide(ram);
+    (MayWrite { made: () }, MustLook { made: () })
+}
+
+impl MayWrite {
+    /// Writes the piece of 64 bytes with this number, the last one shorter, with a block status of 0.
+    #[inline(always)]
+    pub fn fill(&self, map: &HandoverMap, ram: &mut Ram, block: &[u8], piece: u32)
+        requires windows { HasWindows map.now ram.old }
+        requires fits { length block.now ≤ map.now.len }
+        requires begins { 64 * piece < length block.now }
+        ensures { ram.new ≡ with_window map.now ram.old (with_piece (window map.now ram.old) block.now piece) }
+    {
+        map.fill(ram, block, piece);
+    }
+
+    /// Writes so many pieces from this one on, with a block status of 0.
+    #[inline(always)]
+    pub fn fill_more(
+        &self,
+        map: &HandoverMap,
+        ram: &mut Ram,
+        block: &[u8],
+        piece: u32,
+        count: usize,
+    )
+        requires windows { HasWindows map.now ram.old }
+        requires head { 20 ≤ length block.now }
+        requires fits { length block.now ≤ map.now.len }
+        requires begins { 64 * piece < length block.now }
+        requires some { 0 < count }
+        requires few { 64 * count < length block.now - 64 * piece + 64 }
+        ensures { ram.new ≡ with_window map.now ram.old (with_pieces (window map.now ram.old) block.now piece count) }
+    {
+        map.fill_more(ram, block, piece, count);
+    }
+
+    /// Clears the acknowledge bits, and then shows the block by its block status.
+    pub fn publish(self, map: &HandoverMap, ram: &mut Ram, block: &[u8]) -> MustWait
+        requires windows { HasWindows map.now ram.old }
+        requires head { 20 ≤ length block.now }
+        ensures memory { ram.new ≡ with_window map.now (with_ack map.now ram.old (with_clear map.now (ack_read map.now ram.old))) (with_status (window map.now ram.old) (take 4 block.now)) }
+        ensures clear { IsClear map.now ram.new }
+    {
+        let MayWrite { made } = self;
+        map.publish(ram, block);
+        MustWait { made }
+    }
+
+    /// Spends it.
+    pub fn end(self) {
+        let MayWrite { made: () } = self;
+    }
+}
+
+impl MustWait {
+    /// The block is the firmware's again exactly where the acknowledge bits are set.
+    pub fn poll(self, map: &HandoverMap, ram: &Ram) -> Result<MayWrite, MustWait>
+        ensures { MatchResult result (λ _. IsSet map.now ram.now) (λ _. ¬ IsSet map.now ram.now) }
+    {
+        let MustWait { made } = self;
+        if map.is_acknowledged(ram) {
+            Ok(MayWrite { made })
+        } else {
+            Err(MustWait { made })
+        }
+    }
+
+    /// Spends it.
+    pub fn end(self) {
+        let MustWait { made: () } = self;
+    }
+}
+
+impl MustLook {
+    /// There is a block exactly where the block status isn't 0.
+    pub fn poll(self, map: &HandoverMap, ram: &Ram) -> Result<MayRead, MustLook>
+        requires { HasWindows map.now ram.now }
+        ensures { MatchResult result (λ _. 0 < status_word map.now ram.now) (λ _. status_word map.now ram.now ≡ 0) }
+    {
+        let MustLook { made } = self;
+        if map.status_word(ram) == 0 {
+            Err(MustLook { made })
+        } else {
+            Ok(MayRead { made })
+        }
+    }
+
+    /// Spends it.
+    pub fn end(self) {
+        let MustLook { made: () } = self;
+    }
+}
+
+impl MayRead {
+    /// Copies bytes of the block from this one on, as many as `out` has.
+    pub fn copy(&self, map: &HandoverMap, ram: &Ram, at: u64, out: &mut [u8])
+        requires windows { HasWindows map.now ram.now }
+        requires inside { at + length out.old ≤ map.now.len }
+        ensures { out.new ≡ part (window map.now ram.now) at (length out.old) }
+    {
+        map.read_part(ram, at, out);
+    }
+
+    /// Sets the block status to 0.
+    pub fn clear(self, map: &HandoverMap, ram: &mut Ram) -> MustAcknowledge
+        requires { HasWindows map.now ram.old }
+        ensures { ram.new ≡ with_window map.now ram.old (with_status (window map.now ram.old) (spelled 4 0)) }
+    {
+        let MayRead { made } = self;
+        map.hide(ram);
+        MustAcknowledge { made }
+    }
+
+    /// Spends it.
+    pub fn end(self) {
+        let MayRead { made: () } = self;
+    }
+}
+
+impl MustAcknowledge {
+    /// Acknowledges: writes `(read & preserve) | write` to the acknowledge register.
+    pub fn acknowledge(self, map: &HandoverMap, ram: &mut Ram) -> MustLook
+        requires { HasWindows map.now ram.old }
+        ensures memory { ram.new ≡ with_ack map.now ram.old (acknowledged map.now (ack_read map.now ram.old)) }
+        ensures set { HasAckBits map.now → IsSet map.now ram.new }
+    {
+        let MustAcknowledge { made } = self;
+        map.acknowledge(ram);
+        MustLook { made }
+    }
+
+    /// Spends it.
+    pub fn end(self) {
+        let MustAcknowledge { made: () } = self;
+    }
+}
+
+impl Ends {
+    /// Spends both sides.
+    pub fn end(self) {
+        let Ends { firmware, reader } = self;
+        match firmware {
+            FirmwareEnd::Writes(end) => end.end(),
+            FirmwareEnd::Waits(end) => end.end(),
+        }
+        match reader {
+            ReaderEnd::Looks(end) => end.end(),
+            ReaderEnd::Reads(end) => end.end(),
+            ReaderEnd::Acknowledges(end) => end.end(),
+        }
+    }
 }

@@ -1,4 +1,5 @@
 // Whose turn it is, and what a turn does.
+ghost use Rattle.std.specs.Prelude.{◌≡◌, ◌++◌, ◌≤◌, length, drop, replicate};
 
 /// The two sides of a handover.
 #[derive(Clone, Copy, Debug, PartialEq, Eq)]
@@ -32,4 +33,12 @@ pub enum Event {
     Clear,
     /// The reader acknowledged.
     Ack,
+}
+
+/// Writes the same event in the first places.
+pub fn note(events: &mut [Event], count: usize, event: Event)
+    requires { count ≤ length events.old }
+    ensures { events.new ≡ replicate count event ++ drop count events.old }
+{
+    events[..count].fill(event);
 }

@@ -4,13 +4,13 @@ ghost use Rattle.apei_space.specs.RamState.{RamState};
 ghost use Rattle.ghes_ack.specs.Machine.{Machine, started, submitted, waiting_in, is_idle};
 ghost use Rattle.ghes_ack.specs.Maps.{HasAckBits, HasWindows, window, memory_started, memory_after, AreLeft};
 ghost use Rattle.ghes_ack.specs.Elsewhere.{SameWhere, IsOffMap, IsOffBlock};
+ghost use Rattle.ghes_ack.specs.Sides.{Stands, Turns, MakesTurns};
 ghost use Rattle.ghes_ack.specs.Handovers.{StandsFor, IsTurned, AreTurned, fresh, refusal};
 
 use crate::blocks::{Blocks, WAITING};
-use crate::ends::Ends;
+use crate::ends::{Ends, FirmwareEnd, ReaderEnd, begin};
 use crate::events::{Event, Side};
 use crate::maps::HandoverMap;
-use crate::states::{start, stop};
 use crate::submission::SubmitError;
 use crate::turns::{all_turns, piece_turn};
 use apei_bytes::Memory;
@@ -21,19 +21,20 @@ use std::marker::Model;
 
 /// Both sides of a handover, and the blocks that the firmware hands over. It may not be dropped: `end` spends it.
 pub struct Handover {
-    ends: Ends,
+    /// Always there between two calls.
+    ends: Option<Ends>,
     blocks: Blocks,
 }
 
 impl Model for Handover {
     ghost use Rattle.ghes_ack.specs.Handovers.{HandoverState};
-    ghost use Rattle.ghes_ack.specs.Sides.{state_of, IsConsistent};
+    ghost use Rattle.ghes_ack.specs.Sides.{view_of, AreConsistent};
 
     ghost Value = { HandoverState };
 
-    ghost view = { λ handover. state_of handover.ends handover.blocks };
+    ghost view = { λ handover. view_of handover.ends handover.blocks };
 
-    ghost invariant = { λ handover. IsConsistent handover.ends handover.blocks };
+    ghost invariant = { λ handover. AreConsistent handover.ends handover.blocks };
 }
 
 impl Handover {
@@ -49,10 +50,12 @@ impl Handover {
         ensures refused { OnErr result (ram.new ≡ ram.old) }
     {
         let blocks = Blocks::new(alloc, map)?;
-        let (firm, idle) = start(map, ram);
-        stop(firm, idle);
+        let (write, look) = begin(&map, ram);
         Ok(Handover {
-            ends: Ends::FirmHolds,
+            ends: Some(Ends {
+                firmware: FirmwareEnd::Writes(write),
+                reader: ReaderEnd::Looks(look),
+            }),
             blocks,
         })
     }
@@ -94,11 +97,11 @@ impl Handover {
         ensures elsewhere { SameWhere (IsOffBlock self.old.map) ram.old ram.new }
         ensures map { self.new.map ≡ self.old.map }
     {
-        if let Some(event) = piece_turn(side, self.ends, &mut self.blocks, ram) {
+        if let Some(event) = self.move_piece(side, ram) {
             return event;
         }
         let mut events = [Event::Idle; 1];
-        self.ends = all_turns(side, self.ends, &mut self.blocks, &mut events, ram);
+        self.make_turns(side, &mut events, ram);
         events[0]
     }
 
@@ -110,7 +113,32 @@ impl Handover {
         ensures elsewhere { SameWhere (IsOffBlock self.old.map) ram.old ram.new }
         ensures map { self.new.map ≡ self.old.map }
     {
-        self.ends = all_turns(side, self.ends, &mut self.blocks, events, ram);
+        self.make_turns(side, events, ram);
+    }
+
+    /// A turn that moves one piece, made in place; `None` where the turn is another one, and nothing is done then.
+    fn move_piece(&mut self, side: Side, ram: &mut Ram) -> Option<Event>
+        requires { Stands self.old ram.old }
+        ensures { MatchOption result
+            ((self.new ≡ self.old) × (ram.new ≡ ram.old))
+            (λ event. (m : Machine) → StandsFor self.old ram.old m → Turns side event self.old ram.old self.new ram.new m) }
+    {
+        match &self.ends {
+            Some(ends) => piece_turn(side, ends, &mut self.blocks, ram),
+            None => None,
+        }
+    }
+
+    /// As many turns of a side as there are places for their events. Both sides are taken out and put back.
+    fn make_turns(&mut self, side: Side, events: &mut [Event], ram: &mut Ram)
+        requires { Stands self.old ram.old }
+        ensures { (m : Machine) → StandsFor self.old ram.old m → MakesTurns side events.new self.old ram.old self.new ram.new m }
+    {
+        let Some(ends) = self.ends.take() else {
+            unreachable!();
+        };
+        let next = all_turns(side, ends, &mut self.blocks, events, ram);
+        put_back(&mut self.ends, next);
     }
 
     /// The block taken last since the start, empty where none was.
@@ -124,9 +152,9 @@ impl Handover {
     pub fn reader_idle(&self) -> bool
         ensures { result ≡ is_idle self.now.situation }
     {
-        match self.ends {
-            Ends::OsHolds | Ends::Emptied => false,
-            Ends::FirmHolds | Ends::Shown | Ends::Returned => true,
+        match &self.ends {
+            Some(ends) => matches!(ends.reader, ReaderEnd::Looks(_)),
+            None => true,
         }
     }
 
@@ -138,14 +166,34 @@ impl Handover {
         ensures memory { ram.new ≡ memory_started self.old.map ram.old }
         ensures elsewhere { SameWhere (IsOffMap self.old.map) ram.old ram.new }
     {
+        if let Some(ends) = self.ends.take() {
+            ends.end();
+        }
         self.blocks.forget();
-        let (firm, idle) = start(self.blocks.map, ram);
-        stop(firm, idle);
-        self.ends = Ends::FirmHolds;
+        let (write, look) = begin(&self.blocks.map, ram);
+        let ends = Ends {
+            firmware: FirmwareEnd::Writes(write),
+            reader: ReaderEnd::Looks(look),
+        };
+        put_back(&mut self.ends, ends);
     }
 
     /// Spends the handover, in any situation.
     pub fn end(self) {
-        let Handover { ends: _, blocks: _ } = self;
+        let Handover { ends, blocks: _ } = self;
+        if let Some(ends) = ends {
+            ends.end();
+        }
+    }
+}
+
+/// Puts the sides to their empty place.
+fn put_back(place: &mut Option<Ends>, ends: Ends)
+    requires { place.old ≡ None }
+    ensures { place.new ≡ Some ends }
+{
+    match place.replace(ends) {
+        None => {}
+        Some(_old) => unreachable!(),
     }
 }

@@ -2,8 +2,9 @@
 ghost use Rattle.std.specs.Prelude.{◌≡◌, ◌≤◌, ℕ, List, length, take};
 ghost use Rattle.apei_space.specs.RamState.{RamState};
 ghost use Rattle.ghes_ack.specs.declared.maps.HandoverMap.{HandoverMap as AnyMap};
-ghost use Rattle.ghes_ack.specs.declared.events.Side.TheVariants.{Firmware as OfFirmware};
-ghost use Rattle.ghes_ack.specs.Machine.{Machine, IsState, turned, started};
+ghost use Rattle.ghes_ack.specs.declared.events.Side.TheVariants.{Firmware as OfFirmware, Reader as OfReader};
+ghost use Rattle.ghes_ack.specs.declared.events.Event.TheVariants.{Took as OfTook};
+ghost use Rattle.ghes_ack.specs.Machine.{Machine, Fits, IsState, turned, last_taken, started};
 ghost use Rattle.ghes_ack.specs.Maps.{HasWindows, ack_read, window, with_window, with_ack};
 ghost use Rattle.ghes_ack.specs.Elsewhere.{SameInMap};
 ghost use Rattle.ghes_ack.specs.Handovers.{HandoverState, StandsFor};
@@ -49,4 +50,9 @@ pub fn each_side_keeps()
         ack_read map (with_window map ram bytes) ≡ ack_read map ram }
     ensures window { (map : AnyMap) (ram : RamState) (value : ℕ) → HasWindows map ram →
         window map (with_ack map ram value) ≡ window map ram }
+{}
+
+/// A block that a turn of the reader took has a head, and fits into the window.
+pub fn a_taken_block_fits()
+    ensures { (len : ℕ) (m : Machine) → IsState len m → OfTook ≡ (turned OfReader m).0 → Fits len (last_taken (turned OfReader m).1) }
 {}

@@ -4,10 +4,12 @@
 mod blocks;
 mod ends;
 mod events;
+mod firmware;
 mod handover;
 mod laws;
 mod maps;
 mod pieces;
+mod reader;
 mod states;
 mod station;
 mod submission;
@@ -16,7 +18,7 @@ mod turns;
 pub use events::{Event, Side};
 pub use handover::Handover;
 pub use laws::{
-    each_side_keeps, every_list_of_calls, every_schedule, nothing_while_held,
+    a_taken_block_fits, each_side_keeps, every_list_of_calls, every_schedule, nothing_while_held,
     others_may_write_elsewhere,
 };
 pub use maps::HandoverMap;

@@ -1,9 +1,10 @@
 // The windows of a handover in memory.
-ghost use Rattle.std.specs.Prelude.{◌≡◌, ◌+◌, ◌-◌, ◌*◌, ◌%◌, ◌^◌, ◌<◌, ◌≤◌, length, take, min, IsTrue, ◌↔◌, bit_and, bit_or};
-ghost use Rattle.base_model.specs.Bytes.{part, put_at, spelled};
+ghost use Rattle.std.specs.Prelude.{◌≡◌, ◌+◌, ◌-◌, ◌*◌, ◌%◌, ◌^◌, ◌<◌, ◌≤◌, length, min, IsTrue, ◌↔◌, bit_and, bit_or};
+ghost use Rattle.base_model.specs.Bytes.{part, number_at, put_at, spelled};
 ghost use Rattle.apei_gas.specs.Access.{bits};
-ghost use Rattle.ghes_ack.specs.Machine.{with_piece, with_pieces, with_status};
-ghost use Rattle.ghes_ack.specs.Maps.{HasAckBits, HasWindows, IsSet, IsClear, ack_mask, kept_mask, ack_read, window, status_word, with_window, with_ack, with_address, with_set, with_clear, acknowledged};
+ghost use Rattle.ghes_ack.specs.Machine.{with_piece, with_pieces};
+ghost use Rattle.ghes_ack.specs.Maps.{HasAckBits, HasWindows, IsSet, ack_mask, kept_mask, ack_read, window, status_word, with_window, with_ack, with_address, with_set, acknowledged};
+ghost use Rattle.ghes_ack.specs.Publications.{ClearsThenShows};
 
 use crate::pieces::{PIECE, copy_hidden};
 use apei_bytes::get_u32;
@@ -91,15 +92,6 @@ impl HandoverMap {
         self.write_ack(ram, value);
     }
 
-    /// Clears the acknowledge bits.
-    pub(crate) fn clear_ack(&self, ram: &mut Ram)
-        requires { HasWindows self.now ram.old }
-        ensures memory { ram.new ≡ with_ack self.now ram.old (with_clear self.now (ack_read self.now ram.old)) }
-        ensures clear { IsClear self.now ram.new }
-    {
-        self.change_ack(ram, !self.ack_mask(), 0);
-    }
-
     /// Acknowledges.
     pub(crate) fn acknowledge(&self, ram: &mut Ram)
         requires { HasWindows self.now ram.old }
@@ -123,16 +115,6 @@ impl HandoverMap {
         ensures { ram.new ≡ with_window self.now ram.old (put_at (window self.now ram.old) 0 (spelled 4 0)) }
     {
         let _ = ram.write(Place::Memory(self.block), Width::B32, 0);
-    }
-
-    /// Writes the block status of a block that is filled. The acknowledge bits are clear by then, so that a reader that
-    /// sees the block never finds the acknowledgement of the one before it.
-    pub(crate) fn show(&self, ram: &mut Ram, word: u32)
-        requires windows { HasWindows self.now ram.old }
-        requires clear { IsClear self.now ram.old }
-        ensures { ram.new ≡ with_window self.now ram.old (put_at (window self.now ram.old) 0 (spelled 4 word)) }
-    {
-        let _ = ram.write(Place::Memory(self.block), Width::B32, u64::from(word));
     }
 
     /// Writes bytes into the window.
@@ -183,15 +165,16 @@ impl HandoverMap {
         }
     }
 
-    /// Clears the acknowledge bits, and then shows the block by its block status.
-    pub(crate) fn publish(&self, ram: &mut Ram, block: &[u8])
-        requires windows { HasWindows self.now ram.old }
-        requires head { 20 ≤ length block.now }
-        ensures memory { ram.new ≡ with_window self.now (with_ack self.now ram.old (with_clear self.now (ack_read self.now ram.old))) (with_status (window self.now ram.old) (take 4 block.now)) }
-        ensures clear { IsClear self.now ram.new }
+    /// Clears the acknowledge bits, and only then writes the block status of a block, in any space: so a reader that sees the
+    /// block never finds the acknowledgement of the one before it.
+    pub(crate) fn publish<S: Space>(&self, space: &mut S, block: &[u8])
+        requires { 20 ≤ length block.now }
+        ensures { ClearsThenShows S.allows self.now (number_at block.now 0 4) (S.state space.old) (S.state space.new) }
     {
-        self.clear_ack(ram);
-        self.show(ram, get_u32(block, 0));
+        let word = get_u32(block, 0);
+        let value = space.read(self.ack.place, self.ack.access).unwrap_or(0);
+        let _ = space.write(self.ack.place, self.ack.access, value & !self.ack_mask());
+        let _ = space.write(Place::Memory(self.block), Width::B32, u64::from(word));
     }
 
     /// Writes the first piece of a block, its status word as 0. The buffer is as long as the piece.

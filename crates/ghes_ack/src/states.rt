@@ -1,9 +1,10 @@
-// The two sides of a handover, as values that must be spent: none of these types may be dropped.
+// The two sides of a handover, each with its map, as values that must be spent: none of these types may be dropped.
 ghost use Rattle.std.specs.Prelude.{◌≡◌, ◌+◌, ◌*◌, ◌<◌, ◌≤◌, length, take, drop, MatchResult};
 ghost use Rattle.base_model.specs.Bytes.{part, number_at, spelled};
 ghost use Rattle.ghes_ack.specs.Machine.{with_piece, with_status};
 ghost use Rattle.ghes_ack.specs.Maps.{HasAckBits, HasWindows, IsSet, IsClear, ack_read, window, status_word, with_window, with_ack, with_clear, acknowledged, memory_started};
 
+use crate::ends::{MayRead, MayWrite, MustAcknowledge, MustLook, MustWait, begin};
 use crate::maps::HandoverMap;
 use apei_space::Ram;
 use std::marker::Model;
@@ -11,26 +12,31 @@ use std::marker::Model;
 /// The firmware may write the block.
 pub struct FirmBlock {
     map: HandoverMap,
+    end: MayWrite,
 }
 
 /// The firmware waits for the acknowledgement of a published block.
 pub struct AwaitAck {
     map: HandoverMap,
+    end: MustWait,
 }
 
 /// The reader waits for a block.
 pub struct OsIdle {
     map: HandoverMap,
+    end: MustLook,
 }
 
 /// The reader may read the block.
 pub struct OsBlock {
     map: HandoverMap,
+    end: MayRead,
 }
 
 /// The reader has cleared the block status, and has still to acknowledge.
 pub struct Cleared {
     map: HandoverMap,
+    end: MustAcknowledge,
 }
 
 impl Model for FirmBlock {
@@ -81,16 +87,16 @@ pub fn start(map: HandoverMap, ram: &mut Ram) -> (FirmBlock, OsIdle)
     ensures firm { result.0 ≡ map }
     ensures os { result.1 ≡ map }
 {
-    map.write_address(ram);
-    map.set_ack(ram);
-    map.hide(ram);
-    (FirmBlock { map }, OsIdle { map })
+    let (write, look) = begin(&map, ram);
+    (FirmBlock { map, end: write }, OsIdle { map, end: look })
 }
 
 /// Ends a handover that both sides are done with.
 pub fn stop(firm: FirmBlock, os: OsIdle) {
-    let FirmBlock { map: _ } = firm;
-    let OsIdle { map: _ } = os;
+    let FirmBlock { map: _, end } = firm;
+    end.end();
+    let OsIdle { map: _, end } = os;
+    end.end();
 }
 
 impl FirmBlock {
@@ -103,7 +109,7 @@ impl FirmBlock {
         ensures memory { ram.new ≡ with_window self.old ram.old (with_piece (window self.old ram.old) block.now piece) }
         ensures same { self.new ≡ self.old }
     {
-        self.map.fill(ram, block, piece);
+        self.end.fill(&self.map, ram, block, piece);
     }
 
     /// Clears the acknowledge bits, and then shows the block by its block status.
@@ -117,9 +123,9 @@ impl FirmBlock {
         ensures clear { IsClear self ram.new }
         ensures map { result ≡ self }
     {
-        let FirmBlock { map } = self;
-        map.publish(ram, block);
-        AwaitAck { map }
+        let FirmBlock { map, end } = self;
+        let end = end.publish(&map, ram, block);
+        AwaitAck { map, end }
     }
 }
 
@@ -128,11 +134,10 @@ impl AwaitAck {
     pub fn poll(self, ram: &Ram) -> Result<FirmBlock, AwaitAck>
         ensures { MatchResult result (λ firm. (firm ≡ self) × IsSet self ram.now) (λ wait. (wait ≡ self) × (¬ IsSet self ram.now)) }
     {
-        let AwaitAck { map } = self;
-        if map.is_acknowledged(ram) {
-            Ok(FirmBlock { map })
-        } else {
-            Err(AwaitAck { map })
+        let AwaitAck { map, end } = self;
+        match end.poll(&map, ram) {
+            Ok(end) => Ok(FirmBlock { map, end }),
+            Err(end) => Err(AwaitAck { map, end }),
         }
     }
 }
@@ -143,11 +148,10 @@ impl OsIdle {
         requires { HasWindows self ram.now }
         ensures { MatchResult result (λ block. (block ≡ self) × (0 < status_word self ram.now)) (λ idle. (idle ≡ self) × (status_word self ram.now ≡ 0)) }
     {
-        let OsIdle { map } = self;
-        if map.status_word(ram) == 0 {
-            Err(OsIdle { map })
-        } else {
-            Ok(OsBlock { map })
+        let OsIdle { map, end } = self;
+        match end.poll(&map, ram) {
+            Ok(end) => Ok(OsBlock { map, end }),
+            Err(end) => Err(OsIdle { map, end }),
         }
     }
 }
@@ -160,7 +164,7 @@ impl OsBlock {
         ensures bytes { out.new ≡ part (window self.old ram.now) (64 * piece) (length out.old) }
         ensures same { self.new ≡ self.old }
     {
-        self.map.read_part(ram, 64 * u64::from(piece), out);
+        self.end.copy(&self.map, ram, 64 * u64::from(piece), out);
     }
 
     /// Sets the block status to 0.
@@ -169,9 +173,9 @@ impl OsBlock {
         ensures memory { ram.new ≡ with_window self ram.old (with_status (window self ram.old) (spelled 4 0)) }
         ensures map { result ≡ self }
     {
-        let OsBlock { map } = self;
-        map.hide(ram);
-        Cleared { map }
+        let OsBlock { map, end } = self;
+        let end = end.clear(&map, ram);
+        Cleared { map, end }
     }
 }
 
@@ -183,8 +187,8 @@ impl Cleared {
         ensures set { HasAckBits self → IsSet self ram.new }
         ensures map { result ≡ self }
     {
-        let Cleared { map } = self;
-        map.acknowledge(ram);
-        OsIdle { map }
+        let Cleared { map, end } = self;
+        let end = end.acknowledge(&map, ram);
+        OsIdle { map, end }
     }
 }

@@ -1,7 +1,9 @@
 // A space with a handover behind it.
-ghost use Rattle.std.specs.Prelude.{◌≡◌, ◌≤◌, ℕ, length};
-ghost use Rattle.apei_space.specs.Calls.{Call};
+ghost use Rattle.std.specs.Prelude.{◌≡◌, ◌≤◌, ℕ, List, length};
+ghost use Rattle.apei_space.specs.Accesses.{Reaches};
 ghost use Rattle.ghes_ack.specs.declared.events.Side.TheVariants.{Reader as OfReader};
+ghost use Rattle.ghes_ack.specs.declared.events.Event.{Event as TurnEvent};
+ghost use Rattle.ghes_ack.specs.declared.events.Event.TheVariants.{Took as HasTaken};
 ghost use Rattle.ghes_ack.specs.Machine.{Machine, turned, last_taken, is_idle};
 
 use crate::events::Event;
@@ -15,17 +17,21 @@ pub trait Station: Space {
     /// The changes that were made to what keeps the records.
     ghost changes: { Self → ℕ };
 
+    /// A turn of the reader: before, its event, after.
+    ghost reads: { Self → TurnEvent → Self → Type 0 };
+
+    /// The block taken last, empty where none was.
+    ghost last: { Self → List ℕ };
+
     /// A turn of the reader.
     fn reader_turn(&mut self) -> Event
         ensures some { (m : Machine) × stands self.old m }
-        ensures event { (m : Machine) → stands self.old m → result ≡ (turned OfReader m).0 }
-        ensures turned { (m : Machine) → stands self.old m → stands self.new (turned OfReader m).1 }
-        ensures changes { changes self.new ≡ changes self.old };
+        ensures reads { reads self.old result self.new };
 
     /// The block taken last, empty where none was.
     fn taken(&self) -> &[u8]
         ensures some { (m : Machine) × stands self.now m }
-        ensures last { (m : Machine) → stands self.now m → result.now ≡ last_taken m }
+        ensures last { result.now ≡ last self.now }
         ensures short { length result.now ≤ 4096 };
 
     /// Whether the reader neither reads a block nor has still to acknowledge one.
@@ -37,6 +43,19 @@ pub trait Station: Space {
     fn steps(&self) -> u64
         ensures { result ≡ changes self.now };
 
-    /// An access leaves the handover.
-    ghost apart: { (old new : Self) (call : Call) (m : Machine) → Self.allows (Self.state old) call (Self.state new) → stands old m → stands new m };
+    /// A turn of the reader is one of the handover machine, from each state of it that the space stood for.
+    ghost one_turn: { (old new : Self) (event : TurnEvent) (m : Machine) → reads old event new → stands old m
+        → (event ≡ (turned OfReader m).0) × stands new (turned OfReader m).1 };
+
+    /// A block that was taken has a block's head.
+    ghost whole: { (old new : Self) → reads old HasTaken new → 20 ≤ length (last new) };
+
+    /// The block taken last is the handover machine's.
+    ghost taken_last: { (space : Self) (m : Machine) → stands space m → last space ≡ last_taken m };
+
+    /// A turn of the reader leaves what keeps the records.
+    ghost unchanged: { (old new : Self) (event : TurnEvent) → reads old event new → changes new ≡ changes old };
+
+    /// Accesses leave the handover.
+    ghost apart: { (old new : Self) (m : Machine) → Reaches Self.allows (Self.state old) (Self.state new) → stands old m → stands new m };
 }

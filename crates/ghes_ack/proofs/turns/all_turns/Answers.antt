@@ -3,18 +3,18 @@ use Rattle.std.proofs.lemmas.List.{take_all, take-append-le}
 use Rattle.std.proofs.Math.Seq.{take-append-add}
 use Rattle.ghes_ack.specs.declared.events.Event.{Event}
 use Rattle.ghes_ack.specs.Machine.{turned_times}
-use Rattle.ghes_ack.specs.Sides.{MakesTurns, state_of}
+use Rattle.ghes_ack.specs.Sides.{MakesTurns, handover_of}
 use Rattle.ghes_ack.proofs.RunLemmas.{no_turns, turns_then}
 use Rattle.ghes_ack.proofs.turns.all_turns.Goals as goal
 
 pub loop-done-init : goal.loop-done-init
-loop-done-init c = (omega arith, c.requires.consistent, λ m st. no_turns c.args.side (state_of c.args.ends c.args.blocks.now) c.args.ram.now m st)
+loop-done-init c = (omega arith, c.requires.consistent, λ m st. no_turns c.args.side (handover_of c.args.ends c.args.blocks.now) c.args.ram.now m st)
 
-pub run_of-next-requires-clause-consistent : goal.run_of-next-requires-clause-consistent
-run_of-next-requires-clause-consistent c = c.loop-done.invariant.1
+pub run_of-made-requires-clause-consistent : goal.run_of-made-requires-clause-consistent
+run_of-made-requires-clause-consistent c = c.loop-done.invariant.1
 
-pub run_of-next-requires-clause-stands : goal.run_of-next-requires-clause-stands
-run_of-next-requires-clause-stands c =
+pub run_of-made-requires-clause-stands : goal.run_of-made-requires-clause-stands
+run_of-made-requires-clause-stands c =
     (turned_times c.args.side (length (take c.loop-done.done c.loop-done.events)) c.requires.stands.0, (c.loop-done.invariant.2 c.requires.stands.0 c.requires.stands.1).turned.stands)
 
 -- the events that are added
@@ -37,18 +37,18 @@ loop-done-preserved c =
     let side = c.args.side in
     let rest : List Event = drop (length c.loop-done.events - c.loop-done.done) (drop c.loop-done.done c.loop-done.events) in
     let le = c.loop-done.invariant.0 in
-    let few = c.run_of-next.ensures.few in
-    let long = c.run_of-next.auto.events in
-    let inside : c.run_of-next.result.1 ≤ length c.run_of-next.new.events = omega (arith, few, long) in (
-      next_fits c.loop-done.events c.run_of-next.new.events rest c.loop-done.done c.run_of-next.result.1 le inside,
-      c.run_of-next.ensures.consistent,
+    let few = c.run_of-made.ensures.count.few in
+    let long = c.run_of-made.auto.events in
+    let inside : c.run_of-made.result.1 ≤ length c.run_of-made.new.events = omega (arith, few, long) in (
+      next_fits c.loop-done.events c.run_of-made.new.events rest c.loop-done.done c.run_of-made.result.1 le inside,
+      c.run_of-made.ensures.consistent,
       λ m st.
           let a = c.loop-done.invariant.2 m st in
-          let b = c.run_of-next.ensures.turns (turned_times side (length (take c.loop-done.done c.loop-done.events)) m) a.turned.stands in
-          subst (λ (es : List Event). MakesTurns side es (state_of c.args.ends c.args.blocks.now) c.args.ram.now (state_of c.run_of-next.result.0 c.run_of-next.new.blocks) c.run_of-next.new.ram m)
-          (sym (next_events c.loop-done.events c.run_of-next.new.events rest c.loop-done.done c.run_of-next.result.1 le inside))
-          (turns_then side (take c.loop-done.done c.loop-done.events) (take c.run_of-next.result.1 c.run_of-next.new.events) (state_of c.args.ends c.args.blocks.now) (state_of c.loop-done.stand c.loop-done.blocks) (state_of c.run_of-next.result.0 c.run_of-next.new.blocks)
-          c.args.ram.now c.loop-done.ram c.run_of-next.new.ram m st a b),
+          let b = c.run_of-made.ensures.turns (turned_times side (length (take c.loop-done.done c.loop-done.events)) m) a.turned.stands in
+          subst (λ (es : List Event). MakesTurns side es (handover_of c.args.ends c.args.blocks.now) c.args.ram.now (handover_of c.run_of-made.result.0 c.run_of-made.new.blocks) c.run_of-made.new.ram m)
+          (sym (next_events c.loop-done.events c.run_of-made.new.events rest c.loop-done.done c.run_of-made.result.1 le inside))
+          (turns_then side (take c.loop-done.done c.loop-done.events) (take c.run_of-made.result.1 c.run_of-made.new.events) (handover_of c.args.ends c.args.blocks.now) (handover_of c.loop-done.stand c.loop-done.blocks) (handover_of c.run_of-made.result.0 c.run_of-made.new.blocks)
+          c.args.ram.now c.loop-done.ram c.run_of-made.new.ram m st a b),
     )
 
 pub returns-clause-consistent : goal.returns-clause-consistent
@@ -57,5 +57,5 @@ returns-clause-consistent c = c.loop-done.invariant.1
 pub returns-clause-turns : goal.returns-clause-turns
 returns-clause-turns c =
     let all = c.loop-done-test.false in
-    λ m st. subst (λ (es : List Event). MakesTurns c.args.side es (state_of c.args.ends c.args.blocks.now) c.args.ram.now (state_of c.loop-done.stand c.loop-done.blocks) c.loop-done.ram m)
+    λ m st. subst (λ (es : List Event). MakesTurns c.args.side es (handover_of c.args.ends c.args.blocks.now) c.args.ram.now (handover_of c.loop-done.stand c.loop-done.blocks) c.loop-done.ram m)
     (take_all c.loop-done.done c.loop-done.events (omega (arith, all))) (c.loop-done.invariant.2 m st)

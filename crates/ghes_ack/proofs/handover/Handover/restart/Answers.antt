@@ -1,23 +1,27 @@
-use Rattle.std.proofs.Common.{◌≡◌, ◌∙◌, sym, ap, subst}
+use Rattle.std.proofs.Common.{◌≡◌, ◌∙◌, Option, sym, ap, subst}
 use Rattle.ghes_ack.specs.declared.maps.HandoverMap.{HandoverMap}
 use Rattle.ghes_ack.specs.Elsewhere.{SameWhere, IsOffMap}
-use Rattle.ghes_ack.specs.Maps.{HasAckBits, IsSet, memory_started}
-use Rattle.ghes_ack.specs.Handovers.{HandoverState}
+use Rattle.ghes_ack.specs.Maps.{HasAckBits, IsSet, window, memory_started}
+use Rattle.ghes_ack.specs.Handovers.{HandoverState, StandsFor}
+use Rattle.ghes_ack.specs.Machine.{started}
+use Rattle.ghes_ack.specs.declared.ends.Ends.{Ends}
+use Rattle.ghes_ack.specs.Sides.{view_of}
 use Rattle.ghes_ack.proofs.ElsewhereLemmas.{elsewhere_started}
-use Rattle.ghes_ack.proofs.StartLemmas.{begun}
+use Rattle.ghes_ack.proofs.StartLemmas.{bits_of, begun}
 use Rattle.ghes_ack.proofs.handover.Handover.restart.Goals as goal
 
 pub returns-clause-stands : goal.returns-clause-stands
 returns-clause-stands c =
     let inside : c.self.inside.blocks.map ≡ c.args.self.now.map = ap (λ (h : HandoverState). h.map) c.self.view_is in
     let same : c.forget.new.self.map ≡ c.args.self.now.map = c.forget.ensures.map ∙ inside in
-    let bits : HasAckBits c.forget.new.self.map = subst HasAckBits (sym c.forget.ensures.map) c.self.invariant.bits in
-    let memory : c.start-firm.new.ram ≡ memory_started c.args.self.now.map c.args.ram.now = c.start-firm.ensures.memory ∙ ap (λ (at : HandoverMap). memory_started at c.args.ram.now) same in
-    let set : IsSet c.args.self.now.map c.start-firm.new.ram = subst (λ (at : HandoverMap). IsSet at c.start-firm.new.ram) same (c.start-firm.ensures.set bits) in
-    (begun c.args.self.now.map c.forget.new.self c.args.ram.now c.start-firm.new.ram same c.forget.ensures.empty c.requires memory set).stands
+    let bits : HasAckBits c.forget.new.self.map = subst HasAckBits (sym c.forget.ensures.map) (bits_of c.self.inside.ends c.self.inside.blocks c.self.invariant) in
+    let memory : c.begin.new.ram ≡ memory_started c.args.self.now.map c.args.ram.now = c.begin.ensures.memory ∙ ap (λ (at : HandoverMap). memory_started at c.args.ram.now) same in
+    let set : IsSet c.args.self.now.map c.begin.new.ram = subst (λ (at : HandoverMap). IsSet at c.begin.new.ram) same (c.begin.ensures.set bits) in
+    subst (λ (ends : Option Ends). StandsFor (view_of ends c.forget.new.self) c.begin.new.ram (started (window c.args.self.now.map c.args.ram.now))) (sym c.put_back.ensures)
+    (begun c.args.self.now.map c.forget.new.self c.args.ram.now c.begin.new.ram same c.forget.ensures.empty c.requires memory set).stands
 
 pub returns-clause-elsewhere : goal.returns-clause-elsewhere
 returns-clause-elsewhere c =
     let inside : c.self.inside.blocks.map ≡ c.args.self.now.map = ap (λ (h : HandoverState). h.map) c.self.view_is in
-    let memory : c.start-firm.new.ram ≡ memory_started c.args.self.now.map c.args.ram.now = c.start-firm.ensures.memory ∙ ap (λ (at : HandoverMap). memory_started at c.args.ram.now) (c.forget.ensures.map ∙ inside) in
+    let memory : c.begin.new.ram ≡ memory_started c.args.self.now.map c.args.ram.now = c.begin.ensures.memory ∙ ap (λ (at : HandoverMap). memory_started at c.args.ram.now) (c.forget.ensures.map ∙ inside) in
     subst (SameWhere (IsOffMap c.args.self.now.map) c.args.ram.now) (sym memory) (elsewhere_started c.args.self.now.map c.args.ram.now c.requires)

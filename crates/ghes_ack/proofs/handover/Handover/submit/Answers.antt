@@ -2,7 +2,7 @@ use Rattle.std.proofs.Common.{◌≡◌, ◌∙◌, ◌∷◌, [], ◌++◌, len
 use Rattle.ghes_ack.specs.declared.maps.HandoverMap.{HandoverMap}
 use Rattle.ghes_ack.specs.Machine.{Fits, submitted}
 use Rattle.ghes_ack.specs.Handovers.{HandoverState, StandsFor}
-use Rattle.ghes_ack.specs.Sides.{state_of}
+use Rattle.ghes_ack.specs.Sides.{view_of}
 use Rattle.ghes_ack.proofs.StartLemmas.{waiting_of, added, full, checked_fits, submits}
 use Rattle.ghes_ack.proofs.handover.Handover.submit.Goals as goal
 
@@ -22,6 +22,6 @@ returns-clause-stands c =
     let short = c.if-len-from.false in
     let same : c.self.inside.blocks.map.len ≡ c.args.self.now.map.len = ap (λ (at : HandoverMap). at.len) (ap (λ (h : HandoverState). h.map) c.self.view_is) in
     let good : Fits c.args.self.now.map.len c.args.block.now = checked_fits c.args.block.now c.in-Ok.size c.args.self.now.map.len c.in-Ok.ensures.exact (omega (arith, from, short, same)) in
-    let next : state_of c.self.inside.ends c.add.new.self ≡ record c.args.self.now { waiting = c.args.self.now.waiting ++ c.args.block.now ∷ [] } =
+    let next : view_of c.self.inside.ends c.add.new.self ≡ record c.args.self.now { waiting = c.args.self.now.waiting ++ c.args.block.now ∷ [] } =
     added c.self.inside.ends c.self.inside.blocks c.add.new.self c.args.block.now c.add.ensures ∙ ap (λ (h : HandoverState). record h { waiting = h.waiting ++ c.args.block.now ∷ [] }) c.self.view_is in
     λ ram m st. subst (λ (h : HandoverState). StandsFor h ram (submitted m c.args.block.now)) (sym next) (submits c.args.self.now ram m c.args.block.now good st)

@@ -1,19 +1,28 @@
-use Rattle.std.proofs.Common.{arith}
-use Rattle.base_model.proofs.BytesLemmas.{AreBytes-each}
-use Rattle.ghes_ack.specs.Maps.{ack_read, with_clear}
-use Rattle.ghes_ack.proofs.EffectLemmas.{windows_ack, published_memory}
+use Rattle.std.proofs.Common.{◌≡◌, ◌∙◌, ℕ, ◌-◌, ◌^◌, bit_and, refl, ap, subst}
+use Rattle.std.specs.Result.{result_unwrap_or}
+use Rattle.apei_gas.specs.declared.registers.Place.TheVariants.{Memory}
+use Rattle.apei_gas.specs.declared.widths.Width.TheVariants.{B32}
+use Rattle.apei_space.specs.Calls.{Write}
+use Rattle.ghes_ack.specs.Maps.{with_clear}
 use Rattle.ghes_ack.proofs.maps.HandoverMap.publish.Goals as goal
 
-pub show-requires-clause-windows : goal.show-requires-clause-windows
-show-requires-clause-windows c =
-    windows_ack c.args.self.now c.args.ram.now c.clear_ack.new.ram (with_clear c.args.self.now (ack_read c.args.self.now c.args.ram.now)) c.clear_ack.ensures.memory c.requires.windows
-
-pub returns-clause-memory : goal.returns-clause-memory
-returns-clause-memory c =
-    (published_memory c.args.self.now c.args.ram.now c.clear_ack.new.ram c.show.new.ram c.args.block.now c.get_u32.result c.requires.windows c.requires.head
-    (AreBytes-each c.args.block.now (λ k. omega (arith, c.type_inv.block k))) c.get_u32.ensures c.clear_ack.ensures.memory c.clear_ack.ensures.clear c.show.ensures).memory
-
-pub returns-clause-clear : goal.returns-clause-clear
-returns-clause-clear c =
-    (published_memory c.args.self.now c.args.ram.now c.clear_ack.new.ram c.show.new.ram c.args.block.now c.get_u32.result c.requires.windows c.requires.head
-    (AreBytes-each c.args.block.now (λ k. omega (arith, c.type_inv.block k))) c.get_u32.ensures c.clear_ack.ensures.memory c.clear_ack.ensures.clear c.show.ensures).clear
+pub returns : goal.returns
+returns g c =
+    let value : bit_and c.unwrap_or-value.result (2 ^ 64 - 1 - c.ack_mask.result) ≡ with_clear c.args.self.now (result_unwrap_or c.read.result 0) =
+    ap (λ (v : ℕ). bit_and v (2 ^ 64 - 1 - c.ack_mask.result)) c.unwrap_or-value.ensures ∙ ap (λ (m : ℕ). bit_and (result_unwrap_or c.read.result 0) (2 ^ 64 - 1 - m)) c.ack_mask.ensures in
+    let word = c.from.ensures ∙ c.get_u32-word.ensures in
+    record {
+      read = c.read.result;
+      cleared = c.write.result;
+      shown = c.write-2.result;
+      looked = g.S.Space.state c.read.new.self;
+      clear = g.S.Space.state c.write.new.self;
+      small = c.read.ensures.small;
+      order = (
+        c.read.ensures.allowed,
+        (
+          subst (λ (v : ℕ). g.S.Space.allows (g.S.Space.state c.read.new.self) (Write c.args.self.now.ack.place c.args.self.now.ack.access v c.write.result) (g.S.Space.state c.write.new.self)) value c.write.ensures,
+          (subst (λ (v : ℕ). g.S.Space.allows (g.S.Space.state c.write.new.self) (Write (Memory c.args.self.now.block) B32 v c.write-2.result) (g.S.Space.state c.write-2.new.self)) word c.write-2.ensures, refl),
+        ),
+      );
+    }

@@ -1,8 +1,0 @@
-use Rattle.std.proofs.Common.{◌*◌, refl}
-use Rattle.ghes_ack.specs.Maps.{window}
-use Rattle.ghes_ack.proofs.SideLemmas.{piece_is}
-use Rattle.ghes_ack.proofs.turns.copy_pieces.Goals as goal
-
-pub returns : goal.returns
-returns c =
-    piece_is c.args.bytes.now c.read_part.new.out (window c.args.map.now c.args.ram.now) (64 * c.args.piece) (64 * c.args.count) c.min-end.result _ c.min-end.ensures c.requires.begins refl c.read_part.auto.out c.read_part.ensures
