@@ -41,6 +41,7 @@ new_flash plan sector image = record {
   faults = 0;
   starved = 0;
   dark = 0;
+  restarts = 0;
 }
 
 -- a new flash of the plan's geometry, with erased bytes

@@ -14,4 +14,5 @@ state_of flash = record {
   faults = flash.faults;
   powered = true;
   dark = 0;
+  restarts = flash.restarts;
 }

@@ -21,6 +21,7 @@ pub struct FileFlash {
     steps: u64,
     reads: u64,
     faults: u64,
+    restarts: u64,
     // Whether the last change failed.
     failed: bool,
 }
@@ -59,6 +60,7 @@ impl FileFlash {
             steps: 0,
             reads: 0,
             faults: 0,
+            restarts: 0,
             failed: false,
         }
     }
@@ -68,6 +70,7 @@ impl FileFlash {
         ensures medium { self.new.medium ≡ self.old.medium }
         ensures sector { self.new.sector ≡ self.old.sector }
         ensures reads { self.new.reads ≡ self.old.reads }
+        ensures restarts { self.new.restarts ≡ self.old.restarts }
         ensures steps { self.new.steps ≡ next_count self.old.steps }
         ensures failed { IsTrue self.new.failed ↔ IsErr result }
         ensures done { IsOk result ↔ IsTrue done }
@@ -152,7 +155,9 @@ impl Flash for FileFlash {
         self.steps
     }
 
-    fn restart(&mut self) {}
+    fn restart(&mut self) {
+        self.restarts = next_count(self.restarts);
+    }
 
     ghost sized = { λ flash tells. absurd tells };
 

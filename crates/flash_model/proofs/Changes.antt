@@ -122,9 +122,10 @@ dark-lost old dark off more = more ∙ sym (ap (λ (b : Bool). cond {A = ℕ} b 
 AsksChange-failed : {T E : Type 0} (at len : ℕ) (old new : Simulation) (result : Result T E) → IsErr result
     → MayChange at len old.told new.told → length new.told.image ≡ length old.told.image → new.sector_size ≡ old.sector_size
     → steps_of new ≡ next_count (steps_of old) → new.reads ≡ old.reads → old.faults < 2 ^ 64 → new.faults ≡ next_count old.faults
-    → LosesOnlyByChange (state_of old) (state_of new) → new.dark ≡ dark_after (state_of old) → AsksChange (Unit {0}) at len (state_of old) (state_of new) result
-AsksChange-failed at len old new (Ok x) failed told size sector steps reads small faults power dark = (cc)
-AsksChange-failed at len old new (Err e) failed told size sector steps reads small faults power dark = record {
+    → LosesOnlyByChange (state_of old) (state_of new) → new.dark ≡ dark_after (state_of old) → new.restarts ≡ old.restarts
+    → AsksChange (Unit {0}) at len (state_of old) (state_of new) result
+AsksChange-failed at len old new (Ok x) failed told size sector steps reads small faults power dark restarts = (cc)
+AsksChange-failed at len old new (Err e) failed told size sector steps reads small faults power dark restarts = record {
   told = λ _. told;
   size = size;
   sector_size = sector;
@@ -133,6 +134,7 @@ AsksChange-failed at len old new (Err e) failed told size sector steps reads sma
   power = power;
   powered = tt;
   dark = dark;
+  restarts = restarts;
   cause = record { never_falls = omega (arith, faults); ok = tt; err = rose old.faults new.faults small faults };
   once = faults;
   counted = tt;
@@ -146,10 +148,10 @@ AsksChange-failed at len old new (Err e) failed told size sector steps reads sma
 AsksChange-done : {T E : Type 0} (at len : ℕ) (old new : Simulation) (result : Result T E) → (IsErr result → ⊥)
     → Changed at len old.told new.told → new.sector_size ≡ old.sector_size
     → steps_of new ≡ next_count (steps_of old) → new.reads ≡ old.reads → new.faults ≡ old.faults
-    → LosesOnlyByChange (state_of old) (state_of new) → has_power new.power ≡ true → new.dark ≡ dark_after (state_of old)
+    → LosesOnlyByChange (state_of old) (state_of new) → has_power new.power ≡ true → new.dark ≡ dark_after (state_of old) → new.restarts ≡ old.restarts
     → AsksChange (Unit {0}) at len (state_of old) (state_of new) result
-AsksChange-done at len old new (Err e) succeeded changed sector steps reads faults power powered dark = absurd (succeeded refl)
-AsksChange-done at len old new (Ok x) succeeded changed sector steps reads faults power powered dark = record {
+AsksChange-done at len old new (Err e) succeeded changed sector steps reads faults power powered dark restarts = absurd (succeeded refl)
+AsksChange-done at len old new (Ok x) succeeded changed sector steps reads faults power powered dark restarts = record {
   told = λ _. inr (inl changed);
   size = changed.image.same_length;
   sector_size = sector;
@@ -158,6 +160,7 @@ AsksChange-done at len old new (Ok x) succeeded changed sector steps reads fault
   power = power;
   powered = powered;
   dark = dark;
+  restarts = restarts;
   cause = record { never_falls = omega (arith, faults); ok = faults; err = tt };
   once = tt;
   counted = ap length changed.past ∙ length-append old.told.past (record { before = old.told.image; at = at; len = len } ∷ []);
@@ -174,7 +177,7 @@ AsksChange-starved at len old new result failed steps small on follows =
     (ap (λ (flash : Simulation). flash.sector_size) follows) steps (ap (λ (flash : Simulation). flash.reads) follows) small
     (ap (λ (flash : Simulation). flash.faults) follows)
     (power-changed 0 0 old.told.image old new (ap (λ (flash : Simulation). flash.told) follows) (ap (λ (flash : Simulation). flash.power) follows))
-    (dark-lit old new.dark on (ap (λ (flash : Simulation). flash.dark) follows))
+    (dark-lit old new.dark on (ap (λ (flash : Simulation). flash.dark) follows)) (ap (λ (flash : Simulation). flash.restarts) follows)
 
 -- whatever its fate
 AsksChange-by : {T E : Type 0} (fate : Fate) (at : ℕ) (bytes : List ℕ) (old new : Simulation) (result : Result T E)
@@ -187,7 +190,7 @@ AsksChange-by Uncounted at bytes old new result within steps small powered finds
     (ap (λ (flash : Simulation). flash.sector_size) follows) steps (ap (λ (flash : Simulation). flash.reads) follows) small
     (ap (λ (flash : Simulation). flash.faults) follows)
     (power-kept old new (ap (λ (flash : Simulation). flash.power) follows))
-    (ap (λ (flash : Simulation). flash.dark) follows)
+    (ap (λ (flash : Simulation). flash.dark) follows) (ap (λ (flash : Simulation). flash.restarts) follows)
 AsksChange-by Unpowered at bytes old new result within steps small powered finds follows fails =
     AsksChange-failed at (length bytes) old new result (fails.1 tt)
     (inr (inr (Changed-with_change old.told new.told 0 0 old.told.image (ap (λ (flash : Simulation). flash.told) follows) (SameOutside-refl 0 0 old.told.image))))
@@ -195,7 +198,7 @@ AsksChange-by Unpowered at bytes old new result within steps small powered finds
     (ap (λ (flash : Simulation). flash.sector_size) follows) steps (ap (λ (flash : Simulation). flash.reads) follows) small
     (ap (λ (flash : Simulation). flash.faults) follows)
     (power-kept old new (ap (λ (flash : Simulation). flash.power) follows))
-    (dark-lost old new.dark finds (ap (λ (flash : Simulation). flash.dark) follows))
+    (dark-lost old new.dark finds (ap (λ (flash : Simulation). flash.dark) follows)) (ap (λ (flash : Simulation). flash.restarts) follows)
 AsksChange-by (Reaches None) at bytes old new result within steps small powered finds (inl follows) fails =
     AsksChange-done at (length bytes) old new result
     (λ failed. let rose : old.starved < new.starved = fails.0 failed in
@@ -206,7 +209,7 @@ AsksChange-by (Reaches None) at bytes old new result within steps small powered 
     (ap (λ (flash : Simulation). flash.faults) follows)
     (power-changed at (length bytes) (image_left None old.told.image at bytes) old new (ap (λ (flash : Simulation). flash.told) follows) (ap (λ (flash : Simulation). flash.power) follows))
     (ap has_power (ap (λ (flash : Simulation). flash.power) follows) ∙ powered refl)
-    (dark-lit old new.dark finds (ap (λ (flash : Simulation). flash.dark) follows))
+    (dark-lit old new.dark finds (ap (λ (flash : Simulation). flash.dark) follows)) (ap (λ (flash : Simulation). flash.restarts) follows)
 AsksChange-by (Reaches (Some tear)) at bytes old new result within steps small powered finds (inl follows) fails =
     let changed = Changed-with_change old.told new.told at (length bytes) (image_left (Some tear) old.told.image at bytes)
     (ap (λ (flash : Simulation). flash.told) follows) (SameOutside-image_left (Some tear) old.told.image at bytes within) in
@@ -215,7 +218,7 @@ AsksChange-by (Reaches (Some tear)) at bytes old new result within steps small p
     (ap (λ (flash : Simulation). flash.sector_size) follows) steps (ap (λ (flash : Simulation). flash.reads) follows) small
     (ap (λ (flash : Simulation). flash.faults) follows)
     (power-changed at (length bytes) (image_left (Some tear) old.told.image at bytes) old new (ap (λ (flash : Simulation). flash.told) follows) (ap (λ (flash : Simulation). flash.power) follows))
-    (dark-lit old new.dark finds (ap (λ (flash : Simulation). flash.dark) follows))
+    (dark-lit old new.dark finds (ap (λ (flash : Simulation). flash.dark) follows)) (ap (λ (flash : Simulation). flash.restarts) follows)
 AsksChange-by (Reaches None) at bytes old new result within steps small powered finds (inr follows) fails =
     let rose : new.starved ≡ old.starved + 1 = ap (λ (flash : Simulation). flash.starved) follows in
     AsksChange-starved at (length bytes) old new result (fails.1 (omega arith)) steps small finds follows

@@ -10,7 +10,7 @@ use Rattle.flash_model.specs.declared.power.Power.{Power}
 use Rattle.flash_model.specs.declared.power.Power.TheVariants.{On, Until, Lost}
 
 -- what it tells, its sector size in bytes, its power, the changes and the reads that fail, each by its number, and its
--- counts of reads, of faults, of changes that found no memory, and of calls that found no power
+-- counts of reads, of faults, of changes that found no memory, of calls that found no power, and of restarts
 pub record Simulation : Type 0 where
   pub told : Told
   pub sector_size : ℕ
@@ -21,6 +21,7 @@ pub record Simulation : Type 0 where
   pub faults : ℕ
   pub starved : ℕ
   pub dark : ℕ
+  pub restarts : ℕ
 
 -- the changes that were asked for so far: each is told
 abbrev pub steps_of : Simulation → ℕ
@@ -41,6 +42,7 @@ state_of flash = record {
   faults = flash.faults;
   powered = has_power flash.power;
   dark = flash.dark;
+  restarts = flash.restarts;
 }
 
 -- power as a flash begins with it

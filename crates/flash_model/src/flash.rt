@@ -1,7 +1,7 @@
 // The trait of a flash.
 ghost use Rattle.std.specs.Prelude.{true, ◌≡◌, ◌↔◌, ℕ, ◌+◌, ◌*◌, ◌<◌, ◌≤◌, length, replicate, Result, OnOk, IsErr};
 ghost use Rattle.base_model.specs.Bytes.{part, put_at};
-ghost use Rattle.flash_words.specs.Flash.{FlashState, OnlyReads, AsksChange, IsErased, next_count, dark_after};
+ghost use Rattle.flash_words.specs.Flash.{FlashState, OnlyReads, AsksChange, IsErased, restart, next_count, dark_after};
 
 /// The flash failed.
 #[derive(Clone, Copy, Debug, PartialEq, Eq)]
@@ -64,9 +64,9 @@ pub trait Flash {
     fn steps(&self) -> u64
         ensures { result ≡ (state self.now).steps };
 
-    /// Ends a loss of power. No byte, count or past image changes.
+    /// Ends a loss of power. No byte or past image changes, and no count but that of the restarts, up to 2^64 - 1.
     fn restart(&mut self)
-        ensures { state self.new ≡ record (state self.old) { powered = true } };
+        ensures { state self.new ≡ restart (state self.old) };
 
     /// An image has the flash's size.
     ghost sized: { (flash : Self) → tells → length (state flash).told.image ≡ (state flash).size };

@@ -1,7 +1,7 @@
 // A flash in memory.
 ghost use Rattle.std.specs.Prelude.{true, ◌≡◌, ◌↔◌, ℕ, ◌+◌, ◌*◌, ◌^◌, ◌<◌, ◌≤◌, [], ◌∷◌, ◌++◌, length, replicate, Result, OnOk, OnErr, is_err, IsErr};
 ghost use Rattle.base_model.specs.Bytes.{part, put_at};
-ghost use Rattle.flash_words.specs.Flash.{FlashState, OnlyReads, AsksChange, IsErased, next_count, dark_after};
+ghost use Rattle.flash_words.specs.Flash.{FlashState, OnlyReads, AsksChange, IsErased, restart, next_count, dark_after};
 
 use crate::content::Content;
 use crate::counts::next_count;
@@ -32,6 +32,7 @@ pub struct SimFlash {
     starved: u64,
     // How many calls for a change or a read found no power.
     dark: u64,
+    restarts: u64,
 }
 
 impl Model for SimFlash {
@@ -51,6 +52,7 @@ impl Model for SimFlash {
       faults = flash.faults;
       starved = flash.starved;
       dark = flash.dark;
+      restarts = flash.restarts;
     } };
 
     ghost invariant = { λ flash. AreBelow flash.steps flash.journal × (flash.starved ≤ flash.steps) };
@@ -82,6 +84,7 @@ impl SimFlash {
           faults = 0;
           starved = 0;
           dark = 0;
+          restarts = 0;
         } }
         ensures tells { ⟦<SimFlash as Flash>⟧.tells }
     {
@@ -97,6 +100,7 @@ impl SimFlash {
             faults: 0,
             starved: 0,
             dark: 0,
+            restarts: 0,
         }
     }
 
@@ -224,10 +228,11 @@ impl Flash for SimFlash {
     }
 
     fn restart(&mut self)
-        ensures same { state_of self.new ≡ record (state_of self.old) { powered = true } }
-        ensures power { self.new ≡ record self.old { power = power_restored self.old.power } }
+        ensures same { state_of self.new ≡ restart (state_of self.old) }
+        ensures power { self.new ≡ record self.old { power = power_restored self.old.power; restarts = next_count self.old.restarts } }
     {
         self.power = self.power.restored();
+        self.restarts = next_count(self.restarts);
     }
 
     ghost sized = { λ flash _. refl };

@@ -32,8 +32,8 @@ pub record IsRecovered (slot_size slots : ℕ) (old new : FlashState) (found : F
   pub steps : new.steps ≡ old.steps + second_copies slot_size slots old.told.image
 
 -- of a flash that was scanned the size and the size of its sectors stay, head and tail mark of each slot are read once,
--- power is lost only by a change, no call found the flash without it that had it at the start, and a failure has its cause, one
--- fault, after which the flash is left alone
+-- power is lost only by a change and not brought back, no call found the flash without it that had it at the start, and a
+-- failure has its cause, one fault, after which the flash is left alone
 pub record KeepsShape {T E : Type 0} (slots : ℕ) (old new : FlashState) (result : Result T E) : Type 0 where
   pub size : new.size ≡ old.size
   pub sector_size : new.sector_size ≡ old.sector_size

@@ -1,6 +1,7 @@
 -- Calls that end at their first fault, one after another.
-use Rattle.std.proofs.Common.{◌≡◌, ℕ, ◌≤◌, Result, Ok, Err, refl, sym, subst, ◌∙◌, arith, inl, inr}
-use Rattle.flash_words.specs.Flash.{FlashState, LosesOnlyByChange}
+use Rattle.std.proofs.Common.{◌≡◌, ℕ, ◌≤◌, Bool, cond, Result, Ok, Err, refl, sym, ap, subst, ◌∙◌, arith, inl, inr}
+use Rattle.flash_words.specs.Flash.{FlashState, AsksChange, LosesOnlyByChange, StaysLit, next_count}
+use Rattle.flash_words.proofs.PowerLemmas.{lit_none, lit_then}
 use Rattle.record_store.specs.Answers.{EndsAtFault, FailsOnce, UnlessFlash}
 use Rattle.record_store.specs.Start.{ReadsTimes}
 use Rattle.record_store.specs.Stepping.{IsOneChange}
@@ -18,7 +19,7 @@ unless_weaker (Err (Small need)) P Q weaker had = weaker had
 
 -- no call
 pub ends_none : {T : Type 0} (flash : FlashState) (x : T) → EndsAtFault {T = T} flash flash (Ok x)
-ends_none flash x = record { once = tt; lit = λ on. refl; same_power = refl; later = omega arith }
+ends_none flash x = record { once = tt; lit = lit_none flash; same_power = refl; later = omega arith }
 
 -- another answer, and a refusal
 pub ends_ok : {T U : Type 0} (old new : FlashState) (x : T) (y : U) → EndsAtFault {T = T} old new (Ok x) → EndsAtFault {T = U} old new (Ok y)
@@ -44,7 +45,7 @@ ends_err old new (Small need) had = record { once = had.once; lit = had.lit; sam
 pub ends_then : {T U : Type 0} (old mid new : FlashState) (x : T) (y : Result U StoreError) → mid.faults ≡ old.faults → EndsAtFault {T = T} old mid (Ok x) → EndsAtFault {T = U} mid new y → EndsAtFault {T = U} old new y
 ends_then {T} {U} old mid new x y same first second = record {
   once = subst (λ (n : ℕ). FailsOnce {T = U} n new.faults y) same second.once;
-  lit = λ on. second.lit (first.same_power ∙ on) ∙ first.lit on;
+  lit = lit_then old mid new first.same_power first.lit second.lit;
   same_power = unless_weaker y (new.powered ≡ mid.powered) (new.powered ≡ old.powered) (λ more. more ∙ first.same_power) second.same_power;
   later = unless_weaker y (mid.steps ≤ new.steps) (old.steps ≤ new.steps) (λ more. let before = first.later in omega arith) second.later;
 }
@@ -56,7 +57,26 @@ ends_read tells count old new z y reads = record { once = tt; lit = reads.lit; s
 pub ends_read_failed : {T U E : Type 0} (tells : Type 0) (count : ℕ) (old new : FlashState) (e : E) → ReadsTimes {T = U} {E = E} tells count old new (Err e) → EndsAtFault {T = T} old new (Err Flash)
 ends_read_failed tells count old new e reads = record { once = reads.once; lit = reads.lit; same_power = tt; later = tt }
 
--- a change
+-- a change that was asked for is one change
+stays_lit : {T E : Type 0} (tells : Type 0) (at len : ℕ) (old new : FlashState) (result : Result T E) → AsksChange tells at len old new result → StaysLit old new
+stays_lit tells at len old new result asks =
+    record { restarts = asks.restarts; dark = λ on. asks.dark ∙ ap (λ (b : Bool). cond {A = ℕ} b old.dark (next_count old.dark)) on }
+
+pub one_change : {T U E D : Type 0} (tells : Type 0) (at len : ℕ) (old new : FlashState) (x : T) (y : U) → AsksChange {T = T} {E = E} tells at len old new (Ok x) → IsOneChange {T = U} {E = D} old new (Ok y)
+one_change tells at len old new x y asks = record {
+  size = asks.size;
+  sector_size = asks.sector_size;
+  steps = asks.steps;
+  reads = asks.reads;
+  power = asks.power;
+  powered = asks.powered;
+  lit = stays_lit tells at len old new (Ok x) asks;
+  cause = record { never_falls = asks.cause.never_falls; ok = asks.cause.ok; err = tt };
+  once = tt;
+  counted = asks.counted;
+}
+
+-- and no more is asked for
 pub ends_changed : {T U E : Type 0} (old new : FlashState) (z : U) (y : T) → IsOneChange {T = U} {E = E} old new (Ok z) → EndsAtFault {T = T} old new (Ok y)
 ends_changed old new z y change = record {
   once = tt;

@@ -6,6 +6,7 @@ use Rattle.std.proofs.lemmas.Bool.{cases_eq, cases_lt, cond-true, cond-false, eq
 use Rattle.std.proofs.lemmas.Result.{on_ok_weaker}
 use Rattle.flash_words.specs.Flash.{LosesOnlyByChange, StaysLit}
 use Rattle.flash_words.specs.Layout.{Layout}
+use Rattle.flash_words.proofs.PowerLemmas.{lit_none, lit_then}
 use Rattle.flash_words.proofs.CrashLemmas.{Leaves-none, Leaves-weaker, Leaves-then, Leaves-exit}
 use Rattle.record_model.specs.Records.{Stored}
 use Rattle.record_model.specs.RecordMap.{Command, Write, Clear, Refusal, Failed, NoSpace as no_space, NotFound as not_found, refusal_of, after, changes_of, made_by}
@@ -170,7 +171,7 @@ IsOnWay-none tells v some = record {
   faults = refl;
   reads = refl;
   power = refl;
-  lit = λ on. refl;
+  lit = lit_none v.flash;
   later = omega arith;
   alike = alike_refl v;
   places = λ image at_end. at_end;
@@ -233,7 +234,7 @@ gone_on tells old mid new way pending made crash step alike faults reads x ends 
       faults = faults ∙ way.faults;
       reads = reads ∙ way.reads;
       power = ends.same_power ∙ way.power;
-      lit = λ on. ends.lit (way.power ∙ on) ∙ way.lit on;
+      lit = lit_then old.flash mid.flash new.flash way.power way.lit ends.lit;
       later = let before = way.later in omega arith;
       alike = alike_then old mid new way.alike alike;
       end = λ told.

@@ -3,6 +3,7 @@ use Rattle.std.proofs.Common.{◌≡◌, ℕ, ◌+◌, ◌-◌, ◌^◌, ◌<◌
 use Rattle.std.proofs.lemmas.Bool.{cases_eq}
 use Rattle.base_model.specs.Faults.{Rose}
 use Rattle.flash_words.specs.Flash.{FlashState, OnlyReads, StaysLit, raised, next_count}
+use Rattle.flash_words.proofs.PowerLemmas.{lit_none, lit_then}
 use Rattle.record_store.specs.Start.{ReadsTimes}
 
 -- a flash was read so many times, and failed in none
@@ -24,7 +25,7 @@ reads_none tells flash = record {
   sector_size = refl;
   steps = refl;
   power = refl;
-  lit = λ on. refl;
+  lit = lit_none flash;
   unread = λ none. refl;
   counted = λ some. absurd (omega arith);
   faults = refl;
@@ -44,7 +45,7 @@ reads_more tells n k old mid new x had more some = record {
   sector_size = more.sector_size ∙ had.sector_size;
   steps = more.steps ∙ had.steps;
   power = more.power ∙ had.power;
-  lit = λ on. more.lit (had.power ∙ on) ∙ had.lit on;
+  lit = lit_then old mid new had.power had.lit more.lit;
   unread = λ none. absurd (omega arith);
   counted = λ any. elim (cases_eq n 0) [
     | inl first ↦ more.counted ∙ ap (raised k) (had.unread first) ∙ ap (λ (m : ℕ). raised m old.reads) (with_none n k first)
@@ -77,7 +78,7 @@ reads_failed tells n k total old mid new e d had more = record {
   sector_size = more.sector_size ∙ had.sector_size;
   steps = more.steps ∙ had.steps;
   power = more.power ∙ had.power;
-  lit = λ on. more.lit (had.power ∙ on) ∙ had.lit on;
+  lit = lit_then old mid new had.power had.lit more.lit;
   counted = tt;
   cause = record {
     never_falls = (let same = had.faults in let up = more.cause.never_falls in omega arith);

@@ -4,7 +4,7 @@ use Rattle.std.specs.Prelude.{is_some}
 use Rattle.std.specs.FinMap.{get}
 use Rattle.flash_model.specs.declared.geometry.Geometry.{Geometry}
 use Rattle.flash_model.specs.Layouts.{layout_of}
-use Rattle.flash_words.specs.Flash.{Told, FlashState, Leaves, LosesOnlyByChange, StaysLit, raised, next_count}
+use Rattle.flash_words.specs.Flash.{Told, FlashState, Leaves, LosesOnlyByChange, StaysLit, restart, raised, next_count}
 use Rattle.flash_words.specs.Layout.{Layout, room_of}
 use Rattle.flash_words.proofs.CrashLemmas.{Leaves-none, Leaves-exit}
 use Rattle.base_model.specs.Faults.{Rose}
@@ -232,7 +232,7 @@ pub looks_doubted : {T : Type 0} (tells : Type 0) (geometry : Geometry) (flash :
 looks_doubted {T} tells geometry flash doubt pending v new y is had = subst (λ (u : StoreView). OnlyLooks {T = T} tells (doubted u) new y) is had
 
 pub looks_restarted : {T : Type 0} (tells : Type 0) (geometry : Geometry) (flash on : FlashState) (doubt : Bool) (pending : Pending) (v new : StoreView) (y : Result T StoreError) → view_of geometry flash doubt pending ≡ v
-    → on ≡ record flash { powered = true } → OnlyLooks {T = T} tells (doubted (view_of geometry on doubt pending)) new y → OnlyLooks {T = T} tells (restarted v) new y
+    → on ≡ restart flash → OnlyLooks {T = T} tells (doubted (view_of geometry on doubt pending)) new y → OnlyLooks {T = T} tells (restarted v) new y
 looks_restarted {T} tells geometry flash on doubt pending v new y is again had =
     subst (λ (u : StoreView). OnlyLooks {T = T} tells (restarted u) new y) is
     (subst (λ (f : FlashState). OnlyLooks {T = T} tells (doubted (view_of geometry f doubt pending)) new y) again had)

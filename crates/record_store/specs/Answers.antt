@@ -156,8 +156,8 @@ FailsOnce before after (Err Empty) = Unit {0}
 FailsOnce before after (Err Flash) = after ≡ next_count before
 FailsOnce before after (Err (Small need)) = Unit {0}
 
--- A call ends at its first fault: nothing is asked of the flash behind it. Up to there power stays, and no call found a
--- flash without it that had it at the start
+-- A call ends at its first fault: nothing is asked of the flash behind it. Up to there power stays. The flash is not
+-- restarted, and no call found it without power that had it at the start
 pub record EndsAtFault {T : Type 0} (old new : FlashState) (result : Result T StoreError) : Type 0 where
   pub once : FailsOnce old.faults new.faults result
   pub lit : StaysLit old new

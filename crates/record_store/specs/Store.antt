@@ -3,7 +3,7 @@
 use Rattle.std.specs.Prelude.{◌≡◌, ℕ, ◌+◌, ◌≤◌, ◌⊎◌, Bool, true, false, ◌==◌, if◌then◌else◌, List, [], ◌∷◌, length, take}
 use Rattle.flash_model.specs.declared.geometry.Geometry.{Geometry}
 use Rattle.flash_model.specs.Layouts.{layout_of}
-use Rattle.flash_words.specs.Flash.{FlashState, Leaves}
+use Rattle.flash_words.specs.Flash.{FlashState, Leaves, restart}
 use Rattle.flash_words.specs.Layout.{Layout, room_of}
 use Rattle.record_model.specs.Records.{Stored, Entry, entry_at, stored_in, parts_of, IsChosen, OnlyFirstUp}
 use Rattle.record_model.specs.RecordMap.{Command, Write, Clear, changes_of_parts, made_by, after}
@@ -162,10 +162,10 @@ doubted store = record {
   pending = Idle;
 }
 
--- the same with the flash's power back
+-- the same with the flash restarted
 abbrev pub restarted : StoreView → StoreView
 restarted store = record {
-  flash = record (store.flash) { powered = true };
+  flash = restart store.flash;
   layout = store.layout;
   in_doubt = true;
   pending = Idle;

@@ -8,8 +8,8 @@ ghost use Rattle.record_model.specs.Records.{NearlyOnlyFirstUp};
 ghost use Rattle.record_recovery.specs.Listed.{IsWithin};
 ghost use Rattle.record_slots.specs.Slots.{Fits};
 ghost use Rattle.record_store.specs.Index.{IsListing};
-ghost use Rattle.record_store.specs.Kept.{IsWork, IsWrite, IsUnderWay, KnowsDraft, KnowsOldCopy, KnowsCleared, Knows, MayMake, HasMade, pending_of, work_after, opened_place};
-ghost use Rattle.record_store.specs.Stepping.{IsOneChange};
+ghost use Rattle.record_store.specs.Kept.{IsWork, IsWrite, IsUnderWay, KnowsDraft, KnowsOldCopy, KnowsCleared, Knows, work_after, opened_place};
+ghost use Rattle.record_store.specs.Stepping.{MakesChange};
 
 use crate::index::{copy_killed, record_cleared, record_opened};
 use crate::work::Work;
@@ -34,10 +34,7 @@ pub fn make_change<F: Flash>(
     requires under_way { IsUnderWay work.now }
     requires knows { F.tells → Knows geometry.now found.old buffer.now (F.state flash.old).told.image work.now }
     ensures listing { IsListing geometry.now.slots geometry.now.slot_size found.new }
-    ensures made { IfOk result (HasMade F.tells geometry.now buffer.now (F.state flash.old).told.image (F.state flash.new).told.image found.new work.now) }
-    ensures crash { F.tells → MayMake geometry.now (pending_of (layout_of geometry.now) buffer.now work.now) (F.state flash.old).told (F.state flash.new).told }
-    ensures spare { F.tells → NearlyOnlyFirstUp geometry.now.slot_size geometry.now.slots (F.state flash.new).told.image }
-    ensures change { IsOneChange (F.state flash.old) (F.state flash.new) result }
+    ensures makes { MakesChange F.tells geometry.now buffer.now (F.state flash.old) (F.state flash.new) found.new work.now result }
 {
     match work {
         Work::Nothing => unreachable!(),
@@ -73,12 +70,8 @@ fn fill_slot<F: Flash>(
     requires buffer { length buffer.now ≡ reach_of (geometry.now.slot_size - 64) }
     requires form { IsWrite geometry.now found.now (take draft.now.len buffer.now) draft.now (Stage.Fill number step) replaced }
     requires knows { F.tells → KnowsDraft geometry.now found.now (F.state flash.old).told.image (take draft.now.len buffer.now) draft.now (Stage.Fill number step) replaced }
-    ensures made { IfOk result (HasMade F.tells geometry.now buffer.now (F.state flash.old).told.image (F.state flash.new).told.image found.now
-        (Work.Write draft.now (Stage.Fill number step) replaced)) }
-    ensures crash { F.tells → MayMake geometry.now (pending_of (layout_of geometry.now) buffer.now (Work.Write draft.now (Stage.Fill number step) replaced))
-        (F.state flash.old).told (F.state flash.new).told }
-    ensures spare { F.tells → NearlyOnlyFirstUp geometry.now.slot_size geometry.now.slots (F.state flash.new).told.image }
-    ensures change { IsOneChange (F.state flash.old) (F.state flash.new) result }
+    ensures makes { MakesChange F.tells geometry.now buffer.now (F.state flash.old) (F.state flash.new) found.now
+        (Work.Write draft.now (Stage.Fill number step) replaced) result }
 {
     let len = draft.len as usize;
     let next = prepare(flash, geometry, draft, number, step, &buffer[..len])?;
@@ -104,12 +97,8 @@ fn open_slot<F: Flash>(
     requires form { IsWrite geometry.now found.old (take draft.now.len buffer.now) draft.now Stage.Gate replaced }
     requires knows { F.tells → KnowsDraft geometry.now found.old (F.state flash.old).told.image (take draft.now.len buffer.now) draft.now Stage.Gate replaced }
     ensures listing { IsListing geometry.now.slots geometry.now.slot_size found.new }
-    ensures made { IfOk result (HasMade F.tells geometry.now buffer.now (F.state flash.old).told.image (F.state flash.new).told.image found.new
-        (Work.Write draft.now Stage.Gate replaced)) }
-    ensures crash { F.tells → MayMake geometry.now (pending_of (layout_of geometry.now) buffer.now (Work.Write draft.now Stage.Gate replaced))
-        (F.state flash.old).told (F.state flash.new).told }
-    ensures spare { F.tells → NearlyOnlyFirstUp geometry.now.slot_size geometry.now.slots (F.state flash.new).told.image }
-    ensures change { IsOneChange (F.state flash.old) (F.state flash.new) result }
+    ensures makes { MakesChange F.tells geometry.now buffer.now (F.state flash.old) (F.state flash.new) found.new
+        (Work.Write draft.now Stage.Gate replaced) result }
 {
     let len = draft.len as usize;
     publish(flash, geometry, draft, &buffer[..len])?;
@@ -158,12 +147,8 @@ fn end_old_copy<F: Flash>(
     requires place { IsWithin geometry.now.slots geometry.now.slot_size place }
     requires knows { F.tells → KnowsOldCopy geometry.now found.old (F.state flash.old).told.image draft.now place }
     ensures listing { IsListing geometry.now.slots geometry.now.slot_size found.new }
-    ensures made { IfOk result (λ next. (buffer : List ℕ)
-        → HasMade F.tells geometry.now buffer (F.state flash.old).told.image (F.state flash.new).told.image found.new (Work.OldCopy draft.now place) next) }
-    ensures crash { F.tells → (buffer : List ℕ)
-        → MayMake geometry.now (pending_of (layout_of geometry.now) buffer (Work.OldCopy draft.now place)) (F.state flash.old).told (F.state flash.new).told }
-    ensures spare { F.tells → NearlyOnlyFirstUp geometry.now.slot_size geometry.now.slots (F.state flash.new).told.image }
-    ensures change { IsOneChange (F.state flash.old) (F.state flash.new) result }
+    ensures makes { (buffer : List ℕ)
+        → MakesChange F.tells geometry.now buffer (F.state flash.old) (F.state flash.new) found.new (Work.OldCopy draft.now place) result }
 {
     kill(flash, geometry, place.slot)?;
     copy_killed(found, geometry, place);
@@ -183,12 +168,8 @@ fn end_record<F: Flash>(
     requires place { IsWithin geometry.now.slots geometry.now.slot_size place }
     requires knows { F.tells → KnowsCleared geometry.now found.old (F.state flash.old).told.image id place }
     ensures listing { IsListing geometry.now.slots geometry.now.slot_size found.new }
-    ensures made { IfOk result (λ next. (buffer : List ℕ)
-        → HasMade F.tells geometry.now buffer (F.state flash.old).told.image (F.state flash.new).told.image found.new (Work.Clear id place) next) }
-    ensures crash { F.tells → (buffer : List ℕ)
-        → MayMake geometry.now (pending_of (layout_of geometry.now) buffer (Work.Clear id place)) (F.state flash.old).told (F.state flash.new).told }
-    ensures spare { F.tells → NearlyOnlyFirstUp geometry.now.slot_size geometry.now.slots (F.state flash.new).told.image }
-    ensures change { IsOneChange (F.state flash.old) (F.state flash.new) result }
+    ensures makes { (buffer : List ℕ)
+        → MakesChange F.tells geometry.now buffer (F.state flash.old) (F.state flash.new) found.new (Work.Clear id place) result }
 {
     kill(flash, geometry, place.slot)?;
     record_cleared(found, geometry, id);

@@ -1,7 +1,7 @@
 // The store.
 ghost use Rattle.std.specs.Prelude.{◌≡◌, ◌↔◌, ◌⊎◌, ℕ, ◌+◌, ◌-◌, ◌*◌, ◌<◌, ◌≤◌, List, true, false, length, IsOk, OnOk, OnErr, IfOk, IfErr};
 ghost use Rattle.std.specs.FinMap.{len};
-ghost use Rattle.flash_words.specs.Flash.{LosesOnlyByChange, StaysLit, raised};
+ghost use Rattle.flash_words.specs.Flash.{LosesOnlyByChange, StaysLit, raised, next_count};
 ghost use Rattle.flash_words.specs.Layout.{room_of, reach_of};
 ghost use Rattle.flash_model.specs.Layouts.{layout_of};
 ghost use Rattle.record_model.specs.Records.{second_copies, parts_of};
@@ -360,8 +360,9 @@ impl<F: Flash> Store<F> {
         ensures powered { OnOk result (self.new.flash.powered ≡ true) }
         ensures back { (self.new.flash.powered ≡ true) ⊎ (self.old.flash.steps < self.new.flash.steps) }
 
-        // It comes back first: no call of the remount finds the flash without power.
+        // It comes back first, by one restart: no call of the remount finds the flash without power.
         ensures lit { self.new.flash.dark ≡ self.old.flash.dark }
+        ensures once { self.new.flash.restarts ≡ next_count self.old.flash.restarts }
 
         ensures leaves { OnlyLooks F.tells (restarted self.old) self.new result }
     {

@@ -1,6 +1,7 @@
 use Rattle.std.proofs.Common.{◌≡◌, ◌<◌, ℕ, ◌*◌, ◌+◌, List, length, subst, sym, ap, ◌∙◌, arith, length-append, inl, inr}
 use Rattle.std.proofs.lemmas.Bool.{cases_eq}
 use Rattle.flash_words.specs.Flash.{Told, raised}
+use Rattle.flash_words.proofs.PowerLemmas.{lit_then}
 use Rattle.record_model.specs.Records.{slot_at, head_at, tail_at}
 use Rattle.record_recovery.specs.declared.found.Look.{Look}
 use Rattle.record_recovery.specs.Looks.{AreSeen}
@@ -34,7 +35,7 @@ loop-slot-preserved g c =
       unread = λ none. absurd (omega arith);
       counted = λ some. one_look c.loop-slot.slot (g.F.Flash.state c.args.flash.now).reads (g.F.Flash.state c.loop-slot.flash).reads (g.F.Flash.state c.look.new.flash).reads before.unread before.counted count;
       powered = λ some. c.in_ok-head.ensures.stays.powered;
-      lit = λ on. c.look.ensures.stays.lit (before.power ∙ on) ∙ before.lit on;
+      lit = lit_then _ _ _ before.power before.lit c.look.ensures.stays.lit;
       faults = c.in_ok-head.ensures.stays.cause.ok ∙ before.faults;
       seen = λ tells.
           let image = (g.F.Flash.state c.args.flash.now).told.image in

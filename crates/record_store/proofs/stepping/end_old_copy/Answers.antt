@@ -1,5 +1,6 @@
-use Rattle.std.proofs.Common.{◌+◌, ◌*◌, ◌∙◌, arith}
+use Rattle.std.proofs.Common.{◌+◌, ◌*◌, ◌∙◌, arith, rules}
 use Rattle.record_recovery.proofs.SettledLemmas.{kill_can}
+use Rattle.record_store.proofs.FaultLemmas.{one_change}
 use Rattle.record_store.proofs.WorkLemmas.{large_slot, up_here, MayChange-same, old_copy_may, old_copy_spare, old_copy_list, old_copy_made}
 use Rattle.record_store.proofs.stepping.end_old_copy.Goals as goal
 
@@ -12,34 +13,31 @@ kill-requires-clause-erased g c tells =
     let up = up_here size c.args.geometry.now.slots c.args.place.slot old.image known.lost known.here in
     kill_can size c.args.geometry.now.slots c.args.place.slot old.image (omega arith) up.0 (g.met.F.Flash.sized c.args.flash.now tells ∙ c.requires.fits.size) up.1
 
-pub returns-in_err-kill-clause-crash : goal.returns-in_err-kill-clause-crash
-returns-in_err-kill-clause-crash g c tells buffer =
-    old_copy_may c.args.geometry.now c.args.found.now buffer c.args.draft.now c.args.place (g.F.Flash.state c.args.flash.now).told (g.F.Flash.state c.kill.new.flash).told
-    (c.requires.knows tells) (c.kill.ensures.change.told tells)
+pub returns-in_err-kill-clause-makes : goal.returns-in_err-kill-clause-makes
+returns-in_err-kill-clause-makes g c buffer =
+    let old = (g.F.Flash.state c.args.flash.now).told in
+    let new = (g.F.Flash.state c.kill.new.flash).told in
+    record {
+      made = search rules;
+      crash = λ tells. old_copy_may c.args.geometry.now c.args.found.now buffer c.args.draft.now c.args.place old new (c.requires.knows tells) (c.kill.ensures.change.told tells);
+      spare = λ tells. old_copy_spare c.args.geometry.now c.args.found.now c.args.draft.now c.args.place old new (c.requires.knows tells) (c.kill.ensures.change.told tells);
+      change = search rules;
+    }
 
-pub returns-in_err-kill-clause-spare : goal.returns-in_err-kill-clause-spare
-returns-in_err-kill-clause-spare g c tells =
-    old_copy_spare c.args.geometry.now c.args.found.now c.args.draft.now c.args.place (g.F.Flash.state c.args.flash.now).told (g.F.Flash.state c.kill.new.flash).told
-    (c.requires.knows tells) (c.kill.ensures.change.told tells)
-
-pub returns-clause-crash : goal.returns-clause-crash
-returns-clause-crash g c tells buffer =
-    old_copy_may c.args.geometry.now c.args.found.now buffer c.args.draft.now c.args.place (g.F.Flash.state c.args.flash.now).told (g.F.Flash.state c.kill.new.flash).told
-    (c.requires.knows tells) (c.kill.ensures.change.told tells)
-
-pub returns-clause-spare : goal.returns-clause-spare
-returns-clause-spare g c tells =
-    old_copy_spare c.args.geometry.now c.args.found.now c.args.draft.now c.args.place (g.F.Flash.state c.args.flash.now).told (g.F.Flash.state c.kill.new.flash).told
-    (c.requires.knows tells) (c.kill.ensures.change.told tells)
-
-pub returns-clause-made : goal.returns-clause-made
-returns-clause-made g c buffer =
+pub returns-clause-makes : goal.returns-clause-makes
+returns-clause-makes g c buffer =
     let size = c.args.geometry.now.slot_size in
     let old = (g.F.Flash.state c.args.flash.now).told in
     let new = (g.F.Flash.state c.kill.new.flash).told in
     let same = λ (tells : g.F.Flash.tells). MayChange-same (c.args.place.slot * size + 1) 1 old new (c.kill.ensures.change.told tells) in
-    old_copy_made g.F.Flash.tells c.args.geometry.now c.args.found.now c.copy_killed.new.found buffer c.args.draft.now c.args.place old.image new.image
-    c.requires.knows same c.in_ok-kill.ensures.stands
-    (λ tells.
-    old_copy_list c.args.geometry.now c.args.found.now c.copy_killed.new.found c.args.draft.now c.args.place old.image new.image
-    (g.met.F.Flash.sized c.args.flash.now tells ∙ c.requires.fits.size) (c.requires.knows tells) (same tells) (c.in_ok-kill.ensures.stands tells) c.copy_killed.ensures.list)
+    record {
+      made =
+          old_copy_made g.F.Flash.tells c.args.geometry.now c.args.found.now c.copy_killed.new.found buffer c.args.draft.now c.args.place old.image new.image
+          c.requires.knows same c.in_ok-kill.ensures.stands
+          (λ tells.
+          old_copy_list c.args.geometry.now c.args.found.now c.copy_killed.new.found c.args.draft.now c.args.place old.image new.image
+          (g.met.F.Flash.sized c.args.flash.now tells ∙ c.requires.fits.size) (c.requires.knows tells) (same tells) (c.in_ok-kill.ensures.stands tells) c.copy_killed.ensures.list);
+      crash = λ tells. old_copy_may c.args.geometry.now c.args.found.now buffer c.args.draft.now c.args.place old new (c.requires.knows tells) (c.kill.ensures.change.told tells);
+      spare = λ tells. old_copy_spare c.args.geometry.now c.args.found.now c.args.draft.now c.args.place old new (c.requires.knows tells) (c.kill.ensures.change.told tells);
+      change = one_change g.F.Flash.tells _ _ (g.F.Flash.state c.args.flash.now) (g.F.Flash.state c.kill.new.flash) _ _ c.in_ok-kill.ensures.change;
+    }

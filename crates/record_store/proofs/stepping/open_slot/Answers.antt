@@ -1,4 +1,4 @@
-use Rattle.std.proofs.Common.{◌*◌, ◌∙◌, ◌∷◌, take, get_or, ap, sym, subst}
+use Rattle.std.proofs.Common.{◌*◌, ◌∙◌, ◌∷◌, take, get_or, ap, sym, subst, rules}
 use Rattle.record_model.specs.Records.{entry_at}
 use Rattle.record_model.proofs.PlanLemmas.{record_for}
 use Rattle.record_draft.specs.Drafts.{plan_of}
@@ -9,31 +9,27 @@ use Rattle.record_store.specs.Kept.{HasMade, further_in}
 use Rattle.record_store.specs.declared.work.Work.{Work}
 use Rattle.record_store.specs.declared.work.Work.TheVariants.{Write}
 use Rattle.record_draft.specs.declared.draft.Stage.TheVariants.{Gate}
+use Rattle.record_store.proofs.FaultLemmas.{one_change}
 use Rattle.record_store.proofs.WorkLemmas.{gate_may, gate_made, gate_nearly_only, has_opened, opened_entry_of, opened_within, MayChange-same}
 use Rattle.record_store.proofs.stepping.open_slot.Goals as goal
 
-pub returns-in_err-publish-clause-crash : goal.returns-in_err-publish-clause-crash
-returns-in_err-publish-clause-crash g c tells =
-    gate_may c.args.geometry.now c.args.found.now c.args.buffer.now c.args.draft.now c.args.replaced (g.F.Flash.state c.args.flash.now).told (g.F.Flash.state c.publish.new.flash).told
-    c.requires.form.planned (c.requires.knows tells) (c.publish.ensures.crash tells)
+pub returns-in_err-publish-clause-makes : goal.returns-in_err-publish-clause-makes
+returns-in_err-publish-clause-makes g c =
+    let old = g.F.Flash.state c.args.flash.now in
+    let new = g.F.Flash.state c.publish.new.flash in
+    record {
+      made = search rules;
+      crash = λ tells.
+          gate_may c.args.geometry.now c.args.found.now c.args.buffer.now c.args.draft.now c.args.replaced old.told new.told
+          c.requires.form.planned (c.requires.knows tells) (c.publish.ensures.crash tells);
+      spare = λ tells.
+          gate_nearly_only c.args.geometry.now c.args.found.now c.args.draft.now (take c.args.draft.now.len c.args.buffer.now) c.args.replaced old.told new.told
+          c.requires.form.planned (c.requires.knows tells) (c.publish.ensures.change.told tells);
+      change = search rules;
+    }
 
-pub returns-clause-crash : goal.returns-clause-crash
-returns-clause-crash g c tells =
-    gate_may c.args.geometry.now c.args.found.now c.args.buffer.now c.args.draft.now c.args.replaced (g.F.Flash.state c.args.flash.now).told (g.F.Flash.state c.publish.new.flash).told
-    c.requires.form.planned (c.requires.knows tells) (c.publish.ensures.crash tells)
-
-pub returns-in_err-publish-clause-spare : goal.returns-in_err-publish-clause-spare
-returns-in_err-publish-clause-spare g c tells =
-    gate_nearly_only c.args.geometry.now c.args.found.now c.args.draft.now (take c.args.draft.now.len c.args.buffer.now) c.args.replaced (g.F.Flash.state c.args.flash.now).told (g.F.Flash.state c.publish.new.flash).told
-    c.requires.form.planned (c.requires.knows tells) (c.publish.ensures.change.told tells)
-
-pub returns-clause-spare : goal.returns-clause-spare
-returns-clause-spare g c tells =
-    gate_nearly_only c.args.geometry.now c.args.found.now c.args.draft.now (take c.args.draft.now.len c.args.buffer.now) c.args.replaced (g.F.Flash.state c.args.flash.now).told (g.F.Flash.state c.publish.new.flash).told
-    c.requires.form.planned (c.requires.knows tells) (c.publish.ensures.change.told tells)
-
-pub returns-clause-made : goal.returns-clause-made
-returns-clause-made g c =
+pub returns-clause-makes : goal.returns-clause-makes
+returns-clause-makes g c =
     let geometry = c.args.geometry.now in
     let draft = c.args.draft.now in
     let buffer = c.args.buffer.now in
@@ -41,14 +37,24 @@ returns-clause-made g c =
     let old = (g.F.Flash.state c.args.flash.now).told in
     let new = (g.F.Flash.state c.publish.new.flash).told in
     let is = c.opened_place-place.ensures.place in
-    subst (λ (next : Work). HasMade g.F.Flash.tells geometry buffer old.image new.image c.record_opened.new.found (Write draft Gate c.args.replaced) next) (sym c.after_gate.ensures)
-    (gate_made g.F.Flash.tells geometry c.args.found.now c.record_opened.new.found buffer draft c.args.replaced old new c.requires.form c.requires.knows c.in_ok-publish.ensures.opened
-    (λ tells. MayChange-same (get_or draft.slots 0 0 * geometry.slot_size) 1 old new (c.publish.ensures.change.told tells))
-    (λ tells.
-    c.record_opened.ensures.list (entry_at geometry.slot_size geometry.slots old.image) (entry_at geometry.slot_size geometry.slots new.image) (record_for (plan_of draft body))
-    (subst (λ (p : SlotOf). HasOpened (entry_at geometry.slot_size geometry.slots old.image) (entry_at geometry.slot_size geometry.slots new.image) geometry.slots p.slot (record_for (plan_of draft body))) (sym is)
-    (has_opened geometry c.args.found.now draft body old.image new.image Gate c.args.replaced (c.requires.knows tells) (c.in_ok-publish.ensures.opened tells)))
-    (subst (λ (p : SlotOf). IsEntryOf draft.id p (record_for (plan_of draft body))) (sym is) (opened_entry_of geometry draft body c.requires.form.planned c.opened_place-place.ensures.four)) (ap (λ (p : SlotOf). p.slot ∷ further_in draft) is ∙ c.requires.form.takes.taken) (c.requires.knows tells).slots.list))
+    record {
+      made =
+          subst (λ (next : Work). HasMade g.F.Flash.tells geometry buffer old.image new.image c.record_opened.new.found (Write draft Gate c.args.replaced) next) (sym c.after_gate.ensures)
+          (gate_made g.F.Flash.tells geometry c.args.found.now c.record_opened.new.found buffer draft c.args.replaced old new c.requires.form c.requires.knows c.in_ok-publish.ensures.opened
+          (λ tells. MayChange-same (get_or draft.slots 0 0 * geometry.slot_size) 1 old new (c.publish.ensures.change.told tells))
+          (λ tells.
+          c.record_opened.ensures.list (entry_at geometry.slot_size geometry.slots old.image) (entry_at geometry.slot_size geometry.slots new.image) (record_for (plan_of draft body))
+          (subst (λ (p : SlotOf). HasOpened (entry_at geometry.slot_size geometry.slots old.image) (entry_at geometry.slot_size geometry.slots new.image) geometry.slots p.slot (record_for (plan_of draft body))) (sym is)
+          (has_opened geometry c.args.found.now draft body old.image new.image Gate c.args.replaced (c.requires.knows tells) (c.in_ok-publish.ensures.opened tells)))
+          (subst (λ (p : SlotOf). IsEntryOf draft.id p (record_for (plan_of draft body))) (sym is) (opened_entry_of geometry draft body c.requires.form.planned c.opened_place-place.ensures.four)) (ap (λ (p : SlotOf). p.slot ∷ further_in draft) is ∙ c.requires.form.takes.taken) (c.requires.knows tells).slots.list));
+      crash = λ tells.
+          gate_may geometry c.args.found.now buffer draft c.args.replaced old new
+          c.requires.form.planned (c.requires.knows tells) (c.publish.ensures.crash tells);
+      spare = λ tells.
+          gate_nearly_only geometry c.args.found.now draft body c.args.replaced old new
+          c.requires.form.planned (c.requires.knows tells) (c.publish.ensures.change.told tells);
+      change = one_change g.F.Flash.tells _ _ (g.F.Flash.state c.args.flash.now) (g.F.Flash.state c.publish.new.flash) _ _ c.in_ok-publish.ensures.change;
+    }
 
 pub record_opened-requires-clause-within : goal.record_opened-requires-clause-within
 record_opened-requires-clause-within g c =

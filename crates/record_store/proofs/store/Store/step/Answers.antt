@@ -9,18 +9,18 @@ returns-in-Ok-clause-crash g c tells =
     let i = c.self.inside in
     may_since i.geometry (g.F.Flash.state i.flash) i.in_doubt (pending_of (layout_of i.geometry) i.buffer.items i.work) c.args.self.now (g.F.Flash.state c.make_change-made.new.flash).told c.self.view_is
     (subst (λ (xs : List ℕ). MayMake i.geometry (pending_of (layout_of i.geometry) xs i.work) (g.F.Flash.state i.flash).told (g.F.Flash.state c.make_change-made.new.flash).told)
-    c.deref.ensures.value (c.make_change-made.ensures.crash tells))
+    c.deref.ensures.value (c.make_change-made.ensures.makes.crash tells))
 
 pub returns-in-Err-clause-answer : goal.returns-in-Err-clause-answer
 returns-in-Err-clause-answer g c tells =
     let i = c.self.inside in
     may_exit i.geometry (g.F.Flash.state i.flash) i.in_doubt (pending_of (layout_of i.geometry) i.buffer.items i.work) c.args.self.now (g.F.Flash.state c.make_change-made.new.flash).told c.self.view_is
     (subst (λ (xs : List ℕ). MayMake i.geometry (pending_of (layout_of i.geometry) xs i.work) (g.F.Flash.state i.flash).told (g.F.Flash.state c.make_change-made.new.flash).told)
-    c.deref.ensures.value (c.make_change-made.ensures.crash tells))
+    c.deref.ensures.value (c.make_change-made.ensures.makes.crash tells))
 
 pub returns-in-Err-clause-crash : goal.returns-in-Err-clause-crash
 returns-in-Err-clause-crash g c tells =
     let i = c.self.inside in
     may_since i.geometry (g.F.Flash.state i.flash) i.in_doubt (pending_of (layout_of i.geometry) i.buffer.items i.work) c.args.self.now (g.F.Flash.state c.make_change-made.new.flash).told c.self.view_is
     (subst (λ (xs : List ℕ). MayMake i.geometry (pending_of (layout_of i.geometry) xs i.work) (g.F.Flash.state i.flash).told (g.F.Flash.state c.make_change-made.new.flash).told)
-    c.deref.ensures.value (c.make_change-made.ensures.crash tells))
+    c.deref.ensures.value (c.make_change-made.ensures.makes.crash tells))
