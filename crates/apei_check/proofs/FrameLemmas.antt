@@ -1,5 +1,5 @@
 -- The lines of what was found, and of what was refused.
-use Rattle.std.proofs.Common.{◌≡◌, ℕ, ◌-◌, ◌^◌, ◌≤◌, List, [], ◌∷◌, ◌++◌, length, take, codes, Err, inl, inr, refl, sym, ap, subst, arith}
+use Rattle.std.proofs.Common.{◌≡◌, ℕ, ◌-◌, ◌^◌, ◌≤◌, List, [], ◌∷◌, ◌++◌, length, take, codes, Err, inl, inr, refl}
 use Rattle.apei_check.specs.Shown.{lines_shown}
 use Rattle.apei_check.specs.declared.text.show.Show.{Show}
 use Rattle.cper_frame.specs.Grammar.{RecordValue, IsRecord}
@@ -13,21 +13,16 @@ use Rattle.apei_check.specs.Frames.{section_lines, record_line, entry_lines, blo
 
 pub lines_of_record : (show : Show) (bytes : List ℕ) (value : RecordValue) (size : ℕ) → size ≤ length bytes → IsRecord value (take size bytes)
     → AreRecordLines show bytes (lines_shown show (record_line value size (length bytes - size)) (section_lines value.sections))
-lines_of_record show bytes value size within is = inl (record { value = value; size = size; within = within; is_record = is; lines_are = refl })
+lines_of_record show bytes value size within is = inl (record { item = value; size = size; within = within; is = is; shown = refl })
 
 pub lines_of_no_record : (show : Show) (bytes : List ℕ) (error : FrameError) → checked_record (2 ^ 32 - 1) bytes ≡ Err error
     → AreRecordLines show bytes ((codes "bad record " ++ words_of_frame error) ∷ [])
-lines_of_no_record show bytes error refused = inr (record { error = error; refused = refused; lines_are = refl })
+lines_of_no_record show bytes error refused = inr (record { why = error; first = refused; shown = refl })
 
-pub lines_of_block : (show : Show) (bytes : List ℕ) (value : BlockValue) (size : ℕ) → value.size ≡ size → size ≤ length bytes → IsBlock value (take size bytes)
+pub lines_of_block : (show : Show) (bytes : List ℕ) (value : BlockValue) (size : ℕ) → size ≤ length bytes → IsBlock value (take size bytes)
     → AreBlockLines show bytes (lines_shown show (block_line value (length bytes - size)) (entry_lines value.entries))
-lines_of_block show bytes value size same within is = inl (record {
-  value = value;
-  within = omega arith;
-  is_block = subst (λ (n : ℕ). IsBlock value (take n bytes)) (sym same) is;
-  lines_are = ap (λ (n : ℕ). lines_shown show (block_line value (length bytes - n)) (entry_lines value.entries)) (sym same);
-})
+lines_of_block show bytes value size within is = inl (record { item = value; size = size; within = within; is = is; shown = refl })
 
 pub lines_of_no_block : (show : Show) (bytes : List ℕ) (error : BlockError) → checked_block bytes ≡ Err error
     → AreBlockLines show bytes ((codes "bad block " ++ words_of_block error) ∷ [])
-lines_of_no_block show bytes error refused = inr (record { error = error; refused = refused; lines_are = refl })
+lines_of_no_block show bytes error refused = inr (record { why = error; first = refused; shown = refl })

@@ -2,10 +2,9 @@ pub mod WrittenLemmas
 pub mod AnswerLemmas
 pub mod PartLemmas
 pub mod TableLemmas
-pub mod OneTable
+pub mod OneItem
 pub mod PlaceLemmas
 pub mod FrameLemmas
-pub mod OneFrame
 pub mod TextLemmas
 pub mod GrammarLemmas
 pub mod RunLemmas

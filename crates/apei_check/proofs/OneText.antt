@@ -8,8 +8,7 @@ use Rattle.apei_check.specs.declared.text.show.Show.{Show}
 use Rattle.apei_check.specs.Tables.{AreErstLines, AreHestLines, AreBertLines}
 use Rattle.apei_check.specs.Frames.{AreRecordLines, AreBlockLines}
 use Rattle.apei_check.specs.Texts.{ShowsBytes, AreShownBy, IsTextOf, IsTextOfAll}
-use Rattle.apei_check.proofs.OneTable.{one_erst, one_hest, one_bert}
-use Rattle.apei_check.proofs.OneFrame.{one_list_of_record_lines, one_list_of_block_lines}
+use Rattle.apei_check.proofs.OneItem.{one_erst, one_hest, one_bert, one_framed_record, one_status_block}
 
 -- bytes have one list of lines
 abbrev pub IsOne : (Show → List ℕ → List (List ℕ) → Type 0) → Type 0
@@ -31,8 +30,8 @@ module _ (one_line : (a b : CheckedLine) → IsValidCheck a → IsValidCheck b �
   one_list show (erst hex) lines others a b = one_shown AreErstLines one_erst show hex lines others a b
   one_list show (hest hex) lines others a b = one_shown AreHestLines one_hest show hex lines others a b
   one_list show (bert hex) lines others a b = one_shown AreBertLines one_bert show hex lines others a b
-  one_list show (one_record hex) lines others a b = one_shown AreRecordLines one_list_of_record_lines show hex lines others a b
-  one_list show (block hex) lines others a b = one_shown AreBlockLines one_list_of_block_lines show hex lines others a b
+  one_list show (one_record hex) lines others a b = one_shown AreRecordLines one_framed_record show hex lines others a b
+  one_list show (block hex) lines others a b = one_shown AreBlockLines one_status_block show hex lines others a b
 
   one_text : (show : Show) (line : Line) (text other : List ℕ) → IsTextOf show line text → IsTextOf show line other → text ≡ other
   one_text show line text other a b =

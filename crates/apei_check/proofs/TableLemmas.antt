@@ -1,7 +1,6 @@
 -- The lines that were written are those of the table.
-use Rattle.std.proofs.Common.{◌≡◌, ℕ, ◌-◌, ◌≤◌, inl, inr, List, [], ◌∷◌, ◌++◌, length, take, drop, sym, ap, refl, ◌∙◌}
+use Rattle.std.proofs.Common.{◌≡◌, ℕ, ◌-◌, ◌≤◌, inl, inr, List, [], ◌∷◌, ◌++◌, length, take, refl}
 use Rattle.std.specs.Prelude.{codes, Some}
-use Rattle.std.proofs.lemmas.List.{take-append-drop, length-take-le, length-drop}
 use Rattle.apei_check.specs.declared.text.show.Show.{Show}
 use Rattle.apei_check.specs.Shown.{lines_shown}
 use Rattle.erst_entries.specs.declared.tables.ErstError.{ErstError}
@@ -20,45 +19,17 @@ use Rattle.script_text.specs.TableWords.{words_of_table, words_of_erst, words_of
 use Rattle.apei_check.specs.TableLines.{erst_line, entry_lines, hest_line, source_lines, bert_line}
 use Rattle.apei_check.specs.Tables.{AreErstLines, AreHestLines, AreBertLines}
 
-same_sizes : (line : ℕ → ℕ → List (List ℕ)) (bytes : List ℕ) (len : ℕ) → len ≤ length bytes
-    → line len (length bytes - len) ≡ line (length (take len bytes)) (length (drop len bytes))
-same_sizes line bytes len within =
-    ap (λ (n : ℕ). line n (length bytes - len)) (sym (length-take-le len bytes within))
-    ∙ ap (λ (n : ℕ). line (length (take len bytes)) n) (sym (length-drop len bytes))
-
 pub erst_lines : (show : Show) (bytes : List ℕ) (erst : Erst) (len : ℕ) → IsErst erst (take len bytes) → FitsErst erst → len ≤ length bytes
     → AreErstLines show bytes (lines_shown show (erst_line len (length erst.entries) (length bytes - len)) (entry_lines erst.entries))
-erst_lines show bytes erst len is fits within = inl (record {
-  table = take len bytes;
-  rest = drop len bytes;
-  begins = sym (take-append-drop len bytes);
-  erst = erst;
-  is_erst = is;
-  fits = fits;
-  shown = same_sizes (λ n k. lines_shown show (erst_line n (length erst.entries) k) (entry_lines erst.entries)) bytes len within;
-})
+erst_lines show bytes erst len is fits within = inl (record { item = erst; size = len; within = within; is = (is, fits); shown = refl })
 
 pub hest_lines : (show : Show) (bytes : List ℕ) (sources : List HestSource) (len : ℕ) → IsHest sources (take len bytes) → len ≤ length bytes
     → AreHestLines show bytes (lines_shown show (hest_line len (length sources) (length bytes - len)) (source_lines sources))
-hest_lines show bytes sources len is within = inl (record {
-  table = take len bytes;
-  rest = drop len bytes;
-  begins = sym (take-append-drop len bytes);
-  sources = sources;
-  is_hest = is;
-  shown = same_sizes (λ n k. lines_shown show (hest_line n (length sources) k) (source_lines sources)) bytes len within;
-})
+hest_lines show bytes sources len is within = inl (record { item = sources; size = len; within = within; is = is; shown = refl })
 
 pub bert_lines : (show : Show) (bytes : List ℕ) (bert : Bert) (len : ℕ) → IsBert bert (take len bytes) → len ≤ length bytes
     → AreBertLines show bytes (lines_shown show (bert_line len bert (length bytes - len)) [])
-bert_lines show bytes bert len is within = inl (record {
-  table = take len bytes;
-  rest = drop len bytes;
-  begins = sym (take-append-drop len bytes);
-  bert = bert;
-  is_bert = is;
-  shown = same_sizes (λ n k. lines_shown show (bert_line n bert k) []) bytes len within;
-})
+bert_lines show bytes bert len is within = inl (record { item = bert; size = len; within = within; is = is; shown = refl })
 
 -- an error that has words is the first reason
 pub first_of_erst : (bytes : List ℕ) (why : ErstError) → ErstHasWords why → erst_is_refusal bytes why → erst_refusal bytes ≡ Some why

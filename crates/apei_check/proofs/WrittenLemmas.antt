@@ -3,7 +3,7 @@ use Rattle.std.proofs.Common.{◌≡◌, ℕ, ◌+◌, ◌-◌, ◌<◌, List, [
 use Rattle.std.specs.Prelude.{if◌then◌else◌}
 use Rattle.std.proofs.lemmas.List.{take-append-drop, take-append-le, take_more, take_min, length-take, append-nil}
 use Rattle.std.proofs.Math.Seq.{take-append-add}
-use Rattle.apei_check.specs.Shown.{lines_text, lines_shown, shows_head, shows_parts}
+use Rattle.apei_check.specs.Shown.{lines_text, lines_shown, shows_parts}
 use Rattle.apei_check.specs.declared.text.show.Show.{Show}
 use Rattle.apei_check.specs.Written.{Writes, WritesPart, head_shown}
 

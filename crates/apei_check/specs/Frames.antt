@@ -1,8 +1,8 @@
 -- The lines of an error record (UEFI 2.8, appendix N) and of an error status block (ACPI 6.4, 18.3.2.7).
-use Rattle.std.specs.Prelude.{◌≡◌, ℕ, ◌-◌, ◌^◌, ◌≤◌, ◌⊎◌, List, [], ◌∷◌, ◌++◌, length, take, map, codes, decimal, Err}
+use Rattle.std.specs.Prelude.{◌≡◌, ℕ, ◌-◌, ◌^◌, ◌⊎◌, List, ◌++◌, length, map, codes, decimal, Err}
 use Rattle.std.specs.List.{enumerate_from}
 use Rattle.apei_bytes.specs.Guid.{guid_text}
-use Rattle.apei_check.specs.Shown.{lines_shown}
+use Rattle.apei_check.specs.Items.{ItemShown, ItemRefused}
 use Rattle.apei_check.specs.declared.text.show.Show.{Show}
 use Rattle.cper_frame.specs.Grammar.{SectionValue, RecordValue, IsRecord}
 use Rattle.cper_frame.specs.Reading.{checked as checked_record}
@@ -56,37 +56,14 @@ block_line value rest =
     ++ codes " raw " ++ decimal (length value.raw)
     ++ codes " rest " ++ decimal rest
 
--- the bytes begin with a record, and these are the lines of it and of its sections
-pub record AreLinesOfRecord (show : Show) (bytes : List ℕ) (lines : List (List ℕ)) : Type 0 where
-  pub value : RecordValue
-  pub size : ℕ
-  pub within : size ≤ length bytes
-  pub is_record : IsRecord value (take size bytes)
-  pub lines_are : lines ≡ lines_shown show (record_line value size (length bytes - size)) (section_lines value.sections)
-
--- the bytes begin with no record, and the one line says why
-pub record AreLinesOfNoRecord (bytes : List ℕ) (lines : List (List ℕ)) : Type 0 where
-  pub error : FrameError
-  pub refused : checked_record (2 ^ 32 - 1) bytes ≡ Err error
-  pub lines_are : lines ≡ (codes "bad record " ++ words_of_frame error) ∷ []
-
 -- what a check of a record shows
 abbrev pub AreRecordLines : Show → List ℕ → List (List ℕ) → Type 0
-AreRecordLines show bytes lines = AreLinesOfRecord show bytes lines ⊎ AreLinesOfNoRecord bytes lines
-
--- the bytes begin with a block, and these are the lines of it and of its entries
-pub record AreLinesOfBlock (show : Show) (bytes : List ℕ) (lines : List (List ℕ)) : Type 0 where
-  pub value : BlockValue
-  pub within : value.size ≤ length bytes
-  pub is_block : IsBlock value (take value.size bytes)
-  pub lines_are : lines ≡ lines_shown show (block_line value (length bytes - value.size)) (entry_lines value.entries)
-
--- the bytes begin with no block, and the one line says why
-pub record AreLinesOfNoBlock (bytes : List ℕ) (lines : List (List ℕ)) : Type 0 where
-  pub error : BlockError
-  pub refused : checked_block bytes ≡ Err error
-  pub lines_are : lines ≡ (codes "bad block " ++ words_of_block error) ∷ []
+AreRecordLines show bytes lines =
+    ItemShown {X = RecordValue} IsRecord record_line (λ value. section_lines value.sections) show bytes lines
+    ⊎ ItemRefused {E = FrameError} (λ found error. checked_record (2 ^ 32 - 1) found ≡ Err error) (codes "bad record ") words_of_frame bytes lines
 
 -- what a check of a block shows
 abbrev pub AreBlockLines : Show → List ℕ → List (List ℕ) → Type 0
-AreBlockLines show bytes lines = AreLinesOfBlock show bytes lines ⊎ AreLinesOfNoBlock bytes lines
+AreBlockLines show bytes lines =
+    ItemShown {X = BlockValue} IsBlock (λ value size rest. block_line value rest) (λ value. entry_lines value.entries) show bytes lines
+    ⊎ ItemRefused {E = BlockError} (λ found error. checked_block found ≡ Err error) (codes "bad block ") words_of_block bytes lines

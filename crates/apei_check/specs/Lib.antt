@@ -1,5 +1,6 @@
 pub mod Shown
 pub mod Written
+pub mod Items
 pub mod TableLines
 pub mod Tables
 pub mod Frames

@@ -4,10 +4,10 @@ use Rattle.apei_check.proofs.AnswerLemmas.{shows, shows_part}
 use Rattle.apei_check.proofs.frames.block.write_check.Goals as goal
 
 pub returns-in-Ok-clause-all : goal.returns-in-Ok-clause-all
-returns-in-Ok-clause-all g c = on_ok_weaker c.write_block.result (shows _ _ _ _ _ (lines_of_block c.args.show c.args.bytes.now c.in-Ok.block c.in-Ok.size c.in-Ok.ensures.head.size_is c.in-Ok.ensures.found.0 c.in-Ok.ensures.found.1)) c.write_block.ensures.all
+returns-in-Ok-clause-all g c = on_ok_weaker c.write_block.result (shows _ _ _ _ _ (lines_of_block c.args.show c.args.bytes.now c.in-Ok.block c.in-Ok.size c.in-Ok.ensures.found.0 c.in-Ok.ensures.found.1)) c.write_block.ensures.all
 
 pub returns-in-Ok-clause-part : goal.returns-in-Ok-clause-part
-returns-in-Ok-clause-part g c = on_err_weaker c.write_block.result (shows_part _ _ _ _ _ (lines_of_block c.args.show c.args.bytes.now c.in-Ok.block c.in-Ok.size c.in-Ok.ensures.head.size_is c.in-Ok.ensures.found.0 c.in-Ok.ensures.found.1)) c.write_block.ensures.part
+returns-in-Ok-clause-part g c = on_err_weaker c.write_block.result (shows_part _ _ _ _ _ (lines_of_block c.args.show c.args.bytes.now c.in-Ok.block c.in-Ok.size c.in-Ok.ensures.found.0 c.in-Ok.ensures.found.1)) c.write_block.ensures.part
 
 pub returns-in-Err-clause-all : goal.returns-in-Err-clause-all
 returns-in-Err-clause-all g c = on_ok_weaker c.write_refused.result (shows _ _ _ _ _ (lines_of_no_block c.args.show c.args.bytes.now c.in-Err.error c.in-Err.ensures.exact)) c.write_refused.ensures.all
