@@ -1,5 +1,5 @@
 // The bytes that a change replaces, by what an erased flash does not tell of them.
-ghost use Rattle.std.specs.Prelude.{◌≡◌, ◌-◌, ◌≤◌, length, take, drop, replicate};
+ghost use Rattle.std.specs.Prelude.{◌≡◌, ◌≢◌, ◌-◌, ◌<◌, ◌≤◌, length, take, drop, replicate, slice_index};
 
 use apei_bytes::get_u64;
 use std::marker::Model;
@@ -58,6 +58,7 @@ impl<'a> Replaced<'a> {
 fn erased_front(bytes: &[u8]) -> usize
     ensures within { result ≤ length bytes.now }
     ensures erased { take result bytes.now ≡ replicate result 0xFF }
+    ensures no_more { result < length bytes.now → slice_index bytes.now result ≢ 0xFF }
 {
     let mut count = 0;
     while bytes.len() - count >= WORD && get_u64(bytes, count) == u64::MAX {
@@ -73,6 +74,7 @@ fn erased_front(bytes: &[u8]) -> usize
 fn erased_from(bytes: &[u8]) -> usize
     ensures within { result ≤ length bytes.now }
     ensures erased { drop result bytes.now ≡ replicate (length bytes.now - result) 0xFF }
+    ensures no_less { 0 < result → slice_index bytes.now (result - 1) ≢ 0xFF }
 {
     let mut end = bytes.len();
     while end >= WORD && get_u64(bytes, end - WORD) == u64::MAX {
