@@ -3,8 +3,13 @@ ghost use Rattle.std.specs.Prelude.{◌≡◌, ◌<◌, ◌≤◌, length, All, 
 ghost use Rattle.std.specs.VecDeque.{deque_len};
 ghost use Rattle.ghes_ack.specs.Sides.{HasRoom, IsWide, IsEmpty, HoldsNone, TakesOut, Adds};
 
+mod firmware;
+mod reader;
+
 use crate::maps::HandoverMap;
 use apei_bytes::Memory;
+pub use firmware::{fill_in_place, firmware_run};
+pub use reader::{copy_in_place, reader_run};
 use std::alloc::Global;
 use std::collections::VecDeque;
 use std::mem::replace;
@@ -12,18 +17,19 @@ use std::mem::replace;
 /// The blocks that wait at most.
 pub const WAITING: usize = 64;
 
-/// The blocks that wait, the one at work, the one taken last, and buffers for more. Nothing here grows.
+/// The blocks that wait, the one at work, the one taken last, and buffers for more. Nothing here grows. The block at work and its
+/// pieces are moved by the turns of the two sides alone.
 #[derive(Drop)]
 pub struct Blocks {
     pub map: HandoverMap,
     pub waiting: VecDeque<Vec<u8>>,
     /// From its first piece filled to its last piece copied.
-    pub at_work: Option<Vec<u8>>,
+    at_work: Option<Vec<u8>>,
     /// The pieces of it that were filled, and copied.
-    pub filled: u32,
-    pub copied: u32,
+    filled: u32,
+    copied: u32,
     pub last: Vec<u8>,
-    pub spare: Vec<Vec<u8>>,
+    spare: Vec<Vec<u8>>,
 }
 
 /// 65 empty buffers with room for so many bytes.

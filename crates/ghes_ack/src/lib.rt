@@ -4,12 +4,10 @@
 mod blocks;
 mod ends;
 mod events;
-mod firmware;
 mod handover;
 mod laws;
 mod maps;
 mod pieces;
-mod reader;
 mod states;
 mod station;
 mod submission;

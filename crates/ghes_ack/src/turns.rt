@@ -5,11 +5,9 @@ ghost use Rattle.ghes_ack.specs.Handovers.{StandsFor};
 ghost use Rattle.ghes_ack.specs.Sides.{Stands, Turns, Runs, MakesTurns, IsConsistent, handover_of};
 ghost use Rattle.ghes_ack.specs.OwnTurns.{IsCount};
 
-use crate::blocks::Blocks;
+use crate::blocks::{Blocks, copy_in_place, fill_in_place, firmware_run, reader_run};
 use crate::ends::{Ends, FirmwareEnd, ReaderEnd};
 use crate::events::{Event, Side};
-use crate::firmware::{fill_in_place, firmware_run};
-use crate::reader::{copy_in_place, reader_run};
 use apei_space::Ram;
 
 /// A turn of a side that moves one piece and leaves both sides where they are: the firmware fills a piece of the block at work,

@@ -3,7 +3,7 @@ use Rattle.std.specs.declared.alloc.Global.{Global}
 use Rattle.std.specs.Vec.{with_items}
 use Rattle.ghes_ack.specs.Sides.{count_of, IsWideIfSome}
 use Rattle.ghes_ack.proofs.SideLemmas.{clears_at, begins_at, copies_at, takes_at}
-use Rattle.ghes_ack.proofs.reader.copy_or_clear.Goals as goal
+use Rattle.ghes_ack.proofs.blocks.reader.copy_or_clear.Goals as goal
 
 pub returns-in_default-clause-runs : goal.returns-in_default-clause-runs
 returns-in_default-clause-runs c =

@@ -1,7 +1,7 @@
 use Rattle.std.proofs.Common.{take, sym, subst}
 use Rattle.ghes_ack.specs.declared.ends.ReaderEnd.{ReaderEnd}
 use Rattle.ghes_ack.specs.OwnTurns.{ReaderRuns}
-use Rattle.ghes_ack.proofs.reader.reader_run.Goals as goal
+use Rattle.ghes_ack.proofs.blocks.reader.reader_run.Goals as goal
 
 pub returns-in-Reads-clause-runs : goal.returns-in-Reads-clause-runs
 returns-in-Reads-clause-runs c =

@@ -1,6 +1,6 @@
 use Rattle.std.proofs.Common.{◌≡◌, ◌∙◌, ℕ, ◌≤◌, List, length, drop, vec_len, sym, ap, subst, arith}
 use Rattle.ghes_ack.proofs.SideLemmas.{fits_in_hand, idles_at, fills_at, publishes_at}
-use Rattle.ghes_ack.proofs.firmware.fill_or_publish.Goals as goal
+use Rattle.ghes_ack.proofs.blocks.firmware.fill_or_publish.Goals as goal
 
 pub fill_more-requires-clause-head : goal.fill_more-requires-clause-head
 fill_more-requires-clause-head c =

@@ -1,7 +1,7 @@
 use Rattle.std.proofs.Common.{take, sym, subst}
 use Rattle.ghes_ack.specs.declared.ends.FirmwareEnd.{FirmwareEnd}
 use Rattle.ghes_ack.specs.OwnTurns.{FirmwareRuns}
-use Rattle.ghes_ack.proofs.firmware.firmware_run.Goals as goal
+use Rattle.ghes_ack.proofs.blocks.firmware.firmware_run.Goals as goal
 
 pub returns-in-Writes-clause-runs : goal.returns-in-Writes-clause-runs
 returns-in-Writes-clause-runs c =

@@ -2,7 +2,7 @@ use Rattle.std.proofs.Common.{◌≡◌, ◌∙◌, ℕ, ◌-◌, ◌+◌, ◌<�
 use Rattle.std.proofs.lemmas.List.{replicate_more, set_at, length-replicate, length-take}
 use Rattle.ghes_ack.specs.declared.events.Event.{Event}
 use Rattle.ghes_ack.specs.declared.events.Event.TheVariants.{Copied, Took}
-use Rattle.ghes_ack.proofs.reader.note_taken.Goals as goal
+use Rattle.ghes_ack.proofs.blocks.reader.note_taken.Goals as goal
 
 taken : (events filled rest : List Event) (n : ℕ) → 0 < n → n ≤ length events → filled ≡ replicate (length (take n events)) Copied → slice_set (filled ++ rest) (n - 1) Took ≡ replicate (n - 1) Copied ++ Took ∷ rest
 taken events filled rest n some few is =

@@ -1,6 +1,6 @@
 use Rattle.std.proofs.Common.{◌≡◌, ◌∙◌, length, ap, sym, arith}
 use Rattle.ghes_ack.proofs.SideLemmas.{copies_next}
-use Rattle.ghes_ack.proofs.reader.copy_in_place.Goals as goal
+use Rattle.ghes_ack.proofs.blocks.reader.copy_in_place.Goals as goal
 
 pub returns-clause-makes : goal.returns-clause-makes
 returns-clause-makes c =

@@ -1,6 +1,6 @@
 use Rattle.std.proofs.Common.{◌≡◌, ◌∙◌, ℕ, ◌≤◌, List, length, vec_len, sym, ap, subst, arith}
 use Rattle.ghes_ack.proofs.SideLemmas.{fits_at, fills_next}
-use Rattle.ghes_ack.proofs.firmware.fill_in_place.Goals as goal
+use Rattle.ghes_ack.proofs.blocks.firmware.fill_in_place.Goals as goal
 
 pub fill-requires-clause-fits : goal.fill-requires-clause-fits
 fill-requires-clause-fits c =
