@@ -2,7 +2,7 @@
 use Rattle.std.specs.Prelude.{◌≡◌, ◌⊎◌, ℕ, ◌-◌, ◌*◌, ◌<◌, true, nat_lt, if◌then◌else◌, List, [], ◌∷◌, ◌++◌, length, Option, Some, None, Result, Ok, Err, IfOk, IfErr, OnOk, OnErr, MatchResult}
 use Rattle.std.specs.FinMap.{len}
 use Rattle.base_model.specs.Bytes.{joined}
-use Rattle.flash_words.specs.Flash.{raised}
+use Rattle.flash_words.specs.Flash.{StaysLit, raised}
 use Rattle.record_store.specs.Store.{StoreView, IsSettled, doubted, restarted}
 use Rattle.record_store.specs.Calls.{OnlyLooks}
 use Rattle.record_store.specs.declared.errors.StoreError.{StoreError}
@@ -36,7 +36,7 @@ store_answer (Err error) = Err StoreFlash
 
 -- A restart. `before` is the store as its looking finds it, and `memory` what stands in memory afterwards. The registers are as at
 -- first, the store has looked at its slots, which keeps the records, and the handover begins anew: where the flash failed, all but the
--- look was done
+-- look was done. No call of the look finds a flash without power that has it before the first: power that is lost comes back before it
 pub record Restarts (tells : Type 0) (before : StoreView) (memory : MemoryState) (old : MachineState) (result : Result ℕ BootError) (new : MachineState) : Type 0 where
   pub count : IfOk result (λ n. tells → n ≡ len (records_of new))
   pub error : IfErr result (λ error. error ≡ Flash)
@@ -44,6 +44,7 @@ pub record Restarts (tells : Type 0) (before : StoreView) (memory : MemoryState)
   pub settled : OnOk result (tells → IsSettled new.device.store)
   pub reads : OnOk result (new.device.store.flash.reads ≡ raised (2 * old.device.store.layout.slots) old.device.store.flash.reads)
   pub powered : OnOk result (new.device.store.flash.powered ≡ true)
+  pub lit : StaysLit before.flash new.device.store.flash
   pub leaves : OnlyLooks tells before new.device.store (store_answer result)
   pub copies : tells → KnowsCopies old.device.store
   pub memory_is : new.memory ≡ memory
