@@ -1,20 +1,21 @@
 -- Laws of a run over the lines of a script.
-use Rattle.std.proofs.Common.{◌≡◌, ℕ, ◌+◌, ◌^◌, ◌<◌, ◌≤◌, inl, inr, Bool, true, false, List, [], ◌∷◌, ◌++◌, length, map, take, refl, sym, ap, subst, ◌∙◌, arith, append_assoc, length-append}
+use Rattle.std.proofs.Common.{◌≡◌, ℕ, ◌+◌, ◌^◌, ◌<◌, ◌≤◌, inl, inr, Bool, true, false, List, [], ◌∷◌, ◌++◌, length, map, take, codes, refl, sym, ap, subst, ◌∙◌, arith, append_assoc, length-append}
 use Rattle.std.proofs.lemmas.Bool.{cases_lt}
 use Rattle.std.proofs.lemmas.List.{append-nil}
 use Rattle.std.specs.Prelude.{MatchBool, ◌↔◌}
 use Rattle.base_model.specs.Faults.{Rose}
 use Rattle.line_grammar.specs.Columns.{BreaksAt}
 use Rattle.erst_machine.specs.MachineState.{MachineState}
-use Rattle.script_text.specs.ScriptGrammar.{Line as ScriptLine, IsLine, blank, comment, table}
+use Rattle.script_text.specs.ScriptGrammar.{Line as ScriptLine, IsLine, text_of as text_of_line, blank, comment, write, table, error, fatal}
 use Rattle.script_text.specs.ScriptText.{IsText, IsWritten, line_of as meant}
 use Rattle.script_text.specs.declared.script_line.ScriptLine.{ScriptLine as Parsed}
 use Rattle.script_text.specs.declared.script_line.ScriptLine.TheVariants.{Blank, Write, Read, Clear, Count, Next, Dummy, Action, Table, TableOwn, TableShadow, Error, Turns, Peek, Fatal, Bert, Heard, Reset, Power, Bridge}
+use Rattle.apei_notify.specs.Telling.{Hearing, counts_of, wants_of}
 use Rattle.apei_script.specs.declared.player.PlayStop.{PlayStop}
 use Rattle.apei_script.specs.declared.player.PlayStop.TheVariants.{FlashFault as RestartFailed, Memory as NoMemory}
 use Rattle.apei_script.specs.Players.{PlayerState, with_machine}
 use Rattle.apei_script.specs.Words.{replies_at}
-use Rattle.apei_script.specs.Plays.{IsBuilt, LinePlayed, HasHappened, FailsRestart, PartlySaid, PlaysLine, PlaysUnheard, Stops, Told, IsCutShort, step_of}
+use Rattle.apei_script.specs.Plays.{IsBuilt, digits_of, LinePlayed, HasHappened, FailsRestart, PartlySaid, PlaysLine, PlaysUnheard, Stops, Told, IsCutShort, step_of}
 use Rattle.erst_machine.specs.Shown.{changes_of}
 use Rattle.apei_script.specs.History.{Played, Follows, AreCounted, blocks_of, reply_of, text_of, heard_after}
 use Rattle.script_lines.specs.Lines.{Line, Reading, lines_of, IsTooLong, IsNextLine, IsAtEnd, NextIsTooLong, HasNoLine}
@@ -91,6 +92,21 @@ on_false false P Q e q = q
 pub is_not : (b : Bool) (P : Type 0) → (b ≡ true ↔ P) → b ≡ false → P → ⊥
 is_not b P tests e p = let clash : true ≡ false = sym (tests.1 p) ∙ e in absurd (cc clash)
 
+-- a line has no more digits than bytes
+digits_fit : (line : ScriptLine) → length (digits_of line) ≤ length (text_of_line line)
+digits_fit (write hex) = omega (arith, length-append (codes "write ") hex)
+digits_fit (table hex) = omega (arith, length-append (codes "table ") hex)
+digits_fit (error hex) = omega (arith, length-append (codes "error ") hex)
+digits_fit (fatal hex) = omega (arith, length-append (codes "fatal ") hex)
+digits_fit line = omega arith
+
+-- the line that a text means, within the length of lines
+pub is_short : (text : List ℕ) (line : Parsed) → length text ≤ 140000 → IsText text line → length (digits_of (meant line)) ≤ 140000
+is_short text line within read = elim (means text line read) as (λ line is. length (digits_of line) ≤ 140000) [
+  | MeansLine line written ↦ let size = ap length written.1 in omega (arith, digits_fit line)
+  | IsComment rest written ↦ omega arith
+]
+
 -- the line that was read can be played
 pub playable : (tells : Type 0) (a b : Reading) (rest rest_now text : List ℕ) (line : Parsed) → IsNextLine tells a b rest rest_now → text ≡ b.line → IsText text line → IsBuilt (meant line)
     → IsPlayable (last_line b) (meant line)
@@ -133,41 +149,41 @@ Follows-push tells wants counts first (one ∷ some) mid played is line = (is.0,
 abbrev played_as : ScriptLine → List (List ℕ) → List (List ℕ) → PlayerState → Played
 played_as line said blocks left = record { line = line; said = said; blocks = blocks; left = left }
 
-module _ {L : Type 0} (interest : L → ℕ → Bool) (hearings : L → ℕ) (heard_last : L → ℕ → List ℕ → Type 0) (told_source told_sink tells : Type 0) where
+module _ {L : Type 0} (hearing : L → Hearing) (told_source told_sink tells : Type 0) where
   -- a run so far: the lines that were read, all of them played, and the listeners told
   pub record SoFar (script rest written written_now : List ℕ) (listeners listeners_now : List L) (old new : PlayerState) (reading : Reading) : Type 0 where
     pub lines : List Line
     pub played : List Played
     pub read : HasRead told_source script rest lines reading
     pub are : ArePlayed lines played
-    pub history : Follows tells (map interest listeners) (map hearings listeners) old played new
-    pub counts : map hearings listeners_now ≡ counts_after (map interest listeners) played (map hearings listeners)
-    pub wants : WantsOf interest hearings heard_last (map interest listeners) listeners_now
-    pub told : Told interest hearings heard_last (blocks_of played) listeners listeners_now
+    pub history : Follows tells (wants_of hearing listeners) (counts_of hearing listeners) old played new
+    pub counts : counts_of hearing listeners_now ≡ counts_after (wants_of hearing listeners) played (counts_of hearing listeners)
+    pub wants : WantsOf hearing (wants_of hearing listeners) listeners_now
+    pub told : Told hearing (blocks_of played) listeners listeners_now
     pub text : told_sink → written_now ≡ written ++ text_of played
     pub counted : tells → AreCounted played
 
-module _ {L : Type 0} (interest : L → ℕ → Bool) (hearings : L → ℕ) (heard_last : L → ℕ → List ℕ → Type 0) (told_source told_sink tells : Type 0) (order : InOrder told_source) where
+module _ {L : Type 0} (hearing : L → Hearing) (told_source told_sink tells : Type 0) (order : InOrder told_source) where
   -- nothing was read
   pub SoFar-start : (script written : List ℕ) (listeners : List L) (player : PlayerState) (reading : Reading)
-      → reading ≡ record { line = []; number = 0; end = 0; pending = []; at_end = false } → SoFar interest hearings heard_last told_source told_sink tells script script written written listeners listeners player player reading
+      → reading ≡ record { line = []; number = 0; end = 0; pending = []; at_end = false } → SoFar hearing told_source told_sink tells script script written written listeners listeners player player reading
   SoFar-start script written listeners player reading start =
-      subst (SoFar interest hearings heard_last told_source told_sink tells script script written written listeners listeners player player) (sym start) (record {
+      subst (SoFar hearing told_source told_sink tells script script written written listeners listeners player player) (sym start) (record {
         lines = [];
         played = [];
         read = order.start script;
         are = tt;
         history = refl;
         counts = refl;
-        wants = wants_first interest hearings heard_last listeners;
-        told = none_told interest hearings heard_last listeners;
+        wants = wants_first hearing listeners;
+        told = none_told hearing listeners;
         text = λ told. sym (append-nil written);
         counted = λ told. tt;
       })
 
   -- the lines before the one that was read, and those behind it
   stops_at : (script rest rest_now written middle : List ℕ) (members members_now : List L) (old mid : PlayerState) (a b : Reading) (number : ℕ)
-      → (so_far : SoFar interest hearings heard_last told_source told_sink tells script rest written middle members members_now old mid a) → IsNextLine told_source a b rest rest_now → number ≡ b.number → told_source
+      → (so_far : SoFar hearing told_source told_sink tells script rest written middle members members_now old mid a) → IsNextLine told_source a b rest rest_now → number ≡ b.number → told_source
       → StopsAt script so_far.played number (last_line b)
   stops_at script rest rest_now written middle members members_now old mid a b number so_far next is told = record {
     before = so_far.lines;
@@ -176,30 +192,30 @@ module _ {L : Type 0} (interest : L → ℕ → Bool) (hearings : L → ℕ) (he
   }
 
   -- a line that was played, behind some
-  module _ (script rest written middle : List ℕ) (first members : List L) (old mid : PlayerState) (a : Reading) (so_far : SoFar interest hearings heard_last told_source told_sink tells script rest written middle first members old mid a)
+  module _ (script rest written middle : List ℕ) (first members : List L) (old mid : PlayerState) (a : Reading) (so_far : SoFar hearing told_source told_sink tells script rest written middle first members old mid a)
       (line : ScriptLine) (said blocks : List (List ℕ)) (new : PlayerState) (members_now : List L)
-      (played : LinePlayed tells (map hearings members) mid line said blocks new) (told : Told interest hearings heard_last blocks members members_now) where
-    history_then : Follows tells (map interest first) (map hearings first) old (so_far.played ++ played_as line said blocks new ∷ []) new
+      (played : LinePlayed tells (counts_of hearing members) mid line said blocks new) (told : Told hearing blocks members members_now) where
+    history_then : Follows tells (wants_of hearing first) (counts_of hearing first) old (so_far.played ++ played_as line said blocks new ∷ []) new
     history_then =
-        Follows-push tells (map interest first) (map hearings first) old so_far.played mid (played_as line said blocks new) so_far.history
+        Follows-push tells (wants_of hearing first) (counts_of hearing first) old so_far.played mid (played_as line said blocks new) so_far.history
         (subst (λ (counts : List ℕ). LinePlayed tells counts mid line said blocks new) so_far.counts played)
 
-    told_now : Told interest hearings heard_last (blocks_of (so_far.played ++ played_as line said blocks new ∷ [])) first members_now
+    told_now : Told hearing (blocks_of (so_far.played ++ played_as line said blocks new ∷ [])) first members_now
     told_now =
-        subst (λ (bs : List (List ℕ)). Told interest hearings heard_last bs first members_now) (sym (blocks_of-push so_far.played (played_as line said blocks new)))
-        (all_told_then interest hearings heard_last (blocks_of so_far.played) blocks first members members_now so_far.told told)
+        subst (λ (bs : List (List ℕ)). Told hearing bs first members_now) (sym (blocks_of-push so_far.played (played_as line said blocks new)))
+        (all_told_then hearing (blocks_of so_far.played) blocks first members members_now so_far.told told)
 
-    counts_now : map hearings members_now ≡ counts_after (map interest first) (so_far.played ++ played_as line said blocks new ∷ []) (map hearings first)
+    counts_now : counts_of hearing members_now ≡ counts_after (wants_of hearing first) (so_far.played ++ played_as line said blocks new ∷ []) (counts_of hearing first)
     counts_now =
-        heard_all interest hearings heard_last (map interest first) blocks members members_now so_far.wants told
-        ∙ ap (heard_after (map interest first) blocks) so_far.counts
-        ∙ sym (counts_after-push (map interest first) so_far.played (played_as line said blocks new) (map hearings first))
+        heard_all hearing (wants_of hearing first) blocks members members_now so_far.wants told
+        ∙ ap (heard_after (wants_of hearing first) blocks) so_far.counts
+        ∙ sym (counts_after-push (wants_of hearing first) so_far.played (played_as line said blocks new) (counts_of hearing first))
 
   -- one more line was read and played
   pub SoFar-played : (script rest rest_now written middle now : List ℕ) (first members members_now : List L) (old mid new : PlayerState) (a b : Reading) (line : ScriptLine)
-      → SoFar interest hearings heard_last told_source told_sink tells script rest written middle first members old mid a → IsNextLine told_source a b rest rest_now → IsPlayable (last_line b) line
-      → PlaysLine interest hearings heard_last tells told_sink mid new members members_now line middle now → (tells → changes_of new.machine ≡ step_of new)
-      → SoFar interest hearings heard_last told_source told_sink tells script rest_now written now first members_now old new b
+      → SoFar hearing told_source told_sink tells script rest written middle first members old mid a → IsNextLine told_source a b rest rest_now → IsPlayable (last_line b) line
+      → PlaysLine hearing tells told_sink mid new members members_now line middle now → (tells → changes_of new.machine ≡ step_of new)
+      → SoFar hearing told_source told_sink tells script rest_now written now first members_now old new b
   SoFar-played script rest rest_now written middle now first members members_now old mid new a b line so_far next is plays counts = record {
     lines = so_far.lines ++ last_line b ∷ [];
     played = so_far.played ++ played_as line plays.said plays.blocks new ∷ [];
@@ -207,7 +223,7 @@ module _ {L : Type 0} (interest : L → ℕ → Bool) (hearings : L → ℕ) (he
     are = ArePlayed-push so_far.lines (last_line b) so_far.played (played_as line plays.said plays.blocks new) so_far.are is;
     history = history_then script rest written middle first members old mid a so_far line plays.said plays.blocks new members_now plays.played plays.told;
     counts = counts_now script rest written middle first members old mid a so_far line plays.said plays.blocks new members_now plays.played plays.told;
-    wants = wants_stay interest hearings heard_last (map interest first) plays.blocks members members_now so_far.wants plays.told;
+    wants = wants_stay hearing (wants_of hearing first) plays.blocks members members_now so_far.wants plays.told;
     told = told_now script rest written middle first members old mid a so_far line plays.said plays.blocks new members_now plays.played plays.told;
     text = λ told.
         plays.text told
@@ -219,10 +235,10 @@ module _ {L : Type 0} (interest : L → ℕ → Bool) (hearings : L → ℕ) (he
 
   -- a run whose last line was played whole, and whose machine is as that left it
   as_so_far : (script rest rest_now written middle now : List ℕ) (first members : List L) (old new : PlayerState) (a : Reading) (status : Status)
-      → (so_far : SoFar interest hearings heard_last told_source told_sink tells script rest written middle first members old new a)
+      → (so_far : SoFar hearing told_source told_sink tells script rest written middle first members old new a)
       → (told_source → EndsBy tells script rest_now so_far.played new.machine new.machine status)
       → (told_sink → WritesReplies so_far.played written now status) → LeavesLast tells new.machine new.machine status → (status ≡ FlashFault → ⊥)
-      → PlaysScript interest hearings heard_last told_source told_sink tells script rest_now written now first members old new status
+      → PlaysScript hearing told_source told_sink tells script rest_now written now first members old new status
   as_so_far script rest rest_now written middle now first members old new a status so_far lines text behind other = record {
     played = so_far.played;
     last = new;
@@ -237,8 +253,8 @@ module _ {L : Type 0} (interest : L → ℕ → Bool) (hearings : L → ℕ) (he
 
   -- the script was read to its end
   pub ends_done : (script rest rest_now written now : List ℕ) (first members : List L) (old new : PlayerState) (a b : Reading)
-      → IsAtEnd told_source a b rest rest_now → SoFar interest hearings heard_last told_source told_sink tells script rest written now first members old new a
-      → PlaysScript interest hearings heard_last told_source told_sink tells script rest_now written now first members old new Done
+      → IsAtEnd told_source a b rest rest_now → SoFar hearing told_source told_sink tells script rest written now first members old new a
+      → PlaysScript hearing told_source told_sink tells script rest_now written now first members old new Done
   ends_done script rest rest_now written now first members old new a b end so_far =
       as_so_far script rest rest_now written now now first members old new a Done so_far
       (λ told.
@@ -248,8 +264,8 @@ module _ {L : Type 0} (interest : L → ℕ → Bool) (hearings : L → ℕ) (he
 
   -- the source failed
   pub ends_fault : (script rest rest_now written now : List ℕ) (first members : List L) (old new : PlayerState) (a b : Reading)
-      → HasNoLine told_source a b rest rest_now → SoFar interest hearings heard_last told_source told_sink tells script rest written now first members old new a
-      → PlaysScript interest hearings heard_last told_source told_sink tells script rest_now written now first members old new SourceFault
+      → HasNoLine told_source a b rest rest_now → SoFar hearing told_source told_sink tells script rest written now first members old new a
+      → PlaysScript hearing told_source told_sink tells script rest_now written now first members old new SourceFault
   ends_fault script rest rest_now written now first members old new a b failed so_far =
       as_so_far script rest rest_now written now now first members old new a SourceFault so_far
       (λ told. record { lines = so_far.lines; taken = order.failed script rest rest_now so_far.lines a b so_far.read failed told; are = so_far.are })
@@ -257,8 +273,8 @@ module _ {L : Type 0} (interest : L → ℕ → Bool) (hearings : L → ℕ) (he
 
   -- the next line is too long
   pub ends_too_long : (script rest rest_now written now : List ℕ) (first members : List L) (old new : PlayerState) (a b : Reading) (number : ℕ)
-      → NextIsTooLong told_source a b rest → number ≡ b.number → SoFar interest hearings heard_last told_source told_sink tells script rest written now first members old new a
-      → PlaysScript interest hearings heard_last told_source told_sink tells script rest_now written now first members old new (TooLong (number + 1))
+      → NextIsTooLong told_source a b rest → number ≡ b.number → SoFar hearing told_source told_sink tells script rest written now first members old new a
+      → PlaysScript hearing told_source told_sink tells script rest_now written now first members old new (TooLong (number + 1))
   ends_too_long script rest rest_now written now first members old new a b number next is so_far =
       as_so_far script rest rest_now written now now first members old new a (TooLong (number + 1)) so_far
       (λ told.
@@ -276,8 +292,8 @@ module _ {L : Type 0} (interest : L → ℕ → Bool) (hearings : L → ℕ) (he
 
   -- the line that was read is none
   pub ends_bad : (script rest rest_now written now : List ℕ) (first members : List L) (old new : PlayerState) (a b : Reading) (number column : ℕ)
-      → IsNextLine told_source a b rest rest_now → number ≡ b.number → BreaksAt IsLine b.line column → SoFar interest hearings heard_last told_source told_sink tells script rest written now first members old new a
-      → PlaysScript interest hearings heard_last told_source told_sink tells script rest_now written now first members old new (BadLine number column)
+      → IsNextLine told_source a b rest rest_now → number ≡ b.number → BreaksAt IsLine b.line column → SoFar hearing told_source told_sink tells script rest written now first members old new a
+      → PlaysScript hearing told_source told_sink tells script rest_now written now first members old new (BadLine number column)
   ends_bad script rest rest_now written now first members old new a b number column next is breaks so_far =
       as_so_far script rest rest_now written now now first members old new a (BadLine number column) so_far
       (λ told. record {
@@ -290,8 +306,8 @@ module _ {L : Type 0} (interest : L → ℕ → Bool) (hearings : L → ℕ) (he
 
   -- it is not built
   pub ends_not_built : (script rest rest_now written now : List ℕ) (first members : List L) (old new : PlayerState) (a b : Reading) (number : ℕ) (line : ScriptLine)
-      → IsNextLine told_source a b rest rest_now → number ≡ b.number → Means b.line line → (IsBuilt line → ⊥) → SoFar interest hearings heard_last told_source told_sink tells script rest written now first members old new a
-      → PlaysScript interest hearings heard_last told_source told_sink tells script rest_now written now first members old new (NotYet number)
+      → IsNextLine told_source a b rest rest_now → number ≡ b.number → Means b.line line → (IsBuilt line → ⊥) → SoFar hearing told_source told_sink tells script rest written now first members old new a
+      → PlaysScript hearing told_source told_sink tells script rest_now written now first members old new (NotYet number)
   ends_not_built script rest rest_now written now first members old new a b number line next is means_it other so_far =
       as_so_far script rest rest_now written now now first members old new a (NotYet number) so_far
       (λ told. record {
@@ -306,9 +322,9 @@ module _ {L : Type 0} (interest : L → ℕ → Bool) (hearings : L → ℕ) (he
 
   -- its reply was refused by the sink
   pub ends_unheard : (script rest rest_now written middle now : List ℕ) (first members members_now : List L) (old mid new : PlayerState) (a b : Reading) (line : ScriptLine)
-      → SoFar interest hearings heard_last told_source told_sink tells script rest written middle first members old mid a → IsNextLine told_source a b rest rest_now → IsPlayable (last_line b) line
-      → PlaysUnheard interest hearings heard_last tells told_sink mid new members members_now line middle now → (tells → changes_of new.machine ≡ step_of new)
-      → PlaysScript interest hearings heard_last told_source told_sink tells script rest_now written now first members_now old new SinkFault
+      → SoFar hearing told_source told_sink tells script rest written middle first members old mid a → IsNextLine told_source a b rest rest_now → IsPlayable (last_line b) line
+      → PlaysUnheard hearing tells told_sink mid new members members_now line middle now → (tells → changes_of new.machine ≡ step_of new)
+      → PlaysScript hearing told_source told_sink tells script rest_now written now first members_now old new SinkFault
   ends_unheard script rest rest_now written middle now first members members_now old mid new a b line so_far next is plays counts = record {
     played = so_far.played ++ played_as plays.made plays.said plays.blocks new ∷ [];
     last = new;
@@ -340,9 +356,9 @@ module _ {L : Type 0} (interest : L → ℕ → Bool) (hearings : L → ℕ) (he
 
   -- the flash failed in its restart
   pub ends_failed : (script rest rest_now written middle now : List ℕ) (first members members_now : List L) (old mid new : PlayerState) (a b : Reading) (line : ScriptLine) (stop : PlayStop)
-      → SoFar interest hearings heard_last told_source told_sink tells script rest written middle first members old mid a → IsNextLine told_source a b rest rest_now → IsPlayable (last_line b) line
+      → SoFar hearing told_source told_sink tells script rest written middle first members old mid a → IsNextLine told_source a b rest rest_now → IsPlayable (last_line b) line
       → Stops tells mid line new stop → stop ≡ RestartFailed → members_now ≡ members → now ≡ middle
-      → PlaysScript interest hearings heard_last told_source told_sink tells script rest_now written now first members_now old new FlashFault
+      → PlaysScript hearing told_source told_sink tells script rest_now written now first members_now old new FlashFault
   ends_failed script rest rest_now written middle now first members members_now old mid new a b line stop so_far next is stops why quiet said = record {
     played = so_far.played;
     last = mid;
@@ -357,7 +373,7 @@ module _ {L : Type 0} (interest : L → ℕ → Bool) (hearings : L → ℕ) (he
     };
     text = λ told. said ∙ so_far.text told;
     behind = (line, subst (FailsRestart tells mid.machine line) left failed.1);
-    told = subst (Told interest hearings heard_last (blocks_of so_far.played) first) (sym quiet) so_far.told;
+    told = subst (Told hearing (blocks_of so_far.played) first) (sym quiet) so_far.told;
     counted = so_far.counted;
     fault = λ e. subst (λ (m : MachineState). HasHappened tells mid.machine m × Rose mid.machine.device.store.flash.faults m.device.store.flash.faults) left (failed.2, failed.3);
   }
@@ -370,9 +386,9 @@ module _ {L : Type 0} (interest : L → ℕ → Bool) (hearings : L → ℕ) (he
 
   -- there was no memory for its table
   pub ends_memory : (script rest rest_now written middle now : List ℕ) (first members members_now : List L) (old mid new : PlayerState) (a b : Reading) (line : ScriptLine) (stop : PlayStop)
-      → SoFar interest hearings heard_last told_source told_sink tells script rest written middle first members old mid a → IsNextLine told_source a b rest rest_now → IsPlayable (last_line b) line
+      → SoFar hearing told_source told_sink tells script rest written middle first members old mid a → IsNextLine told_source a b rest rest_now → IsPlayable (last_line b) line
       → Stops tells mid line new stop → stop ≡ NoMemory → members_now ≡ members → now ≡ middle
-      → PlaysScript interest hearings heard_last told_source told_sink tells script rest_now written now first members_now old new Memory
+      → PlaysScript hearing told_source told_sink tells script rest_now written now first members_now old new Memory
   ends_memory script rest rest_now written middle now first members members_now old mid new a b line stop so_far next is stops why quiet said =
       let left : Stops tells mid line new NoMemory = subst (Stops tells mid line new) why stops in
       record {
@@ -388,7 +404,7 @@ module _ {L : Type 0} (interest : L → ℕ → Bool) (hearings : L → ℕ) (he
         };
         text = λ told. said ∙ so_far.text told;
         behind = ap (λ (p : PlayerState). p.machine) left.0;
-        told = subst (Told interest hearings heard_last (blocks_of so_far.played) first) (sym quiet) so_far.told;
+        told = subst (Told hearing (blocks_of so_far.played) first) (sym quiet) so_far.told;
         counted = so_far.counted;
         fault = λ e. absurd (cc e);
       }

@@ -1,10 +1,9 @@
 // Commands are generated and played.
-ghost use Rattle.std.specs.Prelude.{◌≡◌, ◌≤◌, ◌^◌, length, true};
+ghost use Rattle.std.specs.Prelude.{◌≡◌, true};
 ghost use Rattle.base_model.specs.Faults.{HasCause};
 ghost use Rattle.apei_notify.specs.Chains.{members_of};
-ghost use Rattle.script_text.specs.ScriptGrammar.{IsValid, text_of};
 ghost use Rattle.script_text.specs.ScriptText.{line_of};
-ghost use Rattle.apei_script.specs.Plays.{names_command};
+ghost use Rattle.apei_script.specs.Plays.{IsPlayable, names_command};
 ghost use Rattle.apei_script.specs.Desks.{state_of};
 ghost use Rattle.apei_gen.specs.Numbers.{line_for, HasSize};
 ghost use Rattle.apei_gen.specs.Generated.{IsAsked, ArePlayed, is_refusal};
@@ -75,15 +74,17 @@ fn play<F: Flash>(player: &mut Player<F>, command: Command) -> bool
 
 /// Plays one line, and answers whether it was refused.
 fn ask<F: Flash>(player: &mut Player<F>, line: &ScriptLine<'_>) -> bool
-    requires valid { IsValid (line_of line.now) }
+    requires playable { IsPlayable (line_of line.now) }
     requires command { names_command (line_of line.now) ≡ true }
-    requires fits { length (text_of (line_of line.now)) ≤ 140_000 }
     ensures asked { IsAsked F.tells (state_of player.old.desk) (line_of line.now) (state_of player.new.desk) player.new.desk.buffers.reply }
     ensures refused { result ≡ is_refusal player.new.desk.buffers.reply }
     ensures listeners { members_of player.new.chain ≡ members_of player.old.chain }
 {
     match player.answer(line) {
-        Ok(()) => player.reply().starts_with(b"refused"),
+        Ok(()) => {
+            player.stands();
+            player.reply().starts_with(b"refused")
+        }
         Err(_) => unreachable!(),
     }
 }

@@ -21,11 +21,11 @@ impl Tally {
 }
 
 impl Listener for Tally {
-    ghost interest = { λ tally severity. nat_lt severity 4 && has_bit tally.mask severity };
-
-    ghost hearings = { λ tally. tally.heard };
-
-    ghost heard_last = { λ tally severity block. Unit {0} };
+    ghost hearing = { λ tally. record {
+      wants = λ severity. nat_lt severity 4 && has_bit tally.mask severity;
+      count = tally.heard;
+      last = λ severity block. Unit {0};
+    } };
 
     fn wants(&self, severity: u32) -> bool {
         severity < 4 && self.mask >> severity & 1 == 1

@@ -13,8 +13,8 @@ use Rattle.apei_script.specs.Replies.{IsMade}
 use Rattle.apei_script.specs.Players.{PlayerState, budget_by}
 use Rattle.apei_script.specs.Words.{words_of_table, words_of_reset, words_of_power}
 use Rattle.apei_script.specs.Asked.{Answers}
-use Rattle.apei_script.specs.Happened.{Occurs}
-use Rattle.apei_script.specs.Tables.{IsGiven}
+use Rattle.apei_script.specs.Happened.{Happened}
+use Rattle.apei_script.specs.Tables.{GivesTable}
 use Rattle.apei_script.specs.Plays.{ByClient, GivenTable, OwnTable, OnMachine, Reset, Power, ResetFails, PowerFails, HasHappened, Stops}
 use Rattle.apei_script.specs.Desks.{MakesReply}
 
@@ -49,14 +49,14 @@ module _ (tells : Type 0) (old : MachineState) (own : ClientState) (steps : Opti
       (subst (λ (client : ClientState). MakesReply tells (player old own None steps) line (player new client None steps) reply) (sym same)
       (record { words = answers.words; plays = λ counts. ByClient line answers.words new answers.commanded; made = answers.made })))
 
-  pub on_machine : (other : Option ClientState) (line : Line) (new : MachineState) (reply : List ℕ) → Occurs tells old line new reply
+  pub by_machine : (other : Option ClientState) (line : Line) (words : List ℕ) (new : MachineState) (reply : List ℕ) → Happened tells old line (words ∷ []) [] new → IsMade reply words
       → MakesReply tells (player old own other steps) line (player new own other steps) reply
-  on_machine other line new reply occurs = record { words = occurs.words; plays = λ counts. OnMachine line (occurs.words ∷ []) [] new occurs.happened; made = occurs.made }
+  by_machine other line words new reply happened made = record { words = words; plays = λ counts. OnMachine line (words ∷ []) [] new happened; made = made }
 
-  pub by_table : (other : Option ClientState) (hex bytes : List ℕ) (new : MachineState) (new_other : Option ClientState) (reply : List ℕ) → decode_of hex ≡ Ok bytes
-      → IsGiven tells old other bytes new new_other reply → MakesReply tells (player old own other steps) (table hex) (player new own new_other steps) reply
-  by_table other hex bytes new new_other reply decoded given =
-      record { words = given.words; plays = λ counts. GivenTable hex bytes given.words new new_other decoded given.gives; made = given.made }
+  pub by_table : (other : Option ClientState) (hex bytes words : List ℕ) (new : MachineState) (new_other : Option ClientState) (reply : List ℕ) → decode_of hex ≡ Ok bytes
+      → GivesTable tells old other bytes words new new_other → IsMade reply words → MakesReply tells (player old own other steps) (table hex) (player new own new_other steps) reply
+  by_table other hex bytes words new new_other reply decoded gives made =
+      record { words = words; plays = λ counts. GivenTable hex bytes words new new_other decoded gives; made = made }
 
   pub by_own_table : (other : Option ClientState) (n : ℕ) (reply : List ℕ) → n ≡ length own.table.entries → IsMade reply (words_of_table n)
       → MakesReply tells (player old own other steps) own_table (player old own None steps) reply

@@ -1,4 +1,4 @@
--- Replies to a line that gives a table.
+-- What a line that gives a table comes to.
 use Rattle.std.proofs.Common.{◌≡◌, ℕ, List, ◌++◌, length, take, drop, Option, Some, None, Ok, Err, sym, subst}
 use Rattle.std.proofs.lemmas.List.{take-append-drop}
 use Rattle.apei_space.specs.Accesses.{Reaches}
@@ -12,9 +12,8 @@ use Rattle.erst_client.specs.Commands.{ClientState}
 use Rattle.erst_machine.specs.MachineState.{MachineState}
 use Rattle.erst_machine.specs.Allowed.{Allows}
 use Rattle.script_text.specs.TableWords.{ErstHasWords}
-use Rattle.apei_script.specs.Replies.{IsMade}
-use Rattle.apei_script.specs.Words.{words_of_table, words_of_no_table, words_of_no_client}
-use Rattle.apei_script.specs.Tables.{ATTACH_STEPS, BeginsWith, IsNoTable, IsNotAttached, IsAttached, IsGiven}
+use Rattle.apei_script.specs.Words.{words_of_table, words_of_no_client}
+use Rattle.apei_script.specs.Tables.{ATTACH_STEPS, BeginsWith, GivesTable, IsNotAttached, IsAttached}
 
 -- the reason of a refusal that is not want of memory
 pub refused_for : (bytes : List ℕ) (why : ErstError) → ErstHasWords why → IsRefusal bytes why → refusal bytes ≡ Some why
@@ -37,22 +36,14 @@ begins_with erst bytes size is fits sound only = record {
 }
 
 module _ (tells : Type 0) (old : MachineState) (other : Option ClientState) (bytes : List ℕ) where
-  pub no_table : (why : ErstError) (reply : List ℕ) → refusal bytes ≡ Some why → IsMade reply (words_of_no_table why) → IsGiven tells old other bytes old other reply
-  no_table why reply is made = record { words = words_of_no_table why; gives = IsNoTable why is; made = made }
+  pub not_attached : (erst : Erst) (why : AttachError) (budget left : ℕ) (new : MachineState) → BeginsWith erst bytes → budget ≡ ATTACH_STEPS
+      → Attaches (Allows tells) erst budget old (Err why) left new → Reaches (Allows tells) old new → GivesTable tells old other bytes (words_of_no_client why) new other
+  not_attached erst why budget left new begins given attaches reaches =
+      IsNotAttached erst why left new begins (subst (λ (n : ℕ). Attaches (Allows tells) erst n old (Err why) left new) given attaches) reaches
 
-  pub not_attached : (erst : Erst) (why : AttachError) (budget left : ℕ) (new : MachineState) (reply : List ℕ) → BeginsWith erst bytes → budget ≡ ATTACH_STEPS
-      → Attaches (Allows tells) erst budget old (Err why) left new → Reaches (Allows tells) old new → IsMade reply (words_of_no_client why) → IsGiven tells old other bytes new other reply
-  not_attached erst why budget left new reply begins given attaches reaches made = record {
-    words = words_of_no_client why;
-    gives = IsNotAttached erst why left new begins (subst (λ (n : ℕ). Attaches (Allows tells) erst n old (Err why) left new) given attaches) reaches;
-    made = made;
-  }
-
-  pub attached : (erst : Erst) (client : ClientState) (budget left : ℕ) (new : MachineState) (entries : ℕ) (reply : List ℕ) → BeginsWith erst bytes → budget ≡ ATTACH_STEPS
-      → Attaches (Allows tells) erst budget old (Ok client) left new → Reaches (Allows tells) old new → entries ≡ length erst.entries → IsMade reply (words_of_table entries)
-      → IsGiven tells old other bytes new (Some client) reply
-  attached erst client budget left new entries reply begins given attaches reaches many made = record {
-    words = words_of_table (length erst.entries);
-    gives = IsAttached erst client left new begins (subst (λ (n : ℕ). Attaches (Allows tells) erst n old (Ok client) left new) given attaches) reaches;
-    made = subst (λ (n : ℕ). IsMade reply (words_of_table n)) many made;
-  }
+  pub attached : (erst : Erst) (client : ClientState) (budget left : ℕ) (new : MachineState) (entries : ℕ) → BeginsWith erst bytes → budget ≡ ATTACH_STEPS
+      → Attaches (Allows tells) erst budget old (Ok client) left new → Reaches (Allows tells) old new → entries ≡ length erst.entries
+      → GivesTable tells old other bytes (words_of_table entries) new (Some client)
+  attached erst client budget left new entries begins given attaches reaches many =
+      subst (λ (n : ℕ). GivesTable tells old other bytes (words_of_table n) new (Some client)) (sym many)
+      (IsAttached erst client left new begins (subst (λ (n : ℕ). Attaches (Allows tells) erst n old (Ok client) left new) given attaches) reaches)

@@ -18,7 +18,6 @@ pub mod ListLemmas
 pub mod Lengths
 pub mod Made
 pub mod Asking
-pub mod Happening
 pub mod Giving
 pub mod Owning
 pub mod DeskLines

@@ -5,11 +5,12 @@ use Rattle.std.proofs.lemmas.Bool.{false≢true}
 use Rattle.erst_client.specs.Commands.{ClientState}
 use Rattle.erst_machine.specs.MachineState.{MachineState}
 use Rattle.script_text.specs.ScriptGrammar.{Line, blank, bert, heard}
+use Rattle.apei_notify.specs.Telling.{Hearing, counts_of}
 use Rattle.apei_script.specs.declared.desk.Desk.{Desk}
 use Rattle.apei_script.specs.Players.{PlayerState, with_machine}
 use Rattle.apei_script.specs.Words.{words_of_heard, reply_at, replies_at}
 use Rattle.apei_script.specs.Plays.{Plays, Blank, OnMachine, Heard, LinePlayed, PlaysLine, PlaysUnheard, Occurred, OccurredUnheard, PartlySaid, IsCutShort, Whole, SomeTurns, names_command, step_of}
-use Rattle.apei_script.specs.Desks.{state_of, SameClients, Lists, ListsUnheard, AnswersLine, LineAnswered}
+use Rattle.apei_script.specs.Desks.{state_of, SameClients, Lists, ListsUnheard, LineAnswered, MakesReply}
 use Rattle.apei_script.proofs.LineLemmas.{line_happened}
 use Rattle.apei_script.proofs.ToldLemmas.{told_none}
 
@@ -39,72 +40,75 @@ pub same_desk : {F : Type 0} (old new : Desk F) → SameClients old new → new.
 same_desk old new same machine = other_machine old new same ∙ ap (λ (m : MachineState). with_machine m (state_of old)) machine
 
 -- a line that was answered, with all that is said of it
-pub line_answered : {E : Type 0} (tells : Type 0) (old : PlayerState) (line : Line) (new : PlayerState) (reply : List ℕ) (result : Result (Unit {0}) E)
+pub line_answered : (tells : Type 0) (old : PlayerState) (line : Line) (new : PlayerState) (made reply : List ℕ) (step : ℕ)
     → ((words counts : List ℕ) → Plays tells counts old line (words ∷ []) [] new → LinePlayed tells counts old line (words ∷ []) [] new)
-    → OnOk result (AnswersLine tells old line new reply) → OnOk result (LineAnswered tells old line new reply)
-line_answered tells old line new reply (Ok done) whole answers = record { words = answers.words; played = λ counts. whole answers.words counts (answers.plays counts); text = answers.text }
-line_answered tells old line new reply (Err error) whole answers = answers
+    → MakesReply tells old line new made → step ≡ step_of new → reply ≡ reply_at step made → LineAnswered tells old line new reply
+line_answered tells old line new made reply step whole makes at text = record {
+  words = makes.words;
+  played = λ counts. whole makes.words counts (makes.plays counts);
+  text = text ∙ ap (λ (n : ℕ). reply_at n made) at ∙ ap (reply_at (step_of new)) makes.made.text;
+}
 
 cut_quiet : (line made : Line) → IsCutShort line made → names_command line ≡ false → names_command made ≡ false
 cut_quiet line made cut = elim cut as (λ line made cut. names_command line ≡ false → names_command made ≡ false) [ Whole line ↦ λ h. h | SomeTurns letters behind ↦ λ h. refl ]
 
-module _ {L : Type 0} (interest : L → ℕ → Bool) (hearings : L → ℕ) (heard_last : L → ℕ → List ℕ → Type 0) (tells told_sink : Type 0) where
-  pub blank_played : (old : PlayerState) (members : List L) (written : List ℕ) → PlaysLine interest hearings heard_last tells told_sink old old members members blank written written
+module _ {L : Type 0} (hearing : L → Hearing) (tells told_sink : Type 0) where
+  pub blank_played : (old : PlayerState) (members : List L) (written : List ℕ) → PlaysLine hearing tells told_sink old old members members blank written written
   blank_played old members written = record {
     said = [];
     blocks = [];
-    played = quiet tells (map hearings members) old blank [] [] old refl Blank;
-    told = told_none interest hearings heard_last members;
+    played = quiet tells (counts_of hearing members) old blank [] [] old refl Blank;
+    told = told_none hearing members;
     text = λ t. sym (append-nil written);
   }
 
   pub occurred_played : (old new : PlayerState) (members members_now : List L) (line : Line) (written written_now : List ℕ) → names_command line ≡ false → new ≡ with_machine new.machine old
-      → Occurred interest hearings heard_last tells told_sink old.machine new.machine members members_now line written written_now
-      → PlaysLine interest hearings heard_last tells told_sink old new members members_now line written written_now
+      → Occurred hearing tells told_sink old.machine new.machine members members_now line written written_now
+      → PlaysLine hearing tells told_sink old new members members_now line written written_now
   occurred_played old new members members_now line written written_now none same h = record {
     said = h.said;
     blocks = h.blocks;
-    played = quiet tells (map hearings members) old line h.said h.blocks new none
-        (subst (λ (s : PlayerState). Plays tells (map hearings members) old line h.said h.blocks s) (sym same) (OnMachine line h.said h.blocks new.machine h.happened));
+    played = quiet tells (counts_of hearing members) old line h.said h.blocks new none
+        (subst (λ (s : PlayerState). Plays tells (counts_of hearing members) old line h.said h.blocks s) (sym same) (OnMachine line h.said h.blocks new.machine h.happened));
     told = h.told;
     text = h.text;
   }
 
   pub occurred_unheard : (old new : PlayerState) (members members_now : List L) (line : Line) (written written_now : List ℕ) → names_command line ≡ false → new ≡ with_machine new.machine old
-      → OccurredUnheard interest hearings heard_last tells told_sink old.machine new.machine members members_now line written written_now
-      → PlaysUnheard interest hearings heard_last tells told_sink old new members members_now line written written_now
+      → OccurredUnheard hearing tells told_sink old.machine new.machine members members_now line written written_now
+      → PlaysUnheard hearing tells told_sink old new members members_now line written written_now
   occurred_unheard old new members members_now line written written_now none same h = record {
     made = h.made;
     cut = h.cut;
     said = h.said;
     blocks = h.blocks;
-    played = quiet tells (map hearings members) old h.made h.said h.blocks new (cut_quiet line h.made h.cut none)
-        (subst (λ (s : PlayerState). Plays tells (map hearings members) old h.made h.said h.blocks s) (sym same) (OnMachine h.made h.said h.blocks new.machine h.happened));
+    played = quiet tells (counts_of hearing members) old h.made h.said h.blocks new (cut_quiet line h.made h.cut none)
+        (subst (λ (s : PlayerState). Plays tells (counts_of hearing members) old h.made h.said h.blocks s) (sym same) (OnMachine h.made h.said h.blocks new.machine h.happened));
     told = h.told;
     text = h.text;
   }
 
   pub listed_played : (old new : PlayerState) (members : List L) (written written_now : List ℕ) → new ≡ old → Lists tells told_sink old.machine written written_now
-      → PlaysLine interest hearings heard_last tells told_sink old new members members bert written written_now
+      → PlaysLine hearing tells told_sink old new members members bert written written_now
   listed_played old new members written written_now same h = record {
     said = h.said;
     blocks = [];
-    played = quiet tells (map hearings members) old bert h.said [] new refl
-        (subst (λ (s : PlayerState). Plays tells (map hearings members) old bert h.said [] s) (sym same) (OnMachine bert h.said [] old.machine h.happened));
-    told = told_none interest hearings heard_last members;
+    played = quiet tells (counts_of hearing members) old bert h.said [] new refl
+        (subst (λ (s : PlayerState). Plays tells (counts_of hearing members) old bert h.said [] s) (sym same) (OnMachine bert h.said [] old.machine h.happened));
+    told = told_none hearing members;
     text = λ t. h.text t ∙ ap (λ (s : PlayerState). written ++ replies_at (step_of s) h.said) (sym same);
   }
 
   pub listed_unheard : (old new : PlayerState) (members : List L) (written written_now : List ℕ) → new ≡ old → ListsUnheard tells told_sink old.machine written written_now
-      → PlaysUnheard interest hearings heard_last tells told_sink old new members members bert written written_now
+      → PlaysUnheard hearing tells told_sink old new members members bert written written_now
   listed_unheard old new members written written_now same h = record {
     made = bert;
     cut = Whole bert;
     said = h.said;
     blocks = [];
-    played = quiet tells (map hearings members) old bert h.said [] new refl
-        (subst (λ (s : PlayerState). Plays tells (map hearings members) old bert h.said [] s) (sym same) (OnMachine bert h.said [] old.machine h.happened));
-    told = told_none interest hearings heard_last members;
+    played = quiet tells (counts_of hearing members) old bert h.said [] new refl
+        (subst (λ (s : PlayerState). Plays tells (counts_of hearing members) old bert h.said [] s) (sym same) (OnMachine bert h.said [] old.machine h.happened));
+    told = told_none hearing members;
     text = λ t. subst (λ (s : PlayerState). PartlySaid (step_of s) h.said written written_now) (sym same) (h.text t);
   }
 
@@ -112,27 +116,27 @@ module _ {L : Type 0} (interest : L → ℕ → Bool) (hearings : L → ℕ) (he
   one_text : (step : ℕ) (words written : List ℕ) → written ++ reply_at step words ≡ written ++ replies_at step (words ∷ [])
   one_text step words written = ap (λ (xs : List ℕ). written ++ xs) (sym (append-nil (reply_at step words)))
 
-  pub one_played : (old new : PlayerState) (members : List L) (line : Line) (words written written_now : List ℕ) → LinePlayed tells (map hearings members) old line (words ∷ []) [] new
+  pub one_played : (old new : PlayerState) (members : List L) (line : Line) (words written written_now : List ℕ) → LinePlayed tells (counts_of hearing members) old line (words ∷ []) [] new
       → (told_sink → written_now ≡ written ++ reply_at (step_of new) words)
-      → PlaysLine interest hearings heard_last tells told_sink old new members members line written written_now
+      → PlaysLine hearing tells told_sink old new members members line written written_now
   one_played old new members line words written written_now played text = record {
     said = words ∷ [];
     blocks = [];
     played = played;
-    told = told_none interest hearings heard_last members;
+    told = told_none hearing members;
     text = λ t. text t ∙ one_text (step_of new) words written;
   }
 
-  pub one_unheard : (old new : PlayerState) (members : List L) (line : Line) (words written written_now : List ℕ) → LinePlayed tells (map hearings members) old line (words ∷ []) [] new
+  pub one_unheard : (old new : PlayerState) (members : List L) (line : Line) (words written written_now : List ℕ) → LinePlayed tells (counts_of hearing members) old line (words ∷ []) [] new
       → (told_sink → (n : ℕ) × (written_now ≡ written ++ take n (reply_at (step_of new) words)))
-      → PlaysUnheard interest hearings heard_last tells told_sink old new members members line written written_now
+      → PlaysUnheard hearing tells told_sink old new members members line written written_now
   one_unheard old new members line words written written_now played text = record {
     made = line;
     cut = Whole line;
     said = words ∷ [];
     blocks = [];
     played = played;
-    told = told_none interest hearings heard_last members;
+    told = told_none hearing members;
     text = λ t. let some = text t in record {
       before = [];
       last = words;
@@ -145,34 +149,34 @@ module _ {L : Type 0} (interest : L → ℕ → Bool) (hearings : L → ℕ) (he
 
   -- where the listeners are as they were
   pub answer_played : (old new : PlayerState) (members members_now : List L) (line : Line) (words written written_now : List ℕ) → members_now ≡ members
-      → LinePlayed tells (map hearings members) old line (words ∷ []) [] new → (told_sink → written_now ≡ written ++ reply_at (step_of new) words)
-      → PlaysLine interest hearings heard_last tells told_sink old new members members_now line written written_now
+      → LinePlayed tells (counts_of hearing members) old line (words ∷ []) [] new → (told_sink → written_now ≡ written ++ reply_at (step_of new) words)
+      → PlaysLine hearing tells told_sink old new members members_now line written written_now
   answer_played old new members members_now line words written written_now same played text =
-      subst (λ (now : List L). PlaysLine interest hearings heard_last tells told_sink old new members now line written written_now) (sym same)
+      subst (λ (now : List L). PlaysLine hearing tells told_sink old new members now line written written_now) (sym same)
       (one_played old new members line words written written_now played text)
 
   pub answer_unheard : (old new : PlayerState) (members members_now : List L) (line : Line) (words written written_now : List ℕ) → members_now ≡ members
-      → LinePlayed tells (map hearings members) old line (words ∷ []) [] new
+      → LinePlayed tells (counts_of hearing members) old line (words ∷ []) [] new
       → (told_sink → (n : ℕ) × (written_now ≡ written ++ take n (reply_at (step_of new) words)))
-      → PlaysUnheard interest hearings heard_last tells told_sink old new members members_now line written written_now
+      → PlaysUnheard hearing tells told_sink old new members members_now line written written_now
   answer_unheard old new members members_now line words written written_now same played text =
-      subst (λ (now : List L). PlaysUnheard interest hearings heard_last tells told_sink old new members now line written written_now) (sym same)
+      subst (λ (now : List L). PlaysUnheard hearing tells told_sink old new members now line written written_now) (sym same)
       (one_unheard old new members line words written written_now played text)
 
-  heard_line : (old new : PlayerState) (members : List L) → new ≡ old → LinePlayed tells (map hearings members) old heard (words_of_heard (map hearings members) ∷ []) [] new
-  heard_line old new members same = quiet tells (map hearings members) old heard (words_of_heard (map hearings members) ∷ []) [] new refl
-      (subst (λ (s : PlayerState). Plays tells (map hearings members) old heard (words_of_heard (map hearings members) ∷ []) [] s) (sym same) Heard)
+  heard_line : (old new : PlayerState) (members : List L) → new ≡ old → LinePlayed tells (counts_of hearing members) old heard (words_of_heard (counts_of hearing members) ∷ []) [] new
+  heard_line old new members same = quiet tells (counts_of hearing members) old heard (words_of_heard (counts_of hearing members) ∷ []) [] new refl
+      (subst (λ (s : PlayerState). Plays tells (counts_of hearing members) old heard (words_of_heard (counts_of hearing members) ∷ []) [] s) (sym same) Heard)
 
   pub heard_played : (old new : PlayerState) (members : List L) (written written_now : List ℕ) → new ≡ old
-      → (told_sink → written_now ≡ written ++ reply_at (step_of old) (words_of_heard (map hearings members)))
-      → PlaysLine interest hearings heard_last tells told_sink old new members members heard written written_now
+      → (told_sink → written_now ≡ written ++ reply_at (step_of old) (words_of_heard (counts_of hearing members)))
+      → PlaysLine hearing tells told_sink old new members members heard written written_now
   heard_played old new members written written_now same text =
-      one_played old new members heard (words_of_heard (map hearings members)) written written_now (heard_line old new members same)
-      (λ t. text t ∙ ap (λ (s : PlayerState). written ++ reply_at (step_of s) (words_of_heard (map hearings members))) (sym same))
+      one_played old new members heard (words_of_heard (counts_of hearing members)) written written_now (heard_line old new members same)
+      (λ t. text t ∙ ap (λ (s : PlayerState). written ++ reply_at (step_of s) (words_of_heard (counts_of hearing members))) (sym same))
 
   pub heard_unheard : (old new : PlayerState) (members : List L) (written written_now : List ℕ) → new ≡ old
-      → (told_sink → (n : ℕ) × (written_now ≡ written ++ take n (reply_at (step_of old) (words_of_heard (map hearings members)))))
-      → PlaysUnheard interest hearings heard_last tells told_sink old new members members heard written written_now
+      → (told_sink → (n : ℕ) × (written_now ≡ written ++ take n (reply_at (step_of old) (words_of_heard (counts_of hearing members)))))
+      → PlaysUnheard hearing tells told_sink old new members members heard written written_now
   heard_unheard old new members written written_now same text =
-      one_unheard old new members heard (words_of_heard (map hearings members)) written written_now (heard_line old new members same)
-      (λ t. let some = text t in (some.0, some.1 ∙ ap (λ (s : PlayerState). written ++ take some.0 (reply_at (step_of s) (words_of_heard (map hearings members)))) (sym same)))
+      one_unheard old new members heard (words_of_heard (counts_of hearing members)) written written_now (heard_line old new members same)
+      (λ t. let some = text t in (some.0, some.1 ∙ ap (λ (s : PlayerState). written ++ take some.0 (reply_at (step_of s) (words_of_heard (counts_of hearing members)))) (sym same)))

@@ -13,18 +13,12 @@ abbrev pub state_of : {F : Type 0} → Desk F → PlayerState
 state_of desk = record { machine = desk.machine; own = desk.own; other = desk.other; steps = desk.steps }
 
 -- a line of one reply was played, whatever the listeners have heard, and its reply made
-pub record AnswersLine (tells : Type 0) (old : PlayerState) (line : Line) (new : PlayerState) (reply : List ℕ) : Type 0 where
-  pub words : List ℕ
-  pub plays : (counts : List ℕ) → Plays tells counts old line (words ∷ []) [] new
-  pub text : reply ≡ reply_at (step_of new) words
-
--- the same, with all that is said of a line that was played
 pub record LineAnswered (tells : Type 0) (old : PlayerState) (line : Line) (new : PlayerState) (reply : List ℕ) : Type 0 where
   pub words : List ℕ
   pub played : (counts : List ℕ) → LinePlayed tells counts old line (words ∷ []) [] new
   pub text : reply ≡ reply_at (step_of new) words
 
--- the same, but for the step behind the reply
+-- a line of one reply was carried out, whatever the listeners have heard, and its reply made but for the step behind it
 pub record MakesReply (tells : Type 0) (old : PlayerState) (line : Line) (new : PlayerState) (reply : List ℕ) : Type 0 where
   pub words : List ℕ
   pub plays : (counts : List ℕ) → Plays tells counts old line (words ∷ []) [] new

@@ -14,7 +14,6 @@ use Rattle.erst_machine.specs.MachineState.{MachineState}
 use Rattle.erst_machine.specs.Allowed.{Allows}
 use Rattle.erst_machine.specs.Events.{Submits, Turns, LaysFatal}
 use Rattle.script_text.specs.ScriptGrammar.{Line, error, turns, peek, fatal, bert}
-use Rattle.apei_script.specs.Replies.{IsMade}
 use Rattle.apei_script.specs.Words.{words_of_submission, words_of_turns, words_of_block, words_of_peek, words_of_laid, words_of_bert}
 
 -- the side of a letter: F is the firmware, any other one the reader
@@ -45,9 +44,3 @@ pub data Happened (tells : Type 0) (old : MachineState) : Line → List (List �
       → Happened tells old (fatal hex) (words_of_laid result ∷ []) [] new
   IsListed : (blocks : List (List ℕ)) (left : ℕ) → IsLaidOut blocks left old.memory.region
       → Happened tells old bert (map words_of_block blocks ++ words_of_bert (length blocks) ∷ []) [] old
-
--- a line of one reply occurred and its reply was made, but for the step behind it
-pub record Occurs (tells : Type 0) (old : MachineState) (line : Line) (new : MachineState) (reply : List ℕ) : Type 0 where
-  pub words : List ℕ
-  pub happened : Happened tells old line (words ∷ []) [] new
-  pub made : IsMade reply words

@@ -4,14 +4,14 @@ use Rattle.std.specs.List.{AllZip}
 use Rattle.hex.specs.Hex.{decode_of}
 use Rattle.base_model.specs.Faults.{Rose}
 use Rattle.apei_space.specs.Accesses.{Move, Trail}
-use Rattle.apei_notify.specs.Telling.{IsToldOfAll}
+use Rattle.apei_notify.specs.Telling.{IsToldOfAll, Hearing, counts_of}
 use Rattle.erst_client.specs.Commands.{ClientState}
 use Rattle.erst_client.specs.Timings.{enough_steps}
 use Rattle.erst_machine.specs.declared.errors.BootError.{BootError}
 use Rattle.erst_machine.specs.MachineState.{MachineState}
 use Rattle.erst_machine.specs.Events.{Event, Warms, Powers, Happens}
 use Rattle.erst_machine.specs.Shown.{IsShown, made_by_event}
-use Rattle.script_text.specs.ScriptGrammar.{Line, blank, comment, write, read, clear, count, next, dummy, action, table, own_table, shadow_table, turns, bert, heard, reset, power, bridge}
+use Rattle.script_text.specs.ScriptGrammar.{Line, IsValid, blank, comment, write, read, clear, count, next, dummy, action, table, own_table, shadow_table, error, turns, fatal, bert, heard, reset, power, bridge}
 use Rattle.apei_script.specs.declared.player.PlayStop.{PlayStop}
 use Rattle.apei_script.specs.declared.player.PlayStop.TheVariants.{SinkFault, FlashFault, Memory}
 use Rattle.apei_script.specs.Players.{PlayerState, client_of, budget_of, with_machine, UsesOwn}
@@ -59,11 +59,25 @@ pub record HasHappened (tells : Type 0) (old new : MachineState) : Type 0 where
   pub exact : tells → (Rose old.device.store.flash.faults new.device.store.flash.faults → ⊥)
       → new.device.store.flash.steps ≡ old.device.store.flash.steps + changes_along old trail
 
--- a line that can be played
+-- a line that this program knows how to play
 abbrev pub IsBuilt : Line → Type 0
 IsBuilt shadow_table = ⊥
 IsBuilt (bridge id) = ⊥
 IsBuilt line = Unit {0}
+
+-- the hexadecimal digits of a line that has some
+abbrev pub digits_of : Line → List ℕ
+digits_of (write hex) = hex
+digits_of (table hex) = hex
+digits_of (error hex) = hex
+digits_of (fatal hex) = hex
+digits_of line = []
+
+-- a line that can be played
+pub record IsPlayable (line : Line) : Type 0 where
+  pub valid : IsValid line
+  pub built : IsBuilt line
+  pub fits : length (digits_of line) ≤ 140000
 
 -- a line has exactly one reply, and the listeners have no part in it
 abbrev pub has_one_reply : Line → Bool
@@ -129,25 +143,25 @@ abbrev pub step_of : PlayerState → ℕ
 step_of state = changes_in state.machine
 
 -- the listeners, before and after they were told of some blocks, each in its place
-abbrev pub Told : {L : Type 0} → (L → ℕ → Bool) → (L → ℕ) → (L → ℕ → List ℕ → Type 0) → List (List ℕ) → List L → List L → Type 0
-Told interest hearings heard_last blocks old new = AllZip (IsToldOfAll interest hearings heard_last blocks) old new
+abbrev pub Told : {L : Type 0} → (L → Hearing) → List (List ℕ) → List L → List L → Type 0
+Told hearing blocks old new = AllZip (IsToldOfAll hearing blocks) old new
 
 -- a line was played, its listeners told, and its replies written
-pub record PlaysLine {L : Type 0} (interest : L → ℕ → Bool) (hearings : L → ℕ) (heard_last : L → ℕ → List ℕ → Type 0) (tells told_sink : Type 0)
+pub record PlaysLine {L : Type 0} (hearing : L → Hearing) (tells told_sink : Type 0)
     (old new : PlayerState) (members members_now : List L) (line : Line) (written written_now : List ℕ) : Type 0 where
   pub said : List (List ℕ)
   pub blocks : List (List ℕ)
-  pub played : LinePlayed tells (map hearings members) old line said blocks new
-  pub told : Told interest hearings heard_last blocks members members_now
+  pub played : LinePlayed tells (counts_of hearing members) old line said blocks new
+  pub told : Told hearing blocks members members_now
   pub text : told_sink → written_now ≡ written ++ replies_at (step_of new) said
 
 -- the same of a line that asks the machine itself
-pub record Occurred {L : Type 0} (interest : L → ℕ → Bool) (hearings : L → ℕ) (heard_last : L → ℕ → List ℕ → Type 0) (tells told_sink : Type 0)
+pub record Occurred {L : Type 0} (hearing : L → Hearing) (tells told_sink : Type 0)
     (old new : MachineState) (members members_now : List L) (line : Line) (written written_now : List ℕ) : Type 0 where
   pub said : List (List ℕ)
   pub blocks : List (List ℕ)
   pub happened : Happened tells old line said blocks new
-  pub told : Told interest hearings heard_last blocks members members_now
+  pub told : Told hearing blocks members members_now
   pub text : told_sink → written_now ≡ written ++ replies_at (changes_in new) said
 
 -- a line of turns may be left where a reply is refused: of its turns no further one is made
@@ -165,23 +179,23 @@ pub record PartlySaid (step : ℕ) (said : List (List ℕ)) (written written_now
   pub text : written_now ≡ written ++ replies_at step before ++ take count (reply_at step last)
 
 -- a line was played, or the first turns of one, and its listeners told. The sink refused a reply
-pub record PlaysUnheard {L : Type 0} (interest : L → ℕ → Bool) (hearings : L → ℕ) (heard_last : L → ℕ → List ℕ → Type 0) (tells told_sink : Type 0)
+pub record PlaysUnheard {L : Type 0} (hearing : L → Hearing) (tells told_sink : Type 0)
     (old new : PlayerState) (members members_now : List L) (line : Line) (written written_now : List ℕ) : Type 0 where
   pub made : Line
   pub cut : IsCutShort line made
   pub said : List (List ℕ)
   pub blocks : List (List ℕ)
-  pub played : LinePlayed tells (map hearings members) old made said blocks new
-  pub told : Told interest hearings heard_last blocks members members_now
+  pub played : LinePlayed tells (counts_of hearing members) old made said blocks new
+  pub told : Told hearing blocks members members_now
   pub text : told_sink → PartlySaid (step_of new) said written written_now
 
 -- the same of a line that asks the machine itself
-pub record OccurredUnheard {L : Type 0} (interest : L → ℕ → Bool) (hearings : L → ℕ) (heard_last : L → ℕ → List ℕ → Type 0) (tells told_sink : Type 0)
+pub record OccurredUnheard {L : Type 0} (hearing : L → Hearing) (tells told_sink : Type 0)
     (old new : MachineState) (members members_now : List L) (line : Line) (written written_now : List ℕ) : Type 0 where
   pub made : Line
   pub cut : IsCutShort line made
   pub said : List (List ℕ)
   pub blocks : List (List ℕ)
   pub happened : Happened tells old made said blocks new
-  pub told : Told interest hearings heard_last blocks members members_now
+  pub told : Told hearing blocks members members_now
   pub text : told_sink → PartlySaid (changes_in new) said written written_now

@@ -10,7 +10,6 @@ use Rattle.erst_client.specs.Commands.{ClientState}
 use Rattle.erst_machine.specs.MachineState.{MachineState}
 use Rattle.erst_machine.specs.Allowed.{Allows}
 use Rattle.apei_script.specs.Words.{words_of_table, words_of_no_table, words_of_no_client}
-use Rattle.apei_script.specs.Replies.{IsMade}
 
 -- the steps that attaching to a table is given
 abbrev pub ATTACH_STEPS : ℕ
@@ -36,9 +35,3 @@ pub data GivesTable (tells : Type 0) (old : MachineState) (other : Option Client
   IsAttached : (erst : Erst) (client : ClientState) (left : ℕ) (new : MachineState) → BeginsWith erst bytes
       → Attaches (Allows tells) erst ATTACH_STEPS old (Ok client) left new → Reaches (Allows tells) old new
       → GivesTable tells old other bytes (words_of_table (length erst.entries)) new (Some client)
-
--- it was given and the reply made, but for the step behind it
-pub record IsGiven (tells : Type 0) (old : MachineState) (other : Option ClientState) (bytes : List ℕ) (new : MachineState) (other_now : Option ClientState) (reply : List ℕ) : Type 0 where
-  pub words : List ℕ
-  pub gives : GivesTable tells old other bytes words new other_now
-  pub made : IsMade reply words

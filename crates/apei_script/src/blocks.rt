@@ -1,10 +1,13 @@
 // What a line asks of the machine itself: error status blocks, memory, and the boot error region.
-ghost use Rattle.std.specs.Prelude.{◌≡◌, ◌*◌, ◌≤◌, length};
+ghost use Rattle.std.specs.Prelude.{◌≡◌, ◌≤◌, ℕ, List, [], ◌∷◌, length};
 ghost use Rattle.line_grammar.specs.Parts.{IsPairs};
 ghost use Rattle.script_text.specs.ScriptGrammar.{error, peek, fatal};
 ghost use Rattle.apei_script.specs.Words.{word_of};
-ghost use Rattle.apei_script.specs.Happened.{Occurs, side_of};
+ghost use Rattle.apei_script.specs.Replies.{IsMade};
+ghost use Rattle.apei_script.specs.Happened.{Happened, side_of};
+ghost use Rattle.apei_script.specs.Desks.{state_of, MakesReply};
 
+use crate::desk::Desk;
 use crate::refusals::{refuse, refuse_fatal};
 use crate::reply::Reply;
 use apei_space::Space;
@@ -13,30 +16,56 @@ use flash_model::Flash;
 use ghes_ack::{Event, Side};
 use script_text::decode;
 
-/// Gives an error status block to the handover.
-pub fn give_block<F: Flash>(
-    machine: &mut Machine<F>,
-    hex: &[u8],
-    bytes: &mut [u8],
-    reply: &mut Reply,
-)
-    requires pairs { IsPairs hex.now }
-    requires room { length hex.now ≤ 2 * length bytes.old }
-    ensures occurs { Occurs F.tells machine.old (error hex.now) machine.new reply.new }
-    ensures size { length bytes.new ≡ length bytes.old }
-{
-    let len = decode(hex, bytes);
-    match machine.submit(&bytes[..len]) {
-        Ok(waiting) => {
-            reply.begin(b"queued ");
-            reply.add_number(u64::from(waiting));
+impl<F: Flash> Desk<F> {
+    /// Gives an error status block to the handover.
+    pub fn give_block(&mut self, hex: &[u8])
+        requires pairs { IsPairs hex.now }
+        requires fits { length hex.now ≤ 140_000 }
+        ensures { MakesReply F.tells (state_of self.old) (error hex.now) (state_of self.new) self.new.buffers.reply }
+    {
+        let len = decode(hex, &mut self.buffers.bytes);
+        match self.machine.submit(&self.buffers.bytes[..len]) {
+            Ok(waiting) => {
+                self.buffers.reply.begin(b"queued ");
+                self.buffers.reply.add_number(u64::from(waiting));
+            }
+            Err(error) => refuse(&mut self.buffers.reply, &error),
         }
-        Err(error) => refuse(reply, &error),
+    }
+
+    /// Lays a fatal block into the boot error region.
+    pub fn lay_block(&mut self, hex: &[u8])
+        requires pairs { IsPairs hex.now }
+        requires fits { length hex.now ≤ 140_000 }
+        ensures { MakesReply F.tells (state_of self.old) (fatal hex.now) (state_of self.new) self.new.buffers.reply }
+    {
+        let len = decode(hex, &mut self.buffers.bytes);
+        match self.machine.lay_fatal(&self.buffers.bytes[..len]) {
+            Ok(at) => {
+                self.buffers.reply.begin(b"laid ");
+                self.buffers.reply.add_number(u64::from(at));
+            }
+            Err(error) => refuse_fatal(&mut self.buffers.reply, error),
+        }
+    }
+
+    /// Shows bytes of the machine's memory.
+    pub fn show_bytes(&mut self, at: u64, len: u64)
+        requires { len ≤ 4096 }
+        ensures { MakesReply F.tells (state_of self.old) (peek at len) (state_of self.new) self.new.buffers.reply }
+    {
+        make_bytes(
+            &mut self.machine,
+            at,
+            len,
+            &mut self.buffers.bytes,
+            &mut self.buffers.reply,
+        );
     }
 }
 
-/// Shows bytes of the machine's memory.
-pub fn show_bytes<F: Flash>(
+/// The reply that shows bytes of a machine's memory.
+fn make_bytes<F: Flash>(
     machine: &mut Machine<F>,
     at: u64,
     len: u64,
@@ -45,7 +74,7 @@ pub fn show_bytes<F: Flash>(
 )
     requires few { len ≤ 4096 }
     requires room { 4096 ≤ length bytes.old }
-    ensures occurs { Occurs F.tells machine.old (peek at len) machine.new reply.new }
+    ensures made { (words : List ℕ) × Happened F.tells machine.old (peek at len) (words ∷ []) [] machine.new × IsMade reply.new words }
     ensures size { length bytes.new ≡ length bytes.old }
 {
     let out = &mut bytes[..len as usize];
@@ -55,28 +84,6 @@ pub fn show_bytes<F: Flash>(
             reply.add_hex(out);
         }
         Err(fault) => refuse(reply, &fault),
-    }
-}
-
-/// Lays a fatal block into the boot error region.
-pub fn lay_block<F: Flash>(
-    machine: &mut Machine<F>,
-    hex: &[u8],
-    bytes: &mut [u8],
-    reply: &mut Reply,
-)
-    requires pairs { IsPairs hex.now }
-    requires room { length hex.now ≤ 2 * length bytes.old }
-    ensures occurs { Occurs F.tells machine.old (fatal hex.now) machine.new reply.new }
-    ensures size { length bytes.new ≡ length bytes.old }
-{
-    let len = decode(hex, bytes);
-    match machine.lay_fatal(&bytes[..len]) {
-        Ok(at) => {
-            reply.begin(b"laid ");
-            reply.add_number(u64::from(at));
-        }
-        Err(error) => refuse_fatal(reply, error),
     }
 }
 

@@ -1,11 +1,13 @@
 // The memory in which lines are carried out.
 ghost use Rattle.std.specs.Prelude.{◌≡◌, ◌≤◌, [], vec_len, vec_capacity, IfOk};
 
-use crate::commands::LONGEST_HEX;
 use crate::reply::Reply;
 use apei_bytes::Memory;
 use ghes_ack::Event;
 use std::alloc::Global;
+
+/// The bytes that the longest line stands for.
+const LONGEST_HEX: usize = 70_000;
 
 /// The most turns of a line.
 const MOST_TURNS: usize = 4096;

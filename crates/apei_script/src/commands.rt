@@ -1,11 +1,16 @@
 // What a line asks of the client in use.
-ghost use Rattle.std.specs.Prelude.{◌≡◌, ◌*◌, ◌≤◌, ℕ, List, length, Ok};
+ghost use Rattle.std.specs.Prelude.{◌≡◌, ◌*◌, ◌≤◌, ℕ, List, length, true, Ok};
 ghost use Rattle.line_grammar.specs.Parts.{IsPairs};
 ghost use Rattle.script_text.specs.ScriptGrammar.{Line, write, read, clear, count, next, dummy, action};
+ghost use Rattle.script_text.specs.ScriptText.{line_of};
+ghost use Rattle.apei_script.specs.Players.{budget_by};
 ghost use Rattle.apei_script.specs.Words.{words_of_write};
 ghost use Rattle.apei_script.specs.Replies.{IsMade};
 ghost use Rattle.apei_script.specs.Asked.{Answers};
+ghost use Rattle.apei_script.specs.Plays.{IsPlayable, asks_client};
+ghost use Rattle.apei_script.specs.Desks.{state_of, MakesReply};
 
+use crate::desk::Desk;
 use crate::refusals::{refuse, refuse_behind};
 use crate::reply::Reply;
 use apei_bytes::get_u64;
@@ -13,18 +18,75 @@ use erst_client::Client;
 use erst_interp::{Budget, run};
 use erst_machine::Machine;
 use flash_model::Flash;
-use script_text::decode;
+use script_text::{ScriptLine, decode};
 
-/// The bytes that the longest line stands for, and those of the longest record that is read.
-pub const LONGEST_HEX: usize = 70_000;
-
+/// The bytes of the longest record that is read.
 const READ_BUFFER: usize = 65_536;
 
 /// The offset of a record's identifier, and the bytes of its header.
 const ID: usize = 96;
 
+impl<F: Flash> Desk<F> {
+    /// Carries out what a line asks of the client in use.
+    pub fn ask(&mut self, line: &ScriptLine<'_>)
+        requires playable { IsPlayable (line_of line.now) }
+        requires asks { asks_client (line_of line.now) ≡ true }
+        ensures { MakesReply F.tells (state_of self.old) (line_of line.now) (state_of self.new) self.new.buffers.reply }
+    {
+        match &mut self.other {
+            Some(client) => run_command(
+                client,
+                &mut self.machine,
+                self.steps,
+                line,
+                &mut self.buffers.bytes,
+                &mut self.buffers.reply,
+            ),
+            None => run_command(
+                &mut self.own,
+                &mut self.machine,
+                self.steps,
+                line,
+                &mut self.buffers.bytes,
+                &mut self.buffers.reply,
+            ),
+        }
+    }
+}
+
+/// Runs a line's command by a client, under the budget of one line.
+fn run_command<F: Flash>(
+    client: &mut Client,
+    machine: &mut Machine<F>,
+    steps: Option<u64>,
+    line: &ScriptLine<'_>,
+    bytes: &mut [u8],
+    reply: &mut Reply,
+)
+    requires playable { IsPlayable (line_of line.now) }
+    requires asks { asks_client (line_of line.now) ≡ true }
+    requires room { length bytes.old ≡ 70_000 }
+    ensures answers { Answers F.tells client.old (budget_by steps client.old) machine.old (line_of line.now) machine.new reply.new }
+    ensures kept { client.new ≡ client.old }
+    ensures size { length bytes.new ≡ length bytes.old }
+{
+    let steps = steps.unwrap_or(client.enough());
+    match line {
+        ScriptLine::Write { hex } => write_record(client, machine, steps, hex, bytes, reply),
+        ScriptLine::Read { id } => read_record(client, machine, steps, *id, bytes, reply),
+        ScriptLine::Clear { id } => clear_record(client, machine, steps, *id, reply),
+        ScriptLine::Count => count_records(client, machine, steps, reply),
+        ScriptLine::Next => show_next(client, machine, steps, reply),
+        ScriptLine::Dummy => write_dummy(client, machine, steps, reply),
+        ScriptLine::Action { code, value } => run_action(
+            client, machine, steps, *code, *value, reply,
+        ),
+        _ => unreachable!(),
+    }
+}
+
 /// Writes the record of a line.
-pub fn write_record<F: Flash>(
+fn write_record<F: Flash>(
     client: &mut Client,
     machine: &mut Machine<F>,
     steps: u64,
@@ -58,7 +120,7 @@ fn wrote(bytes: &[u8], reply: &mut Reply)
 }
 
 /// Shows the record of an identifier.
-pub fn read_record<F: Flash>(
+fn read_record<F: Flash>(
     client: &mut Client,
     machine: &mut Machine<F>,
     steps: u64,
@@ -80,7 +142,7 @@ pub fn read_record<F: Flash>(
 }
 
 /// Clears an identifier.
-pub fn clear_record<F: Flash>(
+fn clear_record<F: Flash>(
     client: &mut Client,
     machine: &mut Machine<F>,
     steps: u64,
@@ -101,7 +163,7 @@ pub fn clear_record<F: Flash>(
 }
 
 /// Counts the records.
-pub fn count_records<F: Flash>(
+fn count_records<F: Flash>(
     client: &mut Client,
     machine: &mut Machine<F>,
     steps: u64,
@@ -121,12 +183,7 @@ pub fn count_records<F: Flash>(
 }
 
 /// Shows the next identifier.
-pub fn show_next<F: Flash>(
-    client: &mut Client,
-    machine: &mut Machine<F>,
-    steps: u64,
-    reply: &mut Reply,
-)
+fn show_next<F: Flash>(client: &mut Client, machine: &mut Machine<F>, steps: u64, reply: &mut Reply)
     ensures answers { Answers F.tells client.old steps machine.old next machine.new reply.new }
     ensures kept { client.new ≡ client.old }
 {
@@ -142,7 +199,7 @@ pub fn show_next<F: Flash>(
 }
 
 /// Goes through a write that stores nothing.
-pub fn write_dummy<F: Flash>(
+fn write_dummy<F: Flash>(
     client: &mut Client,
     machine: &mut Machine<F>,
     steps: u64,
@@ -159,7 +216,7 @@ pub fn write_dummy<F: Flash>(
 }
 
 /// Runs the program of an action of the client's table.
-pub fn run_action<F: Flash>(
+fn run_action<F: Flash>(
     client: &Client,
     machine: &mut Machine<F>,
     steps: u64,

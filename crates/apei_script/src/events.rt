@@ -1,17 +1,16 @@
 // Lines that the listeners have a part in, and that of the boot error region: they have more than one reply, or one of any length.
-ghost use Rattle.std.specs.Prelude.{◌≡◌, ◌≤◌, ◌++◌, ◌∷◌, [], ℕ, List, length, map, take, true, false, IsTrue, OnOk, OnErr, IfSome, Some, None, Ok, ◌+◌, ◌-◌, ◌<◌};
+ghost use Rattle.std.specs.Prelude.{◌≡◌, ◌≤◌, ◌++◌, ◌∷◌, [], ℕ, List, length, take, true, false, IsTrue, OnOk, OnErr, IfSome, Some, None, Ok, ◌+◌, ◌-◌, ◌<◌};
 ghost use Rattle.base_model.specs.Bytes.{part};
 ghost use Rattle.base_model.specs.Faults.{HasCause};
 ghost use Rattle.bert_region.specs.Region.{next_from};
 ghost use Rattle.ghes_ack.specs.Machine.{Fits};
 ghost use Rattle.erst_machine.specs.Events.{Turns};
-ghost use Rattle.script_text.specs.ScriptGrammar.{turns};
-ghost use Rattle.apei_notify.specs.Chains.{members_of};
 ghost use Rattle.apei_script.specs.Replies.{IsMade};
 ghost use Rattle.apei_script.specs.Happened.{side_of};
 ghost use Rattle.apei_script.specs.Words.{words_of_turns, words_of_heard, words_of_block, words_of_bert, reply_at};
-ghost use Rattle.apei_script.specs.Plays.{Occurred, OccurredUnheard, Told, changes_in};
+ghost use Rattle.apei_script.specs.Plays.{changes_in};
 ghost use Rattle.apei_script.specs.Desks.{state_of, SameClients, Lists, ListsUnheard};
+ghost use Rattle.apei_script.specs.Played.{AreTold, heard_by, AreTurned, AreTurnedUnheard};
 
 use crate::blocks::{side_of, word_of};
 use crate::desk::Desk;
@@ -32,16 +31,8 @@ pub fn turns<F: Flash, O: Sink>(
     out: &mut O,
 ) -> Result<(), SinkFault>
     requires { length letters.now ≤ 4096 }
-    ensures occurred { OnOk result (Occurred
-        (λ b. (⟦<dyn Listener as Listener>⟧ b.vtable).interest b.value)
-        (λ b. (⟦<dyn Listener as Listener>⟧ b.vtable).hearings b.value)
-        (λ b. (⟦<dyn Listener as Listener>⟧ b.vtable).heard_last b.value)
-        F.tells O.tells desk.old.machine desk.new.machine (members_of chain.old) (members_of chain.new) (turns letters.now) (O.written out.old) (O.written out.new)) }
-    ensures unheard { OnErr result (OccurredUnheard
-        (λ b. (⟦<dyn Listener as Listener>⟧ b.vtable).interest b.value)
-        (λ b. (⟦<dyn Listener as Listener>⟧ b.vtable).hearings b.value)
-        (λ b. (⟦<dyn Listener as Listener>⟧ b.vtable).heard_last b.value)
-        F.tells O.tells desk.old.machine desk.new.machine (members_of chain.old) (members_of chain.new) (turns letters.now) (O.written out.old) (O.written out.new)) }
+    ensures occurred { OnOk result (AreTurned hearing F.tells O.tells desk.old chain.old letters.now desk.new chain.new (O.written out.old) (O.written out.new)) }
+    ensures unheard { OnErr result (AreTurnedUnheard hearing F.tells O.tells desk.old chain.old letters.now desk.new chain.new (O.written out.old) (O.written out.new)) }
     ensures clients { SameClients desk.old desk.new }
     ensures cause { HasCause (O.faults out.old) (O.faults out.new) result }
 {
@@ -65,8 +56,7 @@ fn turn<F: Flash>(machine: &mut Machine<F>, letter: u8) -> Event
     ensures turned { Turns (side_of letter) machine.old result machine.new }
     ensures took { result ≡ Event.Took → Fits 4096 machine.new.handover.last }
 {
-    // The handover's map is that of every machine.
-    let _ = machine.reach();
+    machine.stands();
     machine.turn(side_of(letter))
 }
 
@@ -80,11 +70,7 @@ fn hear_of_block<F: Flash, O: Sink>(
     out: &mut O,
 ) -> Result<(), SinkFault>
     requires { Fits 4096 desk.old.machine.handover.last }
-    ensures told { Told
-        (λ b. (⟦<dyn Listener as Listener>⟧ b.vtable).interest b.value)
-        (λ b. (⟦<dyn Listener as Listener>⟧ b.vtable).hearings b.value)
-        (λ b. (⟦<dyn Listener as Listener>⟧ b.vtable).heard_last b.value)
-        (desk.old.machine.handover.last ∷ []) (members_of chain.old) (members_of chain.new) }
+    ensures told { AreTold hearing (desk.old.machine.handover.last ∷ []) chain.old chain.new }
     ensures all { OnOk result (O.tells → O.written out.new ≡ O.written out.old ++ reply_at (changes_in desk.old.machine) (words_of_block desk.old.machine.handover.last)) }
     ensures part { OnErr result (O.tells → (n : ℕ) × (O.written out.new ≡ O.written out.old ++ take n (reply_at (changes_in desk.old.machine) (words_of_block desk.old.machine.handover.last)))) }
     ensures machine { desk.new.machine ≡ desk.old.machine }
@@ -121,8 +107,7 @@ pub fn list_blocks<F: Flash, O: Sink>(desk: &mut Desk<F>, out: &mut O) -> Result
     ensures clients { SameClients desk.old desk.new }
     ensures cause { HasCause (O.faults out.old) (O.faults out.new) result }
 {
-    // The region holds whole blocks.
-    let _ = desk.machine.reach();
+    desk.machine.stands();
     let mut at = 0;
     let mut count = 0u64;
     'listing: while let Some(next) = next_block(&desk.machine, at) {
@@ -205,8 +190,7 @@ fn region_bytes<F: Flash>(machine: &mut Machine<F>, at: u32, out: &mut [u8])
     ensures bytes { out.new ≡ part machine.old.memory.region at (length out.old) }
     ensures machine { machine.new ≡ machine.old }
 {
-    // The region stands in the map.
-    let _ = machine.reach();
+    machine.stands();
     let _ = machine.read_bytes(REGION + u64::from(at), out);
 }
 
@@ -234,9 +218,9 @@ pub fn say_heard<F: Flash, O: Sink>(
 ) -> Result<(), SinkFault>
     ensures desk { state_of desk.new ≡ state_of desk.old }
     ensures all { OnOk result (O.tells → O.written out.new ≡ O.written out.old
-        ++ reply_at (changes_in desk.old.machine) (words_of_heard (map (λ b. (⟦<dyn Listener as Listener>⟧ b.vtable).hearings b.value) (members_of chain.now)))) }
+        ++ reply_at (changes_in desk.old.machine) (words_of_heard (heard_by hearing chain.now))) }
     ensures part { OnErr result (O.tells → (n : ℕ) × (O.written out.new ≡ O.written out.old
-        ++ take n (reply_at (changes_in desk.old.machine) (words_of_heard (map (λ b. (⟦<dyn Listener as Listener>⟧ b.vtable).hearings b.value) (members_of chain.now)))))) }
+        ++ take n (reply_at (changes_in desk.old.machine) (words_of_heard (heard_by hearing chain.now))))) }
     ensures cause { HasCause (O.faults out.old) (O.faults out.new) result }
 {
     let step = desk.machine.steps();

@@ -1,14 +1,15 @@
 // The player.
-ghost use Rattle.std.specs.Prelude.{◌≡◌, ◌≢◌, ◌≤◌, ◌++◌, length, true, Ok, Err, OnOk, OnErr, IfOk, IfErr};
-ghost use Rattle.base_model.specs.Faults.{Rose, HasCause};
-ghost use Rattle.script_text.specs.ScriptGrammar.{IsValid, text_of, turns, bert, heard};
+ghost use Rattle.std.specs.Prelude.{◌≡◌, ◌≢◌, true, Ok, Err, OnOk, IfOk, IfErr};
+ghost use Rattle.base_model.specs.Faults.{Rose};
 ghost use Rattle.script_text.specs.ScriptText.{line_of};
 ghost use Rattle.apei_notify.specs.Chains.{members_of};
 ghost use Rattle.apei_script.specs.declared.player.PlayStop.TheVariants.{SinkFault as TheSinkFault, Memory as TheMemory};
 ghost use Rattle.apei_script.specs.Players.{player_of};
-ghost use Rattle.apei_script.specs.Plays.{step_of, IsBuilt, has_one_reply, Stops, PlaysLine, PlaysUnheard};
+ghost use Rattle.erst_machine.specs.MachineState.{IsMachine};
 ghost use Rattle.erst_machine.specs.Shown.{changes_of};
+ghost use Rattle.apei_script.specs.Plays.{IsPlayable, Stops, step_of, has_one_reply};
 ghost use Rattle.apei_script.specs.Desks.{state_of, LineAnswered};
+ghost use Rattle.apei_script.specs.Played.{IsPlayed, IsUnheard, IsStopped};
 
 use crate::buffers::Buffers;
 use crate::desk::Desk;
@@ -98,164 +99,49 @@ impl<F: Flash> Player<F> {
 
     /// Plays one line, and writes its replies.
     pub fn play<O: Sink>(&mut self, line: &ScriptLine<'_>, out: &mut O) -> Result<(), PlayStop>
-        requires valid { IsValid (line_of line.now) }
-        requires built { IsBuilt (line_of line.now) }
-        requires fits { length (text_of (line_of line.now)) ≤ 140_000 }
-        ensures played { OnOk result (PlaysLine
-            (λ b. (⟦<dyn Listener as Listener>⟧ b.vtable).interest b.value)
-            (λ b. (⟦<dyn Listener as Listener>⟧ b.vtable).hearings b.value)
-            (λ b. (⟦<dyn Listener as Listener>⟧ b.vtable).heard_last b.value)
-            F.tells O.tells (state_of self.old.desk) (state_of self.new.desk) (members_of self.old.chain) (members_of self.new.chain) (line_of line.now)
-            (O.written out.old) (O.written out.new)) }
-        ensures unheard { result ≡ Err PlayStop.SinkFault → PlaysUnheard
-            (λ b. (⟦<dyn Listener as Listener>⟧ b.vtable).interest b.value)
-            (λ b. (⟦<dyn Listener as Listener>⟧ b.vtable).hearings b.value)
-            (λ b. (⟦<dyn Listener as Listener>⟧ b.vtable).heard_last b.value)
-            F.tells O.tells (state_of self.old.desk) (state_of self.new.desk) (members_of self.old.chain) (members_of self.new.chain) (line_of line.now)
-            (O.written out.old) (O.written out.new) }
-        ensures stopped { IfErr result (λ stop. stop ≢ PlayStop.SinkFault → Stops F.tells (state_of self.old.desk) (line_of line.now) (state_of self.new.desk) stop
-            × (members_of self.new.chain ≡ members_of self.old.chain) × (out.new ≡ out.old)) }
-        ensures fault { result ≡ Err PlayStop.SinkFault → Rose (O.faults out.old) (O.faults out.new) }
-        ensures no_fault { result ≢ Err PlayStop.SinkFault → O.faults out.new ≡ O.faults out.old }
-
-        // The step behind each reply counts the changes that the flash tells.
-        ensures counted { F.tells → changes_of (state_of self.new.desk).machine ≡ step_of (state_of self.new.desk) }
-    {
-        let played = self.play_line(line, out);
-        let _ = self.desk.machine.steps();
-        played
-    }
-
-    /// The line itself.
-    fn play_line<O: Sink>(&mut self, line: &ScriptLine<'_>, out: &mut O) -> Result<(), PlayStop>
-        requires valid { IsValid (line_of line.now) }
-        requires built { IsBuilt (line_of line.now) }
-        requires fits { length (text_of (line_of line.now)) ≤ 140_000 }
-        ensures played { OnOk result (PlaysLine
-            (λ b. (⟦<dyn Listener as Listener>⟧ b.vtable).interest b.value)
-            (λ b. (⟦<dyn Listener as Listener>⟧ b.vtable).hearings b.value)
-            (λ b. (⟦<dyn Listener as Listener>⟧ b.vtable).heard_last b.value)
-            F.tells O.tells (state_of self.old.desk) (state_of self.new.desk) (members_of self.old.chain) (members_of self.new.chain) (line_of line.now)
-            (O.written out.old) (O.written out.new)) }
-        ensures unheard { result ≡ Err PlayStop.SinkFault → PlaysUnheard
-            (λ b. (⟦<dyn Listener as Listener>⟧ b.vtable).interest b.value)
-            (λ b. (⟦<dyn Listener as Listener>⟧ b.vtable).hearings b.value)
-            (λ b. (⟦<dyn Listener as Listener>⟧ b.vtable).heard_last b.value)
-            F.tells O.tells (state_of self.old.desk) (state_of self.new.desk) (members_of self.old.chain) (members_of self.new.chain) (line_of line.now)
-            (O.written out.old) (O.written out.new) }
-        ensures stopped { IfErr result (λ stop. stop ≢ PlayStop.SinkFault → Stops F.tells (state_of self.old.desk) (line_of line.now) (state_of self.new.desk) stop
-            × (members_of self.new.chain ≡ members_of self.old.chain) × (out.new ≡ out.old)) }
+        requires { IsPlayable (line_of line.now) }
+        ensures played { OnOk result (IsPlayed hearing F.tells O.tells self.old (line_of line.now) self.new (O.written out.old) (O.written out.new)) }
+        ensures unheard { result ≡ Err PlayStop.SinkFault → IsUnheard hearing F.tells O.tells self.old (line_of line.now) self.new (O.written out.old) (O.written out.new) }
+        ensures stopped { IfErr result (λ stop. stop ≢ PlayStop.SinkFault → IsStopped F.tells self.old (line_of line.now) self.new stop × (out.new ≡ out.old)) }
         ensures fault { result ≡ Err PlayStop.SinkFault → Rose (O.faults out.old) (O.faults out.new) }
         ensures no_fault { result ≢ Err PlayStop.SinkFault → O.faults out.new ≡ O.faults out.old }
     {
         match line {
             ScriptLine::Blank => {}
-            ScriptLine::Turns { letters } => self.play_turns(letters, out)?,
-            ScriptLine::Bert => self.play_bert(out)?,
-            ScriptLine::Heard => self.play_heard(out)?,
-            line => self.play_answer(line, out)?,
+            ScriptLine::Turns { letters } => turns(&mut self.desk, &mut self.chain, letters, out)?,
+            ScriptLine::Bert => list_blocks(&mut self.desk, out)?,
+            ScriptLine::Heard => say_heard(&mut self.desk, &self.chain, out)?,
+            line => {
+                self.answer(line)?;
+                write_all(out, self.reply())?;
+            }
         }
-        Ok(())
-    }
-
-    fn play_turns<O: Sink>(&mut self, letters: &[u8], out: &mut O) -> Result<(), SinkFault>
-        requires { length letters.now ≤ 4096 }
-        ensures played { OnOk result (PlaysLine
-            (λ b. (⟦<dyn Listener as Listener>⟧ b.vtable).interest b.value)
-            (λ b. (⟦<dyn Listener as Listener>⟧ b.vtable).hearings b.value)
-            (λ b. (⟦<dyn Listener as Listener>⟧ b.vtable).heard_last b.value)
-            F.tells O.tells (state_of self.old.desk) (state_of self.new.desk) (members_of self.old.chain) (members_of self.new.chain) (turns letters.now)
-            (O.written out.old) (O.written out.new)) }
-        ensures unheard { OnErr result (PlaysUnheard
-            (λ b. (⟦<dyn Listener as Listener>⟧ b.vtable).interest b.value)
-            (λ b. (⟦<dyn Listener as Listener>⟧ b.vtable).hearings b.value)
-            (λ b. (⟦<dyn Listener as Listener>⟧ b.vtable).heard_last b.value)
-            F.tells O.tells (state_of self.old.desk) (state_of self.new.desk) (members_of self.old.chain) (members_of self.new.chain) (turns letters.now)
-            (O.written out.old) (O.written out.new)) }
-        ensures cause { HasCause (O.faults out.old) (O.faults out.new) result }
-    {
-        turns(&mut self.desk, &mut self.chain, letters, out)
-    }
-
-    fn play_bert<O: Sink>(&mut self, out: &mut O) -> Result<(), SinkFault>
-        ensures played { OnOk result (PlaysLine
-            (λ b. (⟦<dyn Listener as Listener>⟧ b.vtable).interest b.value)
-            (λ b. (⟦<dyn Listener as Listener>⟧ b.vtable).hearings b.value)
-            (λ b. (⟦<dyn Listener as Listener>⟧ b.vtable).heard_last b.value)
-            F.tells O.tells (state_of self.old.desk) (state_of self.new.desk) (members_of self.old.chain) (members_of self.new.chain) bert
-            (O.written out.old) (O.written out.new)) }
-        ensures unheard { OnErr result (PlaysUnheard
-            (λ b. (⟦<dyn Listener as Listener>⟧ b.vtable).interest b.value)
-            (λ b. (⟦<dyn Listener as Listener>⟧ b.vtable).hearings b.value)
-            (λ b. (⟦<dyn Listener as Listener>⟧ b.vtable).heard_last b.value)
-            F.tells O.tells (state_of self.old.desk) (state_of self.new.desk) (members_of self.old.chain) (members_of self.new.chain) bert
-            (O.written out.old) (O.written out.new)) }
-        ensures cause { HasCause (O.faults out.old) (O.faults out.new) result }
-    {
-        list_blocks(&mut self.desk, out)
-    }
-
-    fn play_heard<O: Sink>(&mut self, out: &mut O) -> Result<(), SinkFault>
-        ensures played { OnOk result (PlaysLine
-            (λ b. (⟦<dyn Listener as Listener>⟧ b.vtable).interest b.value)
-            (λ b. (⟦<dyn Listener as Listener>⟧ b.vtable).hearings b.value)
-            (λ b. (⟦<dyn Listener as Listener>⟧ b.vtable).heard_last b.value)
-            F.tells O.tells (state_of self.old.desk) (state_of self.new.desk) (members_of self.old.chain) (members_of self.new.chain) heard
-            (O.written out.old) (O.written out.new)) }
-        ensures unheard { OnErr result (PlaysUnheard
-            (λ b. (⟦<dyn Listener as Listener>⟧ b.vtable).interest b.value)
-            (λ b. (⟦<dyn Listener as Listener>⟧ b.vtable).hearings b.value)
-            (λ b. (⟦<dyn Listener as Listener>⟧ b.vtable).heard_last b.value)
-            F.tells O.tells (state_of self.old.desk) (state_of self.new.desk) (members_of self.old.chain) (members_of self.new.chain) heard
-            (O.written out.old) (O.written out.new)) }
-        ensures cause { HasCause (O.faults out.old) (O.faults out.new) result }
-    {
-        say_heard(&mut self.desk, &self.chain, out)
-    }
-
-    /// Plays a line of one reply that the listeners have no part in.
-    fn play_answer<O: Sink>(&mut self, line: &ScriptLine<'_>, out: &mut O) -> Result<(), PlayStop>
-        requires valid { IsValid (line_of line.now) }
-        requires one { has_one_reply (line_of line.now) ≡ true }
-        requires fits { length (text_of (line_of line.now)) ≤ 140_000 }
-        ensures played { OnOk result (PlaysLine
-            (λ b. (⟦<dyn Listener as Listener>⟧ b.vtable).interest b.value)
-            (λ b. (⟦<dyn Listener as Listener>⟧ b.vtable).hearings b.value)
-            (λ b. (⟦<dyn Listener as Listener>⟧ b.vtable).heard_last b.value)
-            F.tells O.tells (state_of self.old.desk) (state_of self.new.desk) (members_of self.old.chain) (members_of self.new.chain) (line_of line.now)
-            (O.written out.old) (O.written out.new)) }
-        ensures unheard { result ≡ Err PlayStop.SinkFault → PlaysUnheard
-            (λ b. (⟦<dyn Listener as Listener>⟧ b.vtable).interest b.value)
-            (λ b. (⟦<dyn Listener as Listener>⟧ b.vtable).hearings b.value)
-            (λ b. (⟦<dyn Listener as Listener>⟧ b.vtable).heard_last b.value)
-            F.tells O.tells (state_of self.old.desk) (state_of self.new.desk) (members_of self.old.chain) (members_of self.new.chain) (line_of line.now)
-            (O.written out.old) (O.written out.new) }
-        ensures stopped { IfErr result (λ stop. stop ≢ PlayStop.SinkFault → Stops F.tells (state_of self.old.desk) (line_of line.now) (state_of self.new.desk) stop
-            × (members_of self.new.chain ≡ members_of self.old.chain) × (out.new ≡ out.old)) }
-        ensures fault { result ≡ Err PlayStop.SinkFault → Rose (O.faults out.old) (O.faults out.new) }
-        ensures no_fault { result ≢ Err PlayStop.SinkFault → O.faults out.new ≡ O.faults out.old }
-    {
-        self.answer(line)?;
-        write_all(out, self.reply())?;
         Ok(())
     }
 
     /// Plays a line of one reply that the listeners have no part in, and keeps the reply, which `reply` shows.
     pub fn answer(&mut self, line: &ScriptLine<'_>) -> Result<(), PlayStop>
-        requires valid { IsValid (line_of line.now) }
+        requires playable { IsPlayable (line_of line.now) }
         requires one { has_one_reply (line_of line.now) ≡ true }
-        requires fits { length (text_of (line_of line.now)) ≤ 140_000 }
         ensures answered { OnOk result (LineAnswered F.tells (state_of self.old.desk) (line_of line.now) (state_of self.new.desk) self.new.desk.buffers.reply) }
-        ensures stopped { IfErr result (λ stop. Stops F.tells (state_of self.old.desk) (line_of line.now) (state_of self.new.desk) stop) }
+        ensures stopped { IfErr result (Stops F.tells (state_of self.old.desk) (line_of line.now) (state_of self.new.desk)) }
         ensures listeners { members_of self.new.chain ≡ members_of self.old.chain }
-        ensures counted { F.tells → changes_of (state_of self.new.desk).machine ≡ step_of (state_of self.new.desk) }
     {
         a_line_is_the_maps::<F>();
-        // The law is of machines.
-        let _ = self.desk.machine.reach();
-        let answered = self.desk.answer(line);
-        let _ = self.desk.machine.steps();
-        answered
+        self.desk.machine.stands();
+        self.desk.carry_out(line)?;
+        self.desk.buffers.reply.end(self.desk.machine.steps());
+        Ok(())
+    }
+
+    /// What is true of every player: it does nothing.
+    pub fn stands(&self)
+        ensures machine { IsMachine (state_of self.now.desk).machine }
+
+        // The step behind each reply counts the changes that the flash tells.
+        ensures counted { F.tells → changes_of (state_of self.now.desk).machine ≡ step_of (state_of self.now.desk) }
+    {
+        self.desk.machine.stands();
     }
 
     /// The reply that was made last.

@@ -1,49 +1,59 @@
-// A line that gives a table.
-ghost use Rattle.std.specs.Prelude.{◌≡◌, OnOk, OnErr};
-ghost use Rattle.apei_script.specs.Tables.{IsGiven};
+// Lines that say whose table is used.
+ghost use Rattle.std.specs.Prelude.{◌≡◌, ◌≤◌, length, OnOk, IfErr};
+ghost use Rattle.line_grammar.specs.Parts.{IsPairs};
+ghost use Rattle.script_text.specs.ScriptGrammar.{table, own_table};
+ghost use Rattle.apei_script.specs.Plays.{Stops};
+ghost use Rattle.apei_script.specs.Desks.{state_of, MakesReply};
 
+use crate::desk::Desk;
+use crate::player::PlayStop;
 use crate::refusals::{refuse, refuse_behind};
-use crate::reply::Reply;
-use apei_bytes::Memory;
 use erst_client::Client;
 use erst_entries::{ErstError, ErstTable};
 use erst_interp::Budget;
-use erst_machine::Machine;
 use flash_model::Flash;
-use std::alloc::Global;
+use script_text::decode;
 
 /// The steps that attaching to a table is given.
 pub const ATTACH_STEPS: u64 = 64;
 
-/// Attaches a client to the table that some bytes begin with: it takes the place of the one that a line gave before. Where it is refused
-/// that one stays.
-pub fn give_table<F: Flash>(
-    alloc: Global,
-    other: &mut Option<Client>,
-    machine: &mut Machine<F>,
-    bytes: &[u8],
-    reply: &mut Reply,
-) -> Result<(), Memory>
-    ensures given { OnOk result (IsGiven F.tells machine.old other.old bytes.now machine.new other.new reply.new) }
-    ensures kept { OnErr result ((machine.new ≡ machine.old) × (other.new ≡ other.old)) }
-{
-    let table = match ErstTable::decode(alloc, bytes) {
-        Ok((table, _)) => table,
-        Err(ErstError::Memory) => return Err(Memory),
-        Err(error) => {
-            refuse_behind(reply, b"table ", &error);
-            return Ok(());
+impl<F: Flash> Desk<F> {
+    /// Attaches a client to the table that the bytes of a line begin with: it takes the place of the one that a line gave before. Where it is
+    /// refused that one stays.
+    pub fn give_table(&mut self, hex: &[u8]) -> Result<(), PlayStop>
+        requires pairs { IsPairs hex.now }
+        requires fits { length hex.now ≤ 140_000 }
+        ensures made { OnOk result (MakesReply F.tells (state_of self.old) (table hex.now) (state_of self.new) self.new.buffers.reply) }
+        ensures stopped { IfErr result (λ stop. Stops F.tells (state_of self.old) (table hex.now) (state_of self.new) stop) }
+    {
+        let len = decode(hex, &mut self.buffers.bytes);
+        let table = match ErstTable::decode(self.alloc, &self.buffers.bytes[..len]) {
+            Ok((table, _)) => table,
+            Err(ErstError::Memory) => return Err(PlayStop::Memory),
+            Err(error) => {
+                refuse_behind(&mut self.buffers.reply, b"table ", &error);
+                return Ok(());
+            }
+        };
+        let entries = table.len() as u64;
+        let mut budget = Budget::new(ATTACH_STEPS);
+        match Client::attach(table, &mut budget, &mut self.machine) {
+            Ok(client) => {
+                self.other = Some(client);
+                self.buffers.reply.begin(b"table ");
+                self.buffers.reply.add_number(entries);
+            }
+            Err(error) => refuse(&mut self.buffers.reply, &error),
         }
-    };
-    let entries = table.len() as u64;
-    let mut budget = Budget::new(ATTACH_STEPS);
-    match Client::attach(table, &mut budget, machine) {
-        Ok(client) => {
-            *other = Some(client);
-            reply.begin(b"table ");
-            reply.add_number(entries);
-        }
-        Err(error) => refuse(reply, &error),
+        Ok(())
     }
-    Ok(())
+
+    /// From here on the client that was attached first is in use again.
+    pub fn use_own_table(&mut self)
+        ensures { MakesReply F.tells (state_of self.old) own_table (state_of self.new) self.new.buffers.reply }
+    {
+        self.other = None;
+        self.buffers.reply.begin(b"table ");
+        self.buffers.reply.add_number(self.own.table().len() as u64);
+    }
 }

@@ -153,6 +153,14 @@ impl<F: Flash> Machine<F> {
         self.device.store().flash().steps()
     }
 
+    /// What is true of every machine: it does nothing.
+    pub fn stands(&self)
+        ensures machine { IsMachine self.now }
+        ensures counted { F.tells → changes_of self.now ≡ self.now.device.store.flash.steps }
+    {
+        let _ = self.device.store().flash();
+    }
+
     /// Restarts the device and the handover, whose waiting and unread blocks are lost; memory stays. The store looks at its
     /// slots again, and the number of its records is answered. Where the flash fails, all else was done and the store is in
     /// doubt.

@@ -1,5 +1,4 @@
-use Rattle.std.proofs.Common.{◌≡◌, ◌∙◌, ◌^◌, ◌<◌, rules, lit<, sym, ap, subst, arith}
-use Rattle.std.proofs.lemmas.Fmt.{length-decimal-le}
+use Rattle.std.proofs.Common.{◌≡◌, ◌∙◌, rules, sym, ap, subst, arith}
 use Rattle.line_grammar.specs.Parts.{IsPairs}
 use Rattle.hex.specs.Hex.{encode_lower}
 use Rattle.script_text.specs.ScriptGrammar.{Line, write}
@@ -11,20 +10,10 @@ use Rattle.apei_gen.specs.Generated.{IsAsked}
 use Rattle.apei_gen.proofs.RecordLemmas.{record_pairs}
 use Rattle.apei_gen.proofs.generator.play.Goals as goal
 
-pub ask-requires-clause-valid : goal.ask-requires-clause-valid
-ask-requires-clause-valid g c =
+pub ask-requires-clause-playable : goal.ask-requires-clause-playable
+ask-requires-clause-playable g c =
     let hex : c.put_record.new.hex ≡ encode_lower (record_of c.in-Write.id c.in-Write.size) = c.put_record.ensures in
-    subst IsPairs (sym hex) (record_pairs c.in-Write.id c.in-Write.size)
-
-pub ask-requires-in-Clear-clause-fits : goal.ask-requires-in-Clear-clause-fits
-ask-requires-in-Clear-clause-fits g c =
-    let small : c.in-Clear.id < 2 ^ 64 = search rules in
-    omega (arith, length-decimal-le 20 c.in-Clear.id (lit< tt) (omega arith) small)
-
-pub ask-requires-in-Read-clause-fits : goal.ask-requires-in-Read-clause-fits
-ask-requires-in-Read-clause-fits g c =
-    let small : c.in-Read.id < 2 ^ 64 = search rules in
-    omega (arith, length-decimal-le 20 c.in-Read.id (lit< tt) (omega arith) small)
+    record { valid = subst IsPairs (sym hex) (record_pairs c.in-Write.id c.in-Write.size); built = tt; fits = first_of (omega arith, search rules) }
 
 pub returns-in-Write-clause-asked : goal.returns-in-Write-clause-asked
 returns-in-Write-clause-asked g c =

@@ -5,7 +5,7 @@ use Rattle.script_text.specs.declared.script_line.ScriptLine.{ScriptLine}
 use Rattle.apei_script.specs.declared.player.PlayStop.{PlayStop}
 use Rattle.apei_script.specs.Plays.{Stops}
 use Rattle.apei_script.specs.Desks.{state_of}
-use Rattle.apei_script.proofs.desk.Desk.make_reply.Goals as goal
+use Rattle.apei_script.proofs.desk.Desk.carry_out.Goals as goal
 
 pub returns-in-Table-clause-stopped : goal.returns-in-Table-clause-stopped
 returns-in-Table-clause-stopped g c =
