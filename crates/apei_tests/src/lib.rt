@@ -1,4 +1,4 @@
-//! Tests that cross crates: bytes that end too early, flashes of one byte value, sources and sinks that fail.
+//! Tests of players and of whole runs: sources and sinks that fail, flashes that lose power at a boot or have another size.
 #![tactic(auto)]
 
 #[cfg(test)]
@@ -6,6 +6,8 @@ mod boots;
 #[cfg(test)]
 mod play;
 #[cfg(test)]
-mod prefixes;
+mod players;
+#[cfg(test)]
+mod runs;
 #[cfg(test)]
 mod streams;

@@ -1,7 +1,7 @@
 #!/usr/bin/env python3
-"""Runs the program by words in form and out of form, and ends runs in each way that words and files can bring about; the gate runs it.
+"""Runs the program by options in form and out of form, and ends runs in each way that options and files can bring about; the gate runs it.
 
-    tools/words.py [PROGRAM]
+    tools/options.py [PROGRAM]
 
 PROGRAM is the built program, by default crates/apei/out/apei. Of each run the exit status and the text on standard error are compared with
 those of docs/SCRIPT.md, and where they tell what an option says, the replies. The last line is 'N runs, M wrong'; the exit status is 0 where
@@ -27,7 +27,7 @@ OUT_OF_FORM = [
     "sim --seed=3", "check --sector=4096", "play --image=x --cut=1", "play", "play --image=", "play --image -x", "play --image --slots=3", "gen",
     "gen --count=100001", "gen --count=1 --show=HEAD", "check --show=HEAD|", "check --show=0x1", "check --show=head", "sim -- --slots=3",
 ]
-# Words, input, replies, status and text.
+# Job and options, input, replies, status and text.
 SAID = [
     ("sim --sector=18446744073709551615 --per-slot=0", "", "", 6, "apei: bad geometry 18446744073709551615 0 32 0"),
     ("sim --sector=256 --per-slot=3 --slots=4", "action 14 0\n", "result 2816 @0\n", 0, ""),

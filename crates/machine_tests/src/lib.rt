@@ -1,0 +1,15 @@
+//! Tests of the machine and what runs on it: programs, a client, areas of memory, the handover, listeners.
+#![tactic(auto)]
+
+#[cfg(test)]
+mod areas;
+#[cfg(test)]
+mod clients;
+#[cfg(test)]
+mod handovers;
+#[cfg(test)]
+mod listeners;
+#[cfg(test)]
+mod programs;
+#[cfg(test)]
+mod tables;
