@@ -1,12 +1,12 @@
 -- Laws of a run over the lines of a script.
-use Rattle.std.proofs.Common.{◌≡◌, ℕ, ◌+◌, ◌^◌, ◌<◌, ◌≤◌, inl, inr, Bool, true, false, List, [], ◌∷◌, ◌++◌, length, map, take, codes, refl, sym, ap, subst, ◌∙◌, arith, append_assoc, length-append}
+use Rattle.std.proofs.Common.{◌≡◌, ℕ, ◌+◌, ◌^◌, ◌<◌, ◌≤◌, inl, inr, Bool, true, false, List, [], ◌∷◌, ◌++◌, length, map, take, refl, sym, ap, subst, ◌∙◌, arith, append_assoc, length-append}
 use Rattle.std.proofs.lemmas.Bool.{cases_lt}
 use Rattle.std.proofs.lemmas.List.{append-nil}
 use Rattle.std.specs.Prelude.{MatchBool, ◌↔◌}
 use Rattle.base_model.specs.Faults.{Rose}
 use Rattle.line_grammar.specs.Columns.{BreaksAt}
 use Rattle.erst_machine.specs.MachineState.{MachineState}
-use Rattle.script_text.specs.ScriptGrammar.{Line as ScriptLine, IsLine, text_of as text_of_line, blank, comment, write, table, error, fatal}
+use Rattle.script_text.specs.ScriptGrammar.{Line as ScriptLine, IsLine, blank, comment, table}
 use Rattle.script_text.specs.ScriptText.{IsText, IsWritten, line_of as meant}
 use Rattle.script_text.specs.declared.script_line.ScriptLine.{ScriptLine as Parsed}
 use Rattle.script_text.specs.declared.script_line.ScriptLine.TheVariants.{Blank, Write, Read, Clear, Count, Next, Dummy, Action, Table, TableOwn, TableShadow, Error, Turns, Peek, Fatal, Bert, Heard, Reset, Power, Bridge}
@@ -15,7 +15,7 @@ use Rattle.apei_script.specs.declared.player.PlayStop.{PlayStop}
 use Rattle.apei_script.specs.declared.player.PlayStop.TheVariants.{FlashFault as RestartFailed, Memory as NoMemory}
 use Rattle.apei_script.specs.Players.{PlayerState, with_machine}
 use Rattle.apei_script.specs.Words.{Reply, text_of_replies}
-use Rattle.apei_script.specs.Plays.{IsBuilt, digits_of, LinePlayed, HasHappened, FailsRestart, PartlyWritten, PlaysLine, PlaysUnheard, Stops, Told, step_of}
+use Rattle.apei_script.specs.Plays.{IsBuilt, LinePlayed, HasHappened, FailsRestart, PartlyWritten, PlaysLine, PlaysUnheard, Stops, Told, step_of}
 use Rattle.erst_machine.specs.Shown.{changes_of}
 use Rattle.apei_script.specs.History.{Played, Follows, AreCounted, blocks_of, reply_of, text_of, heard_after}
 use Rattle.script_lines.specs.Lines.{Line, Reading, lines_of, IsTooLong, IsNextLine, IsAtEnd, NextIsTooLong, HasNoLine}
@@ -91,21 +91,6 @@ on_false false P Q e q = q
 
 pub is_not : (b : Bool) (P : Type 0) → (b ≡ true ↔ P) → b ≡ false → P → ⊥
 is_not b P tests e p = let clash : true ≡ false = sym (tests.1 p) ∙ e in absurd (cc clash)
-
--- a line has no more digits than bytes
-digits_fit : (line : ScriptLine) → length (digits_of line) ≤ length (text_of_line line)
-digits_fit (write hex) = omega (arith, length-append (codes "write ") hex)
-digits_fit (table hex) = omega (arith, length-append (codes "table ") hex)
-digits_fit (error hex) = omega (arith, length-append (codes "error ") hex)
-digits_fit (fatal hex) = omega (arith, length-append (codes "fatal ") hex)
-digits_fit line = omega arith
-
--- the line that a text means, within the length of lines
-pub is_short : (text : List ℕ) (line : Parsed) → length text ≤ 140000 → IsText text line → length (digits_of (meant line)) ≤ 140000
-is_short text line within read = elim (means text line read) as (λ line is. length (digits_of line) ≤ 140000) [
-  | MeansLine line written ↦ let size = ap length written.1 in omega (arith, digits_fit line)
-  | IsComment rest written ↦ omega arith
-]
 
 -- the line that was read can be played
 pub playable : (tells : Type 0) (a b : Reading) (rest rest_now text : List ℕ) (line : Parsed) → IsNextLine tells a b rest rest_now → text ≡ b.line → IsText text line → IsBuilt (meant line)

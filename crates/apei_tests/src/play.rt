@@ -29,5 +29,9 @@ pub fn play_for(
     let mut listeners: Vec<Box<dyn Listener>> = Vec::new(alloc);
     listeners.push(Box::new(alloc, Tally::new(15))?)?;
     let (status, flash, listeners) = run(alloc, &words, source, sink, flash, listeners);
-    Ok((status, flash, listeners[0].heard()))
+    let heard = match listeners.first() {
+        Some(listener) => listener.heard(),
+        None => 0,
+    };
+    Ok((status, flash, heard))
 }

@@ -67,6 +67,9 @@ fn a_run_ends_at_the_read_or_the_write_that_fails(rt: HostRuntime) -> Result<(),
 const BLOCKS: &[u8] =
     b"error 12000000000000000000000048000000020000001411bca5646fde4eb8633e83ed7c83b10200000001020000080000000000000000000000000000000000000000000000000000000000000000000000000000000102030405060708\nerror 12000000000000000000000048000000020000001411bca5646fde4eb8633e83ed7c83b10200000001020000080000000000000000000000000000000000000000000000000000000000000000000000000000000102030405060708\nturns FFFRRRRRFFFFRRRRR\nheard";
 
+/// The replies before the first block is taken.
+const QUEUED: &[u8] = b"queued 1 @0\nqueued 2 @0\n";
+
 /// Plays that script, and answers how often the listener has heard of an error.
 fn heard_of_blocks(
     alloc: Global,
@@ -89,7 +92,7 @@ fn no_block_is_taken_behind_the_one_whose_line_is_refused(rt: HostRuntime) -> Re
     assert_eq!(rt; heard, 2);
     let (status, sink, heard) = heard_of_blocks(alloc, vec![in alloc; 2u64]?)?;
     assert_eq!(rt; status, Status::SinkFault);
-    assert_eq!(rt; sink.bytes(), b"queued 1 @0\nqueued 2 @0\n");
+    assert_eq!(rt; sink.bytes(), QUEUED);
     assert_eq!(rt; heard, 1);
     Ok(())
 }
