@@ -1,12 +1,12 @@
 -- Laws of a run over the lines of a script.
-use Rattle.std.proofs.Common.{◌≡◌, ℕ, ◌+◌, ◌^◌, ◌<◌, ◌≤◌, inl, inr, Bool, true, false, List, [], ◌∷◌, ◌++◌, length, map, take, codes, refl, sym, ap, subst, ◌∙◌, arith, append_assoc, length-append}
+use Rattle.std.proofs.Common.{◌≡◌, ℕ, ◌+◌, ◌^◌, ◌<◌, ◌≤◌, inl, inr, Bool, true, false, List, [], ◌∷◌, ◌++◌, length, map, take, refl, sym, ap, subst, ◌∙◌, arith, append_assoc, length-append}
 use Rattle.std.proofs.lemmas.Bool.{cases_lt}
 use Rattle.std.proofs.lemmas.List.{append-nil}
 use Rattle.std.specs.Prelude.{MatchBool, ◌↔◌}
 use Rattle.base_model.specs.Faults.{Rose}
 use Rattle.line_grammar.specs.Columns.{BreaksAt}
 use Rattle.erst_machine.specs.MachineState.{MachineState}
-use Rattle.script_text.specs.ScriptGrammar.{Line as ScriptLine, IsLine, text_of as text_of_line, blank, comment, write, table, error, fatal}
+use Rattle.script_text.specs.ScriptGrammar.{Line as ScriptLine, IsLine, blank, comment, table}
 use Rattle.script_text.specs.ScriptText.{IsText, IsWritten, line_of as meant}
 use Rattle.script_text.specs.declared.script_line.ScriptLine.{ScriptLine as Parsed}
 use Rattle.script_text.specs.declared.script_line.ScriptLine.TheVariants.{Blank, Write, Read, Clear, Count, Next, Dummy, Action, Table, TableOwn, TableShadow, Error, Turns, Peek, Fatal, Bert, Heard, Reset, Power, Bridge}
@@ -14,14 +14,14 @@ use Rattle.apei_notify.specs.Telling.{Hearing, counts_of, wants_of}
 use Rattle.apei_script.specs.declared.player.PlayStop.{PlayStop}
 use Rattle.apei_script.specs.declared.player.PlayStop.TheVariants.{FlashFault as RestartFailed, Memory as NoMemory}
 use Rattle.apei_script.specs.Players.{PlayerState, with_machine}
-use Rattle.apei_script.specs.Words.{replies_at}
-use Rattle.apei_script.specs.Plays.{IsBuilt, digits_of, LinePlayed, HasHappened, FailsRestart, PartlySaid, PlaysLine, PlaysUnheard, Stops, Told, IsCutShort, step_of}
+use Rattle.apei_script.specs.Words.{Reply, text_of_replies}
+use Rattle.apei_script.specs.Plays.{IsBuilt, LinePlayed, HasHappened, FailsRestart, PartlyWritten, PlaysLine, PlaysUnheard, Stops, Told, step_of}
 use Rattle.erst_machine.specs.Shown.{changes_of}
 use Rattle.apei_script.specs.History.{Played, Follows, AreCounted, blocks_of, reply_of, text_of, heard_after}
 use Rattle.script_lines.specs.Lines.{Line, Reading, lines_of, IsTooLong, IsNextLine, IsAtEnd, NextIsTooLong, HasNoLine}
 use Rattle.script_lines.specs.Reads.{HasRead, StandsAt, AreTaken, first_reading, last_line}
-use Rattle.apei_cli.specs.Played.{Means, IsLine as MeansLine, IsComment, IsPlayable, ArePlayed}
-use Rattle.apei_cli.specs.Statuses.{StopsAt, EndsBy, LeavesLast, WritesReplies}
+use Rattle.apei_cli.specs.Played.{Means, IsLine as MeansLine, IsComment, CanPlay, ArePlayed}
+use Rattle.apei_cli.specs.Statuses.{StopsAt, EndsLines, LeavesLast}
 use Rattle.apei_cli.specs.Runs.{PlaysScript}
 use Rattle.apei_cli.specs.declared.status.Status.{Status}
 use Rattle.apei_cli.specs.declared.status.Status.TheVariants.{Done, BadWords, BadLine, SourceFault, SinkFault, FlashFault, BadGeometry, TooLong, Memory, NotYet}
@@ -92,24 +92,9 @@ on_false false P Q e q = q
 pub is_not : (b : Bool) (P : Type 0) → (b ≡ true ↔ P) → b ≡ false → P → ⊥
 is_not b P tests e p = let clash : true ≡ false = sym (tests.1 p) ∙ e in absurd (cc clash)
 
--- a line has no more digits than bytes
-digits_fit : (line : ScriptLine) → length (digits_of line) ≤ length (text_of_line line)
-digits_fit (write hex) = omega (arith, length-append (codes "write ") hex)
-digits_fit (table hex) = omega (arith, length-append (codes "table ") hex)
-digits_fit (error hex) = omega (arith, length-append (codes "error ") hex)
-digits_fit (fatal hex) = omega (arith, length-append (codes "fatal ") hex)
-digits_fit line = omega arith
-
--- the line that a text means, within the length of lines
-pub is_short : (text : List ℕ) (line : Parsed) → length text ≤ 140000 → IsText text line → length (digits_of (meant line)) ≤ 140000
-is_short text line within read = elim (means text line read) as (λ line is. length (digits_of line) ≤ 140000) [
-  | MeansLine line written ↦ let size = ap length written.1 in omega (arith, digits_fit line)
-  | IsComment rest written ↦ omega arith
-]
-
 -- the line that was read can be played
 pub playable : (tells : Type 0) (a b : Reading) (rest rest_now text : List ℕ) (line : Parsed) → IsNextLine tells a b rest rest_now → text ≡ b.line → IsText text line → IsBuilt (meant line)
-    → IsPlayable (last_line b) (meant line)
+    → CanPlay (last_line b) (meant line)
 playable tells a b rest rest_now text line next is read built = record { within = next.within; means = subst (λ (t : List ℕ). Means t (meant line)) is (means text line read); built = built }
 
 AreCounted-push : (some : List Played) (one : Played) → AreCounted some → changes_of one.left.machine ≡ step_of one.left → AreCounted (some ++ one ∷ [])
@@ -117,7 +102,7 @@ AreCounted-push [] one before is = (is, tt)
 AreCounted-push (played ∷ rest) one before is = (before.0, AreCounted-push rest one before.1 is)
 
 -- one more line
-pub ArePlayed-push : (texts : List Line) (text : Line) (some : List Played) (played : Played) → ArePlayed texts some → IsPlayable text played.line → ArePlayed (texts ++ text ∷ []) (some ++ played ∷ [])
+pub ArePlayed-push : (texts : List Line) (text : Line) (some : List Played) (played : Played) → ArePlayed texts some → CanPlay text played.line → ArePlayed (texts ++ text ∷ []) (some ++ played ∷ [])
 ArePlayed-push [] text [] played are is = (is, tt)
 ArePlayed-push [] text (first ∷ some) played are is = absurd are
 ArePlayed-push (first ∷ texts) text [] played are is = absurd are
@@ -146,7 +131,7 @@ Follows-push : (tells : Type 0) (wants : List (ℕ → Bool)) (counts : List ℕ
 Follows-push tells wants counts first [] mid played is line = (subst (λ (p : PlayerState). LinePlayed tells counts p played.line played.said played.blocks played.left) is line, refl)
 Follows-push tells wants counts first (one ∷ some) mid played is line = (is.0, Follows-push tells wants (heard_after wants one.blocks counts) one.left some mid played is.1 line)
 
-abbrev played_as : ScriptLine → List (List ℕ) → List (List ℕ) → PlayerState → Played
+abbrev played_as : ScriptLine → List Reply → List (List ℕ) → PlayerState → Played
 played_as line said blocks left = record { line = line; said = said; blocks = blocks; left = left }
 
 module _ {L : Type 0} (hearing : L → Hearing) (told_source told_sink tells : Type 0) where
@@ -193,7 +178,7 @@ module _ {L : Type 0} (hearing : L → Hearing) (told_source told_sink tells : T
 
   -- a line that was played, behind some
   module _ (script rest written middle : List ℕ) (first members : List L) (old mid : PlayerState) (a : Reading) (so_far : SoFar hearing told_source told_sink tells script rest written middle first members old mid a)
-      (line : ScriptLine) (said blocks : List (List ℕ)) (new : PlayerState) (members_now : List L)
+      (line : ScriptLine) (said : List Reply) (blocks : List (List ℕ)) (new : PlayerState) (members_now : List L)
       (played : LinePlayed tells (counts_of hearing members) mid line said blocks new) (told : Told hearing blocks members members_now) where
     history_then : Follows tells (wants_of hearing first) (counts_of hearing first) old (so_far.played ++ played_as line said blocks new ∷ []) new
     history_then =
@@ -213,7 +198,7 @@ module _ {L : Type 0} (hearing : L → Hearing) (told_source told_sink tells : T
 
   -- one more line was read and played
   pub SoFar-played : (script rest rest_now written middle now : List ℕ) (first members members_now : List L) (old mid new : PlayerState) (a b : Reading) (line : ScriptLine)
-      → SoFar hearing told_source told_sink tells script rest written middle first members old mid a → IsNextLine told_source a b rest rest_now → IsPlayable (last_line b) line
+      → SoFar hearing told_source told_sink tells script rest written middle first members old mid a → IsNextLine told_source a b rest rest_now → CanPlay (last_line b) line
       → PlaysLine hearing tells told_sink mid new members members_now line middle now → (tells → changes_of new.machine ≡ step_of new)
       → SoFar hearing told_source told_sink tells script rest_now written now first members_now old new b
   SoFar-played script rest rest_now written middle now first members members_now old mid new a b line so_far next is plays counts = record {
@@ -227,8 +212,8 @@ module _ {L : Type 0} (hearing : L → Hearing) (told_source told_sink tells : T
     told = told_now script rest written middle first members old mid a so_far line plays.said plays.blocks new members_now plays.played plays.told;
     text = λ told.
         plays.text told
-        ∙ ap (λ (bs : List ℕ). bs ++ replies_at (step_of new) plays.said) (so_far.text told)
-        ∙ append_assoc written (text_of so_far.played) (replies_at (step_of new) plays.said)
+        ∙ ap (λ (bs : List ℕ). bs ++ text_of_replies plays.said) (so_far.text told)
+        ∙ append_assoc written (text_of so_far.played) (text_of_replies plays.said)
         ∙ ap (λ (bs : List ℕ). written ++ bs) (sym (text_of-push so_far.played (played_as line plays.said plays.blocks new)));
     counted = λ told. AreCounted-push so_far.played (played_as line plays.said plays.blocks new) (so_far.counted told) (counts told);
   }
@@ -236,15 +221,13 @@ module _ {L : Type 0} (hearing : L → Hearing) (told_source told_sink tells : T
   -- a run whose last line was played whole, and whose machine is as that left it
   as_so_far : (script rest rest_now written middle now : List ℕ) (first members : List L) (old new : PlayerState) (a : Reading) (status : Status)
       → (so_far : SoFar hearing told_source told_sink tells script rest written middle first members old new a)
-      → (told_source → EndsBy tells script rest_now so_far.played new.machine new.machine status)
-      → (told_sink → WritesReplies so_far.played written now status) → LeavesLast tells new.machine new.machine status → (status ≡ FlashFault → ⊥)
+      → EndsLines told_source told_sink tells script rest_now written now so_far.played new.machine new.machine status → LeavesLast tells new.machine new.machine status → (status ≡ FlashFault → ⊥)
       → PlaysScript hearing told_source told_sink tells script rest_now written now first members old new status
-  as_so_far script rest rest_now written middle now first members old new a status so_far lines text behind other = record {
+  as_so_far script rest rest_now written middle now first members old new a status so_far lines behind other = record {
     played = so_far.played;
     last = new;
     history = so_far.history;
     lines = lines;
-    text = text;
     behind = behind;
     told = so_far.told;
     counted = so_far.counted;
@@ -256,11 +239,13 @@ module _ {L : Type 0} (hearing : L → Hearing) (told_source told_sink tells : T
       → IsAtEnd told_source a b rest rest_now → SoFar hearing told_source told_sink tells script rest written now first members old new a
       → PlaysScript hearing told_source told_sink tells script rest_now written now first members old new Done
   ends_done script rest rest_now written now first members old new a b end so_far =
-      as_so_far script rest rest_now written now now first members old new a Done so_far
-      (λ told.
-      let all = order.at_end script rest rest_now so_far.lines a b so_far.read end told in
-      record { all_read = all.1; are = subst (λ (ls : List Line). ArePlayed ls so_far.played) (sym all.0) so_far.are })
-      so_far.text refl (λ e. absurd (cc e))
+      as_so_far script rest rest_now written now now first members old new a Done so_far (
+        λ told.
+            let all = order.at_end script rest rest_now so_far.lines a b so_far.read end told in
+            record { all_read = all.1; are = subst (λ (ls : List Line). ArePlayed ls so_far.played) (sym all.0) so_far.are },
+        so_far.text,
+      )
+      refl (λ e. absurd (cc e))
 
   -- the source failed
   pub ends_fault : (script rest rest_now written now : List ℕ) (first members : List L) (old new : PlayerState) (a b : Reading)
@@ -268,85 +253,90 @@ module _ {L : Type 0} (hearing : L → Hearing) (told_source told_sink tells : T
       → PlaysScript hearing told_source told_sink tells script rest_now written now first members old new SourceFault
   ends_fault script rest rest_now written now first members old new a b failed so_far =
       as_so_far script rest rest_now written now now first members old new a SourceFault so_far
-      (λ told. record { lines = so_far.lines; taken = order.failed script rest rest_now so_far.lines a b so_far.read failed told; are = so_far.are })
-      so_far.text refl (λ e. absurd (cc e))
+      ((λ told. record { lines = so_far.lines; taken = order.failed script rest rest_now so_far.lines a b so_far.read failed told; are = so_far.are }), so_far.text)
+      refl (λ e. absurd (cc e))
 
   -- the next line is too long
   pub ends_too_long : (script rest rest_now written now : List ℕ) (first members : List L) (old new : PlayerState) (a b : Reading) (number : ℕ)
       → NextIsTooLong told_source a b rest → number ≡ b.number → SoFar hearing told_source told_sink tells script rest written now first members old new a
       → PlaysScript hearing told_source told_sink tells script rest_now written now first members old new (TooLong (number + 1))
   ends_too_long script rest rest_now written now first members old new a b number next is so_far =
-      as_so_far script rest rest_now written now now first members old new a (TooLong (number + 1)) so_far
-      (λ told.
-      let ahead = order.too_long script rest so_far.lines a b so_far.read next told in
-      record {
-        line = ahead.0;
-        stops = record {
-          before = so_far.lines;
-          stands = subst (λ (n : ℕ). StandsAt script so_far.lines n ahead.0) (ap (λ (n : ℕ). n + 1) (sym is)) ahead.1;
-          are = so_far.are;
-        };
-        too_long = ahead.2;
-      })
-      so_far.text refl (λ e. absurd (cc e))
+      as_so_far script rest rest_now written now now first members old new a (TooLong (number + 1)) so_far (
+        λ told.
+            let ahead = order.too_long script rest so_far.lines a b so_far.read next told in
+            record {
+              line = ahead.0;
+              stops = record {
+                before = so_far.lines;
+                stands = subst (λ (n : ℕ). StandsAt script so_far.lines n ahead.0) (ap (λ (n : ℕ). n + 1) (sym is)) ahead.1;
+                are = so_far.are;
+              };
+              too_long = ahead.2;
+            },
+        so_far.text,
+      )
+      refl (λ e. absurd (cc e))
 
   -- the line that was read is none
   pub ends_bad : (script rest rest_now written now : List ℕ) (first members : List L) (old new : PlayerState) (a b : Reading) (number column : ℕ)
       → IsNextLine told_source a b rest rest_now → number ≡ b.number → BreaksAt IsLine b.line column → SoFar hearing told_source told_sink tells script rest written now first members old new a
       → PlaysScript hearing told_source told_sink tells script rest_now written now first members old new (BadLine number column)
   ends_bad script rest rest_now written now first members old new a b number column next is breaks so_far =
-      as_so_far script rest rest_now written now now first members old new a (BadLine number column) so_far
-      (λ told. record {
-        line = last_line b;
-        stops = stops_at script rest rest_now written now first members old new a b number so_far next is told;
-        within = next.within;
-        breaks = breaks;
-      })
-      so_far.text refl (λ e. absurd (cc e))
+      as_so_far script rest rest_now written now now first members old new a (BadLine number column) so_far (
+        (λ told. record {
+          line = last_line b;
+          stops = stops_at script rest rest_now written now first members old new a b number so_far next is told;
+          within = next.within;
+          breaks = breaks;
+        }),
+        so_far.text,
+      )
+      refl (λ e. absurd (cc e))
 
   -- it is not built
   pub ends_not_built : (script rest rest_now written now : List ℕ) (first members : List L) (old new : PlayerState) (a b : Reading) (number : ℕ) (line : ScriptLine)
       → IsNextLine told_source a b rest rest_now → number ≡ b.number → Means b.line line → (IsBuilt line → ⊥) → SoFar hearing told_source told_sink tells script rest written now first members old new a
       → PlaysScript hearing told_source told_sink tells script rest_now written now first members old new (NotYet number)
   ends_not_built script rest rest_now written now first members old new a b number line next is means_it other so_far =
-      as_so_far script rest rest_now written now now first members old new a (NotYet number) so_far
-      (λ told. record {
-        line = last_line b;
-        stops = stops_at script rest rest_now written now first members old new a b number so_far next is told;
-        within = next.within;
-        asked = line;
-        means = means_it;
-        not_built = other;
-      })
-      so_far.text refl (λ e. absurd (cc e))
+      as_so_far script rest rest_now written now now first members old new a (NotYet number) so_far (
+        (λ told. record {
+          line = last_line b;
+          stops = stops_at script rest rest_now written now first members old new a b number so_far next is told;
+          within = next.within;
+          asked = line;
+          means = means_it;
+          not_built = other;
+        }),
+        so_far.text,
+      )
+      refl (λ e. absurd (cc e))
 
   -- its reply was refused by the sink
   pub ends_unheard : (script rest rest_now written middle now : List ℕ) (first members members_now : List L) (old mid new : PlayerState) (a b : Reading) (line : ScriptLine)
-      → SoFar hearing told_source told_sink tells script rest written middle first members old mid a → IsNextLine told_source a b rest rest_now → IsPlayable (last_line b) line
+      → SoFar hearing told_source told_sink tells script rest written middle first members old mid a → IsNextLine told_source a b rest rest_now → CanPlay (last_line b) line
       → PlaysUnheard hearing tells told_sink mid new members members_now line middle now → (tells → changes_of new.machine ≡ step_of new)
       → PlaysScript hearing told_source told_sink tells script rest_now written now first members_now old new SinkFault
   ends_unheard script rest rest_now written middle now first members members_now old mid new a b line so_far next is plays counts = record {
     played = so_far.played ++ played_as plays.made plays.said plays.blocks new ∷ [];
     last = new;
     history = history_then script rest written middle first members old mid a so_far plays.made plays.said plays.blocks new members_now plays.played plays.told;
-    lines = λ told. record {
-      before = so_far.lines;
-      line = last_line b;
-      behind = (order.stands script rest rest_now so_far.lines a b so_far.read next told).behind;
-      lines = (order.stands script rest rest_now so_far.lines a b so_far.read next told).lines;
+    lines = record {
       first = so_far.played;
       last = played_as plays.made plays.said plays.blocks new;
       played_is = refl;
-      are = so_far.are;
-      whole = line;
-      is = is;
-      cut = plays.cut;
-    };
-    text = λ told. record {
-      first = so_far.played;
-      last = played_as plays.made plays.said plays.blocks new;
-      played_is = refl;
-      text = subst (λ (bs : List ℕ). PartlySaid (step_of new) plays.said bs now) (so_far.text told) (plays.text told);
+      line = line;
+      before = plays.before;
+      unheard = plays.last;
+      left = plays.left;
+      lines = λ told. record {
+        before = so_far.lines;
+        text = last_line b;
+        behind = (order.stands script rest rest_now so_far.lines a b so_far.read next told).behind;
+        lines = (order.stands script rest rest_now so_far.lines a b so_far.read next told).lines;
+        are = so_far.are;
+        is = is;
+      };
+      text = λ told. subst (λ (bs : List ℕ). PartlyWritten plays.before plays.last bs now) (so_far.text told) (plays.text told);
     };
     behind = refl;
     told = told_now script rest written middle first members old mid a so_far plays.made plays.said plays.blocks new members_now plays.played plays.told;
@@ -356,22 +346,24 @@ module _ {L : Type 0} (hearing : L → Hearing) (told_source told_sink tells : T
 
   -- the flash failed in its restart
   pub ends_failed : (script rest rest_now written middle now : List ℕ) (first members members_now : List L) (old mid new : PlayerState) (a b : Reading) (line : ScriptLine) (stop : PlayStop)
-      → SoFar hearing told_source told_sink tells script rest written middle first members old mid a → IsNextLine told_source a b rest rest_now → IsPlayable (last_line b) line
+      → SoFar hearing told_source told_sink tells script rest written middle first members old mid a → IsNextLine told_source a b rest rest_now → CanPlay (last_line b) line
       → Stops tells mid line new stop → stop ≡ RestartFailed → members_now ≡ members → now ≡ middle
       → PlaysScript hearing told_source told_sink tells script rest_now written now first members_now old new FlashFault
   ends_failed script rest rest_now written middle now first members members_now old mid new a b line stop so_far next is stops why quiet said = record {
     played = so_far.played;
     last = mid;
     history = so_far.history;
-    lines = λ told. record {
-      line = last_line b;
-      number = b.number;
-      stops = stops_at script rest rest_now written middle first members old mid a b b.number so_far next refl told;
-      asked = line;
-      is = is;
-      fails = subst (FailsRestart tells mid.machine line) left failed.1;
-    };
-    text = λ told. said ∙ so_far.text told;
+    lines = (
+      (λ told. record {
+        line = last_line b;
+        number = b.number;
+        stops = stops_at script rest rest_now written middle first members old mid a b b.number so_far next refl told;
+        asked = line;
+        is = is;
+        fails = subst (FailsRestart tells mid.machine line) left failed.1;
+      }),
+      λ told. said ∙ so_far.text told,
+    );
     behind = (line, subst (FailsRestart tells mid.machine line) left failed.1);
     told = subst (Told hearing (blocks_of so_far.played) first) (sym quiet) so_far.told;
     counted = so_far.counted;
@@ -386,7 +378,7 @@ module _ {L : Type 0} (hearing : L → Hearing) (told_source told_sink tells : T
 
   -- there was no memory for its table
   pub ends_memory : (script rest rest_now written middle now : List ℕ) (first members members_now : List L) (old mid new : PlayerState) (a b : Reading) (line : ScriptLine) (stop : PlayStop)
-      → SoFar hearing told_source told_sink tells script rest written middle first members old mid a → IsNextLine told_source a b rest rest_now → IsPlayable (last_line b) line
+      → SoFar hearing told_source told_sink tells script rest written middle first members old mid a → IsNextLine told_source a b rest rest_now → CanPlay (last_line b) line
       → Stops tells mid line new stop → stop ≡ NoMemory → members_now ≡ members → now ≡ middle
       → PlaysScript hearing told_source told_sink tells script rest_now written now first members_now old new Memory
   ends_memory script rest rest_now written middle now first members members_now old mid new a b line stop so_far next is stops why quiet said =
@@ -395,14 +387,16 @@ module _ {L : Type 0} (hearing : L → Hearing) (told_source told_sink tells : T
         played = so_far.played;
         last = mid;
         history = so_far.history;
-        lines = λ told. record {
-          line = last_line b;
-          number = b.number;
-          stops = stops_at script rest rest_now written middle first members old mid a b b.number so_far next refl told;
-          hex = left.1.0;
-          is = subst (IsPlayable (last_line b)) left.1.1 is;
-        };
-        text = λ told. said ∙ so_far.text told;
+        lines = (
+          (λ told. record {
+            line = last_line b;
+            number = b.number;
+            stops = stops_at script rest rest_now written middle first members old mid a b b.number so_far next refl told;
+            hex = left.1.0;
+            is = subst (CanPlay (last_line b)) left.1.1 is;
+          }),
+          λ told. said ∙ so_far.text told,
+        );
         behind = ap (λ (p : PlayerState). p.machine) left.0;
         told = subst (Told hearing (blocks_of so_far.played) first) (sym quiet) so_far.told;
         counted = so_far.counted;

@@ -12,7 +12,7 @@ pub data Means (text : List ℕ) : ScriptLine → Type 0 where
   IsComment : (rest : List ℕ) → IsWritten text (comment rest) → Means text blank
 
 -- a line of the script is this line, and can be played
-pub record IsPlayable (text : Line) (line : ScriptLine) : Type 0 where
+pub record CanPlay (text : Line) (line : ScriptLine) : Type 0 where
   pub within : IsTooLong text → ⊥
   pub means : Means text.text line
   pub built : IsBuilt line
@@ -20,10 +20,10 @@ pub record IsPlayable (text : Line) (line : ScriptLine) : Type 0 where
 -- these lines were played, one after another
 abbrev pub ArePlayed : List Line → List Played → Type 0
 ArePlayed [] [] = Unit {0}
-ArePlayed (text ∷ texts) (played ∷ rest) = IsPlayable text played.line × ArePlayed texts rest
+ArePlayed (text ∷ texts) (played ∷ rest) = CanPlay text played.line × ArePlayed texts rest
 ArePlayed texts lines = ⊥
 
 -- each line is within the lengths and can be played
 abbrev pub ArePlayable : List Line → Type 0
 ArePlayable [] = Unit {0}
-ArePlayable (text ∷ texts) = ((line : ScriptLine) × IsPlayable text line) × ArePlayable texts
+ArePlayable (text ∷ texts) = ((line : ScriptLine) × CanPlay text line) × ArePlayable texts

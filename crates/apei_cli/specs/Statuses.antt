@@ -3,12 +3,12 @@ use Rattle.std.specs.Prelude.{◌≡◌, ◌⊎◌, ℕ, ◌+◌, List, [], ◌�
 use Rattle.line_grammar.specs.Columns.{BreaksAt}
 use Rattle.erst_machine.specs.MachineState.{MachineState}
 use Rattle.script_text.specs.ScriptGrammar.{Line as ScriptLine, IsLine, table}
-use Rattle.apei_script.specs.Players.{PlayerState}
-use Rattle.apei_script.specs.Plays.{IsBuilt, IsCutShort, FailsRestart, PartlySaid, step_of}
+use Rattle.apei_script.specs.Words.{Reply}
+use Rattle.apei_script.specs.Plays.{IsBuilt, LeftIn, FailsRestart, PartlyWritten}
 use Rattle.apei_script.specs.History.{Played, text_of}
 use Rattle.script_lines.specs.Lines.{Line, lines_of, IsTooLong}
 use Rattle.script_lines.specs.Reads.{StandsAt, AreTaken}
-use Rattle.apei_cli.specs.Played.{Means, IsPlayable, ArePlayed}
+use Rattle.apei_cli.specs.Played.{Means, CanPlay, ArePlayed}
 use Rattle.apei_cli.specs.declared.status.Status.{Status}
 use Rattle.apei_cli.specs.declared.status.Status.TheVariants.{Done, BadWords, BadLine, SourceFault, SinkFault, FlashFault, BadGeometry, TooLong, Memory, NotYet}
 
@@ -29,19 +29,14 @@ pub record PlaysTaken (script rest : List ℕ) (played : List Played) : Type 0 w
   pub taken : AreTaken script rest lines
   pub are : ArePlayed lines played
 
--- the lines before one of the script were played, and that one too; it may be left after some of its turns
-pub record PlaysUpTo (script : List ℕ) (played : List Played) : Type 0 where
+-- the lines before one of the script were played, and then that one, which is this line
+pub record PlaysUpTo (script : List ℕ) (first : List Played) (line : ScriptLine) : Type 0 where
   pub before : List Line
-  pub line : Line
+  pub text : Line
   pub behind : List Line
-  pub lines : lines_of 0 script ≡ before ++ line ∷ behind
-  pub first : List Played
-  pub last : Played
-  pub played_is : played ≡ first ++ last ∷ []
+  pub lines : lines_of 0 script ≡ before ++ text ∷ behind
   pub are : ArePlayed before first
-  pub whole : ScriptLine
-  pub is : IsPlayable line whole
-  pub cut : IsCutShort whole last.line
+  pub is : CanPlay text line
 
 -- a line is too long
 pub record StopsTooLong (script : List ℕ) (played : List Played) (number : ℕ) : Type 0 where
@@ -71,7 +66,7 @@ pub record StopsInRestart (tells : Type 0) (script : List ℕ) (played : List Pl
   pub number : ℕ
   pub stops : StopsAt script played number line
   pub asked : ScriptLine
-  pub is : IsPlayable line asked
+  pub is : CanPlay line asked
   pub fails : FailsRestart tells last asked final
 
 -- there was no memory for the table of a line
@@ -80,16 +75,16 @@ pub record StopsAtTable (script : List ℕ) (played : List Played) : Type 0 wher
   pub number : ℕ
   pub stops : StopsAt script played number line
   pub hex : List ℕ
-  pub is : IsPlayable line (table hex)
+  pub is : CanPlay line (table hex)
 
--- the lines of the script that were played once the machine was booted, by the status; `last` is the machine after them, and `final` the
--- one that is left
+-- the lines of the script that were played once the machine was booted, by a status that the sink has no part in; `last` is the machine after
+-- them, and `final` the one that is left
 abbrev pub EndsBy : Type 0 → List ℕ → List ℕ → List Played → MachineState → MachineState → Status → Type 0
 EndsBy tells script rest played last final Done = PlaysAll script rest played
 EndsBy tells script rest played last final BadWords = ⊥
 EndsBy tells script rest played last final (BadLine number column) = StopsBad script played number column
 EndsBy tells script rest played last final SourceFault = PlaysTaken script rest played
-EndsBy tells script rest played last final SinkFault = PlaysUpTo script played
+EndsBy tells script rest played last final SinkFault = ⊥
 EndsBy tells script rest played last final FlashFault = StopsInRestart tells script played last final
 EndsBy tells script rest played last final (BadGeometry sector per_slot slots size) = ⊥
 EndsBy tells script rest played last final (TooLong number) = StopsTooLong script played number
@@ -101,14 +96,21 @@ abbrev pub LeavesLast : Type 0 → MachineState → MachineState → Status → 
 LeavesLast tells last final FlashFault = (line : ScriptLine) × FailsRestart tells last line final
 LeavesLast tells last final status = final ≡ last
 
--- the replies were written, but for the last line: of its replies those up to one, and a part of that one
-pub record PartlyWritten (played : List Played) (written written_now : List ℕ) : Type 0 where
+-- the sink refused a reply of the line that was played last: what is left of that line says which reply. What was written are the replies to the
+-- lines before it, of its own those before that one, and a part of that
+pub record StopsUnheard (told_source told_sink : Type 0) (script : List ℕ) (played : List Played) (written written_now : List ℕ) : Type 0 where
   pub first : List Played
   pub last : Played
   pub played_is : played ≡ first ++ last ∷ []
-  pub text : PartlySaid (step_of last.left) last.said (written ++ text_of first) written_now
+  pub line : ScriptLine
+  pub before : List Reply
+  pub unheard : Reply
+  pub left : LeftIn line last.line last.said before unheard
+  pub lines : told_source → PlaysUpTo script first line
+  pub text : told_sink → PartlyWritten before unheard (written ++ text_of first) written_now
 
--- what was written, by the status: the replies to the lines that were played, and where the sink failed not the whole of them
-abbrev pub WritesReplies : List Played → List ℕ → List ℕ → Status → Type 0
-WritesReplies played written written_now SinkFault = PartlyWritten played written written_now
-WritesReplies played written written_now status = written_now ≡ written ++ text_of played
+-- the lines that were played and what was written, by the status: all replies to these lines, but where the sink failed
+abbrev pub EndsLines : Type 0 → Type 0 → Type 0 → List ℕ → List ℕ → List ℕ → List ℕ → List Played → MachineState → MachineState → Status → Type 0
+EndsLines told_source told_sink tells script rest written written_now played last final SinkFault = StopsUnheard told_source told_sink script played written written_now
+EndsLines told_source told_sink tells script rest written written_now played last final status =
+    (told_source → EndsBy tells script rest played last final status) × (told_sink → written_now ≡ written ++ text_of played)

@@ -13,13 +13,13 @@ use Rattle.erst_client.specs.Commands.{ClientState}
 use Rattle.apei_script.specs.Players.{PlayerState, client_of, budget_of}
 use Rattle.apei_script.specs.Asked.{Asked, WritesRecord, ReadsRecord, ClearsRecord, CountsRecords, FindsNext, WritesDummy, RunsAction}
 use Rattle.apei_script.specs.Happened.{Happened, IsGiven, Turn, IsPeeked, IsLaid, IsListed}
-use Rattle.apei_script.specs.Words.{reply_at, words_of_count}
-use Rattle.apei_script.specs.Plays.{Plays, Blank, ByClient, GivenTable, OwnTable, OnMachine, Heard, Reset, Power, LinePlayed, step_of}
-use Rattle.apei_script.specs.History.{Played, Follows, AreCounted, IsOwnLine, AreOwnLines, blocks_of, reply_of, heard_after}
+use Rattle.apei_script.specs.Words.{Reply, said_at, words_in, reply_at, words_of_count}
+use Rattle.apei_script.specs.Plays.{Plays, Blank, ByClient, GivenTable, OwnTable, OnMachine, Heard, Reset, Power, LinePlayed, IsOwnLine, step_of}
+use Rattle.apei_script.specs.History.{Played, Follows, AreCounted, AreOwnLines, blocks_of, reply_of, heard_after}
 use Rattle.apei_gen.specs.declared.command.Command.{Command}
 use Rattle.apei_gen.specs.declared.command.Command.TheVariants.{Write, Clear, Read, Next}
 use Rattle.apei_gen.specs.declared.tally.Tally.{Tally}
-use Rattle.apei_gen.specs.Numbers.{number_behind, numbers_behind, drawn_of, command_of, line_for, line_at, lines_of}
+use Rattle.apei_gen.specs.Numbers.{number_behind, numbers_behind, drawn_of, command_of, line_for, line_at, generated_lines}
 use Rattle.apei_gen.specs.Tallies.{counted_kind, counted_refusal, counted_with}
 use Rattle.apei_gen.specs.Generated.{is_write, is_clear, is_read, is_next, is_refusal, tally_of, IsAsked, ArePlayed}
 use Rattle.apei_gen.specs.Summaries.{TellsLive, Counted, Refused, WritesText, summary_of, IsGenerated}
@@ -37,17 +37,17 @@ numbers-push : (x n : ℕ) → numbers_behind x (suc n) ≡ numbers_behind x n +
 numbers-push x zero = refl
 numbers-push x (suc n) = ap (λ (xs : List ℕ). number_behind x ∷ xs) (numbers-push (number_behind x) n)
 
-lines-push : (seed n : ℕ) → lines_of seed (suc n) ≡ lines_of seed n ++ line_at (number_after seed (suc n)) ∷ []
+lines-push : (seed n : ℕ) → generated_lines seed (suc n) ≡ generated_lines seed n ++ line_at (number_after seed (suc n)) ∷ []
 lines-push seed n = ap (map line_at) (numbers-push seed n) ∙ map-append line_at (numbers_behind seed n) (number_after seed (suc n) ∷ [])
 
 -- one line more
 abbrev played_as : Line → List ℕ → PlayerState → Played
-played_as line words left = record { line = line; said = words ∷ []; blocks = []; left = left }
+played_as line words left = record { line = line; said = said_at (step_of left) (words ∷ []); blocks = []; left = left }
 
 Follows-push : (tells : Type 0) (wants : List (ℕ → Bool)) (counts : List ℕ) (first : PlayerState) (some : List Played) (mid : PlayerState) (line : Line) (words : List ℕ) (new : PlayerState)
-    → Follows tells wants counts first some mid → ((counts : List ℕ) → LinePlayed tells counts mid line (words ∷ []) [] new)
+    → Follows tells wants counts first some mid → ((counts : List ℕ) → LinePlayed tells counts mid line (said_at (step_of new) (words ∷ [])) [] new)
     → Follows tells wants counts first (some ++ played_as line words new ∷ []) new
-Follows-push tells wants counts first [] mid line words new is played = (subst (λ (p : PlayerState). LinePlayed tells counts p line (words ∷ []) [] new) is (played counts), refl)
+Follows-push tells wants counts first [] mid line words new is played = (subst (λ (p : PlayerState). LinePlayed tells counts p line (said_at (step_of new) (words ∷ [])) [] new) is (played counts), refl)
 Follows-push tells wants counts first (one ∷ some) mid line words new is played = (is.0, Follows-push tells wants (heard_after wants one.blocks counts) one.left some mid line words new is.1 played)
 
 AreCounted-push : (some : List Played) (line : Line) (words : List ℕ) (new : PlayerState) → AreCounted some → changes_of new.machine ≡ step_of new → AreCounted (some ++ played_as line words new ∷ [])
@@ -172,7 +172,7 @@ next_so_far tells old seed n mid new number tally tally_now command refused repl
         lines =
             map-append (λ (p : Played). p.line) before.played (one ∷ [])
             ∙ ap (λ (ls : List Line). ls ++ line_for command ∷ []) before.lines
-            ∙ ap (λ (l : Line). lines_of seed n ++ l ∷ []) line_is
+            ∙ ap (λ (l : Line). generated_lines seed n ++ l ∷ []) line_is
             ∙ sym (lines-push seed n);
         history = λ wants counts. Follows-push tells wants counts old before.played mid (line_for command) asked.words new (before.history wants counts) asked.played;
         counted = λ told. AreCounted-push before.played (line_for command) asked.words new (before.counted told) (asked.counted told);
@@ -236,9 +236,9 @@ module _ (tells : Type 0) where
     | IsListed blocks left laid ↦ λ is. false≢true is
   ]
 
-  played_count : (counts : List ℕ) (old : PlayerState) (line : Line) (said blocks : List (List ℕ)) (new : PlayerState) → Plays tells counts old line said blocks new → is_count line ≡ true → ToldLive said
+  played_count : (counts : List ℕ) (old : PlayerState) (line : Line) (said : List Reply) (blocks : List (List ℕ)) (new : PlayerState) → Plays tells counts old line said blocks new → is_count line ≡ true → ToldLive (words_in said)
   unfolding is_count
-  played_count counts old line said blocks new plays = elim plays as (λ line said blocks new plays. is_count line ≡ true → ToldLive said) [
+  played_count counts old line said blocks new plays = elim plays as (λ line said blocks new plays. is_count line ≡ true → ToldLive (words_in said)) [
     | Blank ↦ λ is. absurd (false≢true is)
     | ByClient line words machine commanded ↦ λ is. asked_count (client_of old) (budget_of old) old.machine line words machine commanded.asked is
     | GivenTable hex bytes words machine other decoded gives ↦ λ is. absurd (false≢true is)
@@ -249,10 +249,10 @@ module _ (tells : Type 0) where
     | Power n machine powers ↦ λ is. absurd (false≢true is)
   ]
 
-  count_told : (old : PlayerState) (words : List ℕ) (new : PlayerState) → Plays tells [] old count (words ∷ []) [] new → (live : ℕ) × TellsLive words live
+  count_told : (old : PlayerState) (words : List ℕ) (new : PlayerState) → Plays tells [] old count (said_at (step_of new) (words ∷ [])) [] new → (live : ℕ) × TellsLive words live
   unfolding is_count
   count_told old words new plays =
-      let told = played_count [] old count (words ∷ []) [] new plays refl in
+      let told = played_count [] old count (said_at (step_of new) (words ∷ [])) [] new plays refl in
       (told.live, subst (λ (w : List ℕ). TellsLive w told.live) (ap first_words (sym told.said_is)) told.told)
 
   -- the commands, and a count of the records behind them

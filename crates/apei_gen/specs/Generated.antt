@@ -4,11 +4,11 @@ use Rattle.std.specs.Str.{bytes_eq}
 use Rattle.erst_machine.specs.Shown.{changes_of}
 use Rattle.script_text.specs.ScriptGrammar.{Line, write, read, clear, next}
 use Rattle.apei_script.specs.Players.{PlayerState}
-use Rattle.apei_script.specs.Words.{reply_at}
+use Rattle.apei_script.specs.Words.{said_at, reply_at}
 use Rattle.apei_script.specs.Plays.{LinePlayed, step_of}
 use Rattle.apei_script.specs.History.{Played, Follows, AreCounted, AreOwnLines, blocks_of, reply_of}
 use Rattle.apei_gen.specs.declared.tally.Tally.{Tally}
-use Rattle.apei_gen.specs.Numbers.{lines_of}
+use Rattle.apei_gen.specs.Numbers.{generated_lines}
 
 -- the kinds of lines
 abbrev pub is_write : Line → Bool
@@ -44,14 +44,14 @@ tally_of lines = record {
 -- one line was played, whatever the listeners have heard, and this is its reply
 pub record IsAsked (tells : Type 0) (old : PlayerState) (line : Line) (new : PlayerState) (reply : List ℕ) : Type 0 where
   pub words : List ℕ
-  pub played : (counts : List ℕ) → LinePlayed tells counts old line (words ∷ []) [] new
+  pub played : (counts : List ℕ) → LinePlayed tells counts old line (said_at (step_of new) (words ∷ [])) [] new
   pub text : reply ≡ reply_at (step_of new) words
   pub counted : tells → changes_of new.machine ≡ step_of new
 
 -- the lines that a seed generates were played, one after another
 pub record ArePlayed (tells : Type 0) (old : PlayerState) (seed count : ℕ) (new : PlayerState) (tally : Tally) : Type 0 where
   pub played : List Played
-  pub lines : map (λ (one : Played). one.line) played ≡ lines_of seed count
+  pub lines : map (λ (one : Played). one.line) played ≡ generated_lines seed count
   pub history : (wants : List (ℕ → Bool)) (counts : List ℕ) → Follows tells wants counts old played new
   pub counted : tells → AreCounted played
   -- no line runs an action or gives a table, and no listener is told of a block

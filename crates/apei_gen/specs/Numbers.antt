@@ -50,5 +50,5 @@ abbrev pub line_at : ℕ → Line
 line_at x = line_for (command_of (drawn_of x))
 
 -- the lines that a seed generates
-abbrev pub lines_of : ℕ → ℕ → List Line
-lines_of seed count = map line_at (numbers_behind seed count)
+abbrev pub generated_lines : ℕ → ℕ → List Line
+generated_lines seed count = map line_at (numbers_behind seed count)

@@ -3,11 +3,11 @@ use Rattle.std.specs.Prelude.{◌≡◌, ℕ, Bool, List, [], ◌∷◌, ◌++�
 use Rattle.erst_client.specs.declared.errors.ClientError.{ClientError}
 use Rattle.script_text.specs.ScriptGrammar.{count}
 use Rattle.apei_script.specs.Players.{PlayerState}
-use Rattle.apei_script.specs.Words.{words_of_count}
+use Rattle.apei_script.specs.Words.{said_at, words_of_count}
 use Rattle.apei_script.specs.Plays.{step_of}
 use Rattle.apei_script.specs.History.{Played, Follows, AreCounted, AreOwnLines, blocks_of}
 use Rattle.apei_gen.specs.declared.tally.Tally.{Tally}
-use Rattle.apei_gen.specs.Numbers.{lines_of}
+use Rattle.apei_gen.specs.Numbers.{generated_lines}
 use Rattle.apei_gen.specs.Generated.{tally_of}
 
 -- the number of records that the words of a count's reply tell: none where it was refused
@@ -39,7 +39,7 @@ pub record IsGenerated {E : Type 0} (tells told_sink : Type 0) (old : PlayerStat
     (result : Result (Unit {0}) E) : Type 0 where
   pub played : List Played
   pub last : Played
-  pub lines : map (λ (one : Played). one.line) played ≡ lines_of seed commands
+  pub lines : map (λ (one : Played). one.line) played ≡ generated_lines seed commands
   pub asked : last.line ≡ count
   pub history : (wants : List (ℕ → Bool)) (counts : List ℕ) → Follows tells wants counts old (played ++ last ∷ []) new
   pub counted : tells → AreCounted (played ++ last ∷ [])
@@ -47,7 +47,7 @@ pub record IsGenerated {E : Type 0} (tells told_sink : Type 0) (old : PlayerStat
   pub own : AreOwnLines (played ++ last ∷ [])
   pub blocks : blocks_of (played ++ last ∷ []) ≡ []
   pub words : List ℕ
-  pub said : last.said ≡ words ∷ []
+  pub said : last.said ≡ said_at (step_of new) (words ∷ [])
   pub live : ℕ
   pub told_live : TellsLive words live
   pub text : told_sink → WritesText (summary_of commands (tally_of played) live (step_of new)) written written_now result

@@ -17,12 +17,12 @@ use Rattle.erst_commands.specs.Attached.{own_client}
 use Rattle.erst_twins.specs.Alike.{FailedNothing}
 use Rattle.erst_twins.proofs.Dialogues.{quiet_first, quiet_second}
 use Rattle.script_text.specs.ScriptGrammar.{Line}
+use Rattle.apei_script.specs.Words.{Reply}
 use Rattle.apei_script.specs.Players.{PlayerState, in_use, UsesOwn}
-use Rattle.apei_script.specs.Plays.{Plays, Blank, ByClient, GivenTable, OwnTable, OnMachine, Heard, Reset, Power, HasHappened, LinePlayed, names_command}
-use Rattle.apei_script.specs.History.{Played, heard_after, Follows, EndInOrder, Shows, ShowsEach, IsOwnLine, AreOwnLines, IsMapped, AreMapped, NoneSaysHardware, AlwaysUsesOwn}
+use Rattle.apei_script.specs.Plays.{Plays, Blank, ByClient, GivenTable, OwnTable, OnMachine, Heard, Reset, Power, HasHappened, LinePlayed, names_command, IsOwnLine}
+use Rattle.apei_script.specs.History.{Played, heard_after, Follows, EndInOrder, ShowsLines, ShowsEachLine, AreOwnLines, IsMapped, AreMapped, NoneSaysHardware, AlwaysUsesOwn}
 use Rattle.apei_script.proofs.EventChanges.{along}
 use Rattle.apei_script.proofs.LineLemmas.{line_divides, line_own}
-use Rattle.apei_script.proofs.LeavesLemmas.{line_leaves}
 
 abbrev faults_of : MachineState → ℕ
 faults_of state = state.device.store.flash.faults
@@ -43,7 +43,7 @@ on_false false P Q e q = q
 
 module _ (tells : Type 0) where
   -- only a table gives another client
-  pub no_other : (counts : List ℕ) (old : PlayerState) (line : Line) (said blocks : List (List ℕ)) (new : PlayerState) → Plays tells counts old line said blocks new
+  pub no_other : (counts : List ℕ) (old : PlayerState) (line : Line) (said : List Reply) (blocks : List (List ℕ)) (new : PlayerState) → Plays tells counts old line said blocks new
       → IsOwnLine line → old.other ≡ None → new.other ≡ None
   no_other counts old line said blocks new plays = elim plays as (λ line said blocks new plays. IsOwnLine line → old.other ≡ None → new.other ≡ None) [
     | Blank ↦ λ own none. none
@@ -142,13 +142,13 @@ module _ (tells : Type 0) where
     history_goes_on wants counts first played last is =
         let all = one_list wants counts first played last is in (length all.0, (events_are_shown tells told first.machine last.machine all.0 all.1).goes_on)
 
-    line_goes_on : (counts : List ℕ) (old : PlayerState) (line : Line) (said blocks : List (List ℕ)) (new : PlayerState) → LinePlayed tells counts old line said blocks new
+    line_goes_on : (counts : List ℕ) (old : PlayerState) (line : Line) (said : List Reply) (blocks : List (List ℕ)) (new : PlayerState) → LinePlayed tells counts old line said blocks new
         → (n : ℕ) × GoesOn n old.machine new.machine
     line_goes_on counts old line said blocks new played =
         let happened = played.happened in (length happened.trail, (events_are_shown tells told old.machine new.machine happened.trail happened.happens).goes_on)
 
     pub history_ends : (wants : List (ℕ → Bool)) (counts : List ℕ) (first : PlayerState) (played : List Played) (last : PlayerState) → Follows tells wants counts first played last
-        → ShowsEach last first played
+        → ShowsEachLine last first played
     history_ends wants counts first [] last is = tt
     history_ends wants counts first (line ∷ rest) last is =
         let left = line.left.machine in
@@ -166,20 +166,20 @@ module _ (tells : Type 0) where
         (past_grows (told_of first.machine) (told_of line.left.machine) one.later, history_in_order wants (heard_after wants line.blocks counts) line.left rest last is.1)
 
     pub history_ends_later : (wants : List (ℕ → Bool)) (counts : List ℕ) (first : PlayerState) (played : List Played) (last : PlayerState) → Follows tells wants counts first played last
-        → ShowsEach last first played × IsLater (told_of first.machine) (told_of last.machine)
+        → ShowsEachLine last first played × IsLater (told_of first.machine) (told_of last.machine)
     history_ends_later wants counts first played last is =
         (history_ends wants counts first played last is, (history_goes_on wants counts first played last is).1.later)
 
     pub history_shows : (wants : List (ℕ → Bool)) (counts : List ℕ) (first : PlayerState) (played : List Played) (last : PlayerState)
         → first.own ≡ own_client first.machine → first.other ≡ None → AreOwnLines played → Follows tells wants counts first played last
-        → (s : ℕ) (image : List ℕ) → changes_of first.machine ≤ s → CrashImage (told_of last.machine) s image → Shows s first played (shown_by first.machine image)
+        → (s : ℕ) (image : List ℕ) → changes_of first.machine ≤ s → CrashImage (told_of last.machine) s image → ShowsLines s first played (shown_by first.machine image)
     history_shows wants counts first [] last own none lines is s image from crash =
         ap (shown_by first.machine) (CrashImage-now (told_of first.machine) s image from (subst (λ (p : PlayerState). CrashImage (told_of p.machine) s image) is crash))
     history_shows wants counts first (line ∷ rest) last own none lines is s image from crash =
         let left = line.left.machine in
         let one = (line_goes_on counts first line.line line.said line.blocks line.left is.0).1 in
         let more = (history_goes_on wants (heard_after wants line.blocks counts) line.left rest last is.1).1 in
-        let leaves = line_leaves tells told counts first line.line line.said line.blocks line.left is.0 (λ _. ap (in_use first.own) none ∙ own) lines.0 in
+        let leaves = is.0.leaves told (λ _. ap (in_use first.own) none ∙ own) lines.0 in
         let stay = line_own tells counts first line.line line.said line.blocks line.left is.0.plays in
         elim (cases_lt s (changes_of left)) [
           | inl before ↦
@@ -187,7 +187,7 @@ module _ (tells : Type 0) where
               (leaves.each s image from (CrashImage-earlier (told_of left) (told_of last.machine) s image more.later before crash))
           | inr after ↦
               on_true (nat_le (changes_of left) s) _ _ (le-leb (changes_of left) s after)
-              (subst (λ (m : Stored). Shows s line.left rest m) (shown_alike first.machine left image one.alike)
+              (subst (λ (m : Stored). ShowsLines s line.left rest m) (shown_alike first.machine left image one.alike)
               (history_shows wants (heard_after wants line.blocks counts) line.left rest last
               (stay.0 ∙ own ∙ sym (own_client-kept first.machine left one.alike.layout))
               (no_other counts first line.line line.said line.blocks line.left is.0.plays lines.0 none) lines.1 is.1 s image after crash))

@@ -22,26 +22,30 @@ use Rattle.erst_commands.specs.Looks.{AsksOnce, Answers, StopsBehind, StopsAtOnc
 use Rattle.erst_commands.specs.Reads.{ReadMade, IsRead as read_made, IsRefused as read_refused, IsFailed as read_failed, ReadCommand, Answers as read_answers, StopsBehind as read_behind, StopsBefore as read_before, ReadAnswered, IsNotRead, IsNotCopied, IsCopied}
 use Rattle.erst_commands.specs.Writes.{WriteAnswered, IsNoRecord, IsWritten, marked, id_of}
 use Rattle.script_text.specs.ScriptGrammar.{Line, blank, write, read, clear, count, next, dummy, own_table, heard, reset, power}
+use Rattle.apei_script.specs.Words.{Reply}
 use Rattle.apei_script.specs.Players.{PlayerState, budget_of, client_of, UsesOwn}
 use Rattle.apei_script.specs.Asked.{Asked, WritesRecord, ReadsRecord, ClearsRecord, CountsRecords, FindsNext, WritesDummy, RunsAction}
 use Rattle.apei_script.specs.Happened.{Turned, NoTurn, OneMore, Happened, IsGiven, Turn, IsPeeked, IsLaid, IsListed}
 use Rattle.apei_script.specs.Mapped.{Mapped, IsWrite, IsRead, IsClear, IsCount, IsNext, IsDummy, after_write, after_line, LineLeaves}
-use Rattle.apei_script.specs.Plays.{Plays, Blank, ByClient, GivenTable, OwnTable, OnMachine, Heard, Reset, Power, names_command, LinePlayed}
-use Rattle.apei_script.specs.History.{IsOwnLine}
+use Rattle.apei_script.specs.Plays.{Plays, Blank, ByClient, GivenTable, OwnTable, OnMachine, Heard, Reset, Power, names_command, IsOwnLine}
+
+-- by the machine's own table
+abbrev LeavesOwn : MachineState → Line → MachineState → Type 0
+LeavesOwn old line new = LineLeaves (reach_in old.device) old line new
 
 -- the flash tells what it told
-stays : (old : MachineState) (line : Line) (new : MachineState) → told_of new ≡ told_of old → LineLeaves old line new
+stays : (old : MachineState) (line : Line) (new : MachineState) → told_of new ≡ told_of old → LeavesOwn old line new
 stays old line new same = subst
-    (λ (told : Told). Leaves (told_of old) told (λ image. (shown_by old image ≡ records_of old) ⊎ (shown_by old image ≡ after_line old line))) (sym same)
+    (λ (told : Told). Leaves (told_of old) told (λ image. (shown_by old image ≡ records_of old) ⊎ (shown_by old image ≡ after_line (reach_in old.device) old line))) (sym same)
     (Leaves-none (told_of old) _ (inl refl))
 
 -- the records are kept
-keeps : (old : MachineState) (line : Line) (new : MachineState) → KeepsMap old.device.store new.device.store → LineLeaves old line new
+keeps : (old : MachineState) (line : Line) (new : MachineState) → KeepsMap old.device.store new.device.store → LeavesOwn old line new
 keeps old line new kept = Leaves-weaker (told_of old) (told_of new) _ _ kept (λ image same. inl same)
 
 -- the records are kept, or those of a command
-makes : (old : MachineState) (line : Line) (command : Command) (new : MachineState) → after_line old line ≡ after old.device.store.layout command (records_of old) →
-    IsBeforeOrAfter old.device.store new.device.store command → LineLeaves old line new
+makes : (old : MachineState) (line : Line) (command : Command) (new : MachineState) → after_line (reach_in old.device) old line ≡ after old.device.store.layout command (records_of old) →
+    IsBeforeOrAfter old.device.store new.device.store command → LeavesOwn old line new
 makes old line command new is crash =
     subst (λ (made : Stored). Leaves (told_of old) (told_of new) (λ image. (shown_by old image ≡ records_of old) ⊎ (shown_by old image ≡ made))) (sym is) crash
 
@@ -57,14 +61,14 @@ changed first last id command requests budget result left made = elim made as (�
 -- a write
 
 after_record : (old : MachineState) (hex bytes : List ℕ) → decode_of hex ≡ Ok bytes → write_refusal bytes (reach_in old.device) ≡ None →
-    after_line old (write hex) ≡ after old.device.store.layout (Write (id_of bytes) (marked bytes)) (records_of old)
+    after_line (reach_in old.device) old (write hex) ≡ after old.device.store.layout (Write (id_of bytes) (marked bytes)) (records_of old)
 after_record old hex bytes decoded fits =
-    ap (after_write old) decoded
+    ap (after_write (reach_in old.device) old) decoded
     ∙ ap (λ (refusal : Option ClientError). if is_none refusal then after old.device.store.layout (Write (id_of bytes) (marked bytes)) (records_of old) else records_of old) fits
 
 write_leaves : (old : MachineState) (hex bytes : List ℕ) (steps : ℕ) (result : Result (Unit {0}) ClientError) (left : ℕ) (new : MachineState) → decode_of hex ≡ Ok bytes →
-    WriteAnswered bytes steps old result left new → LineLeaves old (write hex) new
-write_leaves old hex bytes steps result left new decoded answered = elim answered as (λ result left new answered. LineLeaves old (write hex) new) [
+    WriteAnswered bytes steps old result left new → LeavesOwn old (write hex) new
+write_leaves old hex bytes steps result left new decoded answered = elim answered as (λ result left new answered. LeavesOwn old (write hex) new) [
   | IsNoRecord error refused ↦ stays old (write hex) old refl
   | IsWritten result left last fits made ↦
       makes old (write hex) (Write (id_of bytes) (marked bytes)) last (after_record old hex bytes decoded fits) (changed _ last _ _ _ steps result left made)
@@ -97,8 +101,8 @@ answer_keeps old id out budget result after left new answered = elim answered as
 -- count and next
 
 once_leaves : {T : Type 0} (Made : Result T ClientError → Type 0) (line : Line) (steps : ℕ) (old new : MachineState) (result : Result T ClientError) (left : ℕ) →
-    ((result : Result T ClientError) → Made result → KeepsMap old.device.store new.device.store) → AsksOnce Made steps old new result left → LineLeaves old line new
-once_leaves {T} Made line steps old new result left kept asks = elim asks as (λ result left asks. LineLeaves old line new) [
+    ((result : Result T ClientError) → Made result → KeepsMap old.device.store new.device.store) → AsksOnce Made steps old new result left → LeavesOwn old line new
+once_leaves {T} Made line steps old new result left kept asks = elim asks as (λ result left asks. LeavesOwn old line new) [
   | Answers result left made spent ↦ keeps old line new (kept result made)
   | StopsBehind result made short ↦ keeps old line new (kept result made)
   | StopsAtOnce none same ↦ stays old line new (ap told_of same)
@@ -125,8 +129,8 @@ dummy_told old new budget result left command = elim command as (λ result left 
   | IsCut leaves short ↦ ap (λ (store : StoreView). store.flash.told) leaves.store
 ]
 
-mapped_leaves : (steps : ℕ) (old : MachineState) (line : Line) (words : List ℕ) (new : MachineState) → Mapped steps old line words new → LineLeaves old line new
-mapped_leaves steps old line words new mapped = elim mapped as (λ line words new mapped. LineLeaves old line new) [
+mapped_leaves : (steps : ℕ) (old : MachineState) (line : Line) (words : List ℕ) (new : MachineState) → Mapped steps old line words new → LeavesOwn old line new
+mapped_leaves steps old line words new mapped = elim mapped as (λ line words new mapped. LeavesOwn old line new) [
   | IsWrite hex bytes result left new decoded answered ↦ write_leaves old hex bytes steps result left new decoded answered
   | IsRead id out after result left new long answered ↦ keeps old (read id) new (answer_keeps old id out steps result after left new answered)
   | IsClear id result left new command ↦ makes old (clear id) (Clear id) new refl (changed old new id (Clear id) _ steps result left command)
@@ -170,13 +174,13 @@ asks_command tells client steps old line words new asked = elim asked as (λ lin
 ]
 
 -- a command's place in the record map, with some reply
-abbrev MapsTo : PlayerState → Line → PlayerState → Type 0
+abbrev pub MapsTo : PlayerState → Line → PlayerState → Type 0
 MapsTo old line new = (words : List ℕ) × Mapped (budget_of old) old.machine line words new.machine
 
-plays_leaves : (tells : Type 0) → tells → (counts : List ℕ) (old : PlayerState) (line : Line) (said blocks : List (List ℕ)) (new : PlayerState) → Plays tells counts old line said blocks new →
-    (names_command line ≡ true → MapsTo old line new) → IsOwnLine line → LineLeaves old.machine line new.machine
+plays_leaves : (tells : Type 0) → tells → (counts : List ℕ) (old : PlayerState) (line : Line) (said : List Reply) (blocks : List (List ℕ)) (new : PlayerState) → Plays tells counts old line said blocks new →
+    (names_command line ≡ true → MapsTo old line new) → IsOwnLine line → LeavesOwn old.machine line new.machine
 plays_leaves tells told counts old line said blocks new plays =
-    elim plays as (λ line said blocks new plays. (names_command line ≡ true → MapsTo old line new) → IsOwnLine line → LineLeaves old.machine line new.machine) [
+    elim plays as (λ line said blocks new plays. (names_command line ≡ true → MapsTo old line new) → IsOwnLine line → LeavesOwn old.machine line new.machine) [
       | Blank ↦ λ maps own. stays old.machine blank old.machine refl
       | ByClient line words machine commanded ↦ λ maps own.
           let mapped = maps (asks_command tells (client_of old) (budget_of old) old.machine line words machine commanded.asked own) in
@@ -189,9 +193,16 @@ plays_leaves tells told counts old line said blocks new plays =
       | Power n machine powers ↦ λ maps own. keeps old.machine power machine (powers.restarts.leaves.kept told)
     ]
 
+-- only a write has a part in the range
+by_range : (line : Line) (own range : ℕ) (state : MachineState) → (names_command line ≡ true → range ≡ own) → after_line own state line ≡ after_line range state line
+by_range (write hex) own range state same = ap (λ (n : ℕ). after_line n state (write hex)) (sym (same refl))
+by_range line own range state same = refl
+
 -- every line
-pub line_leaves : (tells : Type 0) → tells → (counts : List ℕ) (old : PlayerState) (line : Line) (said blocks : List (List ℕ)) (new : PlayerState) →
-    LinePlayed tells counts old line said blocks new → (names_command line ≡ true → UsesOwn old) → IsOwnLine line → LineLeaves old.machine line new.machine
-line_leaves tells told counts old line said blocks new played uses own =
-    plays_leaves tells told counts old line said blocks new played.plays
-    (λ names. let mapped = played.by_map told (uses names) names in (mapped.0, mapped.2)) own
+pub line_leaves : (tells : Type 0) → tells → (counts : List ℕ) (old : PlayerState) (line : Line) (said : List Reply) (blocks : List (List ℕ)) (new : PlayerState)
+    → Plays tells counts old line said blocks new → (names_command line ≡ true → UsesOwn old) → (names_command line ≡ true → MapsTo old line new) → IsOwnLine line
+    → LineLeaves (client_of old).range old.machine line new.machine
+line_leaves tells told counts old line said blocks new plays uses maps own =
+    subst (λ (made : Stored). Leaves (told_of old.machine) (told_of new.machine) (λ image. (shown_by old.machine image ≡ records_of old.machine) ⊎ (shown_by old.machine image ≡ made)))
+    (by_range line (reach_in old.machine.device) (client_of old).range old.machine (λ names. ap (λ (client : ClientState). client.range) (uses names)))
+    (plays_leaves tells told counts old line said blocks new plays maps own)

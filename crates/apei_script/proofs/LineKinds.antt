@@ -23,16 +23,16 @@ use Rattle.erst_machine.specs.Allowed.{Allows}
 use Rattle.erst_machine.specs.Events.{Submits, LaysFatal, Warms, Powers}
 use Rattle.script_text.specs.ScriptGrammar.{Line, blank, write, read, clear, count, next, dummy, action, table, own_table, error, turns, peek, fatal, bert, heard, reset, power}
 use Rattle.apei_script.specs.Players.{PlayerState, client_of, budget_of, with_machine}
-use Rattle.apei_script.specs.Words.{words_of_write, words_of_read, words_of_clear, words_of_count, words_of_next, words_of_dummy, words_of_action, words_of_table, words_of_no_table, words_of_no_client, words_of_submission, words_of_turns, words_of_block, words_of_peek, words_of_laid, words_of_bert, words_of_heard, words_of_reset, words_of_power}
+use Rattle.apei_script.specs.Words.{Reply, said_at, words_of_write, words_of_read, words_of_clear, words_of_count, words_of_next, words_of_dummy, words_of_action, words_of_table, words_of_no_table, words_of_no_client, words_of_submission, words_of_turns, words_of_block, words_of_peek, words_of_laid, words_of_bert, words_of_heard, words_of_reset, words_of_power}
 use Rattle.apei_script.specs.Asked.{READ_BUFFER, Asked, WritesRecord, ReadsRecord, ClearsRecord, CountsRecords, FindsNext, WritesDummy, RunsAction}
 use Rattle.apei_script.specs.Tables.{ATTACH_STEPS, BeginsWith, GivesTable, IsNoTable, IsNotAttached, IsAttached}
 use Rattle.apei_script.specs.Happened.{Happened, IsGiven, Turn, IsPeeked, IsLaid, IsListed}
-use Rattle.apei_script.specs.Plays.{Plays, Blank, ByClient, GivenTable, OwnTable, OnMachine, Heard, Reset, Power, restarted}
+use Rattle.apei_script.specs.Plays.{Plays, Blank, ByClient, GivenTable, OwnTable, OnMachine, Heard, Reset, Power, restarted, changes_in, step_of}
 use Rattle.apei_script.proofs.TurnsAlike.{TurnsBy, turns_by}
 
 -- what a line left
-pub record Left (said blocks : List (List ℕ)) (new : PlayerState) (words taken : List (List ℕ)) (player : PlayerState) : Type 0 where
-  pub said_is : said ≡ words
+pub record Left (said : List Reply) (blocks : List (List ℕ)) (new : PlayerState) (replies : List Reply) (taken : List (List ℕ)) (player : PlayerState) : Type 0 where
+  pub said_is : said ≡ replies
   pub blocks_are : blocks ≡ taken
   pub new_is : new ≡ player
 
@@ -92,15 +92,17 @@ module _ (tells : Type 0) where
     | IsAttached erst client left new begins attaches reaches ↦ Tried erst (Ok client) left begins attaches refl refl
   ]
 
-  abbrev pub ByItsClient : PlayerState → Line → List (List ℕ) → List (List ℕ) → PlayerState → Type 0
+  abbrev pub ByItsClient : PlayerState → Line → List Reply → List (List ℕ) → PlayerState → Type 0
   ByItsClient old line said blocks new =
-      (words : List ℕ) × (machine : MachineState) × AskedBy (client_of old) (budget_of old) old.machine line words machine × Left said blocks new (words ∷ []) [] (with_machine machine old)
+      (words : List ℕ) × (machine : MachineState) × AskedBy (client_of old) (budget_of old) old.machine line words machine
+      × Left said blocks new (said_at (changes_in machine) (words ∷ [])) [] (with_machine machine old)
 
-  abbrev pub ByItself : PlayerState → Line → List (List ℕ) → List (List ℕ) → PlayerState → Type 0
+  abbrev pub ByItself : PlayerState → Line → List Reply → List (List ℕ) → PlayerState → Type 0
   ByItself old line said blocks new =
-      (words : List (List ℕ)) × (taken : List (List ℕ)) × (machine : MachineState) × HappenedBy old.machine line words taken machine × Left said blocks new words taken (with_machine machine old)
+      (words : List (List ℕ)) × (taken : List (List ℕ)) × (machine : MachineState) × HappenedBy old.machine line words taken machine
+      × Left said blocks new (said_at (changes_in machine) words) taken (with_machine machine old)
 
-  abbrev pub PlaysBy : List ℕ → PlayerState → Line → List (List ℕ) → List (List ℕ) → PlayerState → Type 0
+  abbrev pub PlaysBy : List ℕ → PlayerState → Line → List Reply → List (List ℕ) → PlayerState → Type 0
   PlaysBy counts old blank said blocks new = Left said blocks new [] [] old
   PlaysBy counts old (write hex) said blocks new = ByItsClient old (write hex) said blocks new
   PlaysBy counts old (read id) said blocks new = ByItsClient old (read id) said blocks new
@@ -111,24 +113,26 @@ module _ (tells : Type 0) where
   PlaysBy counts old (action code value) said blocks new = ByItsClient old (action code value) said blocks new
   PlaysBy counts old (table hex) said blocks new =
       (bytes : List ℕ) × (words : List ℕ) × (machine : MachineState) × (other : Option ClientState) × (decode_of hex ≡ Ok bytes) × Given old.machine old.other bytes words machine other
-      × Left said blocks new (words ∷ []) [] (record old { machine = machine; other = other })
-  PlaysBy counts old own_table said blocks new = Left said blocks new (words_of_table (length old.own.table.entries) ∷ []) [] (record old { other = None })
+      × Left said blocks new (said_at (changes_in machine) (words ∷ [])) [] (record old { machine = machine; other = other })
+  PlaysBy counts old own_table said blocks new = Left said blocks new (said_at (step_of old) (words_of_table (length old.own.table.entries) ∷ [])) [] (record old { other = None })
   PlaysBy counts old (error hex) said blocks new = ByItself old (error hex) said blocks new
   PlaysBy counts old (turns letters) said blocks new = ByItself old (turns letters) said blocks new
   PlaysBy counts old (peek at len) said blocks new = ByItself old (peek at len) said blocks new
   PlaysBy counts old (fatal hex) said blocks new = ByItself old (fatal hex) said blocks new
   PlaysBy counts old bert said blocks new = ByItself old bert said blocks new
-  PlaysBy counts old heard said blocks new = Left said blocks new (words_of_heard counts ∷ []) [] old
-  PlaysBy counts old reset said blocks new = (n : ℕ) × (machine : MachineState) × Warms tells old.machine (Ok n) machine × Left said blocks new (words_of_reset n ∷ []) [] (restarted machine old)
-  PlaysBy counts old power said blocks new = (n : ℕ) × (machine : MachineState) × Powers tells old.machine (Ok n) machine × Left said blocks new (words_of_power n ∷ []) [] (restarted machine old)
+  PlaysBy counts old heard said blocks new = Left said blocks new (said_at (step_of old) (words_of_heard counts ∷ [])) [] old
+  PlaysBy counts old reset said blocks new = (n : ℕ) × (machine : MachineState) × Warms tells old.machine (Ok n) machine
+      × Left said blocks new (said_at (changes_in machine) (words_of_reset n ∷ [])) [] (restarted machine old)
+  PlaysBy counts old power said blocks new = (n : ℕ) × (machine : MachineState) × Powers tells old.machine (Ok n) machine
+      × Left said blocks new (said_at (changes_in machine) (words_of_power n ∷ [])) [] (restarted machine old)
   PlaysBy counts old line said blocks new = ⊥
 
-  as_it_is : (said blocks : List (List ℕ)) (new : PlayerState) → Left said blocks new said blocks new
+  as_it_is : (said : List Reply) (blocks : List (List ℕ)) (new : PlayerState) → Left said blocks new said blocks new
   as_it_is said blocks new = record { said_is = refl; blocks_are = refl; new_is = refl }
 
   by_its_client : (counts : List ℕ) (old : PlayerState) (line : Line) (words : List ℕ) (machine : MachineState) → Asked tells (client_of old) (budget_of old) old.machine line words machine
-      → PlaysBy counts old line (words ∷ []) [] (with_machine machine old)
-  by_its_client counts old line words machine asked = elim asked as (λ line words machine asked. PlaysBy counts old line (words ∷ []) [] (with_machine machine old)) [
+      → PlaysBy counts old line (said_at (changes_in machine) (words ∷ [])) [] (with_machine machine old)
+  by_its_client counts old line words machine asked = elim asked as (λ line words machine asked. PlaysBy counts old line (said_at (changes_in machine) (words ∷ [])) [] (with_machine machine old)) [
     | WritesRecord hex bytes result left new decoded writes ↦ (words_of_write bytes result, new, (bytes, result, left, decoded, refl, writes), as_it_is _ _ _)
     | ReadsRecord id out after result left new room reads ↦ (words_of_read after result, new, (out, after, result, left, room, refl, reads), as_it_is _ _ _)
     | ClearsRecord id result left new ran ↦ (words_of_clear id result, new, (result, left, refl, ran), as_it_is _ _ _)
@@ -138,9 +142,9 @@ module _ (tells : Type 0) where
     | RunsAction code value answer left new ran ↦ (words_of_action answer, new, (answer, left, refl, ran), as_it_is _ _ _)
   ]
 
-  by_itself : (counts : List ℕ) (old : PlayerState) (line : Line) (said blocks : List (List ℕ)) (machine : MachineState) → Happened tells old.machine line said blocks machine
-      → PlaysBy counts old line said blocks (with_machine machine old)
-  by_itself counts old line said blocks machine happened = elim happened as (λ line said blocks machine happened. PlaysBy counts old line said blocks (with_machine machine old)) [
+  by_itself : (counts : List ℕ) (old : PlayerState) (line : Line) (words blocks : List (List ℕ)) (machine : MachineState) → Happened tells old.machine line words blocks machine
+      → PlaysBy counts old line (said_at (changes_in machine) words) blocks (with_machine machine old)
+  by_itself counts old line words blocks machine happened = elim happened as (λ line words blocks machine happened. PlaysBy counts old line (said_at (changes_in machine) words) blocks (with_machine machine old)) [
     | IsGiven hex block result new decoded submits ↦ (words_of_submission result ∷ [], [], new, (block, result, decoded, refl, refl, submits), as_it_is _ _ _)
     | Turn letters events blocks new turned ↦
         (map words_of_block blocks ++ words_of_turns events ∷ [], blocks, new, (events, refl, turns_by old.machine letters events blocks new turned), as_it_is _ _ _)
@@ -149,7 +153,7 @@ module _ (tells : Type 0) where
     | IsListed blocks left laid ↦ (map words_of_block blocks ++ words_of_bert (length blocks) ∷ [], [], old.machine, (blocks, left, refl, refl, refl, laid), as_it_is _ _ _)
   ]
 
-  pub plays_by : (counts : List ℕ) (old : PlayerState) (line : Line) (said blocks : List (List ℕ)) (new : PlayerState) → Plays tells counts old line said blocks new → PlaysBy counts old line said blocks new
+  pub plays_by : (counts : List ℕ) (old : PlayerState) (line : Line) (said : List Reply) (blocks : List (List ℕ)) (new : PlayerState) → Plays tells counts old line said blocks new → PlaysBy counts old line said blocks new
   plays_by counts old line said blocks new plays = elim plays as (λ line said blocks new plays. PlaysBy counts old line said blocks new) [
     | Blank ↦ as_it_is _ _ _
     | ByClient line words machine commanded ↦ by_its_client counts old line words machine commanded.asked

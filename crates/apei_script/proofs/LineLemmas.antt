@@ -10,6 +10,7 @@ use Rattle.erst_machine.specs.Events.{Event, Accessed, Warmed, Powered, Submitte
 use Rattle.erst_machine.proofs.CrashTrail.{events_are_shown, happens_then, reached_happens}
 use Rattle.erst_machine.proofs.EventLemmas.{events_keep}
 use Rattle.script_text.specs.ScriptGrammar.{Line}
+use Rattle.apei_script.specs.Words.{Reply}
 use Rattle.apei_script.specs.Players.{PlayerState}
 use Rattle.apei_script.specs.Tables.{GivesTable, IsNoTable, IsNotAttached, IsAttached}
 use Rattle.apei_script.specs.Happened.{side_of, Turned, NoTurn, OneMore, Happened, IsGiven, Turn, IsPeeked, IsLaid, IsListed}
@@ -53,7 +54,7 @@ module _ (tells : Type 0) where
   ]
 
   -- every line
-  pub of_line : (counts : List ℕ) (old : PlayerState) (line : Line) (said blocks : List (List ℕ)) (new : PlayerState) → Plays tells counts old line said blocks new → Trails tells old.machine new.machine
+  pub of_line : (counts : List ℕ) (old : PlayerState) (line : Line) (said : List Reply) (blocks : List (List ℕ)) (new : PlayerState) → Plays tells counts old line said blocks new → Trails tells old.machine new.machine
   of_line counts old line said blocks new plays = elim plays as (λ line said blocks new plays. Trails tells old.machine new.machine) [
     | Blank ↦ none old.machine
     | ByClient line words machine commanded ↦ reached_happens tells old.machine machine commanded.reaches
@@ -70,7 +71,7 @@ module _ (tells : Type 0) where
       let takes = along tells old new trails.0 trails.1 in
       record { trail = trails.0; happens = trails.1; shown = λ told. events_are_shown tells told old new trails.0 trails.1; never_falls = takes.never_falls; exact = takes.exact }
 
-  pub line_happened : (counts : List ℕ) (old : PlayerState) (line : Line) (said blocks : List (List ℕ)) (new : PlayerState) → Plays tells counts old line said blocks new →
+  pub line_happened : (counts : List ℕ) (old : PlayerState) (line : Line) (said : List Reply) (blocks : List (List ℕ)) (new : PlayerState) → Plays tells counts old line said blocks new →
       HasHappened tells old.machine new.machine
   line_happened counts old line said blocks new plays = has_happened old.machine new.machine (of_line counts old line said blocks new plays)
 
@@ -82,20 +83,20 @@ module _ (tells : Type 0) where
   ]
 
   -- the machine stays one, its flash divided as it was
-  pub line_keeps : (counts : List ℕ) (old : PlayerState) (line : Line) (said blocks : List (List ℕ)) (new : PlayerState) → IsMachine old.machine →
+  pub line_keeps : (counts : List ℕ) (old : PlayerState) (line : Line) (said : List Reply) (blocks : List (List ℕ)) (new : PlayerState) → IsMachine old.machine →
       Plays tells counts old line said blocks new → IsMachine new.machine
   line_keeps counts old line said blocks new machine plays =
       let trails = of_line counts old line said blocks new plays in
       events_keep tells old.machine new.machine trails.0 trails.1 machine
 
-  pub line_divides : (counts : List ℕ) (old : PlayerState) (line : Line) (said blocks : List (List ℕ)) (new : PlayerState) → Plays tells counts old line said blocks new →
+  pub line_divides : (counts : List ℕ) (old : PlayerState) (line : Line) (said : List Reply) (blocks : List (List ℕ)) (new : PlayerState) → Plays tells counts old line said blocks new →
       new.machine.device.store.layout ≡ old.machine.device.store.layout
   line_divides counts old line said blocks new plays =
       let trails = of_line counts old line said blocks new plays in
       (along tells old.machine new.machine trails.0 trails.1).layout
 
   -- the player's own client and steps stay
-  pub line_own : (counts : List ℕ) (old : PlayerState) (line : Line) (said blocks : List (List ℕ)) (new : PlayerState) → Plays tells counts old line said blocks new →
+  pub line_own : (counts : List ℕ) (old : PlayerState) (line : Line) (said : List Reply) (blocks : List (List ℕ)) (new : PlayerState) → Plays tells counts old line said blocks new →
       (new.own ≡ old.own) × (new.steps ≡ old.steps)
   line_own counts old line said blocks new plays = elim plays as (λ line said blocks new plays. (new.own ≡ old.own) × (new.steps ≡ old.steps)) [
     | Blank ↦ (refl, refl)

@@ -7,11 +7,12 @@ use Rattle.ghes_block.specs.declared.error.BlockError.{BlockError}
 use Rattle.bert_region.specs.Region.{IsOneBlock, IsLaidOut, FindsNext, next_from, zeros}
 use Rattle.bert_region.proofs.RegionLemmas.{finds_next, laid_is_list, starts}
 use Rattle.erst_machine.specs.MachineState.{MachineState, IsMachine}
-use Rattle.apei_script.specs.Words.{words_of_block, words_of_bert, reply_at, replies_at}
+use Rattle.script_text.specs.ScriptGrammar.{bert}
+use Rattle.apei_script.specs.Words.{Reply, at_step, said_at, words_of_block, words_of_bert, reply_at, replies_at}
 use Rattle.apei_script.specs.Happened.{IsListed}
-use Rattle.apei_script.specs.Plays.{changes_in}
+use Rattle.apei_script.specs.Plays.{changes_in, LeftIn, InList}
 use Rattle.apei_script.specs.Desks.{Lists, ListsUnheard}
-use Rattle.apei_script.proofs.TurnLemmas.{replies-more}
+use Rattle.apei_script.proofs.TurnLemmas.{at_last, replies-more}
 
 -- the first blocks were shown, and the others stand from a place on
 pub record ListedSoFar (told_sink : Type 0) (machine : MachineState) (at count : ℕ) (written written_now : List ℕ) : Type 0 where
@@ -122,19 +123,24 @@ listed_cut tells told_sink machine at count next written written_now written_the
     let region = machine.memory.region in
     let h = has_next told_sink machine at count next written written_now so is in
     let block = part region at (next - at) in
+    let step = changes_in machine in
     let bottom = words_of_bert (length (so.before ++ so.after)) ∷ [] in
+    let words : map words_of_block (so.before ++ so.after) ++ bottom ≡ map words_of_block so.before ++ words_of_block block ∷ (map words_of_block h.rest ++ bottom) =
+    ap (λ (xs : List (List ℕ)). xs ++ bottom) (map-append words_of_block so.before so.after ∙ ap (λ (xs : List (List ℕ)). map words_of_block so.before ++ map words_of_block xs) h.after_is)
+    ∙ append_assoc (map words_of_block so.before) (words_of_block block ∷ map words_of_block h.rest) bottom in
     record {
-      said = map words_of_block (so.before ++ so.after) ++ bottom;
+      words = map words_of_block (so.before ++ so.after) ++ bottom;
+      before = said_at step (map words_of_block so.before);
+      last = at_step step (words_of_block block);
+      left =
+          subst (λ (said : List Reply). LeftIn bert bert said (said_at step (map words_of_block so.before)) (at_step step (words_of_block block)))
+          (sym (ap (said_at step) words ∙ map-append (at_step step) (map words_of_block so.before) (words_of_block block ∷ (map words_of_block h.rest ++ bottom))))
+          (InList (said_at step (map words_of_block so.before)) (at_step step (words_of_block block)) (said_at step (map words_of_block h.rest ++ bottom)));
       happened = IsListed (so.before ++ so.after) so.left so.laid;
-      text = λ t. let part = text t in record {
-        before = map words_of_block so.before;
-        last = words_of_block block;
-        behind = map words_of_block h.rest ++ bottom;
-        said_is = ap (λ (xs : List (List ℕ)). xs ++ bottom) (map-append words_of_block so.before so.after ∙ ap (λ (xs : List (List ℕ)). map words_of_block so.before ++ map words_of_block xs) h.after_is)
-            ∙ append_assoc (map words_of_block so.before) (words_of_block block ∷ map words_of_block h.rest) bottom;
-        count = part.0;
-        text = part.1 ∙ ap (λ (xs : List ℕ). xs ++ take part.0 (reply_at (changes_in machine) (words_of_block block))) (so.text t);
-      };
+      text = λ t. let part = text t in (
+        part.0,
+        part.1 ∙ ap (λ (xs : List ℕ). xs ++ take part.0 (reply_at step (words_of_block block))) (so.text t),
+      );
     }
 
 none_left : (region : List ℕ) (at : ℕ) (after : List (List ℕ)) → FindsNext region at after → ((next : ℕ) → next_from region at ≡ Ok (Some next) → ⊥) → after ≡ []
@@ -156,7 +162,7 @@ listed_all tells told_sink machine at count written written_now written_then so 
     let all = all_listed told_sink machine at count written written_now so none in
     let step = changes_in machine in
     record {
-      said = map words_of_block so.before ++ words_of_bert (length so.before) ∷ [];
+      words = map words_of_block so.before ++ words_of_bert (length so.before) ∷ [];
       happened = IsListed so.before so.left (subst (λ (xs : List (List ℕ)). IsLaidOut xs so.left machine.memory.region) all so.laid);
       text = λ t. text t
           ∙ ap (λ (n : ℕ). written_now ++ reply_at step (words_of_bert n)) so.counted
@@ -172,16 +178,15 @@ listed_but tells told_sink machine at count written written_now written_then so 
     let all = all_listed told_sink machine at count written written_now so none in
     let step = changes_in machine in
     record {
-      said = map words_of_block so.before ++ words_of_bert (length so.before) ∷ [];
+      words = map words_of_block so.before ++ words_of_bert (length so.before) ∷ [];
+      before = said_at step (map words_of_block so.before);
+      last = at_step step (words_of_bert (length so.before));
+      left = at_last bert step (map words_of_block so.before) (words_of_bert (length so.before));
       happened = IsListed so.before so.left (subst (λ (xs : List (List ℕ)). IsLaidOut xs so.left machine.memory.region) all so.laid);
-      text = λ t. let part = text t in record {
-        before = map words_of_block so.before;
-        last = words_of_bert (length so.before);
-        behind = [];
-        said_is = refl;
-        count = part.0;
-        text = part.1
+      text = λ t. let part = text t in (
+        part.0,
+        part.1
             ∙ ap (λ (n : ℕ). written_now ++ take part.0 (reply_at step (words_of_bert n))) so.counted
-            ∙ ap (λ (xs : List ℕ). xs ++ take part.0 (reply_at step (words_of_bert (length so.before)))) (so.text t);
-      };
+            ∙ ap (λ (xs : List ℕ). xs ++ take part.0 (reply_at step (words_of_bert (length so.before)))) (so.text t),
+      );
     }

@@ -8,14 +8,15 @@ use Rattle.script_text.specs.ScriptGrammar.{Line, blank, bert, heard}
 use Rattle.apei_notify.specs.Telling.{Hearing, counts_of}
 use Rattle.apei_script.specs.declared.desk.Desk.{Desk}
 use Rattle.apei_script.specs.Players.{PlayerState, with_machine}
-use Rattle.apei_script.specs.Words.{words_of_heard, reply_at, replies_at}
-use Rattle.apei_script.specs.Plays.{Plays, Blank, OnMachine, Heard, LinePlayed, PlaysLine, PlaysUnheard, Occurred, OccurredUnheard, PartlySaid, IsCutShort, Whole, SomeTurns, names_command, step_of}
+use Rattle.apei_script.specs.Words.{Reply, at_step, said_at, words_of_heard, reply_at, replies_at}
+use Rattle.apei_script.specs.Plays.{Plays, Blank, OnMachine, Heard, LinePlayed, PlaysLine, PlaysUnheard, Occurred, OccurredUnheard, LeftIn, AtLast, InList, InTurns, names_command, step_of}
 use Rattle.apei_script.specs.Desks.{state_of, SameClients, Lists, ListsUnheard, LineAnswered, MakesReply}
 use Rattle.apei_script.proofs.LineLemmas.{line_happened}
+use Rattle.apei_script.proofs.LeavesLemmas.{line_leaves}
 use Rattle.apei_script.proofs.ToldLemmas.{told_none}
 
 -- a line that is no command on records
-quiet : (tells : Type 0) (counts : List ℕ) (old : PlayerState) (line : Line) (said blocks : List (List ℕ)) (new : PlayerState) → names_command line ≡ false → Plays tells counts old line said blocks new
+quiet : (tells : Type 0) (counts : List ℕ) (old : PlayerState) (line : Line) (said : List Reply) (blocks : List (List ℕ)) (new : PlayerState) → names_command line ≡ false → Plays tells counts old line said blocks new
     → LinePlayed tells counts old line said blocks new
 quiet tells counts old line said blocks new none plays = record {
   plays = plays;
@@ -23,6 +24,7 @@ quiet tells counts old line said blocks new none plays = record {
   by_map = λ told uses names. absurd (false≢true (sym none ∙ names));
   cause = λ uses names says. absurd (false≢true (sym none ∙ names));
   enough = λ told uses names steps says. absurd (false≢true (sym none ∙ names));
+  leaves = λ told uses own. line_leaves tells told counts old line said blocks new plays uses (λ names. absurd (false≢true (sym none ∙ names))) own;
 }
 
 same_state : (machine : MachineState) (own own_now : ClientState) (other other_now : Option ClientState) (steps steps_now : Option ℕ) → own_now ≡ own → other_now ≡ other → steps_now ≡ steps
@@ -41,7 +43,7 @@ same_desk old new same machine = other_machine old new same ∙ ap (λ (m : Mach
 
 -- a line that was answered, with all that is said of it
 pub line_answered : (tells : Type 0) (old : PlayerState) (line : Line) (new : PlayerState) (made reply : List ℕ) (step : ℕ)
-    → ((words counts : List ℕ) → Plays tells counts old line (words ∷ []) [] new → LinePlayed tells counts old line (words ∷ []) [] new)
+    → ((words counts : List ℕ) → Plays tells counts old line (said_at (step_of new) (words ∷ [])) [] new → LinePlayed tells counts old line (said_at (step_of new) (words ∷ [])) [] new)
     → MakesReply tells old line new made → step ≡ step_of new → reply ≡ reply_at step made → LineAnswered tells old line new reply
 line_answered tells old line new made reply step whole makes at text = record {
   words = makes.words;
@@ -49,8 +51,12 @@ line_answered tells old line new made reply step whole makes at text = record {
   text = text ∙ ap (λ (n : ℕ). reply_at n made) at ∙ ap (reply_at (step_of new)) makes.made.text;
 }
 
-cut_quiet : (line made : Line) → IsCutShort line made → names_command line ≡ false → names_command made ≡ false
-cut_quiet line made cut = elim cut as (λ line made cut. names_command line ≡ false → names_command made ≡ false) [ Whole line ↦ λ h. h | SomeTurns letters behind ↦ λ h. refl ]
+left_quiet : (line made : Line) (said before : List Reply) (last : Reply) → LeftIn line made said before last → names_command line ≡ false → names_command made ≡ false
+left_quiet line made said before last left = elim left as (λ line made said before last left. names_command line ≡ false → names_command made ≡ false) [
+  | AtLast line before last ↦ λ h. h
+  | InList before last behind ↦ λ h. refl
+  | InTurns letters behind events step before last ↦ λ h. refl
+]
 
 module _ {L : Type 0} (hearing : L → Hearing) (tells told_sink : Type 0) where
   pub blank_played : (old : PlayerState) (members : List L) (written : List ℕ) → PlaysLine hearing tells told_sink old old members members blank written written
@@ -66,10 +72,10 @@ module _ {L : Type 0} (hearing : L → Hearing) (tells told_sink : Type 0) where
       → Occurred hearing tells told_sink old.machine new.machine members members_now line written written_now
       → PlaysLine hearing tells told_sink old new members members_now line written written_now
   occurred_played old new members members_now line written written_now none same h = record {
-    said = h.said;
+    said = said_at (step_of new) h.words;
     blocks = h.blocks;
-    played = quiet tells (counts_of hearing members) old line h.said h.blocks new none
-        (subst (λ (s : PlayerState). Plays tells (counts_of hearing members) old line h.said h.blocks s) (sym same) (OnMachine line h.said h.blocks new.machine h.happened));
+    played = quiet tells (counts_of hearing members) old line (said_at (step_of new) h.words) h.blocks new none
+        (subst (λ (s : PlayerState). Plays tells (counts_of hearing members) old line (said_at (step_of new) h.words) h.blocks s) (sym same) (OnMachine line h.words h.blocks new.machine h.happened));
     told = h.told;
     text = h.text;
   }
@@ -79,93 +85,92 @@ module _ {L : Type 0} (hearing : L → Hearing) (tells told_sink : Type 0) where
       → PlaysUnheard hearing tells told_sink old new members members_now line written written_now
   occurred_unheard old new members members_now line written written_now none same h = record {
     made = h.made;
-    cut = h.cut;
-    said = h.said;
+    said = said_at (step_of new) h.words;
+    before = h.before;
+    last = h.last;
+    left = h.left;
     blocks = h.blocks;
-    played = quiet tells (counts_of hearing members) old h.made h.said h.blocks new (cut_quiet line h.made h.cut none)
-        (subst (λ (s : PlayerState). Plays tells (counts_of hearing members) old h.made h.said h.blocks s) (sym same) (OnMachine h.made h.said h.blocks new.machine h.happened));
+    played = quiet tells (counts_of hearing members) old h.made (said_at (step_of new) h.words) h.blocks new (left_quiet line h.made (said_at (step_of new) h.words) h.before h.last h.left none)
+        (subst (λ (s : PlayerState). Plays tells (counts_of hearing members) old h.made (said_at (step_of new) h.words) h.blocks s) (sym same) (OnMachine h.made h.words h.blocks new.machine h.happened));
     told = h.told;
     text = h.text;
   }
 
   pub listed_played : (old new : PlayerState) (members : List L) (written written_now : List ℕ) → new ≡ old → Lists tells told_sink old.machine written written_now
       → PlaysLine hearing tells told_sink old new members members bert written written_now
-  listed_played old new members written written_now same h = record {
-    said = h.said;
-    blocks = [];
-    played = quiet tells (counts_of hearing members) old bert h.said [] new refl
-        (subst (λ (s : PlayerState). Plays tells (counts_of hearing members) old bert h.said [] s) (sym same) (OnMachine bert h.said [] old.machine h.happened));
-    told = told_none hearing members;
-    text = λ t. h.text t ∙ ap (λ (s : PlayerState). written ++ replies_at (step_of s) h.said) (sym same);
-  }
+  listed_played old new members written written_now same h =
+      subst (λ (s : PlayerState). PlaysLine hearing tells told_sink old s members members bert written written_now) (sym same) (record {
+        said = said_at (step_of old) h.words;
+        blocks = [];
+        played = quiet tells (counts_of hearing members) old bert (said_at (step_of old) h.words) [] old refl (OnMachine bert h.words [] old.machine h.happened);
+        told = told_none hearing members;
+        text = h.text;
+      })
 
   pub listed_unheard : (old new : PlayerState) (members : List L) (written written_now : List ℕ) → new ≡ old → ListsUnheard tells told_sink old.machine written written_now
       → PlaysUnheard hearing tells told_sink old new members members bert written written_now
-  listed_unheard old new members written written_now same h = record {
-    made = bert;
-    cut = Whole bert;
-    said = h.said;
-    blocks = [];
-    played = quiet tells (counts_of hearing members) old bert h.said [] new refl
-        (subst (λ (s : PlayerState). Plays tells (counts_of hearing members) old bert h.said [] s) (sym same) (OnMachine bert h.said [] old.machine h.happened));
-    told = told_none hearing members;
-    text = λ t. subst (λ (s : PlayerState). PartlySaid (step_of s) h.said written written_now) (sym same) (h.text t);
-  }
+  listed_unheard old new members written written_now same h =
+      subst (λ (s : PlayerState). PlaysUnheard hearing tells told_sink old s members members bert written written_now) (sym same) (record {
+        made = bert;
+        said = said_at (step_of old) h.words;
+        before = h.before;
+        last = h.last;
+        left = h.left;
+        blocks = [];
+        played = quiet tells (counts_of hearing members) old bert (said_at (step_of old) h.words) [] old refl (OnMachine bert h.words [] old.machine h.happened);
+        told = told_none hearing members;
+        text = h.text;
+      })
 
   -- a line of one reply that changes no listener
   one_text : (step : ℕ) (words written : List ℕ) → written ++ reply_at step words ≡ written ++ replies_at step (words ∷ [])
   one_text step words written = ap (λ (xs : List ℕ). written ++ xs) (sym (append-nil (reply_at step words)))
 
-  pub one_played : (old new : PlayerState) (members : List L) (line : Line) (words written written_now : List ℕ) → LinePlayed tells (counts_of hearing members) old line (words ∷ []) [] new
+  pub one_played : (old new : PlayerState) (members : List L) (line : Line) (words written written_now : List ℕ) → LinePlayed tells (counts_of hearing members) old line (said_at (step_of new) (words ∷ [])) [] new
       → (told_sink → written_now ≡ written ++ reply_at (step_of new) words)
       → PlaysLine hearing tells told_sink old new members members line written written_now
   one_played old new members line words written written_now played text = record {
-    said = words ∷ [];
+    said = said_at (step_of new) (words ∷ []);
     blocks = [];
     played = played;
     told = told_none hearing members;
     text = λ t. text t ∙ one_text (step_of new) words written;
   }
 
-  pub one_unheard : (old new : PlayerState) (members : List L) (line : Line) (words written written_now : List ℕ) → LinePlayed tells (counts_of hearing members) old line (words ∷ []) [] new
+  pub one_unheard : (old new : PlayerState) (members : List L) (line : Line) (words written written_now : List ℕ) → LinePlayed tells (counts_of hearing members) old line (said_at (step_of new) (words ∷ [])) [] new
       → (told_sink → (n : ℕ) × (written_now ≡ written ++ take n (reply_at (step_of new) words)))
       → PlaysUnheard hearing tells told_sink old new members members line written written_now
   one_unheard old new members line words written written_now played text = record {
     made = line;
-    cut = Whole line;
-    said = words ∷ [];
+    said = said_at (step_of new) (words ∷ []);
+    before = [];
+    last = at_step (step_of new) words;
+    left = AtLast line [] (at_step (step_of new) words);
     blocks = [];
     played = played;
     told = told_none hearing members;
-    text = λ t. let some = text t in record {
-      before = [];
-      last = words;
-      behind = [];
-      said_is = refl;
-      count = some.0;
-      text = some.1 ∙ ap (λ (xs : List ℕ). xs ++ take some.0 (reply_at (step_of new) words)) (sym (append-nil written));
-    };
+    text = λ t. let some = text t in (some.0, some.1 ∙ ap (λ (xs : List ℕ). xs ++ take some.0 (reply_at (step_of new) words)) (sym (append-nil written)));
   }
 
   -- where the listeners are as they were
   pub answer_played : (old new : PlayerState) (members members_now : List L) (line : Line) (words written written_now : List ℕ) → members_now ≡ members
-      → LinePlayed tells (counts_of hearing members) old line (words ∷ []) [] new → (told_sink → written_now ≡ written ++ reply_at (step_of new) words)
+      → LinePlayed tells (counts_of hearing members) old line (said_at (step_of new) (words ∷ [])) [] new → (told_sink → written_now ≡ written ++ reply_at (step_of new) words)
       → PlaysLine hearing tells told_sink old new members members_now line written written_now
   answer_played old new members members_now line words written written_now same played text =
       subst (λ (now : List L). PlaysLine hearing tells told_sink old new members now line written written_now) (sym same)
       (one_played old new members line words written written_now played text)
 
   pub answer_unheard : (old new : PlayerState) (members members_now : List L) (line : Line) (words written written_now : List ℕ) → members_now ≡ members
-      → LinePlayed tells (counts_of hearing members) old line (words ∷ []) [] new
+      → LinePlayed tells (counts_of hearing members) old line (said_at (step_of new) (words ∷ [])) [] new
       → (told_sink → (n : ℕ) × (written_now ≡ written ++ take n (reply_at (step_of new) words)))
       → PlaysUnheard hearing tells told_sink old new members members_now line written written_now
   answer_unheard old new members members_now line words written written_now same played text =
       subst (λ (now : List L). PlaysUnheard hearing tells told_sink old new members now line written written_now) (sym same)
       (one_unheard old new members line words written written_now played text)
 
-  heard_line : (old new : PlayerState) (members : List L) → new ≡ old → LinePlayed tells (counts_of hearing members) old heard (words_of_heard (counts_of hearing members) ∷ []) [] new
-  heard_line old new members same = quiet tells (counts_of hearing members) old heard (words_of_heard (counts_of hearing members) ∷ []) [] new refl
-      (subst (λ (s : PlayerState). Plays tells (counts_of hearing members) old heard (words_of_heard (counts_of hearing members) ∷ []) [] s) (sym same) Heard)
+  heard_line : (old new : PlayerState) (members : List L) → new ≡ old → LinePlayed tells (counts_of hearing members) old heard (said_at (step_of new) (words_of_heard (counts_of hearing members) ∷ [])) [] new
+  heard_line old new members same = quiet tells (counts_of hearing members) old heard (said_at (step_of new) (words_of_heard (counts_of hearing members) ∷ [])) [] new refl
+      (subst (λ (s : PlayerState). Plays tells (counts_of hearing members) old heard (said_at (step_of s) (words_of_heard (counts_of hearing members) ∷ [])) [] s) (sym same) Heard)
 
   pub heard_played : (old new : PlayerState) (members : List L) (written written_now : List ℕ) → new ≡ old
       → (told_sink → written_now ≡ written ++ reply_at (step_of old) (words_of_heard (counts_of hearing members)))

@@ -7,12 +7,14 @@ use Rattle.erst_commands.specs.OwnPrograms.{OwnProgramsRun}
 use Rattle.erst_commands.specs.Attached.{own_client}
 use Rattle.script_text.specs.ScriptGrammar.{Line, IsValid}
 use Rattle.apei_script.specs.Players.{PlayerState, client_of, budget_of, UsesOwn}
+use Rattle.apei_script.specs.Words.{Reply, said_at, words_in}
 use Rattle.apei_script.specs.Asked.{Asked}
 use Rattle.apei_script.specs.Happened.{Happened, IsGiven, Turn, IsPeeked, IsLaid, IsListed}
-use Rattle.apei_script.specs.Plays.{Plays, Blank, ByClient, GivenTable, OwnTable, OnMachine, Heard, Reset, Power, names_command, LinePlayed}
+use Rattle.apei_script.specs.Plays.{Plays, Blank, ByClient, GivenTable, OwnTable, OnMachine, Heard, Reset, Power, names_command, LinePlayed, step_of}
 use Rattle.apei_script.proofs.LineLemmas.{line_happened}
 use Rattle.apei_script.proofs.OwnClientLemmas.{no_command, asked_by_map, asked_cause}
 use Rattle.apei_script.proofs.EnoughSteps.{mapped_runs}
+use Rattle.apei_script.proofs.LeavesLemmas.{line_leaves}
 
 -- the first of some replies
 abbrev first_of : List (List ℕ) → List ℕ
@@ -20,9 +22,9 @@ first_of [] = []
 first_of (words ∷ rest) = words
 
 -- a command on records was asked of the client in use, and has one reply
-record AsksClient (tells : Type 0) (old : PlayerState) (line : Line) (said : List (List ℕ)) (new : PlayerState) : Type 0 where
+record AsksClient (tells : Type 0) (old : PlayerState) (line : Line) (said : List Reply) (new : PlayerState) : Type 0 where
   words : List ℕ
-  said_is : said ≡ words ∷ []
+  said_is : said ≡ said_at (step_of new) (words ∷ [])
   asked : Asked tells (client_of old) (budget_of old) old.machine line words new.machine
 
 module _ (tells : Type 0) where
@@ -35,7 +37,7 @@ module _ (tells : Type 0) where
     | IsListed blocks left laid ↦ λ names. no_command names
   ]
 
-  asks : (counts : List ℕ) (old : PlayerState) (line : Line) (said blocks : List (List ℕ)) (new : PlayerState) → Plays tells counts old line said blocks new → names_command line ≡ true →
+  asks : (counts : List ℕ) (old : PlayerState) (line : Line) (said : List Reply) (blocks : List (List ℕ)) (new : PlayerState) → Plays tells counts old line said blocks new → names_command line ≡ true →
       AsksClient tells old line said new
   asks counts old line said blocks new plays = elim plays as (λ line said blocks new plays. names_command line ≡ true → AsksClient tells old line said new) [
     | Blank ↦ λ names. no_command names
@@ -48,11 +50,11 @@ module _ (tells : Type 0) where
     | Power n machine powers ↦ λ names. no_command names
   ]
 
-  by_own : (old : PlayerState) (line : Line) (said : List (List ℕ)) (new : PlayerState) → UsesOwn old → (asks : AsksClient tells old line said new) →
+  by_own : (old : PlayerState) (line : Line) (said : List Reply) (new : PlayerState) → UsesOwn old → (asks : AsksClient tells old line said new) →
       Asked tells (own_client old.machine) (budget_of old) old.machine line asks.words new.machine
   by_own old line said new uses asks = subst (λ (client : ClientState). Asked tells client (budget_of old) old.machine line asks.words new.machine) uses asks.asked
 
-  pub line_played : OwnProgramsRun tells → (counts : List ℕ) (old : PlayerState) (line : Line) (said blocks : List (List ℕ)) (new : PlayerState) → IsMachine old.machine → IsValid line →
+  pub line_played : OwnProgramsRun tells → (counts : List ℕ) (old : PlayerState) (line : Line) (said : List Reply) (blocks : List (List ℕ)) (new : PlayerState) → IsMachine old.machine → IsValid line →
       Plays tells counts old line said blocks new → LinePlayed tells counts old line said blocks new
   line_played own counts old line said blocks new machine valid plays =
       let asks_own = asks counts old line said blocks new plays in
@@ -64,10 +66,14 @@ module _ (tells : Type 0) where
             (a.words, a.said_is, asked_by_map tells own (budget_of old) old.machine told machine line a.words new.machine (by_own old line said new uses a) valid names);
         cause = λ uses names says.
             let a = asks_own names in
-            asked_cause tells own (budget_of old) old.machine line a.words new.machine (by_own old line said new uses a) names (ap first_of (sym a.said_is ∙ says));
+            asked_cause tells own (budget_of old) old.machine line a.words new.machine (by_own old line said new uses a) names (ap first_of (ap words_in (sym a.said_is) ∙ says));
         enough = λ told uses names steps says.
             let a = asks_own names in
             mapped_runs (budget_of old) old.machine (subst (λ (client : ClientState). enough_steps client.timings ≤ budget_of old) uses steps) line a.words new.machine
             (asked_by_map tells own (budget_of old) old.machine told machine line a.words new.machine (by_own old line said new uses a) valid names)
-            (ap first_of (sym a.said_is ∙ says));
+            (ap first_of (ap words_in (sym a.said_is) ∙ says));
+        leaves = λ told uses own_line.
+            line_leaves tells told counts old line said blocks new plays uses (λ names.
+            let a = asks_own names in
+            (a.words, asked_by_map tells own (budget_of old) old.machine told machine line a.words new.machine (by_own old line said new (uses names) a) valid names)) own_line;
       }

@@ -44,11 +44,11 @@ use Rattle.erst_twins.proofs.EventOutlines.{submits_alike, lays_alike, happens_a
 use Rattle.erst_twins.proofs.OneLemmas.{one_list}
 use Rattle.script_text.specs.ScriptGrammar.{Line, blank, write, read, clear, count, next, dummy, action, table, own_table, error, turns, peek, fatal, bert, heard, reset, power}
 use Rattle.apei_script.specs.Players.{PlayerState, client_of, budget_of, with_machine}
-use Rattle.apei_script.specs.Words.{words_of_write, words_of_read, words_of_clear, words_of_count, words_of_next, words_of_dummy, words_of_action, words_of_table, words_of_no_table, words_of_record, words_of_submission, words_of_turns, words_of_block, words_of_peek, words_of_laid, words_of_bert, words_of_heard, words_of_reset, words_of_power, replies_at}
+use Rattle.apei_script.specs.Words.{Reply, said_at, text_of_replies, words_of_write, words_of_read, words_of_clear, words_of_count, words_of_next, words_of_dummy, words_of_action, words_of_table, words_of_no_table, words_of_record, words_of_submission, words_of_turns, words_of_block, words_of_peek, words_of_laid, words_of_bert, words_of_heard, words_of_reset, words_of_power, replies_at}
 use Rattle.apei_script.specs.Tables.{ATTACH_STEPS, BeginsWith}
-use Rattle.apei_script.specs.Plays.{Plays, restarted, step_of}
+use Rattle.apei_script.specs.Plays.{Plays, restarted, changes_in, step_of}
 use Rattle.apei_script.specs.History.{Played, heard_of, heard_after, Follows, text_of, reply_of}
-use Rattle.apei_script.specs.Alike.{AlikePlayers, own_player, WantAlike, lines_of, said_in, taken_in, PlayedAlike}
+use Rattle.apei_script.specs.Alike.{AlikePlayers, own_player, WantAlike, lines_in, said_in, taken_in, PlayedAlike}
 use Rattle.apei_script.proofs.HistoryLemmas.{history_goes_on}
 use Rattle.apei_script.proofs.TurnsAlike.{turned_alike}
 use Rattle.apei_script.proofs.LineKinds.{Left, AskedBy, HappenedBy, words_of_given, other_after, Given, NoTable, Tried, ByItsClient, ByItself, PlaysBy, plays_by}
@@ -208,18 +208,24 @@ module _ (tells : Type 0) (told : tells) where
   quiet_at old machine new player is new_is quiet rose =
       quiet (subst (λ (p : PlayerState). Rose (faults_of old) (faults_of p.machine)) (sym new_is) (subst (λ (m : MachineState). Rose (faults_of old) (faults_of m)) (sym is) rose))
 
-  record LineAlike (said also_said blocks also_blocks : List (List ℕ)) (new also_new : PlayerState) : Type 0 where
+  record LineAlike (said also_said : List Reply) (blocks also_blocks : List (List ℕ)) (new also_new : PlayerState) : Type 0 where
     same : said ≡ also_said
     taken : blocks ≡ also_blocks
     players : AlikePlayers new also_new
 
-  close : (said also_said blocks also_blocks words also_words taken also_taken : List (List ℕ)) (new also_new player also_player : PlayerState) → Left said blocks new words taken player → Left also_said also_blocks also_new also_words also_taken also_player
+  close : (said also_said : List Reply) (blocks also_blocks : List (List ℕ)) (words also_words : List Reply) (taken also_taken : List (List ℕ)) (new also_new player also_player : PlayerState)
+      → Left said blocks new words taken player → Left also_said also_blocks also_new also_words also_taken also_player
       → words ≡ also_words → taken ≡ also_taken → AlikePlayers player also_player → LineAlike said also_said blocks also_blocks new also_new
   close said also_said blocks also_blocks words also_words taken also_taken new also_new player also_player first second same blocks_are players = record {
     same = first.said_is ∙ same ∙ sym second.said_is;
     taken = first.blocks_are ∙ blocks_are ∙ sym second.blocks_are;
     players = subst (λ (p : PlayerState). AlikePlayers p also_new) (sym first.new_is) (subst (λ (p : PlayerState). AlikePlayers player p) (sym second.new_is) players);
   }
+
+  -- the same words at the same step
+  same_said : (one also : MachineState) (words also_words : List (List ℕ)) → AlikeMachines one also → words ≡ also_words → said_at (changes_in one) words ≡ said_at (changes_in also) also_words
+  same_said one also words also_words machines same =
+      ap (λ (o : MachineOutline). said_at o.device.store.steps words) machines ∙ ap (said_at (changes_in also)) same
 
   -- one line of one player, and of the same player with another machine
   module _ (counts : List ℕ) (old : PlayerState) (machine_too : MachineState) (alike : AlikeMachines old.machine machine_too) (machine : IsMachine old.machine) where
@@ -229,23 +235,25 @@ module _ (tells : Type 0) (told : tells) where
     players_with : (other also_other : Option ClientState) (one also : MachineState) → AlikeMachines one also → other ≡ also_other → AlikePlayers (record old { machine = one; other = other }) (record twin { machine = also; other = also_other })
     players_with other also_other one also machines others = record { machines = machines; own = refl; other = others; steps = refl }
 
-    by_client_alike : (line : Line) (said also_said blocks also_blocks : List (List ℕ)) (new also_new : PlayerState) → ByItsClient tells old line said blocks new → FailedNothing old.machine new.machine
+    by_client_alike : (line : Line) (said also_said : List Reply) (blocks also_blocks : List (List ℕ)) (new also_new : PlayerState) → ByItsClient tells old line said blocks new → FailedNothing old.machine new.machine
         → ByItsClient tells twin line also_said also_blocks also_new → FailedNothing machine_too also_new.machine → LineAlike said also_said blocks also_blocks new also_new
     by_client_alike line said also_said blocks also_blocks new also_new first quiet second also_quiet =
         let ends = asked_alike (client_of old) (budget_of old) old.machine machine_too alike machine line first.0 second.0 first.1 second.1
         first.2 (quiet_at old.machine first.1 new (with_machine first.1 old) refl first.3.new_is quiet)
         second.2 (quiet_at machine_too second.1 also_new (with_machine second.1 twin) refl second.3.new_is also_quiet) in
-        close said also_said blocks also_blocks (first.0 ∷ []) (second.0 ∷ []) [] [] new also_new (with_machine first.1 old) (with_machine second.1 twin) first.3 second.3
-        (ap (λ (ws : List ℕ). ws ∷ []) ends.same) refl (players_with old.other old.other first.1 second.1 ends.alike refl)
+        close said also_said blocks also_blocks (said_at (changes_in first.1) (first.0 ∷ [])) (said_at (changes_in second.1) (second.0 ∷ [])) [] [] new also_new
+        (with_machine first.1 old) (with_machine second.1 twin) first.3 second.3
+        (same_said first.1 second.1 (first.0 ∷ []) (second.0 ∷ []) ends.alike (ap (λ (ws : List ℕ). ws ∷ []) ends.same)) refl (players_with old.other old.other first.1 second.1 ends.alike refl)
 
-    by_itself_alike : (line : Line) (said also_said blocks also_blocks : List (List ℕ)) (new also_new : PlayerState) → ByItself tells old line said blocks new
+    by_itself_alike : (line : Line) (said also_said : List Reply) (blocks also_blocks : List (List ℕ)) (new also_new : PlayerState) → ByItself tells old line said blocks new
         → ByItself tells twin line also_said also_blocks also_new → LineAlike said also_said blocks also_blocks new also_new
     by_itself_alike line said also_said blocks also_blocks new also_new first second =
         let ends = happened_alike old.machine machine_too alike machine line first.0 second.0 first.1 second.1 first.2 second.2 first.3 second.3 in
-        close said also_said blocks also_blocks first.0 second.0 first.1 second.1 new also_new (with_machine first.2 old) (with_machine second.2 twin) first.4 second.4
-        ends.same ends.taken (players_with old.other old.other first.2 second.2 ends.alike refl)
+        close said also_said blocks also_blocks (said_at (changes_in first.2) first.0) (said_at (changes_in second.2) second.0) first.1 second.1 new also_new
+        (with_machine first.2 old) (with_machine second.2 twin) first.4 second.4
+        (same_said first.2 second.2 first.0 second.0 ends.alike ends.same) ends.taken (players_with old.other old.other first.2 second.2 ends.alike refl)
 
-    line_alike : (line : Line) (said also_said blocks also_blocks : List (List ℕ)) (new also_new : PlayerState) → PlaysBy tells counts old line said blocks new → FailedNothing old.machine new.machine
+    line_alike : (line : Line) (said also_said : List Reply) (blocks also_blocks : List (List ℕ)) (new also_new : PlayerState) → PlaysBy tells counts old line said blocks new → FailedNothing old.machine new.machine
         → PlaysBy tells counts twin line also_said also_blocks also_new → FailedNothing machine_too also_new.machine → LineAlike said also_said blocks also_blocks new also_new
     line_alike blank said also_said blocks also_blocks new also_new first quiet second also_quiet =
         close said also_said blocks also_blocks [] [] [] [] new also_new old twin first second refl refl (players_with old.other old.other old.machine machine_too alike refl)
@@ -262,32 +270,37 @@ module _ (tells : Type 0) (told : tells) where
         let ends = given_alike old.machine machine_too alike old.other first.0 first.1 second.1 first.2 second.2 first.3 second.3
         first.5 (quiet_at old.machine first.2 new (record old { machine = first.2; other = first.3 }) refl first.6.new_is quiet)
         given (quiet_at machine_too second.2 also_new (record twin { machine = second.2; other = second.3 }) refl second.6.new_is also_quiet) in
-        close said also_said blocks also_blocks (first.1 ∷ []) (second.1 ∷ []) [] [] new also_new (record old { machine = first.2; other = first.3 }) (record twin { machine = second.2; other = second.3 })
-        first.6 second.6 (ap (λ (ws : List ℕ). ws ∷ []) ends.same) refl (players_with first.3 second.3 first.2 second.2 ends.alike ends.others)
+        close said also_said blocks also_blocks (said_at (changes_in first.2) (first.1 ∷ [])) (said_at (changes_in second.2) (second.1 ∷ [])) [] [] new also_new
+        (record old { machine = first.2; other = first.3 }) (record twin { machine = second.2; other = second.3 })
+        first.6 second.6 (same_said first.2 second.2 (first.1 ∷ []) (second.1 ∷ []) ends.alike (ap (λ (ws : List ℕ). ws ∷ []) ends.same)) refl (players_with first.3 second.3 first.2 second.2 ends.alike ends.others)
     line_alike own_table said also_said blocks also_blocks new also_new first quiet second also_quiet =
-        close said also_said blocks also_blocks (words_of_table (length old.own.table.entries) ∷ []) (words_of_table (length old.own.table.entries) ∷ []) [] [] new also_new
-        (record old { other = None }) (record twin { other = None }) first second refl refl (players_with None None old.machine machine_too alike refl)
+        close said also_said blocks also_blocks (said_at (step_of old) (words_of_table (length old.own.table.entries) ∷ [])) (said_at (changes_in machine_too) (words_of_table (length old.own.table.entries) ∷ [])) [] []
+        new also_new (record old { other = None }) (record twin { other = None }) first second
+        (same_said old.machine machine_too (words_of_table (length old.own.table.entries) ∷ []) (words_of_table (length old.own.table.entries) ∷ []) alike refl) refl (players_with None None old.machine machine_too alike refl)
     line_alike (error hex) said also_said blocks also_blocks new also_new first quiet second also_quiet = by_itself_alike (error hex) said also_said blocks also_blocks new also_new first second
     line_alike (turns letters) said also_said blocks also_blocks new also_new first quiet second also_quiet = by_itself_alike (turns letters) said also_said blocks also_blocks new also_new first second
     line_alike (peek at len) said also_said blocks also_blocks new also_new first quiet second also_quiet = by_itself_alike (peek at len) said also_said blocks also_blocks new also_new first second
     line_alike (fatal hex) said also_said blocks also_blocks new also_new first quiet second also_quiet = by_itself_alike (fatal hex) said also_said blocks also_blocks new also_new first second
     line_alike bert said also_said blocks also_blocks new also_new first quiet second also_quiet = by_itself_alike bert said also_said blocks also_blocks new also_new first second
     line_alike heard said also_said blocks also_blocks new also_new first quiet second also_quiet =
-        close said also_said blocks also_blocks (words_of_heard counts ∷ []) (words_of_heard counts ∷ []) [] [] new also_new old twin first second refl refl (players_with old.other old.other old.machine machine_too alike refl)
+        close said also_said blocks also_blocks (said_at (step_of old) (words_of_heard counts ∷ [])) (said_at (changes_in machine_too) (words_of_heard counts ∷ [])) [] [] new also_new old twin first second
+        (same_said old.machine machine_too (words_of_heard counts ∷ []) (words_of_heard counts ∷ []) alike refl) refl (players_with old.other old.other old.machine machine_too alike refl)
     line_alike reset said also_said blocks also_blocks new also_new first quiet second also_quiet =
         let both = happens_alike old.machine machine_too alike tells told machine (Warmed (Ok first.0)) (Warmed (Ok second.0)) first.1 second.1 refl
         first.2 (quiet_at old.machine first.1 new (restarted first.1 old) refl first.3.new_is quiet)
         second.2 (quiet_at machine_too second.1 also_new (restarted second.1 twin) refl second.3.new_is also_quiet) in
         let n : first.0 ≡ second.0 = let e = both.0 in cc in
-        close said also_said blocks also_blocks (words_of_reset first.0 ∷ []) (words_of_reset second.0 ∷ []) [] [] new also_new (restarted first.1 old) (restarted second.1 twin) first.3 second.3
-        (ap (λ (k : ℕ). words_of_reset k ∷ []) n) refl (players_with None None first.1 second.1 both.1 refl)
+        close said also_said blocks also_blocks (said_at (changes_in first.1) (words_of_reset first.0 ∷ [])) (said_at (changes_in second.1) (words_of_reset second.0 ∷ [])) [] [] new also_new
+        (restarted first.1 old) (restarted second.1 twin) first.3 second.3
+        (same_said first.1 second.1 (words_of_reset first.0 ∷ []) (words_of_reset second.0 ∷ []) both.1 (ap (λ (k : ℕ). words_of_reset k ∷ []) n)) refl (players_with None None first.1 second.1 both.1 refl)
     line_alike power said also_said blocks also_blocks new also_new first quiet second also_quiet =
         let both = happens_alike old.machine machine_too alike tells told machine (Powered (Ok first.0)) (Powered (Ok second.0)) first.1 second.1 refl
         first.2 (quiet_at old.machine first.1 new (restarted first.1 old) refl first.3.new_is quiet)
         second.2 (quiet_at machine_too second.1 also_new (restarted second.1 twin) refl second.3.new_is also_quiet) in
         let n : first.0 ≡ second.0 = let e = both.0 in cc in
-        close said also_said blocks also_blocks (words_of_power first.0 ∷ []) (words_of_power second.0 ∷ []) [] [] new also_new (restarted first.1 old) (restarted second.1 twin) first.3 second.3
-        (ap (λ (k : ℕ). words_of_power k ∷ []) n) refl (players_with None None first.1 second.1 both.1 refl)
+        close said also_said blocks also_blocks (said_at (changes_in first.1) (words_of_power first.0 ∷ [])) (said_at (changes_in second.1) (words_of_power second.0 ∷ [])) [] [] new also_new
+        (restarted first.1 old) (restarted second.1 twin) first.3 second.3
+        (same_said first.1 second.1 (words_of_power first.0 ∷ []) (words_of_power second.0 ∷ []) both.1 (ap (λ (k : ℕ). words_of_power k ∷ []) n)) refl (players_with None None first.1 second.1 both.1 refl)
     line_alike line said also_said blocks also_blocks new also_new first quiet second also_quiet = absurd first
 
   -- two players that are alike, as one player with two machines
@@ -298,17 +311,13 @@ module _ (tells : Type 0) (told : tells) where
       let steps = sym players.steps in
       λ i. record { machine = also.machine; own = own i; other = other i; steps = steps i }
 
-  played_alike : (counts : List ℕ) (one also : PlayerState) → AlikePlayers one also → IsMachine one.machine → (line : Line) (said also_said blocks also_blocks : List (List ℕ)) (new also_new : PlayerState)
+  played_alike : (counts : List ℕ) (one also : PlayerState) → AlikePlayers one also → IsMachine one.machine → (line : Line) (said also_said : List Reply) (blocks also_blocks : List (List ℕ)) (new also_new : PlayerState)
       → Plays tells counts one line said blocks new → FailedNothing one.machine new.machine → Plays tells counts also line also_said also_blocks also_new → FailedNothing also.machine also_new.machine
       → LineAlike said also_said blocks also_blocks new also_new
   played_alike counts one also players machine line said also_said blocks also_blocks new also_new first quiet second also_quiet =
       line_alike counts one also.machine players.machines machine line said also_said blocks also_blocks new also_new
       (plays_by tells counts one line said blocks new first) quiet
       (plays_by tells counts (with_machine also.machine one) line also_said also_blocks also_new (subst (λ (p : PlayerState). Plays tells counts p line also_said also_blocks also_new) (is_twin one also players) second)) also_quiet
-
-  same_reply : (said also_said : List (List ℕ)) (one also : PlayerState) → said ≡ also_said → AlikePlayers one also → replies_at (step_of one) said ≡ replies_at (step_of also) also_said
-  same_reply said also_said one also same players =
-      ap (replies_at (step_of one)) same ∙ ap (λ (o : MachineOutline). replies_at o.device.store.steps also_said) players.machines
 
 -- the listeners hear the same
 same_wanted : (want wants_too : ℕ → Bool) (blocks : List (List ℕ)) → ((severity : ℕ) → want severity ≡ wants_too severity) → wanted want blocks ≡ wanted wants_too blocks
@@ -324,7 +333,7 @@ same_heard (want ∷ wants) (want_too ∷ wants_too) blocks (heard_so_far ∷ co
     ∙ ap (λ (ns : List ℕ). heard_of heard_so_far (wanted want_too blocks) ∷ ns) (same_heard wants wants_too blocks counts same.1)
 
 module _ (tells : Type 0) (told : tells) (wants wants_too : List (ℕ → Bool)) (want_alike : WantAlike wants wants_too) where
-  pub histories_alike : (counts : List ℕ) (one also : PlayerState) (first second : List Played) (one_last also_last : PlayerState) → AlikePlayers one also → IsMachine one.machine → lines_of first ≡ lines_of second
+  pub histories_alike : (counts : List ℕ) (one also : PlayerState) (first second : List Played) (one_last also_last : PlayerState) → AlikePlayers one also → IsMachine one.machine → lines_in first ≡ lines_in second
       → Follows tells wants counts one first one_last → FailedNothing one.machine one_last.machine → Follows tells wants_too counts also second also_last → FailedNothing also.machine also_last.machine
       → PlayedAlike first second one_last also_last
   histories_alike counts one also [] [] one_last also_last players machine lines follows quiet follows_too also_quiet =
@@ -332,7 +341,7 @@ module _ (tells : Type 0) (told : tells) (wants wants_too : List (ℕ → Bool))
       record { said = refl; text = refl; blocks = refl; players = at_end; records = ap (λ (o : MachineOutline). o.device.store.records) at_end.machines }
   histories_alike counts one also (x ∷ first) (y ∷ second) one_last also_last players machine lines follows quiet follows_too also_quiet =
       let line : x.line ≡ y.line = let e = lines in cc in
-      let rest : lines_of first ≡ lines_of second = let e = lines in cc in
+      let rest : lines_in first ≡ lines_in second = let e = lines in cc in
       let one_step = follows.0.happened.never_falls in
       let one_rest = (history_goes_on tells told wants (heard_after wants x.blocks counts) x.left first one_last follows.1).1.never_falls in
       let also_step = follows_too.0.happened.never_falls in
@@ -349,8 +358,8 @@ module _ (tells : Type 0) (told : tells) (wants wants_too : List (ℕ → Bool))
       (subst (λ (ns : List ℕ). Follows tells wants_too ns y.left second also_last) heard follows_too.1)
       (quiet_second (faults_of also.machine) (faults_of y.left.machine) (faults_of also_last.machine) also_step also_rest also_quiet) in
       record {
-        said = ap (λ (s : List (List ℕ)). s ∷ said_in first) both.same ∙ ap (λ (s : List (List (List ℕ))). y.said ∷ s) more.said;
-        text = ap (λ (t : List ℕ). t ++ text_of first) (same_reply tells told x.said y.said x.left y.left both.same both.players) ∙ ap (λ (t : List ℕ). reply_of y ++ t) more.text;
+        said = ap (λ (s : List Reply). s ∷ said_in first) both.same ∙ ap (λ (s : List (List Reply)). y.said ∷ s) more.said;
+        text = ap (λ (s : List Reply). text_of_replies s ++ text_of first) both.same ∙ ap (λ (t : List ℕ). reply_of y ++ t) more.text;
         blocks = ap (λ (s : List (List ℕ)). s ∷ taken_in first) both.taken ∙ ap (λ (s : List (List (List ℕ))). y.blocks ∷ s) more.blocks;
         players = more.players;
         records = more.records;
@@ -379,7 +388,7 @@ with_value_is_machine state value machine = record { sizes = machine.sizes; laid
 pub booted_alike : (tells : Type 0) → tells → (geometry : Geometry) (flash flash_too : FlashState) (one also : MachineState)
     → records_in (layout_of geometry) flash.told.image ≡ records_in (layout_of geometry) flash_too.told.image → flash.steps ≡ flash_too.steps
     → second_copies geometry.slot_size geometry.slots flash.told.image ≡ second_copies geometry.slot_size geometry.slots flash_too.told.image → BootsFrom geometry flash one → BootsFrom geometry flash_too also
-    → (wants : List (ℕ → Bool)) (counts : List ℕ) (steps : Option ℕ) (first second : List Played) (one_last also_last : PlayerState) → lines_of first ≡ lines_of second
+    → (wants : List (ℕ → Bool)) (counts : List ℕ) (steps : Option ℕ) (first second : List Played) (one_last also_last : PlayerState) → lines_in first ≡ lines_in second
     → Follows tells wants counts (own_player one steps) first one_last → FailedNothing one one_last.machine → Follows tells wants counts (own_player also steps) second also_last → FailedNothing also also_last.machine
     → PlayedAlike first second one_last also_last
 booted_alike tells told geometry flash flash_too one also records changes copies boots boots_too wants counts steps first second one_last also_last lines follows quiet follows_too also_quiet =

@@ -8,6 +8,7 @@ use Rattle.erst_commands.specs.OwnPrograms.{with_value}
 use Rattle.erst_twins.specs.Alike.{AlikeMachines}
 use Rattle.script_text.specs.ScriptGrammar.{Line}
 use Rattle.apei_script.specs.Players.{PlayerState, player_of}
+use Rattle.apei_script.specs.Words.{Reply}
 use Rattle.apei_script.specs.History.{Played, text_of}
 
 -- their machines are alike, and they have the same clients and the same steps
@@ -25,11 +26,11 @@ own_player machine steps = player_of (with_value (timings_of machine.device.stor
 abbrev pub WantAlike : List (ℕ → Bool) → List (ℕ → Bool) → Type 0
 WantAlike wants also = AllZip (λ want wants_too. (severity : ℕ) → want severity ≡ wants_too severity) wants also
 
-abbrev pub lines_of : List Played → List Line
-lines_of lines = map (λ (played : Played). played.line) lines
+abbrev pub lines_in : List Played → List Line
+lines_in lines = map (λ (played : Played). played.line) lines
 
--- the words of the replies to each line, and the blocks of which the listeners were told in it
-abbrev pub said_in : List Played → List (List (List ℕ))
+-- the replies to each line, and the blocks of which the listeners were told in it
+abbrev pub said_in : List Played → List (List Reply)
 said_in lines = map (λ (played : Played). played.said) lines
 
 abbrev pub taken_in : List Played → List (List (List ℕ))

@@ -5,9 +5,9 @@ use Rattle.apei_script.specs.declared.desk.Desk.{Desk}
 use Rattle.apei_script.specs.Players.{PlayerState}
 use Rattle.apei_script.specs.Replies.{IsMade}
 use Rattle.erst_machine.specs.MachineState.{MachineState}
-use Rattle.apei_script.specs.Words.{reply_at, replies_at}
+use Rattle.apei_script.specs.Words.{Reply, said_at, reply_at, replies_at}
 use Rattle.apei_script.specs.Happened.{Happened}
-use Rattle.apei_script.specs.Plays.{Plays, LinePlayed, PartlySaid, changes_in, step_of}
+use Rattle.apei_script.specs.Plays.{Plays, LinePlayed, LeftIn, PartlyWritten, changes_in, step_of}
 
 abbrev pub state_of : {F : Type 0} → Desk F → PlayerState
 state_of desk = record { machine = desk.machine; own = desk.own; other = desk.other; steps = desk.steps }
@@ -15,13 +15,13 @@ state_of desk = record { machine = desk.machine; own = desk.own; other = desk.ot
 -- a line of one reply was played, whatever the listeners have heard, and its reply made
 pub record LineAnswered (tells : Type 0) (old : PlayerState) (line : Line) (new : PlayerState) (reply : List ℕ) : Type 0 where
   pub words : List ℕ
-  pub played : (counts : List ℕ) → LinePlayed tells counts old line (words ∷ []) [] new
+  pub played : (counts : List ℕ) → LinePlayed tells counts old line (said_at (step_of new) (words ∷ [])) [] new
   pub text : reply ≡ reply_at (step_of new) words
 
 -- a line of one reply was carried out, whatever the listeners have heard, and its reply made but for the step behind it
 pub record MakesReply (tells : Type 0) (old : PlayerState) (line : Line) (new : PlayerState) (reply : List ℕ) : Type 0 where
   pub words : List ℕ
-  pub plays : (counts : List ℕ) → Plays tells counts old line (words ∷ []) [] new
+  pub plays : (counts : List ℕ) → Plays tells counts old line (said_at (step_of new) (words ∷ [])) [] new
   pub made : IsMade reply words
 
 -- the clients and their steps are as they were
@@ -32,11 +32,14 @@ pub record SameClients {F : Type 0} (old new : Desk F) : Type 0 where
 
 -- the blocks of the boot error region were shown, and how many they are: all of it was written, or a part of one of the replies
 pub record Lists (tells told_sink : Type 0) (machine : MachineState) (written written_now : List ℕ) : Type 0 where
-  pub said : List (List ℕ)
-  pub happened : Happened tells machine bert said [] machine
-  pub text : told_sink → written_now ≡ written ++ replies_at (changes_in machine) said
+  pub words : List (List ℕ)
+  pub happened : Happened tells machine bert words [] machine
+  pub text : told_sink → written_now ≡ written ++ replies_at (changes_in machine) words
 
 pub record ListsUnheard (tells told_sink : Type 0) (machine : MachineState) (written written_now : List ℕ) : Type 0 where
-  pub said : List (List ℕ)
-  pub happened : Happened tells machine bert said [] machine
-  pub text : told_sink → PartlySaid (changes_in machine) said written written_now
+  pub words : List (List ℕ)
+  pub before : List Reply
+  pub last : Reply
+  pub left : LeftIn bert bert (said_at (changes_in machine) words) before last
+  pub happened : Happened tells machine bert words [] machine
+  pub text : told_sink → PartlyWritten before last written written_now

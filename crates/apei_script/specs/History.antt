@@ -8,16 +8,16 @@ use Rattle.apei_notify.specs.Telling.{wanted}
 use Rattle.erst_client.specs.Timings.{enough_steps}
 use Rattle.erst_machine.specs.MachineState.{records_of, told_of}
 use Rattle.erst_machine.specs.Shown.{shown_by, changes_of}
-use Rattle.script_text.specs.ScriptGrammar.{Line, action, table}
+use Rattle.script_text.specs.ScriptGrammar.{Line}
 use Rattle.apei_script.specs.Players.{PlayerState, client_of, budget_of, UsesOwn}
-use Rattle.apei_script.specs.Words.{replies_at}
+use Rattle.apei_script.specs.Words.{Reply, said_at, text_of_replies}
 use Rattle.apei_script.specs.Mapped.{Mapped, after_line}
-use Rattle.apei_script.specs.Plays.{LinePlayed, step_of, names_command, SaysHardware, SaysStopped}
+use Rattle.apei_script.specs.Plays.{LinePlayed, step_of, names_command, IsOwnLine, SaysHardware, SaysStopped}
 
--- a line that was played: the words of its replies, the blocks of which the listeners were told, and the player afterwards
+-- a line that was played: its replies, the blocks of which the listeners were told, and the player afterwards
 pub record Played : Type 0 where
   pub line : Line
-  pub said : List (List ℕ)
+  pub said : List Reply
   pub blocks : List (List ℕ)
   pub left : PlayerState
 
@@ -41,9 +41,9 @@ Follows tells wants counts first (played ∷ rest) last =
 abbrev pub blocks_of : List Played → List (List ℕ)
 blocks_of lines = flat_map (λ (played : Played). played.blocks) lines
 
--- the replies to a line, and to lines: each has the flash step at which its line ended
+-- the replies to a line, and to lines, as they are written
 abbrev pub reply_of : Played → List ℕ
-reply_of played = replies_at (step_of played.left) played.said
+reply_of played = text_of_replies played.said
 
 abbrev pub text_of : List Played → List ℕ
 text_of lines = flat_map reply_of lines
@@ -59,24 +59,18 @@ AreCounted [] = Unit {0}
 AreCounted (played ∷ rest) = (changes_of played.left.machine ≡ step_of played.left) × AreCounted rest
 
 -- what power lost at step s may show: the records after the lines that had ended by s, or as the next one leaves them where nothing fails
-abbrev pub Shows : ℕ → PlayerState → List Played → Stored → Type 0
-Shows s state [] shown = shown ≡ records_of state.machine
-Shows s state (played ∷ rest) shown =
+abbrev pub ShowsLines : ℕ → PlayerState → List Played → Stored → Type 0
+ShowsLines s state [] shown = shown ≡ records_of state.machine
+ShowsLines s state (played ∷ rest) shown =
     MatchBool (nat_le (changes_of played.left.machine) s)
-    (Shows s played.left rest shown)
-    ((shown ≡ records_of state.machine) ⊎ (shown ≡ after_line state.machine played.line))
+    (ShowsLines s played.left rest shown)
+    ((shown ≡ records_of state.machine) ⊎ (shown ≡ after_line (client_of state).range state.machine played.line))
 
 -- at the step at which each line ended, the image showed the records that it leaves
-abbrev pub ShowsEach : PlayerState → PlayerState → List Played → Type 0
-ShowsEach last state [] = Unit {0}
-ShowsEach last state (played ∷ rest) =
-    (shown_by state.machine (image_at (told_of last.machine) (changes_of played.left.machine)) ≡ records_of played.left.machine) × ShowsEach last played.left rest
-
--- a line that neither runs an action nor gives a table
-abbrev pub IsOwnLine : Line → Type 0
-IsOwnLine (action code value) = ⊥
-IsOwnLine (table hex) = ⊥
-IsOwnLine line = Unit {0}
+abbrev pub ShowsEachLine : PlayerState → PlayerState → List Played → Type 0
+ShowsEachLine last state [] = Unit {0}
+ShowsEachLine last state (played ∷ rest) =
+    (shown_by state.machine (image_at (told_of last.machine) (changes_of played.left.machine)) ≡ records_of played.left.machine) × ShowsEachLine last played.left rest
 
 -- scripts without lines that run an action or give a table
 abbrev pub AreOwnLines : List Played → Type 0
@@ -87,7 +81,7 @@ AreOwnLines (played ∷ rest) = IsOwnLine played.line × AreOwnLines rest
 -- never stopped where its steps are enough
 pub record IsMapped (state : PlayerState) (played : Played) : Type 0 where
   pub words : List ℕ
-  pub said : played.said ≡ words ∷ []
+  pub said : played.said ≡ said_at (step_of played.left) (words ∷ [])
   pub mapped : Mapped (budget_of state) state.machine played.line words played.left.machine
   pub cause : SaysHardware played.said → Rose state.machine.device.store.flash.faults played.left.machine.device.store.flash.faults
   pub enough : enough_steps (client_of state).timings ≤ budget_of state → SaysStopped played.said → ⊥

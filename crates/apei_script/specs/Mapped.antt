@@ -8,7 +8,7 @@ use Rattle.record_model.specs.RecordMap.{Write, Clear, after}
 use Rattle.erst_client.specs.declared.errors.ClientError.{ClientError}
 use Rattle.erst_client.specs.Commands.{write_refusal}
 use Rattle.erst_client.specs.Sequences.{clear_requests, dummy_requests}
-use Rattle.erst_machine.specs.MachineState.{MachineState, reach_in, records_of, told_of}
+use Rattle.erst_machine.specs.MachineState.{MachineState, records_of, told_of}
 use Rattle.erst_machine.specs.Shown.{shown_by}
 use Rattle.erst_commands.specs.Looks.{AsksOnce, CountMade, NextMade}
 use Rattle.erst_commands.specs.Changes.{ChangeCommand, DummyCommand}
@@ -33,19 +33,19 @@ pub data Mapped (steps : ℕ) (old : MachineState) : Line → List ℕ → Machi
   IsDummy : (result : Result (Unit {0}) ClientError) (left : ℕ) (new : MachineState) → DummyCommand old new dummy_requests steps result left
       → Mapped steps old dummy (words_of_dummy result) new
 
--- the records as the write of some bytes leaves them where nothing fails: bytes that the client refuses change nothing
-abbrev pub after_write : MachineState → Result (List ℕ) FromHexError → Stored
-after_write state (Ok bytes) =
-    if is_none (write_refusal bytes (reach_in state.device)) then after state.device.store.layout (Write (id_of bytes) (marked bytes)) (records_of state)
+-- the records as the write of some bytes leaves them where nothing fails, by a client of this log range: bytes that it refuses change nothing
+abbrev pub after_write : ℕ → MachineState → Result (List ℕ) FromHexError → Stored
+after_write range state (Ok bytes) =
+    if is_none (write_refusal bytes range) then after state.device.store.layout (Write (id_of bytes) (marked bytes)) (records_of state)
     else records_of state
-after_write state (Err error) = records_of state
+after_write range state (Err error) = records_of state
 
 -- the records as a line leaves them where nothing fails and its steps are enough: only writes and clears make others
-abbrev pub after_line : MachineState → Line → Stored
-after_line state (write hex) = after_write state (decode_of hex)
-after_line state (clear id) = after state.device.store.layout (Clear id) (records_of state)
-after_line state line = records_of state
+abbrev pub after_line : ℕ → MachineState → Line → Stored
+after_line range state (write hex) = after_write range state (decode_of hex)
+after_line range state (clear id) = after state.device.store.layout (Clear id) (records_of state)
+after_line range state line = records_of state
 
 -- power lost in a line leaves the records from before it, or those
-abbrev pub LineLeaves : MachineState → Line → MachineState → Type 0
-LineLeaves old line new = Leaves (told_of old) (told_of new) (λ image. (shown_by old image ≡ records_of old) ⊎ (shown_by old image ≡ after_line old line))
+abbrev pub LineLeaves : ℕ → MachineState → Line → MachineState → Type 0
+LineLeaves range old line new = Leaves (told_of old) (told_of new) (λ image. (shown_by old image ≡ records_of old) ⊎ (shown_by old image ≡ after_line range old line))

@@ -5,6 +5,8 @@ use Rattle.hex.specs.Hex.{decode_of}
 use Rattle.base_model.specs.Faults.{Rose}
 use Rattle.apei_space.specs.Accesses.{Move, Trail}
 use Rattle.apei_notify.specs.Telling.{IsToldOfAll, Hearing, counts_of}
+use Rattle.ghes_ack.specs.declared.events.Event.{Event as TurnEvent}
+use Rattle.ghes_ack.specs.declared.events.Event.TheVariants.{Took}
 use Rattle.erst_client.specs.Commands.{ClientState}
 use Rattle.erst_client.specs.Timings.{enough_steps}
 use Rattle.erst_machine.specs.declared.errors.BootError.{BootError}
@@ -15,40 +17,48 @@ use Rattle.script_text.specs.ScriptGrammar.{Line, IsValid, blank, comment, write
 use Rattle.apei_script.specs.declared.player.PlayStop.{PlayStop}
 use Rattle.apei_script.specs.declared.player.PlayStop.TheVariants.{SinkFault, FlashFault, Memory}
 use Rattle.apei_script.specs.Players.{PlayerState, client_of, budget_of, with_machine, UsesOwn}
-use Rattle.apei_script.specs.Words.{refused, words_of_table, words_of_heard, words_of_reset, words_of_power, reply_at, replies_at}
+use Rattle.apei_script.specs.Words.{Reply, at_step, said_at, words_in, text_of_reply, text_of_replies, replies_at, refused, words_of_table, words_of_turns, words_of_heard, words_of_reset, words_of_power}
 use Rattle.apei_script.specs.Asked.{Commanded}
 use Rattle.apei_script.specs.Tables.{GivesTable}
-use Rattle.apei_script.specs.Mapped.{Mapped}
+use Rattle.apei_script.specs.Mapped.{Mapped, LineLeaves}
 use Rattle.apei_script.specs.Happened.{Happened}
 use Rattle.apei_script.specs.Changes.{changes_along}
+
+-- how many flash changes were made so far
+abbrev pub changes_in : MachineState → ℕ
+changes_in machine = machine.device.store.flash.steps
+
+abbrev pub step_of : PlayerState → ℕ
+step_of state = changes_in state.machine
 
 -- a restart, and the words of its reply; the client that was attached first is in use again
 abbrev pub restarted : MachineState → PlayerState → PlayerState
 restarted machine old = record old { machine = machine; other = None }
 
--- A line, the words of its replies, the blocks of which the listeners are told, and the player afterwards. `counts` says how often each
--- listener has heard of an error before it
-pub data Plays (tells : Type 0) (counts : List ℕ) (old : PlayerState) : Line → List (List ℕ) → List (List ℕ) → PlayerState → Type 0 where
+-- A line, its replies, the blocks of which the listeners are told, and the player afterwards. `counts` says how often each listener has heard
+-- of an error before it
+pub data Plays (tells : Type 0) (counts : List ℕ) (old : PlayerState) : Line → List Reply → List (List ℕ) → PlayerState → Type 0 where
   Blank : Plays tells counts old blank [] [] old
   ByClient : (line : Line) (words : List ℕ) (machine : MachineState) → Commanded tells (client_of old) (budget_of old) old.machine line words machine
-      → Plays tells counts old line (words ∷ []) [] (with_machine machine old)
+      → Plays tells counts old line (said_at (changes_in machine) (words ∷ [])) [] (with_machine machine old)
   GivenTable : (hex bytes words : List ℕ) (machine : MachineState) (other : Option ClientState) → decode_of hex ≡ Ok bytes
-      → GivesTable tells old.machine old.other bytes words machine other → Plays tells counts old (table hex) (words ∷ []) [] (record old { machine = machine; other = other })
-  OwnTable : Plays tells counts old own_table (words_of_table (length old.own.table.entries) ∷ []) [] (record old { other = None })
-  OnMachine : (line : Line) (said blocks : List (List ℕ)) (machine : MachineState) → Happened tells old.machine line said blocks machine
-      → Plays tells counts old line said blocks (with_machine machine old)
-  Heard : Plays tells counts old heard (words_of_heard counts ∷ []) [] old
+      → GivesTable tells old.machine old.other bytes words machine other
+      → Plays tells counts old (table hex) (said_at (changes_in machine) (words ∷ [])) [] (record old { machine = machine; other = other })
+  OwnTable : Plays tells counts old own_table (said_at (step_of old) (words_of_table (length old.own.table.entries) ∷ [])) [] (record old { other = None })
+  OnMachine : (line : Line) (words blocks : List (List ℕ)) (machine : MachineState) → Happened tells old.machine line words blocks machine
+      → Plays tells counts old line (said_at (changes_in machine) words) blocks (with_machine machine old)
+  Heard : Plays tells counts old heard (said_at (step_of old) (words_of_heard counts ∷ [])) [] old
   Reset : (n : ℕ) (machine : MachineState) → Warms tells old.machine (Ok n) machine
-      → Plays tells counts old reset (words_of_reset n ∷ []) [] (restarted machine old)
+      → Plays tells counts old reset (said_at (changes_in machine) (words_of_reset n ∷ [])) [] (restarted machine old)
   Power : (n : ℕ) (machine : MachineState) → Powers tells old.machine (Ok n) machine
-      → Plays tells counts old power (words_of_power n ∷ []) [] (restarted machine old)
+      → Plays tells counts old power (said_at (changes_in machine) (words_of_power n ∷ [])) [] (restarted machine old)
 
 -- a restart that the flash failed
 pub data FailsRestart (tells : Type 0) (old : MachineState) : Line → MachineState → Type 0 where
   ResetFails : (error : BootError) (new : MachineState) → Warms tells old (Err error) new → FailsRestart tells old reset new
   PowerFails : (error : BootError) (new : MachineState) → Powers tells old (Err error) new → FailsRestart tells old power new
 
--- What happened to the machine: its accesses, restarts, turns and blocks, one after another. Power lost at any flash step on the way shows
+-- What happened to the machine: some list of accesses, restarts, turns and blocks, one after another, leads from the one state to the other. Power lost at any flash step on the way shows
 -- the records after those that had ended by then, or as the next one leaves them, with a fault or without. Where no fault was counted the
 -- flash took exactly the changes that the definitions give them
 pub record HasHappened (tells : Type 0) (old new : MachineState) : Type 0 where
@@ -111,22 +121,30 @@ names_command next = true
 names_command dummy = true
 names_command line = false
 
--- the reply is that the flash failed, and that there were too few steps
-abbrev pub SaysHardware : List (List ℕ) → Type 0
-SaysHardware said = said ≡ refused (codes "hardware") ∷ []
+-- a line that neither runs an action nor gives a table
+abbrev pub IsOwnLine : Line → Type 0
+IsOwnLine (action code value) = ⊥
+IsOwnLine (table hex) = ⊥
+IsOwnLine line = Unit {0}
 
-abbrev pub SaysStopped : List (List ℕ) → Type 0
-SaysStopped said = said ≡ refused (codes "stopped budget") ∷ []
+-- the reply is that the flash failed, and that there were too few steps
+abbrev pub SaysHardware : List Reply → Type 0
+SaysHardware said = words_in said ≡ refused (codes "hardware") ∷ []
+
+abbrev pub SaysStopped : List Reply → Type 0
+SaysStopped said = words_in said ≡ refused (codes "stopped budget") ∷ []
 
 -- One line that was played. By the machine's own table a command on records is the record map's; it says that the flash failed only where
 -- the flash's count of faults rose in this very line, and is never stopped where its steps are enough
-pub record LinePlayed (tells : Type 0) (counts : List ℕ) (old : PlayerState) (line : Line) (said blocks : List (List ℕ)) (new : PlayerState) : Type 0 where
+pub record LinePlayed (tells : Type 0) (counts : List ℕ) (old : PlayerState) (line : Line) (said : List Reply) (blocks : List (List ℕ)) (new : PlayerState) : Type 0 where
   pub plays : Plays tells counts old line said blocks new
   pub happened : HasHappened tells old.machine new.machine
   pub by_map : tells → UsesOwn old → names_command line ≡ true
-      → (words : List ℕ) × (said ≡ words ∷ []) × Mapped (budget_of old) old.machine line words new.machine
+      → (words : List ℕ) × (said ≡ said_at (step_of new) (words ∷ [])) × Mapped (budget_of old) old.machine line words new.machine
   pub cause : UsesOwn old → names_command line ≡ true → SaysHardware said → Rose old.machine.device.store.flash.faults new.machine.device.store.flash.faults
   pub enough : tells → UsesOwn old → names_command line ≡ true → enough_steps (client_of old).timings ≤ budget_of old → SaysStopped said → ⊥
+  -- and power lost in it leaves the records from before it, or as it leaves them where nothing fails
+  pub leaves : tells → (names_command line ≡ true → UsesOwn old) → IsOwnLine line → LineLeaves (client_of old).range old.machine line new.machine
 
 -- why a line was stopped, and what it left: a restart that the flash failed, or want of memory for a table, which leaves all as it was
 abbrev pub Stops : Type 0 → PlayerState → Line → PlayerState → PlayStop → Type 0
@@ -135,13 +153,6 @@ Stops tells old line new FlashFault = (machine : MachineState) × FailsRestart t
     × Rose old.machine.device.store.flash.faults machine.device.store.flash.faults × (new ≡ with_machine machine old)
 Stops tells old line new Memory = (new ≡ old) × ((hex : List ℕ) × (line ≡ table hex))
 
--- how many flash changes were made when a line ended
-abbrev pub changes_in : MachineState → ℕ
-changes_in machine = machine.device.store.flash.steps
-
-abbrev pub step_of : PlayerState → ℕ
-step_of state = changes_in state.machine
-
 -- the listeners, before and after they were told of some blocks, each in its place
 abbrev pub Told : {L : Type 0} → (L → Hearing) → List (List ℕ) → List L → List L → Type 0
 Told hearing blocks old new = AllZip (IsToldOfAll hearing blocks) old new
@@ -149,53 +160,56 @@ Told hearing blocks old new = AllZip (IsToldOfAll hearing blocks) old new
 -- a line was played, its listeners told, and its replies written
 pub record PlaysLine {L : Type 0} (hearing : L → Hearing) (tells told_sink : Type 0)
     (old new : PlayerState) (members members_now : List L) (line : Line) (written written_now : List ℕ) : Type 0 where
-  pub said : List (List ℕ)
+  pub said : List Reply
   pub blocks : List (List ℕ)
   pub played : LinePlayed tells (counts_of hearing members) old line said blocks new
   pub told : Told hearing blocks members members_now
-  pub text : told_sink → written_now ≡ written ++ replies_at (step_of new) said
+  pub text : told_sink → written_now ≡ written ++ text_of_replies said
 
 -- the same of a line that asks the machine itself
 pub record Occurred {L : Type 0} (hearing : L → Hearing) (tells told_sink : Type 0)
     (old new : MachineState) (members members_now : List L) (line : Line) (written written_now : List ℕ) : Type 0 where
-  pub said : List (List ℕ)
+  pub words : List (List ℕ)
   pub blocks : List (List ℕ)
-  pub happened : Happened tells old line said blocks new
+  pub happened : Happened tells old line words blocks new
   pub told : Told hearing blocks members members_now
-  pub text : told_sink → written_now ≡ written ++ replies_at (changes_in new) said
+  pub text : told_sink → written_now ≡ written ++ replies_at (changes_in new) words
 
--- a line of turns may be left where a reply is refused: of its turns no further one is made
-pub data IsCutShort : Line → Line → Type 0 where
-  Whole : (line : Line) → IsCutShort line line
-  SomeTurns : (letters behind : List ℕ) → IsCutShort (turns (letters ++ behind)) (turns letters)
+-- What is left of a line where the sink refused a reply: the line, what was made of it, the replies to that, those of them that were written
+-- whole, and the one that was refused. It is the last one, that of a block of the boot error region, or that of a block which a turn took;
+-- then no further turn is made
+pub data LeftIn : Line → Line → List Reply → List Reply → Reply → Type 0 where
+  AtLast : (line : Line) (before : List Reply) (last : Reply) → LeftIn line line (before ++ last ∷ []) before last
+  InList : (before : List Reply) (last : Reply) (behind : List Reply) → LeftIn bert bert (before ++ last ∷ behind) before last
+  InTurns : (letters behind : List ℕ) (events : List TurnEvent) (step : ℕ) (before : List Reply) (last : Reply)
+      → LeftIn (turns (letters ++ behind)) (turns letters) (before ++ last ∷ at_step step (words_of_turns (events ++ Took ∷ [])) ∷ []) before last
 
--- the replies up to one were written, and a part of that one
-pub record PartlySaid (step : ℕ) (said : List (List ℕ)) (written written_now : List ℕ) : Type 0 where
-  pub before : List (List ℕ)
-  pub last : List ℕ
-  pub behind : List (List ℕ)
-  pub said_is : said ≡ before ++ last ∷ behind
-  pub count : ℕ
-  pub text : written_now ≡ written ++ replies_at step before ++ take count (reply_at step last)
+-- replies were written, and of one more a part
+abbrev pub PartlyWritten : List Reply → Reply → List ℕ → List ℕ → Type 0
+PartlyWritten before last written written_now = (n : ℕ) × (written_now ≡ written ++ text_of_replies before ++ take n (text_of_reply last))
 
--- a line was played, or the first turns of one, and its listeners told. The sink refused a reply
+-- a line was played, or what is left of it, and its listeners told. The sink refused a reply
 pub record PlaysUnheard {L : Type 0} (hearing : L → Hearing) (tells told_sink : Type 0)
     (old new : PlayerState) (members members_now : List L) (line : Line) (written written_now : List ℕ) : Type 0 where
   pub made : Line
-  pub cut : IsCutShort line made
-  pub said : List (List ℕ)
+  pub said : List Reply
+  pub before : List Reply
+  pub last : Reply
+  pub left : LeftIn line made said before last
   pub blocks : List (List ℕ)
   pub played : LinePlayed tells (counts_of hearing members) old made said blocks new
   pub told : Told hearing blocks members members_now
-  pub text : told_sink → PartlySaid (step_of new) said written written_now
+  pub text : told_sink → PartlyWritten before last written written_now
 
 -- the same of a line that asks the machine itself
 pub record OccurredUnheard {L : Type 0} (hearing : L → Hearing) (tells told_sink : Type 0)
     (old new : MachineState) (members members_now : List L) (line : Line) (written written_now : List ℕ) : Type 0 where
   pub made : Line
-  pub cut : IsCutShort line made
-  pub said : List (List ℕ)
+  pub words : List (List ℕ)
+  pub before : List Reply
+  pub last : Reply
+  pub left : LeftIn line made (said_at (changes_in new) words) before last
   pub blocks : List (List ℕ)
-  pub happened : Happened tells old made said blocks new
+  pub happened : Happened tells old made words blocks new
   pub told : Told hearing blocks members members_now
-  pub text : told_sink → PartlySaid (changes_in new) said written written_now
+  pub text : told_sink → PartlyWritten before last written written_now

@@ -1,5 +1,5 @@
 -- The words of replies.
-use Rattle.std.specs.Prelude.{ℕ, List, [], ◌∷◌, ◌++◌, length, take, codes, decimal, Option, Some, None, Result, Ok, Err}
+use Rattle.std.specs.Prelude.{ℕ, List, [], ◌∷◌, ◌++◌, length, map, take, codes, decimal, Option, Some, None, Result, Ok, Err}
 use Rattle.std.specs.List.{flat_map}
 use Rattle.hex.specs.Hex.{encode_lower}
 use Rattle.base_model.specs.Bytes.{number_at}
@@ -124,10 +124,31 @@ words_of_reset n = codes "reset " ++ decimal n
 abbrev pub words_of_power : ℕ → List ℕ
 words_of_power n = codes "power " ++ decimal n
 
--- each reply is a line of its words and the flash step at which its line of the script ended
+-- a reply: its words, and how many flash changes were made when it was given
+pub record Reply : Type 0 where
+  pub words : List ℕ
+  pub step : ℕ
+
+abbrev pub at_step : ℕ → List ℕ → Reply
+at_step step words = record { words = words; step = step }
+
+-- replies that were given at one step
+abbrev pub said_at : ℕ → List (List ℕ) → List Reply
+said_at step words = map (at_step step) words
+
+abbrev pub words_in : List Reply → List (List ℕ)
+words_in said = map (λ (reply : Reply). reply.words) said
+
+-- the line of a reply has its words and its step
 abbrev pub reply_at : ℕ → List ℕ → List ℕ
 reply_at step words = words ++ (codes " @" ++ decimal step ++ 10 ∷ [])
 
+abbrev pub text_of_reply : Reply → List ℕ
+text_of_reply reply = reply_at reply.step reply.words
+
 -- replies one after another
+abbrev pub text_of_replies : List Reply → List ℕ
+text_of_replies said = flat_map text_of_reply said
+
 abbrev pub replies_at : ℕ → List (List ℕ) → List ℕ
-replies_at step said = flat_map (reply_at step) said
+replies_at step words = text_of_replies (said_at step words)

@@ -13,8 +13,8 @@ ghost use Rattle.erst_commands.specs.Attached.{own_client};
 ghost use Rattle.erst_twins.specs.Alike.{AlikeMachines, FailedNothing, BootsFrom};
 ghost use Rattle.apei_script.specs.Players.{PlayerState};
 ghost use Rattle.apei_script.specs.Plays.{HasHappened};
-ghost use Rattle.apei_script.specs.Alike.{AlikePlayers, own_player, WantAlike, lines_of, PlayedAlike};
-ghost use Rattle.apei_script.specs.History.{Played, Follows, EndInOrder, Shows, ShowsEach, AreOwnLines, AreMapped, NoneSaysHardware, AlwaysUsesOwn};
+ghost use Rattle.apei_script.specs.Alike.{AlikePlayers, own_player, WantAlike, lines_in, PlayedAlike};
+ghost use Rattle.apei_script.specs.History.{Played, Follows, EndInOrder, ShowsLines, ShowsEachLine, AreOwnLines, AreMapped, NoneSaysHardware, AlwaysUsesOwn};
 
 use flash_model::Flash;
 
@@ -47,14 +47,14 @@ pub fn lines_keep_a_machine<F: Flash>()
 pub fn lines_are_shown<F: Flash>()
     ensures ends { F.tells → (wants : List (ℕ → Bool)) (counts : List ℕ) (first : PlayerState) (played : List Played) (last : PlayerState)
         → Follows F.tells wants counts first played last
-        → ShowsEach last first played × IsLater (told_of first.machine) (told_of last.machine) }
+        → ShowsEachLine last first played × IsLater (told_of first.machine) (told_of last.machine) }
     ensures in_order { F.tells → (wants : List (ℕ → Bool)) (counts : List ℕ) (first : PlayerState) (played : List Played) (last : PlayerState)
         → Follows F.tells wants counts first played last → EndInOrder (changes_of first.machine) played (changes_of last.machine) }
     ensures crash { F.tells → (wants : List (ℕ → Bool)) (counts : List ℕ) (first : PlayerState) (played : List Played) (last : PlayerState)
         → first.own ≡ own_client first.machine → first.other ≡ None → AreOwnLines played
         → Follows F.tells wants counts first played last
         → (s : ℕ) (image : List ℕ) → changes_of first.machine ≤ s → CrashImage (told_of last.machine) s image
-        → Shows s first played (shown_by first.machine image) }
+        → ShowsLines s first played (shown_by first.machine image) }
 {}
 
 /// Each line that asks the machine's own client for a command on records is the record map's; where no fault was counted none says that
@@ -78,7 +78,7 @@ pub fn alike_machines_make_alike_players()
 /// are the blocks that the operating system takes and the records at the end. Where the records stand plays no part in it.
 pub fn scripts_play_alike<F: Flash>()
     ensures { F.tells → (wants wants_too : List (ℕ → Bool)) (counts : List ℕ) (one also : PlayerState) (first second : List Played) (one_last also_last : PlayerState)
-        → WantAlike wants wants_too → AlikePlayers one also → IsMachine one.machine → lines_of first ≡ lines_of second
+        → WantAlike wants wants_too → AlikePlayers one also → IsMachine one.machine → lines_in first ≡ lines_in second
         → Follows F.tells wants counts one first one_last → FailedNothing one.machine one_last.machine
         → Follows F.tells wants_too counts also second also_last → FailedNothing also.machine also_last.machine
         → PlayedAlike first second one_last also_last }
@@ -92,7 +92,7 @@ pub fn booted_scripts_play_alike<F: Flash>()
         → records_in (layout_of geometry) flash.told.image ≡ records_in (layout_of geometry) flash_too.told.image → flash.steps ≡ flash_too.steps
         → second_copies geometry.slot_size geometry.slots flash.told.image ≡ second_copies geometry.slot_size geometry.slots flash_too.told.image
         → BootsFrom geometry flash one → BootsFrom geometry flash_too also
-        → (wants : List (ℕ → Bool)) (counts : List ℕ) (steps : Option ℕ) (first second : List Played) (one_last also_last : PlayerState) → lines_of first ≡ lines_of second
+        → (wants : List (ℕ → Bool)) (counts : List ℕ) (steps : Option ℕ) (first second : List Played) (one_last also_last : PlayerState) → lines_in first ≡ lines_in second
         → Follows F.tells wants counts (own_player one steps) first one_last → FailedNothing one one_last.machine
         → Follows F.tells wants counts (own_player also steps) second also_last → FailedNothing also also_last.machine
         → PlayedAlike first second one_last also_last }

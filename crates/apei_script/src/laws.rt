@@ -1,15 +1,14 @@
 // Laws on one line of a script: the functions do nothing, and their clauses are the laws.
-ghost use Rattle.std.specs.Prelude.{◌≡◌, ℕ, ◌+◌, ◌≤◌, true, List};
+ghost use Rattle.std.specs.Prelude.{◌≡◌, ℕ, ◌+◌, ◌≤◌, List};
 ghost use Rattle.base_model.specs.Faults.{Rose};
 ghost use Rattle.apei_space.specs.Accesses.{Move, Trail};
 ghost use Rattle.erst_machine.specs.MachineState.{MachineState, IsMachine};
 ghost use Rattle.erst_machine.specs.Events.{Event, Happens};
 ghost use Rattle.script_text.specs.ScriptGrammar.{Line, IsValid};
-ghost use Rattle.apei_script.specs.Players.{PlayerState, UsesOwn};
+ghost use Rattle.apei_script.specs.Players.{PlayerState};
+ghost use Rattle.apei_script.specs.Words.{Reply};
 ghost use Rattle.apei_script.specs.Changes.{changes_along};
-ghost use Rattle.apei_script.specs.Mapped.{LineLeaves};
-ghost use Rattle.apei_script.specs.Plays.{Plays, FailsRestart, HasHappened, LinePlayed, names_command};
-ghost use Rattle.apei_script.specs.History.{IsOwnLine};
+ghost use Rattle.apei_script.specs.Plays.{Plays, FailsRestart, HasHappened, LinePlayed};
 
 use erst_commands::own_programs_run_through;
 use flash_model::Flash;
@@ -26,7 +25,7 @@ pub fn events_take_their_changes<F: Flash>()
 
 /// Whatever was played of a line is all that `LinePlayed` says of it.
 pub fn a_line_is_the_maps<F: Flash>()
-    ensures { (counts : List ℕ) (old : PlayerState) (line : Line) (said blocks : List (List ℕ)) (new : PlayerState)
+    ensures { (counts : List ℕ) (old : PlayerState) (line : Line) (said : List Reply) (blocks : List (List ℕ)) (new : PlayerState)
         → IsMachine old.machine → IsValid line → Plays F.tells counts old line said blocks new → LinePlayed F.tells counts old line said blocks new }
 {
     own_programs_run_through::<F>();
@@ -40,19 +39,12 @@ pub fn a_failed_restart_has_happened<F: Flash>()
 
 /// A line leads from a machine's state to a machine's state, and keeps how the flash is divided, the first client and the steps of lines.
 pub fn a_line_keeps_a_machine<F: Flash>()
-    ensures machine { (counts : List ℕ) (old : PlayerState) (line : Line) (said blocks : List (List ℕ)) (new : PlayerState)
+    ensures machine { (counts : List ℕ) (old : PlayerState) (line : Line) (said : List Reply) (blocks : List (List ℕ)) (new : PlayerState)
         → IsMachine old.machine → Plays F.tells counts old line said blocks new → IsMachine new.machine }
-    ensures layout { (counts : List ℕ) (old : PlayerState) (line : Line) (said blocks : List (List ℕ)) (new : PlayerState)
+    ensures layout { (counts : List ℕ) (old : PlayerState) (line : Line) (said : List Reply) (blocks : List (List ℕ)) (new : PlayerState)
         → Plays F.tells counts old line said blocks new → new.machine.device.store.layout ≡ old.machine.device.store.layout }
-    ensures own { (counts : List ℕ) (old : PlayerState) (line : Line) (said blocks : List (List ℕ)) (new : PlayerState)
+    ensures own { (counts : List ℕ) (old : PlayerState) (line : Line) (said : List Reply) (blocks : List (List ℕ)) (new : PlayerState)
         → Plays F.tells counts old line said blocks new → new.own ≡ old.own }
-    ensures steps { (counts : List ℕ) (old : PlayerState) (line : Line) (said blocks : List (List ℕ)) (new : PlayerState)
+    ensures steps { (counts : List ℕ) (old : PlayerState) (line : Line) (said : List Reply) (blocks : List (List ℕ)) (new : PlayerState)
         → Plays F.tells counts old line said blocks new → new.steps ≡ old.steps }
-{}
-
-/// Power lost in a line that neither runs an action nor gives a table leaves the records from before it, or as it leaves them where
-/// nothing fails.
-pub fn a_line_leaves_its_records<F: Flash>()
-    ensures { F.tells → (counts : List ℕ) (old : PlayerState) (line : Line) (said blocks : List (List ℕ)) (new : PlayerState)
-        → LinePlayed F.tells counts old line said blocks new → (names_command line ≡ true → UsesOwn old) → IsOwnLine line → LineLeaves old.machine line new.machine }
 {}

@@ -20,7 +20,7 @@ pub use history::{
 };
 pub use laws::{
     a_failed_restart_has_happened, a_line_is_the_maps, a_line_keeps_a_machine,
-    a_line_leaves_its_records, events_take_their_changes,
+    events_take_their_changes,
 };
 pub use own::own_client;
 pub use player::{PlayStop, Player, PlayerRefused};
