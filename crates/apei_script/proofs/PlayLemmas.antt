@@ -22,7 +22,7 @@ quiet tells counts old line said blocks new none plays = record {
   happened = line_happened tells counts old line said blocks new plays;
   by_map = λ told uses names. absurd (false≢true (sym none ∙ names));
   cause = λ uses names says. absurd (false≢true (sym none ∙ names));
-  enough = λ told uses names steps says. absurd (false≢true (sym none ∙ names));
+  enough = λ uses names steps. absurd (false≢true (sym none ∙ names));
 }
 
 same_state : (machine : MachineState) (own own_now : ClientState) (other other_now : Option ClientState) (steps steps_now : Option ℕ) → own_now ≡ own → other_now ≡ other → steps_now ≡ steps
