@@ -20,7 +20,7 @@ use Rattle.script_text.specs.ScriptGrammar.{Line}
 use Rattle.apei_script.specs.Words.{Reply}
 use Rattle.apei_script.specs.Players.{PlayerState, in_use, UsesOwn}
 use Rattle.apei_script.specs.Plays.{Plays, Blank, ByClient, GivenTable, OwnTable, OnMachine, Heard, Reset, Power, HasHappened, LinePlayed, names_command, IsOwnLine}
-use Rattle.apei_script.specs.History.{Played, heard_after, Follows, EndInOrder, ShowsLines, ShowsEachLine, AreOwnLines, IsMapped, AreMapped, NoneSaysHardware, AlwaysUsesOwn}
+use Rattle.apei_script.specs.History.{Played, heard_after, Follows, EndInOrder, ShowsLines, ShowsEachLine, AreOwnLines, IsMapped, AreMapped, NoneSaysHardware, AllGoThrough, AlwaysUsesOwn}
 use Rattle.apei_script.proofs.EventChanges.{along}
 use Rattle.apei_script.proofs.LineLemmas.{line_divides, line_own}
 
@@ -119,12 +119,18 @@ module _ (tells : Type 0) where
             (quiet_second (faults_of first.machine) (faults_of line.left.machine) (faults_of last.machine) step more quiet),
       )
 
+  pub history_goes_through : (wants : List (ℕ → Bool)) (counts : List ℕ) (first : PlayerState) (played : List Played) (last : PlayerState)
+      → Follows tells wants counts first played last → AllGoThrough first played
+  history_goes_through wants counts first [] last is = tt
+  history_goes_through wants counts first (line ∷ rest) last is =
+      (is.0.enough, history_goes_through wants (heard_after wants line.blocks counts) line.left rest last is.1)
+
   module _ (told : tells) where
     is_mapped : (counts : List ℕ) (old : PlayerState) (played : Played) → LinePlayed tells counts old played.line played.said played.blocks played.left → UsesOwn old → names_command played.line ≡ true
         → IsMapped old played
     is_mapped counts old played line uses names =
         let by_map = line.by_map told uses names in
-        record { words = by_map.0; said = by_map.1; mapped = by_map.2; cause = line.cause uses names; enough = line.enough told uses names }
+        record { words = by_map.0; said = by_map.1; mapped = by_map.2; cause = line.cause uses names; enough = line.enough uses names }
 
     pub history_is_mapped : (wants : List (ℕ → Bool)) (counts : List ℕ) (first : PlayerState) (played : List Played) (last : PlayerState) → Follows tells wants counts first played last
         → AreMapped first played

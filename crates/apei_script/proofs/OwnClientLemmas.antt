@@ -1,5 +1,6 @@
 -- What a line asks of the client of the machine's own table.
 use Rattle.std.proofs.Common.{◌≡◌, ℕ, true, false, List}
+use Rattle.std.specs.Prelude.{codes}
 use Rattle.base_model.specs.Faults.{Rose}
 use Rattle.erst_client.specs.declared.errors.ClientError.TheVariants.{Hardware}
 use Rattle.erst_machine.specs.MachineState.{MachineState, IsMachine}
@@ -18,7 +19,7 @@ use Rattle.apei_script.specs.Words.{refused}
 use Rattle.apei_script.specs.Asked.{Asked, WritesRecord, ReadsRecord, ClearsRecord, CountsRecords, FindsNext, WritesDummy, RunsAction}
 use Rattle.apei_script.specs.Mapped.{Mapped, IsWrite, IsRead, IsClear, IsCount, IsNext, IsDummy}
 use Rattle.apei_script.specs.Plays.{names_command}
-use Rattle.apei_script.proofs.WordLemmas.{hardware, of_write, of_read, of_clear, of_count, of_next, of_dummy}
+use Rattle.apei_script.proofs.WordLemmas.{failed, of_write, of_read, of_clear, of_count, of_next, of_dummy}
 
 pub no_command : {Goal : Type 0} → false ≡ true → Goal
 no_command e = absurd (cc e)
@@ -43,14 +44,14 @@ module _ (tells : Type 0) (own : OwnProgramsRun tells) (steps : ℕ) (old : Mach
       words ≡ refused (words_of_client Hardware) → Rose old.device.store.flash.faults new.device.store.flash.faults
   asked_cause line words new asked =
       elim asked as (λ line words new asked. names_command line ≡ true → words ≡ refused (words_of_client Hardware) → Rose old.device.store.flash.faults new.device.store.flash.faults) [
-        | WritesRecord hex bytes result left new decoded writes ↦ λ names says. (client_write_cause tells own bytes steps old result left new writes).hardware (of_write Hardware hardware bytes result says)
+        | WritesRecord hex bytes result left new decoded writes ↦ λ names says. (client_write_cause tells own bytes steps old result left new writes).hardware (failed result (of_write (codes "hardware") bytes result says))
         | ReadsRecord id out after result left new long reads ↦ λ names says.
-            (client_read_cause tells own id out steps old result after left new reads).hardware (of_read Hardware hardware after result says)
+            (client_read_cause tells own id out steps old result after left new reads).hardware (failed result (of_read (codes "hardware") after result says))
         | ClearsRecord id result left new sequence ↦ λ names says.
-            (clear_cause tells own id (own_client old).timings steps old result left new sequence).hardware (of_clear Hardware hardware id result says)
-        | CountsRecords result left new counts ↦ λ names says. (count_cause tells own steps old result left new counts).hardware (of_count Hardware hardware result says)
-        | FindsNext result left new finds ↦ λ names says. (next_cause tells own steps old result left new finds).hardware (of_next Hardware hardware result says)
+            (clear_cause tells own id (own_client old).timings steps old result left new sequence).hardware (failed result (of_clear (codes "hardware") id result says))
+        | CountsRecords result left new counts ↦ λ names says. (count_cause tells own steps old result left new counts).hardware (failed result (of_count (codes "hardware") result says))
+        | FindsNext result left new finds ↦ λ names says. (next_cause tells own steps old result left new finds).hardware (failed result (of_next (codes "hardware") result says))
         | WritesDummy result left new sequence ↦ λ names says.
-            (dummy_cause tells own (own_client old).timings steps old result left new sequence).hardware (of_dummy Hardware hardware result says)
+            (dummy_cause tells own (own_client old).timings steps old result left new sequence).hardware (failed result (of_dummy (codes "hardware") result says))
         | RunsAction code value answer left new run ↦ λ names. no_command names
       ]

@@ -23,7 +23,7 @@ quiet tells counts old line said blocks new none plays = record {
   happened = line_happened tells counts old line said blocks new plays;
   by_map = λ told uses names. absurd (false≢true (sym none ∙ names));
   cause = λ uses names says. absurd (false≢true (sym none ∙ names));
-  enough = λ told uses names steps says. absurd (false≢true (sym none ∙ names));
+  enough = λ uses names steps. absurd (false≢true (sym none ∙ names));
   leaves = λ told uses own. line_leaves tells told counts old line said blocks new plays uses (λ names. absurd (false≢true (sym none ∙ names))) own;
 }
 

@@ -13,7 +13,7 @@ use Rattle.apei_script.specs.Happened.{Happened, IsGiven, Turn, IsPeeked, IsLaid
 use Rattle.apei_script.specs.Plays.{Plays, Blank, ByClient, GivenTable, OwnTable, OnMachine, Heard, Reset, Power, names_command, LinePlayed, step_of}
 use Rattle.apei_script.proofs.LineLemmas.{line_happened}
 use Rattle.apei_script.proofs.OwnClientLemmas.{no_command, asked_by_map, asked_cause}
-use Rattle.apei_script.proofs.EnoughSteps.{mapped_runs}
+use Rattle.apei_script.proofs.EnoughSteps.{asked_through}
 use Rattle.apei_script.proofs.LeavesLemmas.{line_leaves}
 
 -- the first of some replies
@@ -67,11 +67,11 @@ module _ (tells : Type 0) where
         cause = λ uses names says.
             let a = asks_own names in
             asked_cause tells own (budget_of old) old.machine line a.words new.machine (by_own old line said new uses a) names (ap first_of (ap words_in (sym a.said_is) ∙ says));
-        enough = λ told uses names steps says.
+        enough = λ uses names steps.
             let a = asks_own names in
-            mapped_runs (budget_of old) old.machine (subst (λ (client : ClientState). enough_steps client.timings ≤ budget_of old) uses steps) line a.words new.machine
-            (asked_by_map tells own (budget_of old) old.machine told machine line a.words new.machine (by_own old line said new uses a) valid names)
-            (ap first_of (ap words_in (sym a.said_is) ∙ says));
+            let neither = asked_through tells own (budget_of old) old.machine machine (subst (λ (client : ClientState). enough_steps client.timings ≤ budget_of old) uses steps)
+            line a.words new.machine (by_own old line said new uses a) valid names in
+            (λ says. neither.not_stopped says.0 (ap first_of (ap words_in (sym a.said_is) ∙ says.1)), λ says. neither.in_time says.0 (ap first_of (ap words_in (sym a.said_is) ∙ says.1)));
         leaves = λ told uses own_line.
             line_leaves tells told counts old line said blocks new plays uses (λ names.
             let a = asks_own names in

@@ -12,7 +12,7 @@ use Rattle.script_text.specs.ScriptGrammar.{Line}
 use Rattle.apei_script.specs.Players.{PlayerState, client_of, budget_of, UsesOwn}
 use Rattle.apei_script.specs.Words.{Reply, said_at, text_of_replies}
 use Rattle.apei_script.specs.Mapped.{Mapped, after_line}
-use Rattle.apei_script.specs.Plays.{LinePlayed, step_of, names_command, IsOwnLine, SaysHardware, SaysStopped}
+use Rattle.apei_script.specs.Plays.{LinePlayed, step_of, names_command, IsOwnLine, SaysHardware, SaysStopped, SaysLate}
 
 -- a line that was played: its replies, the blocks of which the listeners were told, and the player afterwards
 pub record Played : Type 0 where
@@ -77,14 +77,14 @@ abbrev pub AreOwnLines : List Played → Type 0
 AreOwnLines [] = Unit {0}
 AreOwnLines (played ∷ rest) = IsOwnLine played.line × AreOwnLines rest
 
--- a line is the record map's, in one reply. It says that the flash failed only where its count of faults rose in this very line, and is
--- never stopped where its steps are enough
+-- a line is the record map's, in one reply. It says that the flash failed only where its count of faults rose in this very line, and where
+-- its steps are enough it is never stopped, and never late
 pub record IsMapped (state : PlayerState) (played : Played) : Type 0 where
   pub words : List ℕ
   pub said : played.said ≡ said_at (step_of played.left) (words ∷ [])
   pub mapped : Mapped (budget_of state) state.machine played.line words played.left.machine
   pub cause : SaysHardware played.said → Rose state.machine.device.store.flash.faults played.left.machine.device.store.flash.faults
-  pub enough : enough_steps (client_of state).timings ≤ budget_of state → SaysStopped played.said → ⊥
+  pub enough : enough_steps (client_of state).timings ≤ budget_of state → (SaysStopped played.said → ⊥) × (SaysLate played.said → ⊥)
 
 -- so is each line that asks the machine's own client for a command on records
 abbrev pub AreMapped : PlayerState → List Played → Type 0
@@ -95,6 +95,13 @@ AreMapped state (played ∷ rest) = (UsesOwn state → names_command played.line
 abbrev pub NoneSaysHardware : PlayerState → List Played → Type 0
 NoneSaysHardware state [] = Unit {0}
 NoneSaysHardware state (played ∷ rest) = (UsesOwn state → names_command played.line ≡ true → SaysHardware played.said → ⊥) × NoneSaysHardware played.left rest
+
+-- none of these lines that has enough steps is stopped or late
+abbrev pub AllGoThrough : PlayerState → List Played → Type 0
+AllGoThrough state [] = Unit {0}
+AllGoThrough state (played ∷ rest) =
+    (UsesOwn state → names_command played.line ≡ true → enough_steps (client_of state).timings ≤ budget_of state → (SaysStopped played.said → ⊥) × (SaysLate played.said → ⊥))
+    × AllGoThrough played.left rest
 
 -- before each line, and at the end, the machine's own client is in use
 abbrev pub AlwaysUsesOwn : PlayerState → List Played → Type 0

@@ -1,5 +1,5 @@
 -- The playing of one line. `tells` says whether the flash tells its content.
-use Rattle.std.specs.Prelude.{◌≡◌, ℕ, ◌+◌, ◌≤◌, Bool, true, false, List, [], ◌∷◌, ◌++◌, codes, length, take, map, Option, None, Ok, Err}
+use Rattle.std.specs.Prelude.{◌≡◌, ℕ, ◌+◌, ◌≤◌, Bool, true, false, List, [], ◌∷◌, ◌++◌, codes, decimal, length, take, map, Option, None, Ok, Err}
 use Rattle.std.specs.List.{AllZip}
 use Rattle.hex.specs.Hex.{decode_of}
 use Rattle.base_model.specs.Faults.{Rose}
@@ -7,12 +7,14 @@ use Rattle.apei_space.specs.Accesses.{Move, Trail}
 use Rattle.apei_notify.specs.Telling.{IsToldOfAll, Hearing, counts_of}
 use Rattle.ghes_ack.specs.declared.events.Event.{Event as TurnEvent}
 use Rattle.ghes_ack.specs.declared.events.Event.TheVariants.{Took}
+use Rattle.erst_interp.specs.declared.stops.RunStop.{RunStop}
 use Rattle.erst_client.specs.Commands.{ClientState}
 use Rattle.erst_client.specs.Timings.{enough_steps}
 use Rattle.erst_machine.specs.declared.errors.BootError.{BootError}
 use Rattle.erst_machine.specs.MachineState.{MachineState}
 use Rattle.erst_machine.specs.Events.{Event, Warms, Powers, Happens}
 use Rattle.erst_machine.specs.Shown.{IsShown, made_by_event}
+use Rattle.script_text.specs.RunWords.{words_of_stop}
 use Rattle.script_text.specs.ScriptGrammar.{Line, IsValid, blank, comment, write, read, clear, count, next, dummy, action, table, own_table, shadow_table, error, turns, fatal, bert, heard, reset, power, bridge}
 use Rattle.apei_script.specs.declared.player.PlayStop.{PlayStop}
 use Rattle.apei_script.specs.declared.player.PlayStop.TheVariants.{SinkFault, FlashFault, Memory}
@@ -127,22 +129,25 @@ IsOwnLine (action code value) = ⊥
 IsOwnLine (table hex) = ⊥
 IsOwnLine line = Unit {0}
 
--- the reply is that the flash failed, and that there were too few steps
+-- the reply is that the flash failed, that a program was stopped, and that the device was busy for too long
 abbrev pub SaysHardware : List Reply → Type 0
 SaysHardware said = words_in said ≡ refused (codes "hardware") ∷ []
 
 abbrev pub SaysStopped : List Reply → Type 0
-SaysStopped said = words_in said ≡ refused (codes "stopped budget") ∷ []
+SaysStopped said = (why : RunStop) × (words_in said ≡ refused (codes "stopped " ++ words_of_stop why) ∷ [])
+
+abbrev pub SaysLate : List Reply → Type 0
+SaysLate said = (waited : ℕ) × (words_in said ≡ refused (codes "late " ++ decimal waited) ∷ [])
 
 -- One line that was played. By the machine's own table a command on records is the record map's; it says that the flash failed only where
--- the flash's count of faults rose in this very line, and is never stopped where its steps are enough
+-- the flash's count of faults rose in this very line, and where its steps are enough it is never stopped, and never late
 pub record LinePlayed (tells : Type 0) (counts : List ℕ) (old : PlayerState) (line : Line) (said : List Reply) (blocks : List (List ℕ)) (new : PlayerState) : Type 0 where
   pub plays : Plays tells counts old line said blocks new
   pub happened : HasHappened tells old.machine new.machine
   pub by_map : tells → UsesOwn old → names_command line ≡ true
       → (words : List ℕ) × (said ≡ said_at (step_of new) (words ∷ [])) × Mapped (budget_of old) old.machine line words new.machine
   pub cause : UsesOwn old → names_command line ≡ true → SaysHardware said → Rose old.machine.device.store.flash.faults new.machine.device.store.flash.faults
-  pub enough : tells → UsesOwn old → names_command line ≡ true → enough_steps (client_of old).timings ≤ budget_of old → SaysStopped said → ⊥
+  pub enough : UsesOwn old → names_command line ≡ true → enough_steps (client_of old).timings ≤ budget_of old → (SaysStopped said → ⊥) × (SaysLate said → ⊥)
   -- and power lost in it leaves the records from before it, or as it leaves them where nothing fails
   pub leaves : tells → (names_command line ≡ true → UsesOwn old) → IsOwnLine line → LineLeaves (client_of old).range old.machine line new.machine
 

@@ -14,7 +14,7 @@ ghost use Rattle.erst_twins.specs.Alike.{AlikeMachines, FailedNothing, BootsFrom
 ghost use Rattle.apei_script.specs.Players.{PlayerState};
 ghost use Rattle.apei_script.specs.Plays.{HasHappened};
 ghost use Rattle.apei_script.specs.Alike.{AlikePlayers, own_player, WantAlike, lines_in, PlayedAlike};
-ghost use Rattle.apei_script.specs.History.{Played, Follows, EndInOrder, ShowsLines, ShowsEachLine, AreOwnLines, AreMapped, NoneSaysHardware, AlwaysUsesOwn};
+ghost use Rattle.apei_script.specs.History.{Played, Follows, EndInOrder, ShowsLines, ShowsEachLine, AreOwnLines, AreMapped, NoneSaysHardware, AllGoThrough, AlwaysUsesOwn};
 
 use flash_model::Flash;
 
@@ -58,12 +58,15 @@ pub fn lines_are_shown<F: Flash>()
 {}
 
 /// Each line that asks the machine's own client for a command on records is the record map's; where no fault was counted none says that
-/// the flash failed; and a script that neither runs an action nor gives a table never leaves the machine's own client.
+/// the flash failed; where its steps are enough none is stopped or late; and a script that neither runs an action nor gives a table never
+/// leaves the machine's own client.
 pub fn each_line_is_the_maps<F: Flash>()
     ensures mapped { F.tells → (wants : List (ℕ → Bool)) (counts : List ℕ) (first : PlayerState) (played : List Played) (last : PlayerState)
         → Follows F.tells wants counts first played last → AreMapped first played }
     ensures no_fault { (wants : List (ℕ → Bool)) (counts : List ℕ) (first : PlayerState) (played : List Played) (last : PlayerState)
         → Follows F.tells wants counts first played last → FailedNothing first.machine last.machine → NoneSaysHardware first played }
+    ensures enough { (wants : List (ℕ → Bool)) (counts : List ℕ) (first : PlayerState) (played : List Played) (last : PlayerState)
+        → Follows F.tells wants counts first played last → AllGoThrough first played }
     ensures own { (wants : List (ℕ → Bool)) (counts : List ℕ) (first : PlayerState) (played : List Played) (last : PlayerState)
         → first.own ≡ own_client first.machine → first.other ≡ None → AreOwnLines played
         → Follows F.tells wants counts first played last → AlwaysUsesOwn first played }
