@@ -123,3 +123,11 @@ pub record HasNoLine (tells : Type 0) (old new : Reading) (rest rest_now : List 
   pub given : tells → rest ≡ bytes ++ rest_now
   pub one_line : IsOneLine (old.pending ++ bytes)
   pub not_at_end : old.at_end ≡ false
+
+-- no line was read: the bytes that were taken from the source are pending behind those that were, and nothing else moved
+pub record StaysAt (tells : Type 0) (old new : Reading) (rest rest_now : List ℕ) : Type 0 where
+  pub number : new.number ≡ old.number
+  pub end : new.end ≡ old.end
+  pub bytes : List ℕ
+  pub pending : new.pending ≡ old.pending ++ bytes
+  pub given : tells → rest ≡ bytes ++ rest_now

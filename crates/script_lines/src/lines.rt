@@ -1,7 +1,7 @@
 // The lines of a script, cut from a source in memory that is taken once.
 ghost use Rattle.std.specs.Prelude.{◌≡◌, ◌≢◌, ◌⊎◌, ◌↔◌, ℕ, ◌+◌, ◌-◌, ◌^◌, ◌<◌, ◌≤◌, true, false, List, [], ◌∷◌, ◌++◌, length, take, drop, slice_index, IsTrue, IfSome, IfOk, OnOk, OnErr, MatchOption, MatchResult, MatchBool, vec_len};
 ghost use Rattle.base_model.specs.Faults.{HasCause, Rose};
-ghost use Rattle.script_lines.specs.Lines.{Line, Reading, lines_of, ended_lines_of, lines_ahead, IsNextLine, IsAtEnd, NextIsTooLong, HasNoLine, IsOneLine, IsFirstLine, TakesMore, TakesLine, SamePlace, PastLimits, IsTooLong};
+ghost use Rattle.script_lines.specs.Lines.{Line, Reading, lines_of, ended_lines_of, lines_ahead, IsNextLine, IsAtEnd, NextIsTooLong, HasNoLine, IsOneLine, IsFirstLine, StaysAt, TakesMore, TakesLine, SamePlace, PastLimits, IsTooLong};
 
 use apei_bytes::{Memory, ReadFailed, Source};
 use memchr::memchr;
@@ -101,6 +101,10 @@ impl LineReader {
             (IsAtEnd I.tells self.old self.new (I.rest script.old) (I.rest script.new))) }
         ensures too_long { result ≡ Err LineStop.TooLong → NextIsTooLong I.tells self.old self.new (I.rest script.old) }
         ensures failed { result ≡ Err LineStop.SourceFault → HasNoLine I.tells self.old self.new (I.rest script.old) (I.rest script.new) }
+        ensures stays { result ≢ Ok true → StaysAt I.tells self.old self.new (I.rest script.old) (I.rest script.new) }
+        ensures ended { result ≡ Ok false → self.new.at_end ≡ true }
+        // What is too long already is no fault of the source.
+        ensures in_time { result ≡ Err LineStop.SourceFault → ¬ (PastLimits self.old.end (length self.new.pending) 0) }
         ensures at_end { I.tells → self.new.at_end ≡ true → I.rest script.new ≡ [] }
         ensures fault { result ≡ Err LineStop.SourceFault → Rose (I.faults script.old) (I.faults script.new) }
         ensures no_fault { result ≢ Err LineStop.SourceFault → I.faults script.new ≡ I.faults script.old }
@@ -197,6 +201,7 @@ impl LineReader {
     // Reads what is left behind the last newline, which is a line where it isn't empty.
     fn read_last(&mut self) -> Result<bool, LineStop>
         ensures at_end { OnOk result (self.new.at_end ≡ true) }
+        ensures stays { result ≢ Ok true → (self.new.number ≡ self.old.number) × (self.new.end ≡ self.old.end) × (self.new.pending ≡ self.old.pending) }
         ensures read { MatchResult result
             (λ more. MatchBool more
             (¬ (PastLimits self.old.end (length self.old.pending) 0) × (0 < length self.old.pending)
