@@ -1,12 +1,12 @@
 -- What a call of the store says, all of it as one fact.
 use Rattle.std.specs.Prelude.{◌≡◌, ℕ, ◌+◌, ◌*◌, ◌≤◌, Bool, true, false, List, length, Option, Result, OnOk, IfOk}
 use Rattle.std.specs.FinMap.{len}
-use Rattle.flash_words.specs.Flash.{LosesOnlyByChange}
+use Rattle.flash_words.specs.Flash.{LosesOnlyByChange, raised}
 use Rattle.flash_words.specs.Layout.{room_of}
 use Rattle.record_model.specs.Records.{parts_of}
 use Rattle.record_model.specs.RecordMap.{IsNextAbove}
 use Rattle.record_store.specs.Store.{StoreView, Clearing, stored, map_after, IsReady, IsWriteOf, DividesAlike, KeepsOrMakes}
-use Rattle.record_store.specs.Answers.{HasFaultsOf, StartsWrite, StartsClear, IsStep, HasStepped, AnswersRead, FailsByFlash, ReadsExactly, StartsByItself, AnswersByItself}
+use Rattle.record_store.specs.Answers.{HasFaultsOf, EndsAtFault, StartsWrite, StartsClear, IsStep, HasStepped, AnswersRead, FailsByFlash, ReadsExactly, StartsByItself, AnswersByItself, TakesReads}
 use Rattle.record_store.specs.Calls.{OnlyLooks, OnlyStarts}
 use Rattle.record_store.specs.declared.errors.StoreError.{StoreError}
 
@@ -15,6 +15,7 @@ pub record StartedWrite (tells : Type 0) (old new : StoreView) (id : ℕ) (bytes
   pub answer : tells → StartsWrite old new id bytes result
   pub pending : OnOk result (IsWriteOf id bytes new.pending)
   pub still : old.in_doubt ≡ false → ReadsExactly tells (λ _. 2 * parts_of (room_of old.layout) (length bytes)) old new result
+  pub reads : TakesReads (λ _. raised (2 * parts_of (room_of old.layout) (length bytes))) old new result
   pub leaves : OnlyStarts tells old new result
 
 -- the start of the clearing of an identifier
@@ -22,6 +23,7 @@ pub record StartedClear (tells : Type 0) (old new : StoreView) (id : ℕ) (resul
   pub answer : tells → StartsClear old new id result
   pub pending : OnOk result (new.pending ≡ Clearing id)
   pub still : old.in_doubt ≡ false → StartsByItself old new result
+  pub reads : TakesReads (λ _ reads. reads) old new result
   pub leaves : OnlyStarts tells old new result
 
 -- the next change of what is pending: power lost in it leaves the records from before it or those after it
@@ -37,6 +39,7 @@ pub record Stepped (tells : Type 0) (old new : StoreView) (result : Result Bool 
   pub power : LosesOnlyByChange old.flash new.flash
   pub powered : OnOk result (new.flash.powered ≡ true)
   pub cause : HasFaultsOf old.flash.faults new.flash.faults result
+  pub ends : EndsAtFault old.flash new.flash result
 
 -- the read of a record to the start of some bytes, by a store that knows its records. The record is one of those, and is not longer than
 -- the bytes: so the one error is a fault
@@ -52,6 +55,7 @@ pub record FoundNext (tells : Type 0) (old new : StoreView) (cursor : ℕ) (resu
   pub answer : tells → IfOk result (IsNextAbove cursor (stored old))
   pub error : FailsByFlash result
   pub still : old.in_doubt ≡ false → AnswersByItself old new result
+  pub reads : TakesReads (λ _ reads. reads) old new result
   pub leaves : OnlyLooks tells old new result
 
 -- the count of the records
@@ -60,4 +64,5 @@ pub record Counted (tells : Type 0) (old new : StoreView) (result : Result ℕ S
   pub within : IfOk result (λ n. n ≤ old.layout.slots)
   pub error : FailsByFlash result
   pub still : old.in_doubt ≡ false → AnswersByItself old new result
+  pub reads : TakesReads (λ _ reads. reads) old new result
   pub leaves : OnlyLooks tells old new result

@@ -20,7 +20,6 @@ use Rattle.ghes_ack.specs.Handovers.{StandsFor, IsTurned, fresh, refusal}
 use Rattle.ghes_ack.specs.Sides.{Stands}
 use Rattle.bert_region.specs.Region.{IsLaidOut}
 use Rattle.erst_device.specs.DeviceState.{at_first, KnowsCopies}
-use Rattle.erst_machine.specs.declared.machine.TheConstants.{LONGEST_FATAL}
 use Rattle.erst_machine.specs.declared.errors.BootError.{BootError}
 use Rattle.erst_machine.specs.declared.errors.BootError.TheVariants.{Flash}
 use Rattle.erst_machine.specs.declared.errors.FatalError.{FatalError}
@@ -87,8 +86,9 @@ abbrev pub unfit : Result ℕ BlockError → ℕ → ℕ → Option FatalError
 unfit (Err error) n left = Some (Malformed error)
 unfit (Ok size) n left = if nat_lt size n then Some (Trailing (n - size)) else (if nat_lt left n then Some (Region n) else None)
 
+-- one of more than 4,096 bytes is not looked at
 abbrev pub fatal_refusal : ℕ → List ℕ → Option FatalError
-fatal_refusal left block = if nat_lt LONGEST_FATAL (length block) then Some (Long (length block)) else unfit (checked block) (length block) left
+fatal_refusal left block = if nat_lt 4096 (length block) then Some (Long (length block)) else unfit (checked block) (length block) left
 
 -- a fatal block is laid behind the last one of the boot error region, at a place of it, or refused
 pub record LaysFatal (old : MachineState) (block : List ℕ) (result : Result ℕ FatalError) (new : MachineState) : Type 0 where

@@ -2,7 +2,7 @@
 ghost use Rattle.std.specs.Prelude.{◌≡◌, ◌⊎◌, ℕ, ◌+◌, ◌-◌, ◌*◌, ◌/◌, ◌<◌, ◌≤◌, ◌^◌, List, [], ◌∷◌, ◌++◌, length, IsOk, IfOk, IfErr, OnOk, OnErr, IfSome, Some, None, Ok, Err, MatchOption, MatchResult};
 ghost use Rattle.base_model.specs.Bytes.{part, joined};
 ghost use Rattle.std.specs.FinMap.{len};
-ghost use Rattle.flash_words.specs.Flash.{FlashState, LosesOnlyByChange, raised};
+ghost use Rattle.flash_words.specs.Flash.{FlashState, LosesOnlyByChange, StaysLit, raised};
 ghost use Rattle.record_model.specs.Records.{second_copies};
 ghost use Rattle.record_store.specs.Store.{IsReady, IsFlashOf, IsSettled, KeepsRecordsOf};
 ghost use Rattle.record_store.specs.Answers.{RefusesFlash};
@@ -87,6 +87,10 @@ impl<F: Flash> Machine<F> {
         ensures back { IfErr result (λ refused. F.tells → KeepsRecordsOf geometry (F.state flash) (F.state refused.flash)) }
         ensures power { IfOk result (λ machine. LosesOnlyByChange (F.state flash) machine.device.store.flash) }
         ensures power_back { IfErr result (λ refused. LosesOnlyByChange (F.state flash) (F.state refused.flash)) }
+
+        // It restarts no flash, and no call behind the one that lost power finds the flash without it.
+        ensures lit { IfOk result (λ machine. StaysLit (F.state flash) machine.device.store.flash) }
+        ensures lit_back { IfErr result (λ refused. StaysLit (F.state flash) (F.state refused.flash)) }
     {
         if let Some(why) = misfit(&flash, &geometry) {
             return Err(BootRefused { why, flash });

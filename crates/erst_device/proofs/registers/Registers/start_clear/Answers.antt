@@ -15,10 +15,10 @@ returns-in_err-start_clear-clause-starts g c = λ range. let e = c.in_err-start_
     refused_by g.F.Flash.tells (seen c.args.self.now c.args.store.now) (seen c.args.self.now c.start_clear.new.self) range c.from_residual.result p.0 c.in_err-start_clear.field-0.0 p.1 p.2
     (Clears c.start_clear.new.self (Err c.in_err-start_clear.field-0.0) c.requires.operation c.in-Some.ensures.1
     (subst (λ (n : ℕ). StartedClear g.F.Flash.tells c.args.store.now c.start_clear.new.self n (Err c.in_err-start_clear.field-0.0)) c.in-Some.ensures.0
-    (record { answer = e.answer; pending = e.pending; still = e.still; leaves = e.leaves })))
+    (record { answer = e.answer; pending = e.pending; still = e.still; reads = e.reads; leaves = e.leaves })))
 
 pub returns-clause-starts : goal.returns-clause-starts
 returns-clause-starts g c = λ range. let e = c.in_ok-start_clear.ensures in
     Clears c.start_clear.new.self (Ok tt) c.requires.operation c.in-Some.ensures.1
     (subst (λ (n : ℕ). StartedClear g.F.Flash.tells c.args.store.now c.start_clear.new.self n (Ok tt)) c.in-Some.ensures.0
-    (record { answer = e.answer; pending = e.pending; still = e.still; leaves = e.leaves }))
+    (record { answer = e.answer; pending = e.pending; still = e.still; reads = e.reads; leaves = e.leaves }))
