@@ -25,9 +25,6 @@ enough-most state =
     by_number : (n : ℕ) → n ≤ 2058 → 6 + 2 * (n + 1) ≤ min (1024 + 8 * (10 * n / 10 + 2)) 1048576
     by_number n few = omega arith
 
-not_stop : {IsThis : Type 0} (error : ClientError) → error ≡ Stopped Budget → (error ≡ Stopped Budget → ⊥) → IsThis
-not_stop error e none = absurd (none e)
-
 refused_no_stop : (error : ClientError) (refusal : _) → IsErrorOf refusal error → error ≡ Stopped Budget → ⊥
 refused_no_stop error refusal is = elim is as (λ refusal error is. error ≡ Stopped Budget → ⊥) [
   | OfFailed ↦ λ e. absurd (cc e)

@@ -329,10 +329,6 @@ pub steps-begin_dummy : steps_of own_entries BeginDummyWriteOperation ≡ 1
 unfolding own_entries entries_of
 steps-begin_dummy = refl
 
-pub steps-end : steps_of own_entries EndOperation ≡ 1
-unfolding own_entries entries_of
-steps-end = refl
-
 pub steps-offset : steps_of own_entries SetRecordOffset ≡ 2
 unfolding own_entries entries_of
 steps-offset = refl

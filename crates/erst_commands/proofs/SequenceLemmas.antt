@@ -44,9 +44,6 @@ untouched_itself first = record { flash = refl; layout = refl; cursor = refl; gi
 pub untouched_value : (first : MachineState) (device : DeviceState) (value : ℕ) → Untouched first (on_device first device) → Untouched first (on_device first (record device { value = value }))
 untouched_value first device value is = record { flash = is.flash; layout = is.layout; cursor = is.cursor; given_up = is.given_up; elsewhere = refl }
 
-pub untouched_same : (first w other : MachineState) → other ≡ w → Untouched first w → Untouched first other
-untouched_same first w other same is = subst (λ (m : MachineState). Untouched first m) (sym same) is
-
 -- A run from a machine reaches one in which P holds, by so many steps, or its budget runs out and nothing was touched
 pub data RunTo (first : MachineState) (P : MachineState → Type 0) (cost budget : ℕ) : Result ℕ RunStop → ℕ → MachineState → Type 0 where
   Reaches : (answer left : ℕ) (w : MachineState) → P w → left + cost ≡ budget → RunTo first P cost budget (Ok answer) left w

@@ -40,15 +40,6 @@ DividesAlike-refl store = record { layout = refl; size = refl; sector_size = ref
 alike_then : (a b c : StoreView) → DividesAlike a b → DividesAlike b c → DividesAlike a c
 alike_then a b c first second = record { layout = second.layout ∙ first.layout; size = second.size ∙ first.size; sector_size = second.sector_size ∙ first.sector_size }
 
-still_itself : (old : MachineState) → IsOneMove old (records_of old) old
-still_itself old = record {
-  leaves = Leaves-none (told_of old) _ (inl refl);
-  made_is = λ _. refl;
-  few = omega arith;
-  never_falls = omega arith;
-  alike = DividesAlike-refl old.device.store;
-}
-
 -- the store is as it was
 still : (old new : MachineState) → new.device.store ≡ old.device.store → IsOneMove old (records_of old) new
 still old new same = subst
