@@ -4,8 +4,8 @@
     bench/player.py PROGRAM [BEFORE] [RUNS]
 
 PROGRAM plays 10,000 writes over 32 and over 1,024 slots, 500,000 counts, 20,000 reads of a record of 8,128 bytes, 10,000 lines that run
-an action, and 2,000 lines of 1,000 turns each with a block before every fourth. For each it prints the median of RUNS runs (default 5) in
-milliseconds and the time of one line; beside it that of BEFORE where that program plays such lines.
+an action, 2,000 lines of 1,000 turns each with a block before every fourth, and 2,000 losses of power over 1,024 slots. For each it prints the
+median of RUNS runs (default 5) in milliseconds and the time of one line; beside it that of BEFORE where that program plays such lines.
 """
 
 import statistics
@@ -43,6 +43,7 @@ jobs = [
     ("20,000 reads of 8,128 bytes", [], b"write " + record(1, 8128).hex().encode() + b"\n" + b"read 1\n" * 20_000, 20_000),
     ("10,000 actions", [], b"action 14 0\n" * 10_000, 10_000),
     ("2,000 lines of 1,000 turns", [], turns, 2_000),
+    ("2,000 times power lost and back", ["--sector=256", "--slots=1024"], writes[: writes.index(b"\n") + 1] + b"power\n" * 2_000, 2_000),
 ]
 program = sys.argv[1]
 before = sys.argv[2] if len(sys.argv) > 2 else None
