@@ -16,3 +16,11 @@ count_few holds (suc n) = let before : count_below holds n ≤ n = count_few hol
 
 selected_few : (entry : ℕ → Option Entry) (n : ℕ) → len (selected entry n) ≤ n
 selected_few entry n = subst (λ (k : ℕ). k ≤ n) (first_count entry n) (count_few (is_first entry n) n)
+
+pub few_records : (store : StoreView) → len (stored store) ≤ 1024
+unfolding stored_in
+few_records store =
+    let few : len (selected (entry_at store.layout.slot_size store.layout.slots store.flash.told.image) store.layout.slots) ≤ store.layout.slots =
+    selected_few (entry_at store.layout.slot_size store.layout.slots store.flash.told.image) store.layout.slots in
+    let many : store.layout.slots ≤ 1024 = store.layout.many_slots in
+    omega arith
