@@ -2,6 +2,7 @@ pub mod Played
 pub mod Statuses
 pub mod Runs
 pub mod Numbers
+pub mod Messages
 pub mod Sim
 pub mod Orders
 pub mod Jobs

@@ -64,6 +64,11 @@ impl Status {
 
 /// What the program says of it on standard error; nothing where it is done.
 impl fmt::Display for Status {
+    ghost use Rattle.std.specs.Prelude.{Some};
+    ghost use Rattle.apei_cli.specs.Messages.{words_of_status};
+
+    ghost output = { λ status. Some (words_of_status status) };
+
     fn fmt<W: fmt::Write>(&self, f: &mut fmt::Formatter<W>) -> fmt::Result {
         match self {
             Status::Done => Ok(()),

@@ -46,6 +46,8 @@ returns-in-Ok-new-clause-booted g c =
       is_booted = boot.booted;
       faults = boot.flash.faults;
       steps = boot.steps;
+      reads = boot.reads;
+      power = boot.power;
       kept = boot.kept;
       player_is = is_first (order_of c.args.plan.now) c.in-Ok-boot.machine _ _ _ c.in-Ok-new.ensures.state c.in-Ok-own_client.ensures.client c.in-Ok-own_client.ensures.machine;
     }
