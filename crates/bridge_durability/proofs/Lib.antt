@@ -1,0 +1,10 @@
+pub mod TrailLemmas
+pub mod HandoverLemmas
+pub mod InStepLemmas
+pub mod SumLemmas
+pub mod CrashLemmas
+pub mod RecordLemmas
+pub mod ShownLemmas
+pub mod CoverLemmas
+pub mod PrefixLemmas
+pub mod CauseLemmas

@@ -1,0 +1,5 @@
+use Rattle.bridge_durability.proofs.TrailLemmas.{turns_trail}
+use Rattle.bridge_durability.proofs.laws.bridged_turns_are_one_list.Goals as goal
+
+pub returns : goal.returns
+returns g c = turns_trail g.F.Flash.tells

@@ -1,0 +1,9 @@
+use Rattle.bridge_durability.proofs.InStepLemmas.{turns_in_step}
+use Rattle.bridge_durability.proofs.SumLemmas.{turns_balance}
+use Rattle.bridge_durability.proofs.laws.what_is_acknowledged_was_stored.Goals as goal
+
+pub returns-clause-order : goal.returns-clause-order
+returns-clause-order g c = turns_in_step g.F.Flash.tells
+
+pub returns-clause-sums : goal.returns-clause-sums
+returns-clause-sums g c = turns_balance g.F.Flash.tells

@@ -1,0 +1,5 @@
+pub mod Turns
+pub mod Shown
+pub mod InStep
+pub mod Sums
+pub mod Prefixes

@@ -1,0 +1,4 @@
+pub mod RecordLemmas
+pub mod InStepLemmas
+pub mod TurnLemmas
+pub mod IdentifierLemmas

@@ -1,0 +1,65 @@
+-- What is seen of a bridge, and what a turn of it does over any station.
+use Rattle.std.specs.Prelude.{◌≡◌, ℕ, ◌+◌, ◌-◌, ◌^◌, ◌<◌, List, drop, Ok, Err}
+use Rattle.apei_space.specs.Calls.{Call}
+use Rattle.ghes_ack.specs.declared.events.Event.{Event}
+use Rattle.ghes_ack.specs.declared.events.Event.TheVariants.{Took, Ack}
+use Rattle.erst_client.specs.declared.errors.ClientError.{ClientError}
+use Rattle.erst_client.specs.Commands.{ClientState, Writes}
+use Rattle.erst_bridge.specs.declared.events.BridgeEvent.{BridgeEvent}
+use Rattle.erst_bridge.specs.declared.events.BridgeEvent.TheVariants.{Line, Stored, Kept, Out}
+use Rattle.erst_bridge.specs.declared.stages.Stage.{Stage}
+use Rattle.erst_bridge.specs.declared.stages.Stage.TheVariants.{Closed, Awaiting, Holding, Releasing}
+use Rattle.erst_bridge.specs.BridgedRecord.{bridged}
+
+-- a bridge: off; or it awaits a block, with the identifier that the block will get; or it holds a block whose record is not stored, with
+-- its identifier; or the block's record is stored and the reader has still to acknowledge it, with the identifier of the next one
+pub data BridgeState : Type 0 where
+  Off : BridgeState
+  Awaits : (id : ℕ) → BridgeState
+  Holds : (id : ℕ) (block : List ℕ) → BridgeState
+  Releases : (id : ℕ) → BridgeState
+
+-- in the record of the held block, the block stands behind the 200 bytes of header and descriptor
+abbrev pub state_of : Stage → ℕ → List ℕ → BridgeState
+state_of Closed id bytes = Off
+state_of Awaiting id bytes = Awaits id
+state_of Holding id bytes = Holds id (drop 200 bytes)
+state_of Releasing id bytes = Releases id
+
+-- while a block is held the bytes are its record, and an identifier is at least 1
+abbrev pub HasRecord : Stage → ℕ → List ℕ → Type 0
+HasRecord Closed id bytes = Unit {0}
+HasRecord Awaiting id bytes = 0 < id
+HasRecord Holding id bytes = (0 < id) × (bytes ≡ bridged (drop 200 bytes) id)
+HasRecord Releasing id bytes = 0 < id
+
+-- a bridge that is on and holds no block, and the identifier of the next one
+abbrev pub HoldsNone : ℕ → BridgeState → Type 0
+HoldsNone id Off = ⊥
+HoldsNone id (Awaits next) = next ≡ id
+HoldsNone id (Holds n block) = ⊥
+HoldsNone id (Releases next) = next ≡ id
+
+-- behind a turn of the reader: a block that was taken is held, behind an acknowledgement the next one is awaited, and any other event
+-- leaves the bridge
+abbrev pub after_reader : Event → ℕ → List ℕ → BridgeState → BridgeState
+after_reader Took id block bridge = Holds id block
+after_reader Ack id block bridge = Awaits id
+after_reader event id block bridge = bridge
+
+-- behind a try to store the held block
+abbrev pub after_offer : BridgeEvent → ℕ → List ℕ → BridgeState
+after_offer (Stored name) id block = Releases (id + 1)
+after_offer event id block = Holds id block
+
+-- A turn of a bridge: what it was, its event, and the bridge, the steps that are left and the station behind it. `reads` is a turn of the
+-- station's reader, and `last` the block taken last. While a block is held the reader makes no turn; the identifier 2^64 - 1 is none
+pub data Bridges {S W : Type 0} (state : S → W) (allows : W → Call → W → Type 0) (reads : S → Event → S → Type 0) (last : S → List ℕ) (client : ClientState) (budget : ℕ) (old : S) :
+    BridgeState → BridgeEvent → BridgeState → ℕ → S → Type 0 where
+  TurnsReader : (id : ℕ) (bridge : BridgeState) (event : Event) (new : S) → HoldsNone id bridge → reads old event new
+      → Bridges state allows reads last client budget old bridge (Line event) (after_reader event id (last new) bridge) budget new
+  Stores : (id : ℕ) (block : List ℕ) (left : ℕ) (new : S) → id < 2 ^ 64 - 1 → Writes allows client (bridged block id) budget (state old) (Ok tt) left (state new)
+      → Bridges state allows reads last client budget old (Holds id block) (Stored id) (Releases (id + 1)) left new
+  Keeps : (id : ℕ) (block : List ℕ) (error : ClientError) (left : ℕ) (new : S) → id < 2 ^ 64 - 1 → Writes allows client (bridged block id) budget (state old) (Err error) left (state new)
+      → Bridges state allows reads last client budget old (Holds id block) (Kept error) (Holds id block) left new
+  RunsOut : (id : ℕ) (block : List ℕ) → id ≡ 2 ^ 64 - 1 → Bridges state allows reads last client budget old (Holds id block) Out (Holds id block) budget old

@@ -1,0 +1,4 @@
+pub mod BridgedRecord
+pub mod Bridges
+pub mod InStep
+pub mod Causes

@@ -1,0 +1,14 @@
+// How far a bridge is with a block.
+
+/// How far a bridge is with a block.
+#[derive(Clone, Copy, PartialEq, Eq)]
+pub enum Stage {
+    /// The bridge is off.
+    Closed,
+    /// It waits for a block to be taken.
+    Awaiting,
+    /// It holds the record of a block that was taken.
+    Holding,
+    /// The record is stored, and the block has still to be acknowledged.
+    Releasing,
+}
