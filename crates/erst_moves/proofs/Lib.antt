@@ -1,0 +1,7 @@
+pub mod WorkLemmas
+pub mod EntryLemmas
+pub mod StageLemmas
+pub mod HaltLemmas
+pub mod RunLemmas
+pub mod BehindLemmas
+pub mod PlainLemmas

@@ -1,0 +1,4 @@
+pub mod MoveEntries
+pub mod MoveSpaces
+pub mod MoveRuns
+pub mod PlainMoves

@@ -1,0 +1,12 @@
+pub mod TableLemmas
+pub mod MoveLemmas
+pub mod ProgramLemmas
+pub mod OwnRunLemmas
+pub mod QuietLemmas
+pub mod SequenceLemmas
+pub mod CommandLemmas
+pub mod AttachLemmas
+pub mod CrashLemmas
+pub mod NeedLemmas
+pub mod EnoughLemmas
+pub mod CauseLemmas

@@ -1,0 +1,308 @@
+-- The machine has what a move needs, both ways.
+use Rattle.std.proofs.Common.{◌≡◌, ◌∙◌, ℕ, zero, suc, ◌+◌, ◌*◌, ◌^◌, ◌<◌, ◌≤◌, inl, inr, List, ◌++◌, length, Result, Ok, refl, sym, ap, subst, arith}
+use Rattle.base_model.specs.Bytes.{part, number_at, spelled, put_at, SameOutside}
+use Rattle.base_model.proofs.BytesLemmas.{length-spelled, length-part, part-part, part-append, part-put_at, length-put_at, SameOutside-put_at, SameOutside-refl, SameOutside-wider, is_put_at}
+use Rattle.apei_gas.specs.declared.registers.Place.TheVariants.{Memory}
+use Rattle.apei_gas.specs.declared.widths.Width.TheVariants.{B64}
+use Rattle.apei_space.specs.declared.faults.SpaceFault.{SpaceFault}
+use Rattle.apei_space.specs.Calls.{Read, Write, Copy}
+use Rattle.erst_moves.specs.MoveEntries.{MoveRegister, Offset, Source, Target, Length, address_of}
+use Rattle.erst_moves.specs.MoveSpaces.{ServesMove, AreAddressable, after_rounds}
+use Rattle.erst_moves.specs.PlainMoves.{ShareNone}
+use Rattle.erst_moves.proofs.PlainLemmas.{part-beside, number-put, number-beside}
+use Rattle.erst_machine.specs.declared.areas.Area.TheVariants.{Scratch, LogRange}
+use Rattle.erst_machine.specs.declared.areas.Spot.{Spot}
+use Rattle.erst_machine.specs.declared.areas.Spot.TheVariants.{Inside}
+use Rattle.erst_machine.specs.Areas.{memory_spot}
+use Rattle.erst_machine.specs.MachineState.{MachineState, spot_at}
+use Rattle.erst_machine.specs.Allowed.{Allows, number_read, NumberWritten, copy_of}
+use Rattle.erst_machine.proofs.PlaceLemmas.{area_found}
+use Rattle.erst_device.specs.declared.device.TheConstants.{LOG_RANGE}
+use Rattle.erst_shadow.specs.ShadowTables.{scratch_at}
+use Rattle.erst_shadow.specs.ShadowMoves.{holding, HoldsPieces, KeepsOthers, MovedIn, MovedOut}
+
+-- bytes that were changed twice within the same place
+SameOutside-then : (at n : ℕ) (old mid new : List ℕ) → SameOutside at n old mid → SameOutside at n mid new → SameOutside at n old new
+SameOutside-then at n old mid new first second = record {
+  same_length = second.same_length ∙ first.same_length;
+  before = second.before ∙ first.before;
+  after = second.after ∙ first.after;
+}
+
+-- where a register stands in the scratch memory
+abbrev pub place_in : MoveRegister → ℕ
+place_in Offset = 0xF80
+place_in Source = 0xF88
+place_in Target = 0xF90
+place_in Length = 0xF98
+
+register_spot : (reach : ℕ) (r : MoveRegister) → memory_spot reach (address_of r) 8 ≡ Inside Scratch (place_in r)
+register_spot reach Offset = refl
+register_spot reach Source = refl
+register_spot reach Target = refl
+register_spot reach Length = refl
+
+pub register_low : (r : MoveRegister) → (0xF80 ≤ place_in r) × (place_in r + 8 ≤ 4096)
+register_low Offset = (omega arith, omega arith)
+register_low Source = (omega arith, omega arith)
+register_low Target = (omega arith, omega arith)
+register_low Length = (omega arith, omega arith)
+
+registers_differ : (r other : MoveRegister) → (address_of r ≡ address_of other → ⊥) → ShareNone (place_in other) 8 (place_in r) 8
+registers_differ Offset Offset not = absurd (not refl)
+registers_differ Source Source not = absurd (not refl)
+registers_differ Target Target not = absurd (not refl)
+registers_differ Length Length not = absurd (not refl)
+registers_differ Offset Source not = inr (omega arith)
+registers_differ Offset Target not = inr (omega arith)
+registers_differ Offset Length not = inr (omega arith)
+registers_differ Source Offset not = inl (omega arith)
+registers_differ Source Target not = inr (omega arith)
+registers_differ Source Length not = inr (omega arith)
+registers_differ Target Offset not = inl (omega arith)
+registers_differ Target Source not = inl (omega arith)
+registers_differ Target Length not = inr (omega arith)
+registers_differ Length Offset not = inl (omega arith)
+registers_differ Length Source not = inl (omega arith)
+registers_differ Length Target not = inl (omega arith)
+
+-- Registers, whichever way the record is moved
+
+abbrev pub value : MoveRegister → MachineState → ℕ
+value r w = number_at w.memory.scratch (place_in r) 8
+
+abbrev pub put : MoveRegister → ℕ → MachineState → MachineState
+put r n w = record w { memory = record w.memory { scratch = put_at w.memory.scratch (place_in r) (spelled 8 n) } }
+
+pub register_read : (tells : Type 0) (w v : MachineState) (r : MoveRegister) (answer : Result ℕ SpaceFault) → Allows tells w (Read (Memory (address_of r)) B64 answer) v → (answer ≡ Ok (value r w)) × (v ≡ w)
+register_read tells w v r answer h = (h.0 ∙ ap (λ (s : Spot). number_read s w (address_of r) B64) (register_spot (length w.memory.range) r), h.1)
+
+pub register_written : (tells : Type 0) (w v : MachineState) (r : MoveRegister) (n : ℕ) (answer : Result (Unit {0}) SpaceFault) → Allows tells w (Write (Memory (address_of r)) B64 n answer) v → (answer ≡ Ok tt) × (v ≡ put r n w)
+register_written tells w v r n answer h = subst (λ (s : Spot). NumberWritten tells s w (address_of r) B64 n answer v) (register_spot (length w.memory.range) r) h
+
+put_long : (first w : MachineState) (r : MoveRegister) (n : ℕ) → KeepsOthers first w → place_in r + length (spelled 8 n) ≤ length w.memory.scratch
+put_long first w r n comes = let low = (register_low r).1 in omega (arith, length-spelled 8 n, low, comes.scratch)
+
+put_comes : (first w : MachineState) (r : MoveRegister) (n : ℕ) → KeepsOthers first w → KeepsOthers first (put r n w)
+put_comes first w r n comes = record {
+  range = comes.range;
+  scratch = length-put_at w.memory.scratch (place_in r) (spelled 8 n) (put_long first w r n comes) ∙ comes.scratch;
+  elsewhere = ap (λ (m : MachineState). holding w.memory.range (put_at w.memory.scratch (place_in r) (spelled 8 n)) m) comes.elsewhere;
+}
+
+value_put : (first w : MachineState) (r : MoveRegister) (n : ℕ) → KeepsOthers first w → n < 2 ^ 64 → value r (put r n w) ≡ n
+value_put first w r n comes small = let low = (register_low r).1 in number-put w.memory.scratch (place_in r) n (omega (arith, low, comes.scratch)) small
+
+value_beside : (first w : MachineState) (r other : MoveRegister) (n : ℕ) → KeepsOthers first w → (address_of r ≡ address_of other → ⊥) → value other (put r n w) ≡ value other w
+value_beside first w r other n comes not =
+    number-beside w.memory.scratch (spelled 8 n) (place_in r) (place_in other) (put_long first w r n comes)
+    (subst (λ (k : ℕ). ShareNone (place_in other) 8 (place_in r) k) (sym (length-spelled 8 n)) (registers_differ r other not))
+
+pub record Stays (first w : MachineState) : Type 0 where
+  pub comes : KeepsOthers first w
+  pub kept : w.memory.range ≡ first.memory.range
+
+module _ (tells : Type 0) (first : MachineState) (count : ℕ) (room : HoldsPieces first count) where
+  pub below_in : AreAddressable scratch_at LOG_RANGE count
+  below_in = let few = room.few in record { source = omega arith; target_is = omega arith; some = room.some }
+
+  pub below_out : AreAddressable LOG_RANGE scratch_at count
+  below_out = let few = room.few in record { source = omega arith; target_is = omega arith; some = room.some }
+
+  scratch_spot : (w : MachineState) (i : ℕ) → KeepsOthers first w → i < count → spot_at w (scratch_at + 128 * i) 128 ≡ Inside Scratch (128 * i)
+  scratch_spot w i comes less = area_found (length w.memory.range) Scratch (128 * i) 128 (omega (arith, comes.range, room.small)) (omega arith) (omega (arith, room.few))
+
+  range_spot : (w : MachineState) (i : ℕ) → KeepsOthers first w → i < count → spot_at w (LOG_RANGE + 128 * i) 128 ≡ Inside LogRange (128 * i)
+  range_spot w i comes less = area_found (length w.memory.range) LogRange (128 * i) 128 (omega (arith, comes.range, room.small)) (omega arith) (omega (arith, comes.range, room.range))
+
+  -- In
+
+  abbrev piece_in : ℕ → MachineState → MachineState
+  piece_in i w = record w { memory = record w.memory { range = put_at w.memory.range (128 * i) (part w.memory.scratch (128 * i) 128) } }
+
+  scratch_long : (w : MachineState) (i : ℕ) → KeepsOthers first w → i < count → length (part w.memory.scratch (128 * i) 128) ≡ 128
+  scratch_long w i comes less = length-part w.memory.scratch (128 * i) 128 (omega (arith, comes.scratch, room.few))
+
+  fits_range : (w : MachineState) (i : ℕ) → KeepsOthers first w → i < count → 128 * i + length (part w.memory.scratch (128 * i) 128) ≤ length w.memory.range
+  fits_range w i comes less = omega (arith, scratch_long w i comes less, comes.range, room.range)
+
+  copies_in : (w v : MachineState) (i : ℕ) (answer : Result (Unit {0}) SpaceFault) → KeepsOthers first w → i < count → Allows tells w (Copy (scratch_at + 128 * i) (LOG_RANGE + 128 * i) 128 answer) v → (answer ≡ Ok tt) × (v ≡ piece_in i w)
+  copies_in w v i answer comes less h =
+      let outcome : copy_of (spot_at w (scratch_at + 128 * i) 128) (spot_at w (LOG_RANGE + 128 * i) 128) w (scratch_at + 128 * i) (LOG_RANGE + 128 * i) 128 ≡ (Ok tt, piece_in i w) =
+      ap (λ (s : Spot). copy_of s (spot_at w (LOG_RANGE + 128 * i) 128) w (scratch_at + 128 * i) (LOG_RANGE + 128 * i) 128) (scratch_spot w i comes less)
+      ∙ ap (λ (s : Spot). copy_of (Inside Scratch (128 * i)) s w (scratch_at + 128 * i) (LOG_RANGE + 128 * i) 128) (range_spot w i comes less) in
+      (h.0 ∙ ap (λ (o : Result (Unit {0}) SpaceFault × MachineState). o.0) outcome, h.1 ∙ ap (λ (o : Result (Unit {0}) SpaceFault × MachineState). o.1) outcome)
+
+  pub space_in : ServesMove (Allows tells) (KeepsOthers first) scratch_at LOG_RANGE count
+  space_in = record {
+    value = value;
+    put = put;
+    copied = piece_in;
+    reads = λ w v r answer comes h. register_read tells w v r answer h;
+    writes = λ w v r n answer comes h. register_written tells w v r n answer h;
+    copies = copies_in;
+    put_fits = λ w r n comes. put_comes first w r n comes;
+    copied_fits = λ w i comes less. record {
+      range = length-put_at w.memory.range (128 * i) (part w.memory.scratch (128 * i) 128) (fits_range w i comes less) ∙ comes.range;
+      scratch = comes.scratch;
+      elsewhere = ap (λ (m : MachineState). holding (put_at w.memory.range (128 * i) (part w.memory.scratch (128 * i) 128)) w.memory.scratch m) comes.elsewhere;
+    };
+    value_put = λ w r n comes small. value_put first w r n comes small;
+    value_beside = λ w r other n comes not. value_beside first w r other n comes not;
+    value_behind = λ w r i comes less. refl;
+  }
+
+  -- what so many after_rounds moved
+  record Moved (size : ℕ) (w : MachineState) : Type 0 where
+    comes : KeepsOthers first w
+    same : SameOutside 0 size first.memory.range w.memory.range
+    there : part w.memory.range 0 size ≡ part first.memory.scratch 0 size
+    record_kept : part w.memory.scratch 0 0xF80 ≡ part first.memory.scratch 0 0xF80
+
+  put_moved : (size : ℕ) (w : MachineState) (r : MoveRegister) (n : ℕ) → Moved size w → Moved size (put r n w)
+  put_moved size w r n is = record {
+    comes = put_comes first w r n is.comes;
+    same = is.same;
+    there = is.there;
+    record_kept = part-beside w.memory.scratch (spelled 8 n) (place_in r) 0 0xF80 (put_long first w r n is.comes) (inl (let low = (register_low r).0 in omega arith)) ∙ is.record_kept;
+  }
+
+  piece_kept : (w : MachineState) (i : ℕ) → i < count → part w.memory.scratch 0 0xF80 ≡ part first.memory.scratch 0 0xF80 → part w.memory.scratch (128 * i) 128 ≡ part first.memory.scratch (128 * i) 128
+  piece_kept w i less kept =
+      let few = room.few in
+      sym (part-part w.memory.scratch 0 0xF80 (128 * i) 128 (omega arith) ∙ ap (λ (k : ℕ). part w.memory.scratch k 128) (omega arith)) ∙ ap (λ (xs : List ℕ). part xs (128 * i) 128) kept
+      ∙ part-part first.memory.scratch 0 0xF80 (128 * i) 128 (omega arith) ∙ ap (λ (k : ℕ). part first.memory.scratch k 128) (omega arith)
+
+  piece_moved : (i : ℕ) (w : MachineState) → i < count → Moved (128 * i) w → Moved (128 * suc i) (piece_in i w)
+  unfolding space_in
+  piece_moved i w less is =
+      let others = part w.memory.scratch (128 * i) 128 in
+      let size = scratch_long w i is.comes less in
+      let fits = fits_range w i is.comes less in
+      let next : 128 * i + 128 ≡ 128 * suc i = omega arith in
+      let front : part (put_at w.memory.range (128 * i) others) 0 (128 * i) ≡ part first.memory.scratch 0 (128 * i) = part-beside w.memory.range others (128 * i) 0 (128 * i) fits (inl (omega arith)) ∙ is.there in
+      let back : part (put_at w.memory.range (128 * i) others) (0 + 128 * i) 128 ≡ part first.memory.scratch (0 + 128 * i) 128 =
+      ap (λ (k : ℕ). part (put_at w.memory.range (128 * i) others) k 128) (omega arith) ∙ ap (λ (k : ℕ). part (put_at w.memory.range (128 * i) others) (128 * i) k) (sym size)
+      ∙ part-put_at w.memory.range (128 * i) others fits ∙ piece_kept w i less is.record_kept ∙ ap (λ (k : ℕ). part first.memory.scratch k 128) (omega arith) in
+      record {
+        comes = space_in.copied_fits w i is.comes less;
+        same = SameOutside-then 0 (128 * suc i) first.memory.range w.memory.range (put_at w.memory.range (128 * i) others)
+            (SameOutside-wider 0 (128 * i) 0 (128 * suc i) first.memory.range w.memory.range (omega arith) (omega arith) is.same)
+            (SameOutside-wider (128 * i) (length others) 0 (128 * suc i) w.memory.range (put_at w.memory.range (128 * i) others) (omega arith) (omega (arith, size)) (SameOutside-put_at w.memory.range (128 * i) others fits));
+        there = ap (λ (k : ℕ). part (put_at w.memory.range (128 * i) others) 0 k) (sym next) ∙ sym (part-append (put_at w.memory.range (128 * i) others) 0 (128 * i) 128)
+            ∙ ap (λ (xs : List ℕ). xs ++ part (put_at w.memory.range (128 * i) others) (0 + 128 * i) 128) front ∙ ap (λ (xs : List ℕ). part first.memory.scratch 0 (128 * i) ++ xs) back
+            ∙ part-append first.memory.scratch 0 (128 * i) 128 ∙ ap (λ (k : ℕ). part first.memory.scratch 0 k) next;
+        record_kept = is.record_kept;
+      }
+
+  pub first_comes : KeepsOthers first first
+  first_comes = record { range = refl; scratch = room.scratch; elsewhere = refl }
+
+  none_moved : Moved 0 first
+  unfolding part
+  none_moved = record { comes = first_comes; same = SameOutside-refl 0 0 first.memory.range; there = refl; record_kept = refl }
+
+  rounds_moved : (i : ℕ) → i ≤ count → Moved (128 * i) (after_rounds space_in i first)
+  unfolding space_in
+  rounds_moved zero less = put_moved 0 _ Offset 0 (put_moved 0 _ Length 128 (put_moved 0 _ Target LOG_RANGE (put_moved 0 first Source scratch_at none_moved)))
+  rounds_moved (suc i) less = put_moved (128 * suc i) _ Offset (128 * suc i) (piece_moved i (after_rounds space_in i first) (omega arith) (rounds_moved i (omega arith)))
+
+  pub moved_in : MovedIn count first (after_rounds space_in count first)
+  moved_in =
+      let is = rounds_moved count (omega arith) in
+      let last = after_rounds space_in count first in
+      let size : length (part first.memory.scratch 0 (128 * count)) ≡ 128 * count = length-part first.memory.scratch 0 (128 * count) (omega (arith, room.scratch, room.few)) in
+      record {
+        others = is.comes;
+        moved = is_put_at first.memory.range last.memory.range 0 (part first.memory.scratch 0 (128 * count))
+            (subst (λ (k : ℕ). SameOutside 0 k first.memory.range last.memory.range) (sym size) is.same)
+            (ap (λ (k : ℕ). part last.memory.range 0 k) size ∙ is.there);
+      }
+
+  -- Out
+
+  abbrev piece_out : ℕ → MachineState → MachineState
+  piece_out i w = record w { memory = record w.memory { scratch = put_at w.memory.scratch (128 * i) (part w.memory.range (128 * i) 128) } }
+
+  range_long : (w : MachineState) (i : ℕ) → KeepsOthers first w → i < count → length (part w.memory.range (128 * i) 128) ≡ 128
+  range_long w i comes less = length-part w.memory.range (128 * i) 128 (omega (arith, comes.range, room.range))
+
+  fits_scratch : (w : MachineState) (i : ℕ) → KeepsOthers first w → i < count → 128 * i + length (part w.memory.range (128 * i) 128) ≤ length w.memory.scratch
+  fits_scratch w i comes less = omega (arith, range_long w i comes less, comes.scratch, room.few)
+
+  copies_out : (w v : MachineState) (i : ℕ) (answer : Result (Unit {0}) SpaceFault) → KeepsOthers first w → i < count → Allows tells w (Copy (LOG_RANGE + 128 * i) (scratch_at + 128 * i) 128 answer) v → (answer ≡ Ok tt) × (v ≡ piece_out i w)
+  copies_out w v i answer comes less h =
+      let outcome : copy_of (spot_at w (LOG_RANGE + 128 * i) 128) (spot_at w (scratch_at + 128 * i) 128) w (LOG_RANGE + 128 * i) (scratch_at + 128 * i) 128 ≡ (Ok tt, piece_out i w) =
+      ap (λ (s : Spot). copy_of s (spot_at w (scratch_at + 128 * i) 128) w (LOG_RANGE + 128 * i) (scratch_at + 128 * i) 128) (range_spot w i comes less)
+      ∙ ap (λ (s : Spot). copy_of (Inside LogRange (128 * i)) s w (LOG_RANGE + 128 * i) (scratch_at + 128 * i) 128) (scratch_spot w i comes less) in
+      (h.0 ∙ ap (λ (o : Result (Unit {0}) SpaceFault × MachineState). o.0) outcome, h.1 ∙ ap (λ (o : Result (Unit {0}) SpaceFault × MachineState). o.1) outcome)
+
+  -- on the way out the log range stays as it was
+  pub stays_out : ServesMove (Allows tells) (Stays first) LOG_RANGE scratch_at count
+  stays_out = record {
+    value = value;
+    put = put;
+    copied = piece_out;
+    reads = λ w v r answer stays h. register_read tells w v r answer h;
+    writes = λ w v r n answer stays h. register_written tells w v r n answer h;
+    copies = λ w v i answer stays less h. copies_out w v i answer stays.comes less h;
+    put_fits = λ w r n stays. record { comes = put_comes first w r n stays.comes; kept = stays.kept };
+    copied_fits = λ w i stays less. record {
+      comes = record {
+        range = stays.comes.range;
+        scratch = length-put_at w.memory.scratch (128 * i) (part w.memory.range (128 * i) 128) (fits_scratch w i stays.comes less) ∙ stays.comes.scratch;
+        elsewhere = ap (λ (m : MachineState). holding w.memory.range (put_at w.memory.scratch (128 * i) (part w.memory.range (128 * i) 128)) m) stays.comes.elsewhere;
+      };
+      kept = stays.kept;
+    };
+    value_put = λ w r n stays small. value_put first w r n stays.comes small;
+    value_beside = λ w r other n stays not. value_beside first w r other n stays.comes not;
+    value_behind = λ w r i stays less.
+        number-beside w.memory.scratch (part w.memory.range (128 * i) 128) (128 * i) (place_in r) (fits_scratch w i stays.comes less)
+        (inr (let low = (register_low r).0 in omega (arith, range_long w i stays.comes less, room.few)));
+  }
+
+  record Fetched (size : ℕ) (w : MachineState) : Type 0 where
+    comes : KeepsOthers first w
+    there : part w.memory.scratch 0 size ≡ part first.memory.range 0 size
+    kept : w.memory.range ≡ first.memory.range
+
+  put_fetched : (size : ℕ) (w : MachineState) (r : MoveRegister) (n : ℕ) → size ≤ 0xF80 → Fetched size w → Fetched size (put r n w)
+  put_fetched size w r n less is = record {
+    comes = put_comes first w r n is.comes;
+    there = part-beside w.memory.scratch (spelled 8 n) (place_in r) 0 size (put_long first w r n is.comes) (inl (let low = (register_low r).0 in omega arith)) ∙ is.there;
+    kept = is.kept;
+  }
+
+  piece_fetched : (i : ℕ) (w : MachineState) → i < count → Fetched (128 * i) w → Fetched (128 * suc i) (piece_out i w)
+  unfolding stays_out
+  piece_fetched i w less is =
+      let others = part w.memory.range (128 * i) 128 in
+      let size = range_long w i is.comes less in
+      let fits = fits_scratch w i is.comes less in
+      let next : 128 * i + 128 ≡ 128 * suc i = omega arith in
+      let front : part (put_at w.memory.scratch (128 * i) others) 0 (128 * i) ≡ part first.memory.range 0 (128 * i) = part-beside w.memory.scratch others (128 * i) 0 (128 * i) fits (inl (omega arith)) ∙ is.there in
+      let back : part (put_at w.memory.scratch (128 * i) others) (0 + 128 * i) 128 ≡ part first.memory.range (0 + 128 * i) 128 =
+      ap (λ (k : ℕ). part (put_at w.memory.scratch (128 * i) others) k 128) (omega arith) ∙ ap (λ (k : ℕ). part (put_at w.memory.scratch (128 * i) others) (128 * i) k) (sym size)
+      ∙ part-put_at w.memory.scratch (128 * i) others fits ∙ ap (λ (xs : List ℕ). part xs (128 * i) 128) is.kept ∙ ap (λ (k : ℕ). part first.memory.range k 128) (omega arith) in
+      record {
+        comes = (stays_out.copied_fits w i (record { comes = is.comes; kept = is.kept }) less).comes;
+        there = ap (λ (k : ℕ). part (put_at w.memory.scratch (128 * i) others) 0 k) (sym next) ∙ sym (part-append (put_at w.memory.scratch (128 * i) others) 0 (128 * i) 128)
+            ∙ ap (λ (xs : List ℕ). xs ++ part (put_at w.memory.scratch (128 * i) others) (0 + 128 * i) 128) front ∙ ap (λ (xs : List ℕ). part first.memory.range 0 (128 * i) ++ xs) back
+            ∙ part-append first.memory.range 0 (128 * i) 128 ∙ ap (λ (k : ℕ). part first.memory.range 0 k) next;
+        kept = is.kept;
+      }
+
+  none_fetched : Fetched 0 first
+  unfolding part
+  none_fetched = record { comes = first_comes; there = refl; kept = refl }
+
+  rounds_fetched : (i : ℕ) → i ≤ count → Fetched (128 * i) (after_rounds stays_out i first)
+  unfolding stays_out
+  rounds_fetched zero less =
+      put_fetched 0 _ Offset 0 (omega arith) (put_fetched 0 _ Length 128 (omega arith) (put_fetched 0 _ Target scratch_at (omega arith) (put_fetched 0 first Source LOG_RANGE (omega arith) none_fetched)))
+  rounds_fetched (suc i) less =
+      put_fetched (128 * suc i) _ Offset (128 * suc i) (omega (arith, room.few)) (piece_fetched i (after_rounds stays_out i first) (omega arith) (rounds_fetched i (omega arith)))
+
+  pub moved_out : MovedOut count first (after_rounds stays_out count first)
+  moved_out = let is = rounds_fetched count (omega arith) in record { others = is.comes; moved = is.there; kept = is.kept }

@@ -1,0 +1,186 @@
+-- The programs of the table over the machine: two of them move the record, and but for three that tell the log range the others are
+-- the machine's own.
+use Rattle.std.proofs.Common.{◌≡◌, ℕ, zero, suc, List, [], ◌∷◌, Option, Some, Result, Ok, Err, refl, sym, subst, arith}
+use Rattle.std.specs.Prelude.{slice_get}
+use Rattle.std.proofs.lemmas.Option.{none-some, same_Some}
+use Rattle.apei_gas.specs.declared.registers.Register.{Register}
+use Rattle.apei_gas.specs.declared.registers.BadRegister.{BadRegister}
+use Rattle.apei_gas.specs.declared.registers.Place.TheVariants.{Memory}
+use Rattle.apei_gas.specs.declared.widths.Width.TheVariants.{B32, B64}
+use Rattle.apei_gas.specs.Check.{checked}
+use Rattle.erst_entries.specs.declared.actions.Action.{Action}
+use Rattle.erst_entries.specs.declared.actions.Action.TheVariants.{BeginWriteOperation, BeginReadOperation, BeginClearOperation, EndOperation, SetRecordOffset, ExecuteOperation, CheckBusyStatus, GetCommandStatus, GetRecordIdentifier, SetRecordIdentifier, GetRecordCount, BeginDummyWriteOperation, GetErrorLogAddressRange, GetErrorLogAddressRangeLength, GetErrorLogAddressRangeAttributes, GetExecuteOperationTimings}
+use Rattle.erst_entries.specs.declared.entries.Entry.{Entry}
+use Rattle.erst_entries.specs.declared.instructions.Instruction.TheVariants.{ReadRegister, WriteRegisterValue}
+use Rattle.erst_entries.specs.Actions.{code_of}
+use Rattle.erst_entries.specs.Programs.{Listed, entries_of, program_of}
+use Rattle.erst_interp.specs.declared.configurations.Configuration.{Configuration}
+use Rattle.erst_interp.specs.declared.stops.RunStop.{RunStop}
+use Rattle.erst_interp.specs.Accesses.{Store, FieldRead}
+use Rattle.erst_interp.specs.Steps.{Halt}
+use Rattle.erst_interp.specs.Runs.{Run, task_of}
+use Rattle.erst_client.specs.declared.errors.ClientError.{ClientError}
+use Rattle.erst_client.specs.Requests.{Performs}
+use Rattle.erst_client.specs.Commands.{Counts, Names}
+use Rattle.erst_machine.specs.MachineState.{MachineState}
+use Rattle.erst_machine.specs.Allowed.{Allows}
+use Rattle.erst_machine.specs.OwnTables.{own_entries, act, answer}
+use Rattle.erst_moves.specs.MoveEntries.{move_entries}
+use Rattle.erst_moves.specs.MoveSpaces.{after_rounds}
+use Rattle.erst_moves.specs.MoveRuns.{move_then, MovesOn, StopsWithin}
+use Rattle.erst_moves.proofs.WorkLemmas.{halt_by}
+use Rattle.erst_interp.proofs.StraightLemmas.{whole_of, refused_of}
+use Rattle.erst_moves.proofs.EntryLemmas.{no_fault}
+use Rattle.erst_moves.proofs.RunLemmas.{moves_first}
+use Rattle.erst_moves.proofs.BehindLemmas.{IsOfItsOwn, StoresValue, TakesRegister, runs_behind}
+use Rattle.erst_device.specs.declared.device.TheConstants.{LOG_RANGE}
+use Rattle.erst_shadow.specs.ShadowTables.{scratch_at, shadow_entries}
+use Rattle.erst_shadow.specs.ShadowMoves.{HoldsPieces, KeepsOthers, MovesThenExecutes, ExecutesMoved, StopsMovingIn, MovesThenTells, TellsMoved, StopsMovingOut}
+use Rattle.erst_shadow.proofs.MoveLemmas.{below_in, below_out, space_in, moved_in, moved_out, first_comes, Stays, stays_out}
+
+-- The device's registers refuse nothing
+
+same_register : (r s : Register) (answer : Result Register BadRegister) → answer ≡ Ok r → answer ≡ Ok s → s ≡ r
+same_register r s answer e f = cc
+
+abbrev action_at : Register
+action_at = record { place = Memory 0x200000; access = B32; offset = 0 }
+
+abbrev value_at : Register
+value_at = record { place = Memory 0x200008; access = B64; offset = 0 }
+
+never_act : (tells : Type 0) (program : Listed) (given : ℕ) (action : Action) (entry : Entry) (c : Configuration) (paid : ℕ) (w : MachineState) (stop : RunStop) (left : ℕ) (v : MachineState) → act action ≡ entry
+    → Halt (Allows tells) (task_of program given entry c) paid w stop left v → ⊥
+never_act tells program given action entry c paid w stop left v is halt =
+    let why = halt_by (Allows tells) (task_of program given (act action) c) WriteRegisterValue refl (λ used. (action_at, refl)) paid w stop left v
+    (subst (λ (e : Entry). Halt (Allows tells) (task_of program given e c) paid w stop left v) (sym is) halt) in
+    let register : why.0 ≡ action_at = same_register action_at why.0 (checked (act action).region) refl why.2 in
+    let wrote = whole_of (Allows tells) action_at (act action) (code_of action) w (Err why.1) v
+    (subst (λ (r : Register). Store (Allows tells) r (act action) (code_of action) w (Err why.1) v) register why.3) refl in
+    no_fault tt why.1 wrote.0
+
+never_answer : (tells : Type 0) (program : Listed) (given : ℕ) (action : Action) (mask : ℕ) (entry : Entry) (c : Configuration) (paid : ℕ) (w : MachineState) (stop : RunStop) (left : ℕ) (v : MachineState) → answer action mask ≡ entry
+    → Halt (Allows tells) (task_of program given entry c) paid w stop left v → ⊥
+never_answer tells program given action mask entry c paid w stop left v is halt =
+    let why = halt_by (Allows tells) (task_of program given (answer action mask) c) ReadRegister refl (λ used. (value_at, refl)) paid w stop left v
+    (subst (λ (e : Entry). Halt (Allows tells) (task_of program given e c) paid w stop left v) (sym is) halt) in
+    let register : why.0 ≡ value_at = same_register value_at why.0 (checked (answer action mask).region) refl why.2 in
+    let read = refused_of (Allows tells) value_at mask w (Err why.1) v why.1
+    (subst (λ (r : Register). FieldRead (Allows tells) r mask w (Err why.1) v) register why.3) refl in
+    no_fault w.device.value why.1 read.0
+
+-- EXECUTE_OPERATION
+
+abbrev execute_tail : List Entry
+execute_tail = act ExecuteOperation ∷ []
+
+shadow-execute : (pieces : ℕ) → program_of 0x5 (shadow_entries pieces) ≡ move_then ExecuteOperation scratch_at LOG_RANGE pieces execute_tail
+unfolding shadow_entries entries_of move_entries
+shadow-execute pieces = refl
+
+own-execute : program_of 0x5 own_entries ≡ record { action = code_of ExecuteOperation; entries = execute_tail }
+unfolding own_entries entries_of
+own-execute = refl
+
+execute_entry : (k : ℕ) (entry : Entry) → slice_get execute_tail k ≡ Some entry → act ExecuteOperation ≡ entry
+execute_entry zero entry here = same_Some _ _ here
+execute_entry (suc k) entry here = absurd (none-some entry here)
+
+execute_blind : (k : ℕ) (entry : Entry) → slice_get execute_tail k ≡ Some entry → IsOfItsOwn entry
+execute_blind k entry here = subst (λ (e : Entry). IsOfItsOwn e) (execute_entry k entry here) (StoresValue refl)
+
+pub shadow_executes : (tells : Type 0) (pieces : ℕ) (first : MachineState) → HoldsPieces first pieces → (given budget : ℕ) (result : Result ℕ RunStop) (left : ℕ) (last : MachineState)
+    → Performs (Allows tells) (shadow_entries pieces) ExecuteOperation given budget first result left last → MovesThenExecutes tells pieces given budget first result left last
+shadow_executes tells pieces first room given budget result left last run =
+    let ran = moves_first (Allows tells) (KeepsOthers first) scratch_at LOG_RANGE pieces (space_in tells first pieces room) (below_in tells first pieces room) ExecuteOperation execute_tail given budget first
+    (first_comes tells first pieces room) result left last (subst (λ (p : Listed). Run (Allows tells) p given budget first result left last) (shadow-execute pieces) run) in
+    elim ran as (λ result left last ran. MovesThenExecutes tells pieces given budget first result left last) [
+      | StopsWithin last short comes ↦ StopsMovingIn last short comes
+      | MovesOn before result left last spent behind ↦
+          let mid = after_rounds (space_in tells first pieces room) pieces first in
+          let own = runs_behind (Allows tells) scratch_at LOG_RANGE pieces ExecuteOperation execute_tail given before mid execute_blind (omega arith)
+          (λ k entry c paid w stop left v here halt. never_act tells (move_then ExecuteOperation scratch_at LOG_RANGE pieces execute_tail) given ExecuteOperation entry c paid w stop left v (execute_entry k entry here) halt) result left last behind in
+          ExecutesMoved before mid result left last spent (moved_in tells first pieces room) (subst (λ (p : Listed). Run (Allows tells) p given before mid result left last) (sym own-execute) own)
+    ]
+
+-- GET_COMMAND_STATUS
+
+abbrev status_tail : List Entry
+status_tail = act GetCommandStatus ∷ answer GetCommandStatus 0xFF ∷ []
+
+shadow-status : (pieces : ℕ) → program_of 0x7 (shadow_entries pieces) ≡ move_then GetCommandStatus LOG_RANGE scratch_at pieces status_tail
+unfolding shadow_entries entries_of move_entries
+shadow-status pieces = refl
+
+own-status : program_of 0x7 own_entries ≡ record { action = code_of GetCommandStatus; entries = status_tail }
+unfolding own_entries entries_of
+own-status = refl
+
+status_blind : (k : ℕ) (entry : Entry) → slice_get status_tail k ≡ Some entry → IsOfItsOwn entry
+status_blind zero entry here = subst (λ (e : Entry). IsOfItsOwn e) (same_Some _ _ here) (StoresValue refl)
+status_blind (suc zero) entry here = subst (λ (e : Entry). IsOfItsOwn e) (same_Some _ _ here) (TakesRegister refl)
+status_blind (suc (suc k)) entry here = absurd (none-some entry here)
+
+status_never : (tells : Type 0) (program : Listed) (given : ℕ) (k : ℕ) (entry : Entry) (c : Configuration) (paid : ℕ) (w : MachineState) (stop : RunStop) (left : ℕ) (v : MachineState) → slice_get status_tail k ≡ Some entry
+    → Halt (Allows tells) (task_of program given entry c) paid w stop left v → ⊥
+status_never tells program given zero entry c paid w stop left v here halt = never_act tells program given GetCommandStatus entry c paid w stop left v (same_Some _ _ here) halt
+status_never tells program given (suc zero) entry c paid w stop left v here halt = never_answer tells program given GetCommandStatus 0xFF entry c paid w stop left v (same_Some _ _ here) halt
+status_never tells program given (suc (suc k)) entry c paid w stop left v here halt = absurd (none-some entry here)
+
+pub shadow_tells : (tells : Type 0) (pieces : ℕ) (first : MachineState) → HoldsPieces first pieces → (given budget : ℕ) (result : Result ℕ RunStop) (left : ℕ) (last : MachineState)
+    → Performs (Allows tells) (shadow_entries pieces) GetCommandStatus given budget first result left last → MovesThenTells tells pieces given budget first result left last
+shadow_tells tells pieces first room given budget result left last run =
+    let ran = moves_first (Allows tells) (Stays first) LOG_RANGE scratch_at pieces (stays_out tells first pieces room) (below_out tells first pieces room) GetCommandStatus status_tail given budget first
+    (record { comes = first_comes tells first pieces room; kept = refl }) result left last (subst (λ (p : Listed). Run (Allows tells) p given budget first result left last) (shadow-status pieces) run) in
+    elim ran as (λ result left last ran. MovesThenTells tells pieces given budget first result left last) [
+      | StopsWithin last short stays ↦ StopsMovingOut last short stays.comes stays.kept
+      | MovesOn before result left last spent behind ↦
+          let mid = after_rounds (stays_out tells first pieces room) pieces first in
+          let own = runs_behind (Allows tells) LOG_RANGE scratch_at pieces GetCommandStatus status_tail given before mid status_blind (omega arith)
+          (λ k entry c paid w stop left v here halt. status_never tells (move_then GetCommandStatus LOG_RANGE scratch_at pieces status_tail) given k entry c paid w stop left v here halt) result left last behind in
+          TellsMoved before mid result left last spent (moved_out tells first pieces room) (subst (λ (p : Listed). Run (Allows tells) p given before mid result left last) (sym own-status) own)
+    ]
+
+-- The others
+
+-- what has the machine's own program
+abbrev pub IsCommon : Action → Type 0
+IsCommon ExecuteOperation = ⊥
+IsCommon GetCommandStatus = ⊥
+IsCommon GetErrorLogAddressRange = ⊥
+IsCommon GetErrorLogAddressRangeLength = ⊥
+IsCommon GetErrorLogAddressRangeAttributes = ⊥
+IsCommon action = Unit {0}
+
+pub common_program : (pieces : ℕ) (action : Action) → IsCommon action → program_of (code_of action) (shadow_entries pieces) ≡ program_of (code_of action) own_entries
+unfolding shadow_entries own_entries entries_of move_entries
+common_program pieces BeginWriteOperation is = refl
+common_program pieces BeginReadOperation is = refl
+common_program pieces BeginClearOperation is = refl
+common_program pieces EndOperation is = refl
+common_program pieces SetRecordOffset is = refl
+common_program pieces ExecuteOperation is = absurd is
+common_program pieces CheckBusyStatus is = refl
+common_program pieces GetCommandStatus is = absurd is
+common_program pieces GetRecordIdentifier is = refl
+common_program pieces SetRecordIdentifier is = refl
+common_program pieces GetRecordCount is = refl
+common_program pieces BeginDummyWriteOperation is = refl
+common_program pieces GetErrorLogAddressRange is = absurd is
+common_program pieces GetErrorLogAddressRangeLength is = absurd is
+common_program pieces GetErrorLogAddressRangeAttributes is = absurd is
+common_program pieces GetExecuteOperationTimings is = refl
+
+pub performs_own : (tells : Type 0) (pieces : ℕ) (action : Action) → IsCommon action → (given budget : ℕ) (first : MachineState) (result : Result ℕ RunStop) (left : ℕ) (last : MachineState)
+    → Performs (Allows tells) (shadow_entries pieces) action given budget first result left last → Performs (Allows tells) own_entries action given budget first result left last
+performs_own tells pieces action is given budget first result left last run = subst (λ (p : Listed). Run (Allows tells) p given budget first result left last) (common_program pieces action is) run
+
+pub own_count : (tells : Type 0) (pieces budget : ℕ) (first : MachineState) (result : Result ℕ ClientError) (left : ℕ) (last : MachineState) → Counts (Allows tells) (shadow_entries pieces) budget first result left last
+    → Counts (Allows tells) own_entries budget first result left last
+own_count tells pieces budget first result left last counts =
+    record { answer = counts.answer; asks = performs_own tells pieces GetRecordCount tt 0 budget first counts.answer left last counts.asks; result_is = counts.result_is }
+
+pub own_next : (tells : Type 0) (pieces budget : ℕ) (first : MachineState) (result : Result (Option ℕ) ClientError) (left : ℕ) (last : MachineState) → Names (Allows tells) (shadow_entries pieces) budget first result left last
+    → Names (Allows tells) own_entries budget first result left last
+own_next tells pieces budget first result left last names =
+    record { answer = names.answer; asks = performs_own tells pieces GetRecordIdentifier tt 0 budget first names.answer left last names.asks; result_is = names.result_is }

@@ -1,0 +1,4 @@
+pub mod ShadowTables
+pub mod ShadowMoves
+pub mod ShadowSequences
+pub mod ShadowCommands

@@ -1,0 +1,67 @@
+// The table.
+ghost use Rattle.std.specs.Prelude.{◌≡◌, ◌+◌, ◌≤◌, ◌<◌, ◌^◌, ◌++◌, ◌∷◌, [], length, IfOk, OnOk};
+ghost use Rattle.erst_entries.specs.Layout.{spelling, FitsErst};
+ghost use Rattle.erst_entries.specs.Tables.{IsErst};
+ghost use Rattle.erst_machine.specs.OwnTables.{own_header};
+ghost use Rattle.erst_shadow.specs.ShadowTables.{pieces_of, shadow_erst};
+
+use crate::entries::{SCRATCH, entries_before, entries_behind, entries_between, move_entries};
+use apei_bytes::Memory;
+use apei_tables::Header;
+use erst_device::LOG_RANGE;
+use erst_entries::{Action, Entry, ErstTable};
+use std::alloc::Global;
+
+/// A header whose length and checksum are still 0.
+fn header() -> Header
+    ensures { result ≡ own_header (0x45 ∷ 0x52 ∷ 0x53 ∷ 0x54 ∷ []) 0 0 }
+{
+    Header {
+        signature: *b"ERST",
+        length: 0,
+        revision: 1,
+        checksum: 0,
+        oem_id: *b"APEIPR",
+        oem_table_id: *b"APEISIM ",
+        oem_revision: 1,
+        creator_id: *b"APEI",
+        creator_revision: 1,
+    }
+}
+
+/// Puts entries behind those of a table.
+fn append(table: &mut ErstTable, entries: &[Entry]) -> Result<(), Memory>
+    requires { length table.old.entries + length entries.now < 2 ^ 20 }
+    ensures { OnOk result (table.new ≡ record table.old { entries = table.old.entries ++ entries.now }) }
+{
+    for entry in entries {
+        table.push(*entry)?;
+    }
+    Ok(())
+}
+
+/// The table of a machine whose longest record has `reach` bytes, with which a record may have as many bytes as `reach` has whole
+/// pieces of 128, and 3,968 at most. `Err` says that there is no memory for it.
+pub fn shadow_table(alloc: Global, reach: u32) -> Result<ErstTable, Memory>
+    requires { 128 ≤ reach }
+    ensures table { IfOk result (λ table. table ≡ shadow_erst (pieces_of reach)) }
+    ensures size { IfOk result (λ table. length (spelling table) ≡ 1712) }
+    ensures erst { IfOk result (λ table. IsErst table (spelling table)) }
+    ensures fits { OnOk result (FitsErst (shadow_erst (pieces_of reach))) }
+{
+    let size = 128 * u64::from((reach / 128).min(31));
+    let mut table = ErstTable::blank(alloc, header());
+    append(&mut table, &entries_before())?;
+    append(
+        &mut table,
+        &move_entries(Action::ExecuteOperation, SCRATCH, LOG_RANGE, size),
+    )?;
+    append(&mut table, &entries_between())?;
+    append(
+        &mut table,
+        &move_entries(Action::GetCommandStatus, LOG_RANGE, SCRATCH, size),
+    )?;
+    append(&mut table, &entries_behind(size))?;
+    table.finish();
+    Ok(table)
+}
