@@ -137,9 +137,3 @@ unfolding put_at
 put_mid-put_at image now others at n same size =
     let e : at + n - at ≡ length others = omega (arith, size) in
     rw (same, e, drop-drop, append_assoc) refl
-
--- any part of erased bytes is erased
-pub part-replicate : (n x at len : ℕ) → at + len ≤ n → part (replicate n x) at len ≡ replicate len x
-unfolding part
-part-replicate n x at len within =
-    let enough : len ≤ n - at = omega arith in ap (take len) (drop-replicate at n x) ∙ take-replicate len (n - at) x enough

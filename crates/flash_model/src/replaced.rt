@@ -1,5 +1,6 @@
 // The bytes that a change replaces, by what an erased flash does not tell of them.
-ghost use Rattle.std.specs.Prelude.{◌≡◌, ◌≢◌, ◌-◌, ◌<◌, ◌≤◌, length, take, drop, replicate, slice_index};
+ghost use Rattle.std.specs.Prelude.{◌≡◌, ◌≢◌, ◌+◌, ◌-◌, ◌<◌, ◌≤◌, IsTrue, length, take, drop, replicate, slice_index};
+ghost use Rattle.base_model.specs.Bytes.{part};
 
 use apei_bytes::get_u64;
 use std::marker::Model;
@@ -8,6 +9,9 @@ const ERASED: u8 = 0xFF;
 
 /// The bytes of a number that are looked at together.
 const WORD: usize = 8;
+
+/// The bytes of four such numbers.
+const RUN: usize = 4 * WORD;
 
 /// Bytes, of which those before and after the kept ones are erased.
 #[derive(Drop)]
@@ -54,6 +58,16 @@ impl<'a> Replaced<'a> {
     }
 }
 
+/// Whether the four words at a place are erased.
+fn is_run_erased(bytes: &[u8], at: usize) -> bool
+    requires { at + 32 ≤ length bytes.now }
+    ensures { IsTrue result → part bytes.now at 32 ≡ replicate 32 0xFF }
+{
+    let first = get_u64(bytes, at) & get_u64(bytes, at + WORD);
+    let second = get_u64(bytes, at + 2 * WORD) & get_u64(bytes, at + 3 * WORD);
+    first & second == u64::MAX
+}
+
 /// How many of the first bytes are erased.
 fn erased_front(bytes: &[u8]) -> usize
     ensures within { result ≤ length bytes.now }
@@ -61,6 +75,9 @@ fn erased_front(bytes: &[u8]) -> usize
     ensures no_more { result < length bytes.now → slice_index bytes.now result ≢ 0xFF }
 {
     let mut count = 0;
+    while bytes.len() - count >= RUN && is_run_erased(bytes, count) {
+        count += RUN;
+    }
     while bytes.len() - count >= WORD && get_u64(bytes, count) == u64::MAX {
         count += WORD;
     }
@@ -77,6 +94,9 @@ fn erased_from(bytes: &[u8]) -> usize
     ensures no_less { 0 < result → slice_index bytes.now (result - 1) ≢ 0xFF }
 {
     let mut end = bytes.len();
+    while end >= RUN && is_run_erased(bytes, end - RUN) {
+        end -= RUN;
+    }
     while end >= WORD && get_u64(bytes, end - WORD) == u64::MAX {
         end -= WORD;
     }

@@ -2,6 +2,7 @@
 use Rattle.std.proofs.Common.{◌≡◌, ℕ, zero, suc, ◌+◌, ◌-◌, ◌*◌, ◌<◌, ◌≤◌, cond, List, [], ◌∷◌, length, take, drop, replicate, get_or, refl, sym, ap, subst, ◌∙◌, arith}
 use Rattle.std.specs.Prelude.{nat_lt, min}
 use Rattle.std.proofs.Math.Nat.{mul_comm}
+use Rattle.std.proofs.lemmas.List.{get_or-take}
 use Rattle.base_model.specs.Bytes.{part, little, number_at}
 use Rattle.base_model.proofs.BytesLemmas.{part-part, length-part}
 use Rattle.flash_model.specs.declared.geometry.Geometry.{Geometry}
@@ -15,20 +16,13 @@ use Rattle.record_draft.specs.declared.draft.Draft.{Draft}
 use Rattle.flash_model.specs.Layouts.{layout_of}
 use Rattle.record_draft.specs.Drafts.{IsDraft, plan_of}
 
-front : (ys : List ℕ) (i m : ℕ) → i < m → get_or (take m ys) i 0 ≡ get_or ys i 0
-front [] i zero l = refl
-front [] i (suc m) l = refl
-front (y ∷ ys) i zero l = absurd (omega arith)
-front (y ∷ ys) zero (suc m) l = refl
-front (y ∷ ys) (suc i) (suc m) l = front ys i m (omega arith)
-
 pub behind : (ys : List ℕ) (i : ℕ) → get_or (drop 1 ys) i 0 ≡ get_or ys (suc i) 0
 behind [] i = refl
 behind (y ∷ ys) i = refl
 
 pub target_slot : (geometry : Geometry) (draft : Draft) (body : List ℕ) (number : ℕ) → number < draft.parts → (target_of (layout_of geometry) (plan_of draft body) number).slot ≡ get_or draft.slots number 0
 target_slot geometry draft body zero h = refl
-target_slot geometry draft body (suc n) h = front (drop 1 draft.slots) n (draft.parts - 1) (omega arith) ∙ behind draft.slots n
+target_slot geometry draft body (suc n) h = get_or-take (draft.parts - 1) (drop 1 draft.slots) n 0 (omega arith) ∙ behind draft.slots n
 
 pub target_len : (geometry : Geometry) (draft : Draft) (body : List ℕ) (number : ℕ) → length (target_of (layout_of geometry) (plan_of draft body) number).bytes ≡ part_len (geometry.slot_size - 64) (length body) number
 target_len geometry draft body zero = length-first (geometry.slot_size - 64) body
@@ -66,7 +60,7 @@ three a b c (suc (suc (suc zero))) some few = refl
 three a b c (suc (suc (suc (suc zero)))) some few = refl
 three a b c (suc (suc (suc (suc (suc n))))) some few = absurd (omega arith)
 
-four_of : (slots : List ℕ) → length slots ≡ 4 → drop 1 slots ≡ get_or slots 1 0 ∷ get_or slots 2 0 ∷ get_or slots 3 0 ∷ []
+pub four_of : (slots : List ℕ) → length slots ≡ 4 → drop 1 slots ≡ get_or slots 1 0 ∷ get_or slots 2 0 ∷ get_or slots 3 0 ∷ []
 four_of [] e = absurd (omega arith)
 four_of (a ∷ []) e = absurd (omega arith)
 four_of (a ∷ b ∷ []) e = absurd (omega arith)

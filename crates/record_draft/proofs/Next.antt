@@ -4,7 +4,7 @@ use Rattle.std.specs.Prelude.{nat_lt, ◌==◌}
 use Rattle.std.specs.List.{list_any}
 use Rattle.std.proofs.lemmas.Bool.{cases_lt, lt-ltb, le-ltb, eq-eqb, ne_eqb, ltb-true, cond-true, cond-false, or_parts}
 use Rattle.std.proofs.lemmas.Nat.{div-add-mod'}
-use Rattle.std.proofs.lemmas.List.{length-take}
+use Rattle.std.proofs.lemmas.List.{length-take, get_or-take, take-take}
 use Rattle.std.proofs.Math.Nat.{mul-le-mul_right, add-mul}
 use Rattle.flash_model.specs.declared.geometry.Geometry.{Geometry}
 use Rattle.record_model.specs.Records.{part_len, parts_of, AreDistinct}
@@ -77,23 +77,10 @@ marked_at (x ∷ slots) (b ∷ marks) (suc i) h same none =
     cond-false {A = Bool} (get_or slots i 0 == x) b (marked_in slots marks (get_or slots i 0)) both.0 ∙ marked_at slots marks i (omega arith) (omega arith) both.1
 
 -- the slots of the plan are the first of the draft
-plan_slots : (slots : List ℕ) (parts : ℕ) → 1 ≤ length slots → 1 ≤ parts → get_or slots 0 0 ∷ take (parts - 1) (drop 1 slots) ≡ take parts slots
+pub plan_slots : (slots : List ℕ) (parts : ℕ) → 1 ≤ length slots → 1 ≤ parts → get_or slots 0 0 ∷ take (parts - 1) (drop 1 slots) ≡ take parts slots
 plan_slots [] parts long some = absurd (omega arith)
 plan_slots (x ∷ slots) zero long some = absurd (omega arith)
 plan_slots (x ∷ slots) (suc n) long some = ap (λ (m : ℕ). x ∷ take m slots) (omega arith)
-
-take_front : (n m : ℕ) (xs : List ℕ) → n ≤ m → take n (take m xs) ≡ take n xs
-take_front zero m xs h = refl
-take_front (suc n) zero xs h = absurd (omega arith)
-take_front (suc n) (suc m) [] h = refl
-take_front (suc n) (suc m) (x ∷ xs) h = ap (λ (ys : List ℕ). x ∷ ys) (take_front n m xs (omega arith))
-
-get_front : (ys : List ℕ) (i m : ℕ) → i < m → get_or (take m ys) i 0 ≡ get_or ys i 0
-get_front [] i zero l = refl
-get_front [] i (suc m) l = refl
-get_front (y ∷ ys) i zero l = absurd (omega arith)
-get_front (y ∷ ys) zero (suc m) l = refl
-get_front (y ∷ ys) (suc i) (suc m) l = get_front ys i m (omega arith)
 
 pub mark_is : (geometry : Geometry) (draft : Draft) (body : List ℕ) (i : ℕ) → IsDraft geometry draft body → length draft.slots ≡ 4 → length draft.marked ≡ 4 → i < draft.parts
     → get_or draft.marked i false ≡ marked_in draft.slots draft.marked (get_or draft.slots i 0)
@@ -105,8 +92,8 @@ mark_is geometry draft body i is slots marks h =
     let long = length-take draft.parts draft.slots in
     let none = not_before (take draft.parts draft.slots) i apart (omega arith) in
     sym (marked_at draft.slots draft.marked i (omega arith) (omega arith)
-    (ap (λ (k : ℕ). list_any (λ m. k == m) (take i draft.slots)) (sym (get_front draft.slots i draft.parts h))
-    ∙ ap (λ (xs : List ℕ). list_any (λ m. get_or (take draft.parts draft.slots) i 0 == m) xs) (sym (take_front i draft.parts draft.slots (omega arith))) ∙ none))
+    (ap (λ (k : ℕ). list_any (λ m. k == m) (take i draft.slots)) (sym (get_or-take draft.parts draft.slots i 0 h))
+    ∙ ap (λ (xs : List ℕ). list_any (λ m. get_or (take draft.parts draft.slots) i 0 == m) xs) (sym (take-take i draft.parts draft.slots (omega arith))) ∙ none))
 
 -- the stage after the last change of a slot
 pub last_is : (geometry : Geometry) (draft : Draft) (body : List ℕ) (number : ℕ) → IsDraft geometry draft body → length draft.slots ≡ 4 → length draft.marked ≡ 4 → number < draft.parts
@@ -122,7 +109,7 @@ last_is geometry draft body (suc n) is slots marks h =
       | inl more ↦
           let low : suc n < length further = omega arith in
           let here : get_or further (suc n) 0 ≡ get_or draft.slots (suc n + 1) 0 =
-          get_front (drop 1 draft.slots) (suc n) (draft.parts - 1) (omega arith) ∙ behind draft.slots (suc n) ∙ ap (λ (k : ℕ). get_or draft.slots k 0) (sym two) in
+          get_or-take (draft.parts - 1) (drop 1 draft.slots) (suc n) 0 (omega arith) ∙ behind draft.slots (suc n) ∙ ap (λ (k : ℕ). get_or draft.slots k 0) (sym two) in
           let mark : get_or draft.marked (suc n + 1) false ≡ marked_in draft.slots draft.marked (get_or further (suc n) 0) =
           mark_is geometry draft body (suc n + 1) is slots marks more ∙ ap (marked_in draft.slots draft.marked) (sym here) in
           cond-true {A = Stage} (nat_lt (suc n + 1) draft.parts) (Fill (suc n + 1) (first_step (get_or draft.marked (suc n + 1) false))) (Fill 0 (first_step (get_or draft.marked 0 false))) (lt-ltb (suc n + 1) draft.parts more)

@@ -12,3 +12,9 @@ invariant-loop-end-2 l = BackErased l.bytes l.end
 
 abbrev pub decreases-loop-end-2 : goal.decreases-loop-end-2
 decreases-loop-end-2 l = l.end
+
+abbrev pub invariant-loop-end-3 : goal.invariant-loop-end-3
+invariant-loop-end-3 l = BackErased l.bytes l.end
+
+abbrev pub decreases-loop-end-3 : goal.decreases-loop-end-3
+decreases-loop-end-3 l = l.end

@@ -13,3 +13,9 @@ invariant-loop-count-2 l = FrontErased l.bytes l.count
 
 abbrev pub decreases-loop-count-2 : goal.decreases-loop-count-2
 decreases-loop-count-2 l = length l.bytes - l.count
+
+abbrev pub invariant-loop-count-3 : goal.invariant-loop-count-3
+invariant-loop-count-3 l = FrontErased l.bytes l.count
+
+abbrev pub decreases-loop-count-3 : goal.decreases-loop-count-3
+decreases-loop-count-3 l = length l.bytes - l.count
