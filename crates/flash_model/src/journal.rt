@@ -1,5 +1,5 @@
 // The journal of a simulated flash.
-ghost use Rattle.std.specs.Prelude.{◌≡◌, [], ◌∷◌, ◌++◌, OnOk, OnErr};
+ghost use Rattle.std.specs.Prelude.{◌≡◌, ◌+◌, ◌≤◌, [], ◌∷◌, ◌++◌, length, is_ok, if◌then◌else◌, IsOk, OnOk, OnErr, vec_len, vec_capacity};
 
 use crate::replaced::Replaced;
 use std::alloc::{AllocError, Global};
@@ -36,6 +36,17 @@ impl Model for Journal {
     ghost invariant = { λ journal. lengths journal.entries.items ≡ length journal.bytes.items };
 }
 
+// Puts bytes behind others. Most changes replace erased bytes, and keep none.
+fn put_behind(bytes: &mut Vec<u8>, kept: &[u8]) -> Result<(), AllocError>
+    ensures items { bytes.new.items ≡ (if is_ok result then bytes.old.items ++ kept.now else bytes.old.items) }
+    ensures succeeds { vec_len bytes.old + length kept.now ≤ vec_capacity bytes.old → IsOk result }
+{
+    if kept.is_empty() {
+        return Ok(());
+    }
+    bytes.extend_from_slice(kept)
+}
+
 impl Journal {
     /// No change so far.
     pub(crate) fn new(alloc: Global) -> Journal
@@ -66,6 +77,6 @@ impl Journal {
             kept: kept.len(),
             after: replaced.after,
         })?;
-        self.bytes.extend_from_slice(kept)
+        put_behind(&mut self.bytes, kept)
     }
 }

@@ -1,5 +1,5 @@
 // A flash in memory.
-ghost use Rattle.std.specs.Prelude.{true, ◌≡◌, ◌↔◌, ℕ, ◌+◌, ◌*◌, ◌^◌, ◌<◌, ◌≤◌, [], ◌∷◌, ◌++◌, length, replicate, Result, OnOk, OnErr, is_err, IsErr};
+ghost use Rattle.std.specs.Prelude.{true, ◌≡◌, ◌↔◌, ℕ, ◌+◌, ◌*◌, ◌^◌, ◌<◌, ◌≤◌, [], ◌∷◌, ◌++◌, length, replicate, Contains, Result, OnOk, OnErr, is_err, IsErr, IsTrue};
 ghost use Rattle.base_model.specs.Bytes.{part, put_at};
 ghost use Rattle.flash_words.specs.Flash.{FlashState, OnlyReads, AsksChange, IsErased, restart, next_count, dark_after};
 
@@ -158,6 +158,21 @@ impl SimFlash {
     }
 }
 
+// Whether a list, which is mostly empty, has a number.
+#[inline]
+fn is_listed(numbers: &[u64], number: u64) -> bool
+    ensures { IsTrue result ↔ Contains numbers.now number }
+{
+    !numbers.is_empty() && has_number(numbers, number)
+}
+
+#[inline(never)]
+fn has_number(numbers: &[u64], number: u64) -> bool
+    ensures { IsTrue result ↔ Contains numbers.now number }
+{
+    numbers.contains(&number)
+}
+
 impl Flash for SimFlash {
     ghost use Rattle.std.specs.Prelude.{refl};
     ghost use Rattle.flash_model.specs.Simulation.{state_of, fate_of, MayFollow, ReadFails, ChangeFails, after_read, power_restored};
@@ -178,6 +193,7 @@ impl Flash for SimFlash {
         self.sector
     }
 
+    #[inline(always)]
     fn read(&mut self, at: u64, buf: &mut [u8]) -> Result<(), FlashFailed>
         requires { at + length buf.old ≤ length self.old.told.image }
         ensures bytes { OnOk result (buf.new ≡ part self.old.told.image at (length buf.old)) }
@@ -187,7 +203,7 @@ impl Flash for SimFlash {
         ensures fails { IsErr result ↔ ReadFails self.old }
         ensures after { self.new ≡ after_read (is_err result) self.old }
     {
-        let fails = self.power.is_lost() || self.failing_reads.contains(&self.reads);
+        let fails = self.power.is_lost() || is_listed(&self.failing_reads, self.reads);
         self.reads = next_count(self.reads);
         if fails {
             self.faults = next_count(self.faults);

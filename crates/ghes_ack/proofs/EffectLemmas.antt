@@ -85,9 +85,6 @@ published_in_order map ram new block w head bytes p =
     (third.1 ∙ status_write_is map p.clear (spelled 4 (number_at block 0 4)) windows (length-spelled 4 (number_at block 0 4)))
 
 -- a piece
-pub filled_first : (map : HandoverMap) (ram new : RamState) (block bytes : List ℕ) → bytes ≡ part (hidden block) 0 64 → new ≡ with_window map ram (put_at (window map ram) 0 bytes) → new ≡ with_window map ram (with_piece (window map ram) block 0)
-filled_first map ram new block bytes e is = is ∙ ap (λ (x : List ℕ). with_window map ram (put_at (window map ram) 0 x)) e
-
 pub filled_behind : (map : HandoverMap) (ram new : RamState) (block bytes : List ℕ) (piece : ℕ) → 0 < piece → 64 * piece < length block → bytes ≡ part block (64 * piece) (min (length block) (64 * piece + 64) - 64 * piece) →
     new ≡ with_window map ram (put_at (window map ram) (64 * piece) bytes) → new ≡ with_window map ram (with_piece (window map ram) block piece)
 filled_behind map ram new block bytes piece some more e is =

@@ -31,14 +31,6 @@ run_one side event h after ram memory m t = record {
 pub noted : (n : ℕ) (event : Event) (events rest : List Event) → events ≡ replicate n event ++ rest → take n events ≡ replicate n event
 noted n event events rest is = ap (take n) is ∙ take_at (replicate n event) rest n (length-replicate n event)
 
-pub run_noted : (side : Side) (n : ℕ) (event : Event) (events rest : List Event) (h after : HandoverState) (ram memory : RamState) (m : Machine) → events ≡ replicate n event ++ rest →
-    Runs side (replicate n event) h ram after memory m → Runs side (take n events) h ram after memory m
-run_noted side n event events rest h after ram memory m is run = subst (λ (es : List Event). Runs side es h ram after memory m) (sym (noted n event events rest is)) run
-
-pub one_noted : (side : Side) (event : Event) (events rest : List Event) (h after : HandoverState) (ram memory : RamState) (m : Machine) → events ≡ replicate 1 event ++ rest →
-    Turns side event h ram after memory m → Runs side (take 1 events) h ram after memory m
-one_noted side event events rest h after ram memory m is t = run_noted side 1 event events rest h after ram memory m is (run_one side event h after ram memory m t)
-
 pub taken_noted : (n : ℕ) (events rest : List Event) → 0 < n → events ≡ replicate (n - 1) Copied ++ Took ∷ rest → take n events ≡ replicate (n - 1) Copied ++ Took ∷ []
 taken_noted n events rest some is =
     let l = length-append (replicate (n - 1) Copied) (Took ∷ []) in

@@ -41,9 +41,6 @@ is_clear h ram m (inl is) st = acks_in h ram m Published is st
 is_clear h ram m (inr (inl is)) st = acks_in h ram m Reading is st
 is_clear h ram m (inr (inr is)) st = acks_in h ram m Cleared is st
 
-pub is_set : (h : HandoverState) (ram : RamState) (m : Machine) → h.situation ≡ Acknowledged → StandsFor h ram m → IsSet h.map ram
-is_set h ram m is st = acks_in h ram m Acknowledged is st
-
 -- a turn that the machine makes so
 turns : (side : Side) (event : Event) (h after : HandoverState) (ram memory : RamState) (m n : Machine) → turned side m ≡ (event, n) → StandsFor h ram m → after.map ≡ h.map →
     memory ≡ memory_after h.map event ram (window h.map memory) → (IsState h.map.len n → StandsFor after memory n) → Turns side event h ram after memory m
@@ -148,26 +145,7 @@ fills h ram new m block rest now held more memory st =
       last = st.last;
     })
 
--- a block all of whose pieces are filled
-all_filled : (m : Machine) (block : List ℕ) → IsFilling m → at_work m ≡ block → length block ≤ 64 * m.filled → take (length block) m.window ≡ hidden block
-all_filled m block f is none =
-    let n = length-hidden block in
-    sym (take_all (64 * m.filled) (take (length block) m.window) (let l = length-take (length block) m.window in omega (arith, l, none)))
-    ∙ subst (λ (b : List ℕ). take (64 * m.filled) (take (length b) m.window) ≡ take (64 * m.filled) (hidden b)) is f.filled
-    ∙ take_all (64 * m.filled) (hidden block) (omega (arith, n, none))
-
--- the memory holds it from byte 4 on
-pub publish_filled : (h : HandoverState) (ram : RamState) (block : List ℕ) (rest : List (List ℕ)) → h.situation ≡ Filling → kept h ≡ block ∷ rest → length block ≤ 64 * h.filled → Stands h ram →
-    drop 4 (take (length block) (window h.map ram)) ≡ drop 4 block
-publish_filled h ram block rest now held none (m, st) =
-    let f : IsFilling m = in_situation h ram m Filling now st in
-    let x = next_is h ram m block rest now held st in
-    let head = x.good.head in
-    let k = st.filled in
-    ap (λ (w : List ℕ). drop 4 (take (length block) w)) (sym st.window_is)
-    ∙ ap (drop 4) (all_filled m block f x.at_work_is (omega (arith, none, k)))
-    ∙ drop-hidden block (omega (arith, head))
-
+-- a block all of whose pieces are filled is published
 pub publishes : (h : HandoverState) (ram new : RamState) (m : Machine) (block : List ℕ) (rest : List (List ℕ)) → h.situation ≡ Filling → kept h ≡ block ∷ rest → length block ≤ 64 * h.filled →
     new ≡ with_window h.map (with_ack h.map ram (with_clear h.map (ack_read h.map ram))) (with_status (window h.map ram) (take 4 block)) → IsClear h.map new → StandsFor h ram m →
     Turns Firmware Publish h ram (record h { waiting = rest; at_work = Some block; filled = 0; situation = Published }) new m

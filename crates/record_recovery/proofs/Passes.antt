@@ -2,13 +2,14 @@
 use Rattle.std.proofs.Common.{◌≡◌, ℕ, ◌-◌, ◌*◌, ◌<◌, ◌≤◌, Bool, true, List, length, vec_len}
 use Rattle.std.specs.Prelude.{vec_capacity, not}
 use Rattle.std.specs.List.{list_any}
+use Rattle.std.specs.VecDeque.{deque_len, deque_capacity}
 use Rattle.flash_words.specs.Flash.{FlashState, StaysLit, raised}
 use Rattle.record_model.specs.Records.{entry_at, slot_at}
 use Rattle.record_recovery.specs.declared.found.Found.{Found}
 use Rattle.record_recovery.specs.declared.found.Look.{Look}
 use Rattle.record_recovery.specs.Listed.{AreListed, IsIndex, list_below, takes}
 use Rattle.record_recovery.specs.Looks.{AreSeen, AreMarked}
-use Rattle.record_recovery.specs.Recovered.{KeepsRecords, StaysNearly}
+use Rattle.record_recovery.specs.Recovered.{KeepsRecords, StaysNearly, KillsBelow}
 use Rattle.record_recovery.specs.Settling.{IsSettled, CountsCopies}
 
 -- the first n slots were looked at, and nothing was changed
@@ -50,6 +51,7 @@ pub record HasSettled (tells : Type 0) (slots slot_size n : ℕ) (found : Found)
   pub faults : now.faults ≡ old.faults
   pub crash : tells → KeepsRecords slot_size slots old.told now.told
   pub nearly : tells → StaysNearly slot_size slots old.told now.told
+  pub order : tells → KillsBelow slot_size old.told n now.told
   pub counted : tells → CountsCopies slot_size slots old now
   pub settled : tells → IsSettled slot_size slots n old now found
 
@@ -63,6 +65,6 @@ pub record HasFreed (slot_size n : ℕ) (first found : Found) : Type 0 where
   pub ids : found.ids ≡ first.ids
   pub places : found.places ≡ first.places
   pub looks : found.looks ≡ first.looks
-  pub capacity : vec_capacity found.free ≡ vec_capacity first.free
-  pub few : vec_len found.free ≤ n
+  pub capacity : deque_capacity found.free ≡ deque_capacity first.free
+  pub few : deque_len found.free ≤ n
   pub free : found.free.items ≡ list_below (λ slot. not (list_any (λ place. takes (slot_size - 64) place slot) first.places.items)) n

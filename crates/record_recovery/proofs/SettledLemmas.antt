@@ -19,7 +19,7 @@ use Rattle.record_model.proofs.PartsLemmas.{entry_len}
 use Rattle.record_recovery.specs.declared.found.Found.{Found}
 use Rattle.record_recovery.specs.declared.found.SlotOf.{SlotOf}
 use Rattle.record_recovery.specs.Listed.{AreListed, HasFirst, takes, with_number, list_below, free_slots, first_records, AreSlots}
-use Rattle.record_recovery.specs.Recovered.{KeepsRecords, StaysNearly, ChangesFew, IsRecovered}
+use Rattle.record_recovery.specs.Recovered.{KeepsRecords, StaysNearly, KillsBelow, ChangesFew, IsRecovered}
 use Rattle.record_recovery.specs.Settling.{IsSettled, CountsCopies}
 use Rattle.record_recovery.proofs.FirstRecords.{only_chosen, first_single, first_listed, first_is}
 use Rattle.record_recovery.proofs.FreeLemmas.{list_below-same, list_below-are, list_below-rising}
@@ -137,7 +137,7 @@ settled_kept size slots n start now found first had = record {
 }
 
 -- the records that are listed are so without a slot that is not one of them
-listed_without : (entry other : ℕ → Option Entry) (n j : ℕ) (ids : List ℕ) (places : List SlotOf) → ((k : ℕ) → k ≢ j → other k ≡ entry k) → other j ≡ None
+pub listed_without : (entry other : ℕ → Option Entry) (n j : ℕ) (ids : List ℕ) (places : List SlotOf) → ((k : ℕ) → k ≢ j → other k ≡ entry k) → other j ≡ None
     → ((e : Entry) → IsChosen entry n j e → ⊥) → AreListed entry n ids places → AreListed other n ids places
 listed_without entry other n j ids places same gone not_chosen had = record {
   each = λ i d h.
@@ -313,6 +313,9 @@ list_below-more test n = ap (list_below test) next ∙ list_below-suc test n
 -- nothing was changed
 pub KeepsRecords-same : (size slots : ℕ) (old new : Told) → new ≡ old → KeepsRecords size slots old new
 KeepsRecords-same size slots old new same = subst (λ (t : Told). KeepsRecords size slots old t) (sym same) (KeepsRecords-none size slots old)
+
+pub KillsBelow-same : (size n : ℕ) (old mid new : Told) → mid ≡ old → KillsBelow size mid n new → KillsBelow size old n new
+KillsBelow-same size n old mid new same kills = subst (λ (t : Told). KillsBelow size t n new) same kills
 
 pub StaysNearly-same : (size slots : ℕ) (old new : Told) → new ≡ old → StaysNearly size slots old new
 StaysNearly-same size slots old new same = subst (λ (t : Told). StaysNearly size slots old t) (sym same) (StaysNearly-none size slots old)

@@ -1,7 +1,7 @@
 -- What a scan leaves.
-use Rattle.std.specs.Prelude.{◌≡◌, ℕ, ◌+◌, ◌*◌, ◌≤◌, true, Result, OnOk, OnErr}
+use Rattle.std.specs.Prelude.{◌≡◌, ℕ, ◌+◌, ◌*◌, ◌<◌, ◌≤◌, true, Result, OnOk, OnErr}
 use Rattle.base_model.specs.Faults.{HasCause}
-use Rattle.flash_words.specs.Flash.{Told, FlashState, Leaves, LosesOnlyByChange, StaysLit, raised, next_count}
+use Rattle.flash_words.specs.Flash.{Told, FlashState, MayChange, Leaves, LosesOnlyByChange, StaysLit, raised, next_count}
 use Rattle.record_model.specs.Records.{entry_at, stored_in, OnlyFirstUp, NearlyOnlyFirstUp, second_copies}
 use Rattle.record_recovery.specs.declared.found.Found.{Found}
 use Rattle.record_recovery.specs.Listed.{AreListed, free_slots, first_records}
@@ -15,6 +15,13 @@ KeepsRecords slot_size slots old new =
 abbrev pub StaysNearly : ℕ → ℕ → Told → Told → Type 0
 StaysNearly slot_size slots old new =
     Leaves old new (λ image. NearlyOnlyFirstUp slot_size slots old.image → NearlyOnlyFirstUp slot_size slots image)
+
+-- from one told flash to another by kills of slots below n, each of a greater slot than the one before. One that failed, or that power
+-- cut, may have left any byte in its place
+pub data KillsBelow (slot_size : ℕ) (first : Told) : ℕ → Told → Type 0 where
+  NoKill : (n : ℕ) → KillsBelow slot_size first n first
+  Kill : (slot n : ℕ) (before last : Told) → KillsBelow slot_size first slot before → slot < n → MayChange (slot * slot_size + 1) 1 before last
+      → KillsBelow slot_size first n last
 
 -- no more changes were made than there were upright slots that are not the first slot of their identifier's record
 abbrev pub ChangesFew : ℕ → ℕ → FlashState → FlashState → Type 0

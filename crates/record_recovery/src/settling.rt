@@ -1,20 +1,22 @@
 // The third pass of a scan: the end of every upright slot that is not the first slot of its identifier's record. Each kill
 // leaves the records of the flash, wherever power is lost in it, since such a slot has no say in which records there are.
-ghost use Rattle.std.specs.Prelude.{◌≡◌, ℕ, ◌+◌, ◌-◌, ◌<◌, ◌≤◌, ◌==◌, not, [], length, slice_index_or, OnOk, OnErr, vec_len, vec_capacity};
+ghost use Rattle.std.specs.Prelude.{◌≡◌, ℕ, ◌+◌, ◌-◌, ◌*◌, ◌<◌, ◌≤◌, ◌==◌, not, [], length, slice_index_or, OnOk, OnErr};
+ghost use Rattle.std.specs.VecDeque.{deque_len, deque_capacity};
 ghost use Rattle.std.specs.List.{list_any};
-ghost use Rattle.flash_words.specs.Flash.{FlashState};
+ghost use Rattle.flash_words.specs.Flash.{FlashState, MayChange};
 ghost use Rattle.record_model.specs.Records.{entry_at, slot_at};
 ghost use Rattle.record_slots.specs.Slots.{Fits};
 ghost use Rattle.record_recovery.specs.declared.found.Look.{Look};
 ghost use Rattle.record_recovery.specs.Listed.{AreListed, AreWithin, list_below, with_number, takes};
 ghost use Rattle.record_recovery.specs.Looks.{IsSeen, AreSeen, AreMarked};
-ghost use Rattle.record_recovery.specs.Recovered.{KeepsRecords, StaysNearly, ChangesFew};
+ghost use Rattle.record_recovery.specs.Recovered.{KeepsRecords, StaysNearly, KillsBelow, ChangesFew};
 ghost use Rattle.record_recovery.specs.Settling.{IsSettled, CountsCopies, OnlyChanges};
 
 use crate::Found;
 use crate::marking::{MAX_SLOTS, mark_firsts, mark_taken};
 use flash_model::{Flash, FlashFailed, Geometry};
 use record_slots::{is_upright, kill};
+use std::collections::VecDeque;
 
 /// Kills every upright slot that is not the first slot of a record that was found, in rising order.
 pub fn settle_slots<F: Flash>(
@@ -35,6 +37,7 @@ pub fn settle_slots<F: Flash>(
     ensures counted { OnOk result (F.tells → CountsCopies geometry.now.slot_size geometry.now.slots (F.state flash.old) (F.state flash.new)) }
     ensures crash { F.tells → KeepsRecords geometry.now.slot_size geometry.now.slots (F.state flash.old).told (F.state flash.new).told }
     ensures nearly { F.tells → StaysNearly geometry.now.slot_size geometry.now.slots (F.state flash.old).told (F.state flash.new).told }
+    ensures order { F.tells → KillsBelow geometry.now.slot_size (F.state flash.old).told geometry.now.slots (F.state flash.new).told }
     ensures changes { F.tells → ChangesFew geometry.now.slot_size geometry.now.slots (F.state flash.old) (F.state flash.new) }
     ensures stays { OnlyChanges (F.state flash.old) (F.state flash.new) result }
 {
@@ -68,10 +71,11 @@ fn settle_slot<F: Flash>(
     ensures counted { OnOk result (F.tells → CountsCopies geometry.now.slot_size geometry.now.slots (F.state flash.old) (F.state flash.new)) }
     ensures crash { F.tells → KeepsRecords geometry.now.slot_size geometry.now.slots (F.state flash.old).told (F.state flash.new).told }
     ensures nearly { F.tells → StaysNearly geometry.now.slot_size geometry.now.slots (F.state flash.old).told (F.state flash.new).told }
+    ensures change { F.tells → MayChange (slot * geometry.now.slot_size + 1) 1 (F.state flash.old).told (F.state flash.new).told }
     ensures failed { OnErr result (F.tells → ChangesFew geometry.now.slot_size geometry.now.slots (F.state flash.old) (F.state flash.new)) }
     ensures stays { OnlyChanges (F.state flash.old) (F.state flash.new) result }
 {
-    let look = found.looks[slot as usize];
+    let look = &found.looks[slot as usize];
     if !is_upright(&look.head, look.tail, geometry) {
         return Ok(());
     }
@@ -87,12 +91,12 @@ fn settle_slot<F: Flash>(
 pub fn list_free(found: &mut Found, geometry: &Geometry)
     requires within { AreWithin geometry.now.slots geometry.now.slot_size found.old.places.items }
     requires free { found.old.free.items ≡ [] }
-    requires room { geometry.now.slots ≤ vec_capacity found.old.free }
+    requires room { geometry.now.slots ≤ deque_capacity found.old.free }
     ensures free { found.new.free.items ≡ list_below (λ slot. not (list_any (λ place. takes (geometry.now.slot_size - 64) place slot) found.old.places.items)) geometry.now.slots }
     ensures ids { found.new.ids ≡ found.old.ids }
     ensures places { found.new.places ≡ found.old.places }
     ensures looks { found.new.looks ≡ found.old.looks }
-    ensures capacity { vec_capacity found.new.free ≡ vec_capacity found.old.free }
+    ensures capacity { deque_capacity found.new.free ≡ deque_capacity found.old.free }
 {
     let taken = mark_taken(&found.places, geometry);
     for slot in 0..geometry.slots as u32 {
@@ -100,13 +104,13 @@ pub fn list_free(found: &mut Found, geometry: &Geometry)
     }
 }
 
-fn list_if_free(free: &mut Vec<u32>, is_taken: bool, slot: u32)
-    requires { vec_len free.old < vec_capacity free.old }
+fn list_if_free(free: &mut VecDeque<u32>, is_taken: bool, slot: u32)
+    requires { deque_len free.old < deque_capacity free.old }
     ensures items { free.new.items ≡ with_number (not is_taken) slot free.old.items }
-    ensures few { vec_len free.new ≤ vec_len free.old + 1 }
-    ensures capacity { vec_capacity free.new ≡ vec_capacity free.old }
+    ensures few { deque_len free.new ≤ deque_len free.old + 1 }
+    ensures capacity { deque_capacity free.new ≡ deque_capacity free.old }
 {
     if !is_taken {
-        free.push_reserved(slot);
+        let _ = free.push_back(slot);
     }
 }

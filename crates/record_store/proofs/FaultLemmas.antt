@@ -21,10 +21,7 @@ unless_weaker (Err (Small need)) P Q weaker had = weaker had
 pub ends_none : {T : Type 0} (flash : FlashState) (x : T) → EndsAtFault {T = T} flash flash (Ok x)
 ends_none flash x = record { once = tt; lit = lit_none flash; same_power = refl; later = omega arith }
 
--- another answer, and a refusal
-pub ends_ok : {T U : Type 0} (old new : FlashState) (x : T) (y : U) → EndsAtFault {T = T} old new (Ok x) → EndsAtFault {T = U} old new (Ok y)
-ends_ok old new x y had = record { once = tt; lit = had.lit; same_power = had.same_power; later = had.later }
-
+-- a refusal
 pub ends_refused : {T U : Type 0} (old new : FlashState) (x : T) (error : StoreError) → (error ≡ Flash → ⊥) → EndsAtFault {T = T} old new (Ok x) → EndsAtFault {T = U} old new (Err error)
 ends_refused old new x (NoSpace free) other had = record { once = tt; lit = had.lit; same_power = had.same_power; later = had.later }
 ends_refused old new x (LastGeneration id) other had = record { once = tt; lit = had.lit; same_power = had.same_power; later = had.later }
@@ -32,14 +29,6 @@ ends_refused old new x NotFound other had = record { once = tt; lit = had.lit; s
 ends_refused old new x Empty other had = record { once = tt; lit = had.lit; same_power = had.same_power; later = had.later }
 ends_refused old new x Flash other had = absurd (other refl)
 ends_refused old new x (Small need) other had = record { once = tt; lit = had.lit; same_power = had.same_power; later = had.later }
-
-pub ends_err : {T U : Type 0} (old new : FlashState) (error : StoreError) → EndsAtFault {T = T} old new (Err error) → EndsAtFault {T = U} old new (Err error)
-ends_err old new (NoSpace free) had = record { once = had.once; lit = had.lit; same_power = had.same_power; later = had.later }
-ends_err old new (LastGeneration id) had = record { once = had.once; lit = had.lit; same_power = had.same_power; later = had.later }
-ends_err old new NotFound had = record { once = had.once; lit = had.lit; same_power = had.same_power; later = had.later }
-ends_err old new Empty had = record { once = had.once; lit = had.lit; same_power = had.same_power; later = had.later }
-ends_err old new Flash had = record { once = had.once; lit = had.lit; same_power = had.same_power; later = had.later }
-ends_err old new (Small need) had = record { once = had.once; lit = had.lit; same_power = had.same_power; later = had.later }
 
 -- one call after another
 pub ends_then : {T U : Type 0} (old mid new : FlashState) (x : T) (y : Result U StoreError) → mid.faults ≡ old.faults → EndsAtFault {T = T} old mid (Ok x) → EndsAtFault {T = U} mid new y → EndsAtFault {T = U} old new y
@@ -75,18 +64,6 @@ one_change tells at len old new x y asks = record {
   once = tt;
   counted = asks.counted;
 }
-
--- and no more is asked for
-pub ends_changed : {T U E : Type 0} (old new : FlashState) (z : U) (y : T) → IsOneChange {T = U} {E = E} old new (Ok z) → EndsAtFault {T = T} old new (Ok y)
-ends_changed old new z y change = record {
-  once = tt;
-  lit = change.lit;
-  same_power = change.powered ∙ sym (change.power.never_back change.powered);
-  later = let one = change.counted in omega arith;
-}
-
-pub ends_change_failed : {T U E : Type 0} (old new : FlashState) (e : E) → IsOneChange {T = U} {E = E} old new (Err e) → EndsAtFault {T = T} old new (Err Flash)
-ends_change_failed old new e change = record { once = change.once; lit = change.lit; same_power = tt; later = tt }
 
 -- power is lost only by a change, in a call that follows one which kept it
 pub loses_then : (old mid new : FlashState) → mid.powered ≡ old.powered → old.steps ≤ mid.steps → LosesOnlyByChange mid new → LosesOnlyByChange old new

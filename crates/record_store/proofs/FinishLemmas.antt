@@ -266,14 +266,6 @@ IsOnWay-more tells old mid new way pending goes_on layout gone = record {
   crash = gone.crash;
 }
 
--- what a call leaves that follows the changes so far
-pub way_ends : {T : Type 0} (tells : Type 0) (old mid new : StoreView) (y : Result T StoreError) → IsOnWay tells old mid → EndsAtFault {T = T} mid.flash new.flash y → EndsAtFault {T = T} old.flash new.flash y
-way_ends tells old mid new y way ends =
-    ends_then {T = Unit {0}} old.flash mid.flash new.flash tt y way.faults (record { once = tt; lit = way.lit; same_power = way.power; later = way.later }) ends
-
-pub way_power : (tells : Type 0) (old mid new : StoreView) → IsOnWay tells old mid → LosesOnlyByChange mid.flash new.flash → LosesOnlyByChange old.flash new.flash
-way_power tells old mid new way power = loses_then old.flash mid.flash new.flash way.power way.later power
-
 -- and it was: the record that was written is in its slots
 pub way_placed : (tells : Type 0) (old mid new : StoreView) → IsOnWay tells old mid → new.pending ≡ pending_after mid.layout mid.pending → new.pending ≡ Idle
     → PlacedAfter mid.layout mid.pending new.flash.told.image → PlacedAtEnd old.layout old.pending new.flash.told.image

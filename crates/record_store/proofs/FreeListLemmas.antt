@@ -1,7 +1,8 @@
 -- The list of free slots, as slots join it or leave it.
-use Rattle.std.proofs.Common.{◌≡◌, ◌⊎◌, ℕ, zero, suc, ◌+◌, ◌<◌, ◌≤◌, Bool, true, false, not, cond, List, [], ◌∷◌, ◌++◌, length, take, drop, get_or, Option, Err, refl, sym, ap, subst, ◌∙◌, arith, inl, inr}
-use Rattle.std.specs.Prelude.{insert, vec_capacity, ◌==◌, ◌||◌, ◌&&◌}
+use Rattle.std.proofs.Common.{◌≡◌, ◌⊎◌, ℕ, zero, suc, ◌+◌, ◌<◌, ◌≤◌, Bool, true, false, not, cond, List, [], ◌∷◌, ◌++◌, length, take, drop, get_or, Option, Result, Ok, Err, refl, sym, ap, subst, ◌∙◌, arith, inl, inr}
+use Rattle.std.specs.Prelude.{insert, OnOk, OnErr, ◌==◌, ◌||◌, ◌&&◌}
 use Rattle.std.specs.List.{list_any}
+use Rattle.std.specs.VecDeque.{deque_capacity}
 use Rattle.std.specs.Ordering.{nat_cmp}
 use Rattle.std.proofs.lemmas.Bool.{cases_Bool, eqb-true, eq-eqb, or_cases, both_ways, not-true}
 use Rattle.std.proofs.lemmas.List.Edits.{length-insert}
@@ -54,13 +55,6 @@ any_cases k (x ∷ xs) ys any = elim (or_cases (k == x) (list_any (λ m. k == m)
     right false is = is
 
 -- numbers join a list
-pub gains_already : (free : List ℕ) (slot : ℕ) → IsListed free slot → Gains free free (slot ∷ [])
-gains_already free slot here = record {
-  each = λ k listed. inl listed;
-  kept = λ k listed. listed;
-  all = λ k any. subst (λ (n : ℕ). IsListed free n) (sym (one_is k slot any)) here;
-}
-
 pub gains_insert : (free : List ℕ) (at slot : ℕ) → at ≤ length free → Gains free (insert free at slot) (slot ∷ [])
 gains_insert free at slot within = record {
   each = λ k listed. elim (insert_listed free at slot k within listed) [ inl was ↦ inl was | inr mine ↦ inr (is_one k slot mine) ];
@@ -92,19 +86,24 @@ AreSlots-inserted slots at slot free had low within below above = record {
   ];
 }
 
+-- where there is room it is put
+was_put : {E P : Type 0} {room long : ℕ} (put : Result (Unit {0}) E) → long < room → OnErr put (room ≤ long) → OnOk put P → P
+was_put (Ok done) fits full is = is
+was_put (Err refused) fits full is = absurd (omega arith)
+
 -- where a search ends there is room for one more slot, and it joins
 pub record IsJoined (slots slot : ℕ) (old after : List ℕ) : Type 0 where
   pub gains : Gains old after (slot ∷ [])
   pub free : AreSlots slots after
 
-pub joined_at : (slots room at slot : ℕ) (old after : List ℕ) (ok : Bool) → AreSlots slots old → slot < slots → slots ≤ room → IsBinarySearchResult (λ y. nat_cmp y slot) old (Err at)
-    → (length old < room → ok ≡ true) → after ≡ cond ok (insert old at slot) old → IsJoined slots slot old after
-joined_at slots room at slot old after ok had low large position succeeds is =
+pub joined_at : {E : Type 0} (slots room at slot : ℕ) (old after : List ℕ) (put : Result (Unit {0}) E) → AreSlots slots old → slot < slots → slots ≤ room → IsBinarySearchResult (λ y. nat_cmp y slot) old (Err at)
+    → OnErr put (room ≤ length old) → OnOk put (after ≡ insert old at slot) → IsJoined slots slot old after
+joined_at slots room at slot old after put had low large position full is =
     let place = searched old slot (Err at) position (λ i j h l. rising_le old had.rising i j h l) in
     let more = AreSlots-inserted slots at slot old had low place.0 place.1 place.2 in
     let few : length (insert old at slot) ≤ slots = length-rising (insert old at slot) slots more.rising more.within in
     let long : length (insert old at slot) ≡ length old + 1 = length-insert old at slot place.0 in
-    let same : after ≡ insert old at slot = is ∙ ap (λ (b : Bool). cond b (insert old at slot) old) (succeeds (omega arith)) in
+    let same : after ≡ insert old at slot = was_put put (omega arith) full is in
     record {
       gains = subst (λ (xs : List ℕ). Gains old xs (slot ∷ [])) (sym same) (gains_insert old at slot place.0);
       free = subst (λ (xs : List ℕ). AreSlots slots xs) (sym same) more;
@@ -166,20 +165,11 @@ length_drop zero xs = inl (omega arith)
 length_drop (suc n) [] = inr refl
 length_drop (suc n) (x ∷ xs) = elim (length_drop n xs) [ inl fits ↦ inl (omega arith) | inr none ↦ inr none ]
 
-pub AreSlots-dropped : (slots count : ℕ) (free : List ℕ) → AreSlots slots free → AreSlots slots (drop count free)
-AreSlots-dropped slots count free had = record {
-  rising = rising_drop count free had.rising;
-  within = λ i h. elim (length_drop count free) [
-    | inl fits ↦ subst (λ (n : ℕ). n < slots) (sym (get_drop count i free)) (had.within (count + i) (omega arith))
-    | inr none ↦ absurd (omega arith)
-  ];
-}
-
 -- the first slots of a record joined the free ones
 pub record HasFreed (slots : ℕ) (place : SlotOf) (at : ℕ) (old now : Found) : Type 0 where
   pub gains : Gains old.free.items now.free.items (place.slot ∷ take at place.next)
   pub free : AreSlots slots now.free.items
-  pub room : vec_capacity old.free ≤ vec_capacity now.free
+  pub room : deque_capacity old.free ≤ deque_capacity now.free
   pub ids : now.ids ≡ old.ids
   pub places : now.places ≡ old.places
   pub looks : now.looks ≡ old.looks

@@ -2,9 +2,9 @@
 use Rattle.std.proofs.Common.{◌≡◌, ◌≢◌, ◌⊎◌, ℕ, ◌+◌, ◌-◌, ◌<◌, ◌≤◌, Bool, not, cond, List, ◌∷◌, length, take, drop, get_or, Option, Some, None, refl, sym, ap, subst, ◌∙◌, arith, inl, inr}
 use Rattle.std.specs.Prelude.{insert, remove, vec_len, vec_capacity, ◌||◌, ◌==◌, ◌&&◌}
 use Rattle.std.specs.List.{list_any}
+use Rattle.std.specs.VecDeque.{deque_capacity}
 use Rattle.std.proofs.Math.ListN.{set}
 use Rattle.std.proofs.lemmas.Bool.{cases_lt, cases_eq, lt-ltb}
-use Rattle.std.proofs.lemmas.List.Edits.{length-remove, get_or-remove_below, get_or-remove_above}
 use Rattle.std.proofs.lemmas.Option.{same_Some, none-some}
 use Rattle.record_model.specs.Records.{Entry, parts_of, is_taken, holds}
 use Rattle.record_model.proofs.ChosenLemmas.{IsChosen-unique, IsChosen-without}
@@ -14,10 +14,11 @@ use Rattle.record_recovery.specs.Listed.{AreListed, AreSlots, IsIndex, IsWithin,
 use Rattle.record_recovery.specs.Listing.{IsNewlyListed, IsListedAgain}
 use Rattle.record_recovery.proofs.ListedLemmas.{IsPlaceIn}
 use Rattle.record_recovery.proofs.PutLemmas.{IsIndex-put}
-use Rattle.record_recovery.proofs.OpenedLemmas.{rising-remove, AreListed-opened, AreListed-replaced, AreListed-cleared}
+use Rattle.record_recovery.proofs.OpenedLemmas.{AreListed-opened, AreListed-replaced, AreListed-cleared}
+use Rattle.record_recovery.proofs.SettledLemmas.{listed_without}
 use Rattle.record_recovery.proofs.TakenLemmas.{free_slots-gate, taken_gains}
 use Rattle.record_store.specs.Index.{IsListing, IsListOf, HasItsParts, HasOpened, HasLost, IsEntryOf, IsOlderCopy, IsOnlyCopy, Gains, slots_at}
-use Rattle.record_store.proofs.FreeListLemmas.{free_gained, AreSlots-dropped}
+use Rattle.record_store.proofs.FreeListLemmas.{free_gained}
 use Rattle.record_store.proofs.CountLemmas.{fewer_ids}
 
 -- a record was listed
@@ -31,73 +32,10 @@ IsListing-listed slots size old new id place short within more ids places free l
   room = record {
     ids = let was : slots ≤ vec_capacity old.ids = had.room.ids in omega arith;
     places = let was : slots ≤ vec_capacity old.places = had.room.places in omega arith;
-    free = subst (λ v. slots ≤ vec_capacity v) (sym free) had.room.free;
+    free = subst (λ v. slots ≤ deque_capacity v) (sym free) had.room.free;
     looks = subst (λ v. slots ≤ vec_capacity v) (sym looks) had.room.looks;
   };
 }
-
--- the free list is another one, and the rest as it was
-pub IsListing-free : (slots size : ℕ) (old new : Found) → new.ids ≡ old.ids → new.places ≡ old.places → new.looks ≡ old.looks → vec_capacity old.free ≤ vec_capacity new.free
-    → AreSlots slots new.free.items → IsListing slots size old → IsListing slots size new
-IsListing-free slots size old new ids places looks capacity free had = record {
-  index =
-      subst (λ v. IsIndex slots size v.items new.places.items) (sym ids)
-      (subst (λ v. IsIndex slots size old.ids.items v.items) (sym places) had.index);
-  free = free;
-  few = subst (λ v. length v.items ≤ slots) (sym ids) had.few;
-  room = record {
-    ids = subst (λ v. slots ≤ vec_capacity v) (sym ids) had.room.ids;
-    places = subst (λ v. slots ≤ vec_capacity v) (sym places) had.room.places;
-    free = let was : slots ≤ vec_capacity old.free = had.room.free in omega arith;
-    looks = subst (λ v. slots ≤ vec_capacity v) (sym looks) had.room.looks;
-  };
-}
-
--- slots left the free ones
-pub IsListing-taken : (slots size count : ℕ) (old new : Found) → new.ids ≡ old.ids → new.places ≡ old.places → new.looks ≡ old.looks → vec_capacity new.free ≡ vec_capacity old.free
-    → new.free.items ≡ drop count old.free.items → IsListing slots size old → IsListing slots size new
-IsListing-taken slots size count old new ids places looks capacity is had =
-    IsListing-free slots size old new ids places looks (omega arith)
-    (subst (λ (xs : List ℕ). AreSlots slots xs) (sym is) (AreSlots-dropped slots count old.free.items had.free)) had
-
--- without one of its identifiers
-IsIndex-removed : (slots size at : ℕ) (ids : List ℕ) (places : List SlotOf) → at < length ids → IsIndex slots size ids places → IsIndex slots size (remove ids at) (remove places at)
-IsIndex-removed slots size at ids places within had =
-    let paired : length places ≡ length ids = had.paired in
-    let within' : at < length places = omega arith in
-    let long : length (remove ids at) + 1 ≡ length ids = length-remove ids at within in
-    let long' : length (remove places at) + 1 ≡ length places = length-remove places at within' in
-    record {
-      rising = rising-remove ids at had.rising within;
-      paired = omega arith;
-      within = λ i d h. elim (cases_lt i at) [
-        | inl before ↦ rw (get_or-remove_below places at d i before within') (had.within i d (omega arith))
-        | inr from ↦ rw (get_or-remove_above places at d i from within') (had.within (i + 1) d (omega arith))
-      ];
-    }
-
--- an identifier is listed no more, and the slots of its record are free
-pub IsListing-cleared : (slots size at : ℕ) (old new : Found) → at < length old.ids.items
-    → new.ids.items ≡ remove old.ids.items at → new.places.items ≡ remove old.places.items at → new.looks ≡ old.looks
-    → vec_capacity new.ids ≡ vec_capacity old.ids → vec_capacity new.places ≡ vec_capacity old.places → vec_capacity old.free ≤ vec_capacity new.free
-    → AreSlots slots new.free.items → IsListing slots size old → IsListing slots size new
-IsListing-cleared slots size at old new within ids places looks more_ids more_places more_free free had =
-    let long : length (remove old.ids.items at) + 1 ≡ length old.ids.items = length-remove old.ids.items at within in
-    let same : length new.ids.items ≡ length (remove old.ids.items at) = ap (λ (xs : List ℕ). length xs) ids in
-    record {
-      index =
-          subst (λ (xs : List ℕ). IsIndex slots size xs new.places.items) (sym ids)
-          (subst (λ (ps : List SlotOf). IsIndex slots size (remove old.ids.items at) ps) (sym places)
-          (IsIndex-removed slots size at old.ids.items old.places.items within had.index));
-      free = free;
-      few = let was : length old.ids.items ≤ slots = had.few in omega arith;
-      room = record {
-        ids = let was : slots ≤ vec_capacity old.ids = had.room.ids in omega arith;
-        places = let was : slots ≤ vec_capacity old.places = had.room.places in omega arith;
-        free = let was : slots ≤ vec_capacity old.free = had.room.free in omega arith;
-        looks = subst (λ v. slots ≤ vec_capacity v) (sym looks) had.room.looks;
-      };
-    }
 
 -- the place at an index is within the store
 pub place_within : (slots size at : ℕ) (ids : List ℕ) (places : List SlotOf) (place : SlotOf) → IsIndex slots size ids places → at < length ids → place ≡ get_or places at place → IsWithin slots size place
@@ -159,29 +97,10 @@ IsListOf-opened slots size parts old mid new id place entry other e low has of f
 -- without a record that was not that of its identifier
 AreListed-lost : (entry other : ℕ → Option Entry) (slots j : ℕ) (lost : Entry) (ids : List ℕ) (places : List SlotOf) → ((k : ℕ) → k ≢ j → other k ≡ entry k)
     → entry j ≡ Some lost → other j ≡ None → IsOlderCopy entry slots j lost → AreListed entry slots ids places → AreListed other slots ids places
-AreListed-lost entry other slots j lost ids places same was gone older had = record {
-  each = λ i d h.
-      let place = had.each i d h in
-      record {
-        chosen = place.chosen;
-        is = IsChosen-without entry other slots j (get_or places i d).slot place.chosen same gone (elsewhere i d h) place.is;
-        of_id = place.of_id;
-        generation = place.generation;
-        len = place.len;
-        further = place.further;
-      };
-  all = λ k e h at_k. elim (cases_eq k j) [
-    | inl here ↦ absurd (none-some e (sym gone ∙ ap other (sym here) ∙ at_k))
-    | inr apart ↦ had.all k e h (sym (same k apart) ∙ at_k)
-  ];
-}
-  where
-    elsewhere : (i : ℕ) (d : SlotOf) → i < length ids → (get_or places i d).slot ≢ j
-    elsewhere i d h here =
-        let place = had.each i d h in
-        let mine : lost ≡ place.chosen = same_Some lost place.chosen (sym was ∙ ap entry (sym here) ∙ (place.is).here) in
-        older.4 (IsChosen-unique entry slots older.0 (get_or places i d).slot older.1 place.chosen older.2 place.is
-        (older.3 ∙ ap (λ (x : Entry). x.id) mine) ∙ here)
+AreListed-lost entry other slots j lost ids places same was gone older had =
+    listed_without entry other slots j ids places same gone
+    (λ e chosen. older.4 (IsChosen-unique entry slots older.0 j older.1 e older.2 chosen
+    (older.3 ∙ ap (λ (x : Entry). x.id) (same_Some lost e (sym was ∙ chosen.here))))) had
 
 -- the slots at the place of an entry are its slots
 pub slots_of_entry : (room id : ℕ) (place : SlotOf) (e : Entry) → IsEntryOf id place e → HasItsParts room e → slots_at room place ≡ place.slot ∷ e.further

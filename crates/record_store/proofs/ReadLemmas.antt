@@ -70,24 +70,6 @@ reads_ok tells n total old new x had is some = record {
   once = tt;
 }
 
-pub reads_failed : {T U E D : Type 0} (tells : Type 0) (n k total : ℕ) (old mid new : FlashState) (e : E) (d : D) → HasRead tells n old mid → ReadsTimes {T = T} {E = E} tells k mid new (Err e)
-    → ReadsTimes {T = U} {E = D} tells total old new (Err d)
-reads_failed tells n k total old mid new e d had more = record {
-  told = λ told. more.told told ∙ had.told told;
-  size = more.size ∙ had.size;
-  sector_size = more.sector_size ∙ had.sector_size;
-  steps = more.steps ∙ had.steps;
-  power = more.power ∙ had.power;
-  lit = lit_then old mid new had.power had.lit more.lit;
-  counted = tt;
-  cause = record {
-    never_falls = (let same = had.faults in let up = more.cause.never_falls in omega arith);
-    ok = tt;
-    err = subst (λ (f : ℕ). Rose f new.faults) had.faults more.cause.err;
-  };
-  once = more.once ∙ ap next_count had.faults;
-}
-
 -- what a single call that reads says
 pub reads_of_ok : {T E : Type 0} (tells : Type 0) (k : ℕ) (old new : FlashState) (x : T) → OnlyReads {T = T} {E = E} tells k old new (Ok x) → ReadsTimes {T = T} {E = E} tells k old new (Ok x)
 reads_of_ok tells k old new x stays = record {
@@ -100,17 +82,4 @@ reads_of_ok tells k old new x stays = record {
   counted = stays.counted;
   cause = stays.cause;
   once = tt;
-}
-
-pub reads_of_err : {T E : Type 0} (tells : Type 0) (k : ℕ) (old new : FlashState) (e : E) → OnlyReads {T = T} {E = E} tells k old new (Err e) → ReadsTimes {T = T} {E = E} tells k old new (Err e)
-reads_of_err tells k old new e stays = record {
-  told = stays.told;
-  size = stays.size;
-  sector_size = stays.sector_size;
-  steps = stays.steps;
-  power = stays.power;
-  lit = stays.lit;
-  counted = tt;
-  cause = stays.cause;
-  once = stays.once;
 }

@@ -1,6 +1,7 @@
 -- What a scan finds is a list that a store can keep.
 use Rattle.std.proofs.Common.{◌≡◌, ℕ, ◌≤◌, length, arith}
 use Rattle.std.specs.Prelude.{vec_capacity}
+use Rattle.std.specs.VecDeque.{deque_capacity}
 use Rattle.flash_words.specs.Flash.{FlashState}
 use Rattle.flash_words.specs.Layout.{Layout}
 use Rattle.record_recovery.specs.declared.found.Found.{Found}
@@ -20,7 +21,7 @@ IsListing-rescanned slots size old new index free few same room = record {
   room = record {
     ids = let was : slots ≤ vec_capacity old.ids = room.ids in let equal : vec_capacity new.ids ≡ vec_capacity old.ids = same.ids in omega arith;
     places = let was : slots ≤ vec_capacity old.places = room.places in let equal : vec_capacity new.places ≡ vec_capacity old.places = same.places in omega arith;
-    free = let was : slots ≤ vec_capacity old.free = room.free in let equal : vec_capacity new.free ≡ vec_capacity old.free = same.free in omega arith;
+    free = let was : slots ≤ deque_capacity old.free = room.free in let equal : deque_capacity new.free ≡ deque_capacity old.free = same.free in omega arith;
     looks = let was : slots ≤ vec_capacity old.looks = room.looks in let equal : vec_capacity new.looks ≡ vec_capacity old.looks = same.looks in omega arith;
   };
 }

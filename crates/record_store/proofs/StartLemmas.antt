@@ -21,10 +21,11 @@ use Rattle.record_model.proofs.RefusalLemmas.{write_at_last, write_new_no_space,
 use Rattle.record_model.proofs.StepLemmas.{first_stage, first_stage_stands}
 use Rattle.record_draft.specs.Drafts.{IsDraft, plan_of, marked_in}
 use Rattle.record_draft.specs.declared.draft.Draft.{Draft}
+use Rattle.record_draft.proofs.Next.{plan_slots}
 use Rattle.record_recovery.specs.declared.found.Found.{Found}
 use Rattle.record_recovery.specs.declared.found.SlotOf.{SlotOf}
 use Rattle.record_recovery.specs.Listed.{IsListed}
-use Rattle.record_recovery.proofs.FreeLemmas.{rising-tail, listed-cons, listed_above}
+use Rattle.record_recovery.proofs.TakenLemmas.{rising_distinct, distinct_take}
 use Rattle.record_store.specs.Index.{IsListing, IsPlaceFound}
 use Rattle.record_store.specs.Store.{records_of}
 use Rattle.record_store.specs.Kept.{KnowsSlots, TakesFree}
@@ -64,32 +65,6 @@ slots_more slots free n slot within had is i h = elim (cases_eq i n) [
 
 -- The slots of a plan
 
-any_listed : (xs : List ℕ) (k : ℕ) → list_any (λ n. k == n) xs ≡ true → IsListed xs k
-any_listed [] k any = absurd (both_ways false refl any)
-any_listed (x ∷ xs) k any = elim (or_cases (k == x) (list_any (λ n. k == n) xs) any) [
-  | inl here ↦ (0, omega arith, sym (eqb-true k x here))
-  | inr later ↦ listed-cons x xs k (any_listed xs k later)
-]
-
-rising_distinct : (xs : List ℕ) → IsStrictlyIncreasing xs → AreDistinct xs
-rising_distinct [] up = tt
-rising_distinct (x ∷ xs) up =
-    (false_from_ne_true (list_any (λ n. x == n) xs) (λ any. let above : x < x = listed_above x xs x up (any_listed xs x any) in omega arith), rising_distinct xs (rising-tail x xs up))
-
-none_in_front : (m y : ℕ) (ys : List ℕ) → list_any (λ k. y == k) ys ≡ false → list_any (λ k. y == k) (take m ys) ≡ false
-none_in_front zero y ys none = refl
-none_in_front (suc m) y [] none = refl
-none_in_front (suc m) y (z ∷ ys) none = step (y == z) (list_any (λ k. y == k) ys) none (λ rest. none_in_front m y ys rest)
-  where
-    step : (a b : Bool) → (a || b) ≡ false → (b ≡ false → list_any (λ k. y == k) (take m ys) ≡ false) → (a || list_any (λ k. y == k) (take m ys)) ≡ false
-    step true b e more = absurd (both_ways true e refl)
-    step false b e more = more e
-
-distinct_front : (n : ℕ) (xs : List ℕ) → AreDistinct xs → AreDistinct (take n xs)
-distinct_front zero xs apart = tt
-distinct_front (suc n) [] apart = tt
-distinct_front (suc n) (x ∷ xs) apart = (none_in_front n x xs apart.0, distinct_front n xs apart.1)
-
 below_front : (slots n : ℕ) (xs : List ℕ) → ((i : ℕ) → i < length xs → get_or xs i 0 < slots) → AreBelow slots (take n xs)
 below_front slots zero xs each = tt
 below_front slots (suc n) [] each = tt
@@ -100,11 +75,6 @@ same_front zero xs ys h l same = refl
 same_front (suc n) [] ys h l same = absurd (omega arith)
 same_front (suc n) (x ∷ xs) [] h l same = absurd (omega arith)
 same_front (suc n) (x ∷ xs) (y ∷ ys) h l same = cc (same 0 (omega arith), same_front n xs ys (omega arith) (omega arith) (λ i k. same (suc i) (omega arith)))
-
-pub front_of : (slots : List ℕ) (parts : ℕ) → 1 ≤ length slots → 1 ≤ parts → get_or slots 0 0 ∷ take (parts - 1) (drop 1 slots) ≡ take parts slots
-front_of [] parts long some = absurd (omega arith)
-front_of (x ∷ slots) zero long some = absurd (omega arith)
-front_of (x ∷ slots) (suc n) long some = let same : suc n - 1 ≡ n = omega arith in ap (λ (m : ℕ). x ∷ take m slots) same
 
 -- the plan takes the free slots of least number
 planned_parts : (tells : Type 0) (geometry : Geometry) (found : Found) (image : List ℕ) (id len : ℕ) (draft : Draft) (replaced : Option SlotOf) → IsPlanned tells geometry found image id len draft replaced
@@ -121,7 +91,7 @@ planned_takes tells geometry found image id len draft replaced is least most =
     let counted = is.parts in
     record {
       enough = enough;
-      taken = front_of draft.slots draft.parts (omega arith) (omega arith) ∙ same_front draft.parts draft.slots found.free.items (omega arith) enough is.taken;
+      taken = plan_slots draft.slots draft.parts (omega arith) (omega arith) ∙ same_front draft.parts draft.slots found.free.items (omega arith) enough is.taken;
     }
 
 pub planned_draft : (tells : Type 0) (geometry : Geometry) (found : Found) (image : List ℕ) (id : ℕ) (bytes : List ℕ) (draft : Draft) (replaced : Option SlotOf)
@@ -137,7 +107,7 @@ planned_draft tells geometry found image id bytes draft replaced is listing leas
     let behind = length-drop 1 draft.slots in
     let some : 1 ≤ draft.parts = omega arith in
     let few : draft.parts ≤ 4 = omega arith in
-    let distinct = distinct_front draft.parts found.free.items (rising_distinct found.free.items listing.free.rising) in
+    let distinct = distinct_take draft.parts found.free.items (rising_distinct found.free.items listing.free.rising) in
     let below = subst (λ (xs : List ℕ). AreBelow geometry.slots xs) (sym takes.taken) (below_front geometry.slots draft.parts found.free.items listing.free.within) in
     record {
       plan = record {
@@ -182,7 +152,7 @@ planned_stands tells geometry found image id bytes draft replaced is least most 
     let counted = is.parts in
     first_stage_stands (layout_of geometry) (plan_of draft bytes) image
     (λ n any. sym (mark_of draft.slots draft.marked draft.parts n (λ k. tail_at image (k * geometry.slot_size) geometry.slot_size == tail_mark) (omega arith) (is.marks told)
-    (subst (λ (xs : List ℕ). list_any (λ m. n == m) xs ≡ true) (front_of draft.slots draft.parts (omega arith) (omega arith)) any)))
+    (subst (λ (xs : List ℕ). list_any (λ m. n == m) xs ≡ true) (plan_slots draft.slots draft.parts (omega arith) (omega arith)) any)))
 
 -- no change is made at the first stage
 none_further : (per_slot room size n : ℕ) → n ≡ 0 → made_in_further per_slot room size n ≡ 0

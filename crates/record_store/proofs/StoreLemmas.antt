@@ -26,7 +26,7 @@ use Rattle.record_store.specs.declared.errors.StoreError.{StoreError}
 use Rattle.record_store.specs.declared.errors.StoreError.TheVariants.{NoSpace, LastGeneration, NotFound, Empty, Flash, Small}
 use Rattle.record_store.specs.declared.work.Work.{Work}
 use Rattle.record_store.specs.declared.work.Work.TheVariants as works
-use Rattle.record_store.proofs.FaultLemmas.{ends_none, ends_ok, ends_refused, ends_err, ends_then, ends_read, ends_read_failed}
+use Rattle.record_store.proofs.FaultLemmas.{ends_none, ends_refused, ends_then, ends_read, ends_read_failed}
 
 -- power lost in nothing, or in what kept the records
 pub KeepsMap-none : (v : StoreView) → KeepsMap v v
@@ -115,43 +115,6 @@ alike_then old mid new first second = record {
 
 pub power_refl : (flash : FlashState) → LosesOnlyByChange flash flash
 power_refl flash = record { never_back = λ on. on; lost = inl refl }
-
-looks_by : {T U : Type 0} (tells : Type 0) (old new : StoreView) (x : Result T StoreError) (y : Result U StoreError) → (tells → EndsCopies old new y) → HasDoubtOf new y
-    → HasFaultsOf old.flash.faults new.flash.faults y → EndsAtFault old.flash new.flash y → OnlyLooks tells old new x → OnlyLooks tells old new y
-looks_by tells old new x y ended doubt cause ends had = record {
-  kept = had.kept;
-  few = had.few;
-  ended = ended;
-  at_most = had.at_most;
-  doubt = doubt;
-  idle = had.idle;
-  alike = had.alike;
-  power = had.power;
-  cause = cause;
-  ends = ends;
-}
-
--- an answer of a store that has looked
-pub looks_ok : {T U : Type 0} (tells : Type 0) (old new : StoreView) (x : T) (y : U) → OnlyLooks {T = T} tells old new (Ok x) → OnlyLooks {T = U} tells old new (Ok y)
-looks_ok tells old new x y had = looks_by tells old new (Ok x) (Ok y) had.ended had.doubt had.cause (ends_ok old.flash new.flash x y had.ends) had
-
-pub looks_not_found : {T U : Type 0} (tells : Type 0) (old new : StoreView) (x : T) → OnlyLooks {T = T} tells old new (Ok x) → OnlyLooks {T = U} tells old new (Err NotFound)
-looks_not_found tells old new x had = looks_by tells old new (Ok x) (Err NotFound) had.ended had.doubt had.cause (ends_refused old.flash new.flash x NotFound (λ e. cc) had.ends) had
-
-pub looks_empty : {T U : Type 0} (tells : Type 0) (old new : StoreView) (x : T) → OnlyLooks {T = T} tells old new (Ok x) → OnlyLooks {T = U} tells old new (Err Empty)
-looks_empty tells old new x had = looks_by tells old new (Ok x) (Err Empty) had.ended had.doubt had.cause (ends_refused old.flash new.flash x Empty (λ e. cc) had.ends) had
-
-pub looks_small : {T U : Type 0} (tells : Type 0) (old new : StoreView) (x : T) (need : ℕ) → OnlyLooks {T = T} tells old new (Ok x) → OnlyLooks {T = U} tells old new (Err (Small need))
-looks_small tells old new x need had = looks_by tells old new (Ok x) (Err (Small need)) had.ended had.doubt had.cause (ends_refused old.flash new.flash x (Small need) (λ e. cc) had.ends) had
-
--- the fault of a look
-pub looks_err : {T U : Type 0} (tells : Type 0) (old new : StoreView) (error : StoreError) → OnlyLooks {T = T} tells old new (Err error) → OnlyLooks {T = U} tells old new (Err error)
-looks_err tells old new (NoSpace free) had = looks_by tells old new (Err (NoSpace free)) (Err (NoSpace free)) had.ended had.doubt had.cause (ends_err old.flash new.flash (NoSpace free) had.ends) had
-looks_err tells old new (LastGeneration id) had = looks_by tells old new (Err (LastGeneration id)) (Err (LastGeneration id)) had.ended had.doubt had.cause (ends_err old.flash new.flash (LastGeneration id) had.ends) had
-looks_err tells old new NotFound had = looks_by tells old new (Err NotFound) (Err NotFound) had.ended had.doubt had.cause (ends_err old.flash new.flash NotFound had.ends) had
-looks_err tells old new Empty had = looks_by tells old new (Err Empty) (Err Empty) had.ended had.doubt had.cause (ends_err old.flash new.flash Empty had.ends) had
-looks_err tells old new Flash had = looks_by tells old new (Err Flash) (Err Flash) had.ended had.doubt had.cause (ends_err old.flash new.flash Flash had.ends) had
-looks_err tells old new (Small need) had = looks_by tells old new (Err (Small need)) (Err (Small need)) had.ended had.doubt had.cause (ends_err old.flash new.flash (Small need) had.ends) had
 
 -- A look at the slots
 
@@ -346,10 +309,6 @@ starts_by tells old mid new x y had told steps power alike doubt cause ended end
   ends = ends;
 }
 
--- a look that failed
-pub starts_err : (tells : Type 0) (old new : StoreView) (error : StoreError) → OnlyLooks {T = Unit {0}} tells old new (Err error) → OnlyStarts tells old new (Err error)
-starts_err tells old new error had = record { kept = had.kept; few = had.few; ended = had.ended; at_most = had.at_most; doubt = had.doubt; alike = had.alike; power = had.power; cause = had.cause; ends = had.ends }
-
 -- a start that follows a look
 pub starts_then : (count : Unit {0} → ℕ) (tells : Type 0) (old mid new : StoreView) (x : Unit {0}) (y : Result (Unit {0}) StoreError) → OnlyLooks tells old mid (Ok x) → ReadsExactly tells count mid new y
     → OnlyStarts tells mid new y → OnlyStarts tells old new y
@@ -380,16 +339,6 @@ starts_then count tells old mid new x (Err (Small need)) had still starts =
     let steps : new.flash.steps ≡ mid.flash.steps = ap (λ (v : StoreView). v.flash.steps) still in
     starts_by tells old mid new x (Err (Small need)) had (λ t. ap (λ (v : StoreView). v.flash.told) still) steps (ap (λ (v : StoreView). v.flash.powered) still) starts.alike starts.doubt (starts.cause ∙ had.cause)
     (λ told. steps ∙ had.ended told) (ends_then old.flash mid.flash new.flash x (Err (Small need)) had.cause had.ends starts.ends)
-
--- a clear that starts, or is refused, after a look
-pub starts_clear : (tells : Type 0) (old mid new : StoreView) (x : Unit {0}) (y : Unit {0}) → OnlyLooks {T = Unit {0}} tells old mid (Ok x) → new.flash ≡ mid.flash → new.layout ≡ mid.layout → new.in_doubt ≡ false
-    → OnlyStarts tells old new (Ok y)
-starts_clear tells old mid new x y had flash layout certain =
-    let steps : new.flash.steps ≡ mid.flash.steps = ap (λ (f : FlashState). f.steps) flash in
-    starts_by tells old mid new x (Ok y) had (λ t. ap (λ (f : FlashState). f.told) flash) steps (ap (λ (f : FlashState). f.powered) flash)
-    (record { layout = layout; size = ap (λ (f : FlashState). f.size) flash; sector_size = ap (λ (f : FlashState). f.sector_size) flash }) certain
-    (ap (λ (f : FlashState). f.faults) flash ∙ had.cause) (λ told. steps ∙ had.ended told)
-    (subst (λ (f : FlashState). EndsAtFault old.flash f (Ok y)) (sym flash) (ends_ok old.flash mid.flash x y had.ends))
 
 pub starts_refused : (tells : Type 0) (old mid : StoreView) (x : Unit {0}) → OnlyLooks {T = Unit {0}} tells old mid (Ok x) → OnlyStarts tells old mid (Err NotFound)
 starts_refused tells old mid x had = record { kept = had.kept; few = had.few; ended = had.ended; at_most = had.at_most; doubt = had.doubt; alike = had.alike; power = had.power; cause = had.cause; ends = ends_refused old.flash mid.flash x NotFound (λ e. cc) had.ends }

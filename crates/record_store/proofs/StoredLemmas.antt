@@ -3,49 +3,23 @@ use Rattle.std.proofs.Common.{◌≡◌, ℕ, ◌+◌, ◌-◌, ◌*◌, ◌≤�
 use Rattle.std.specs.FinMap.{get}
 use Rattle.std.proofs.Math.Nat.{add-mul}
 use Rattle.std.proofs.lemmas.List.{length-take}
-use Rattle.std.proofs.lemmas.Bool.{and_parts, or_cases, leb-true}
 use Rattle.flash_words.specs.Layout.{Layout, room_of, reach_of}
-use Rattle.record_model.specs.Records.{Head, Slot, Entry, is_reserved, is_alone, is_spread, is_upright, is_up, slot_at, part_len, further_of, parts_joined, record_of, entry_of, entry_at, stored_in}
+use Rattle.record_model.specs.Records.{Head, Slot, Entry, is_reserved, is_up, slot_at, part_len, further_of, parts_joined, record_of, entry_of, entry_at, stored_in}
 use Rattle.record_model.proofs.SelectionLemmas.{get-selected, best_from}
 use Rattle.record_model.proofs.LiveLemmas.{up_entry, live_record}
+use Rattle.record_model.proofs.PartsLemmas.{up_form}
+use Rattle.record_recovery.proofs.LookLemmas.{upright_id, len_reach}
 use Rattle.record_store.specs.Store.{records_of}
-
-not_true : (b : Bool) → not b ≡ true → b ≡ false
-not_true true e = absurd (cc e)
-not_true false e = refl
 
 -- what an upright slot says
 record IsUpright (room : ℕ) (head : Head) : Type 0 where
   usable : is_reserved head.id ≡ false
   most : head.len ≤ reach_of room
 
-alone_most : (room : ℕ) (head : Head) → room ≤ 65536 → is_alone room head ≡ true → head.len ≤ reach_of room
-unfolding is_alone reach_of
-alone_most room head few alone =
-    let both = and_parts _ _ alone in
-    let fits : head.len ≤ room = leb-true head.len room both.1 in
-    omega arith
-
-spread_most : (room slots : ℕ) (head : Head) → is_spread room slots head ≡ true → head.len ≤ reach_of room
-unfolding is_spread
-spread_most room slots head spread =
-    let a = and_parts _ _ spread in
-    let b = and_parts _ _ a.0 in
-    let c = and_parts _ _ b.0 in
-    leb-true head.len (reach_of room) c.1
-
 upright_says : (room slots : ℕ) (slot : Slot) → room ≤ 65536 → is_up room slots slot ≡ true → IsUpright room slot.head
-unfolding is_up is_upright
+unfolding is_up
 upright_says room slots slot few up =
-    let a = and_parts _ _ up in
-    let b = and_parts _ _ a.0 in
-    record {
-      usable = not_true (is_reserved slot.head.id) b.1;
-      most = elim (or_cases (is_alone room slot.head) (is_spread room slots slot.head) a.1) [
-        | inl alone ↦ alone_most room slot.head few alone
-        | inr spread ↦ spread_most room slots slot.head spread
-      ];
-    }
+    record { usable = upright_id room slots slot.head slot.tail up; most = len_reach room slots slot.head few (up_form room slots slot up) }
 
 -- the parts of a record have no more bytes than it has from there on
 length-parts_joined : (room len : ℕ) (slot : ℕ → Slot) (number : ℕ) (slots : List ℕ) → length (parts_joined room len slot number slots) ≤ len - number * room

@@ -27,6 +27,7 @@ use Rattle.record_model.proofs.LeavesLemmas.{old_copy_leaves, clear_leaves}
 use Rattle.record_model.proofs.ChosenLemmas.{IsChosen-unique, IsChosen-without}
 use Rattle.record_model.proofs.PartsLemmas.{entry_len}
 use Rattle.record_model.proofs.SlotLemmas.{slot_at-other, kill_byte, down_by_kill, down_by_gate, differs_only}
+use Rattle.record_draft.proofs.Here.{four_of}
 use Rattle.record_draft.specs.Drafts.{IsDraft, IsStage, plan_of, step_of, stage_of}
 use Rattle.record_draft.specs.declared.draft.Draft.{Draft}
 use Rattle.record_draft.specs.declared.draft.Step.{Step}
@@ -363,14 +364,6 @@ gate_nearly_only geometry found draft body replaced old new is known change =
         (had.over.is).within (had.over.is).here had.over.of_id
 
 -- the place of a draft
-four_slots : (slots : List ℕ) → length slots ≡ 4 → drop 1 slots ≡ get_or slots 1 0 ∷ get_or slots 2 0 ∷ get_or slots 3 0 ∷ []
-four_slots [] e = absurd (omega arith)
-four_slots (a ∷ []) e = absurd (omega arith)
-four_slots (a ∷ b ∷ []) e = absurd (omega arith)
-four_slots (a ∷ b ∷ c ∷ []) e = absurd (omega arith)
-four_slots (a ∷ b ∷ c ∷ d ∷ []) e = refl
-four_slots (a ∷ b ∷ c ∷ d ∷ x ∷ rest) e = absurd (omega arith)
-
 pub opened_entry_of : (geometry : Geometry) (draft : Draft) (body : List ℕ) → IsDraft geometry draft body → length draft.slots ≡ 4
     → IsEntryOf draft.id (opened_place draft) (record_for (plan_of draft body))
 opened_entry_of geometry draft body is four = record {
@@ -383,7 +376,7 @@ opened_entry_of geometry draft body is four = record {
       let front = length-take (draft.parts - 1) (drop 1 draft.slots) in
       let behind = length-drop 1 draft.slots in
       let long : draft.parts - 1 ≡ length (take (draft.parts - 1) (drop 1 draft.slots)) = omega arith in
-      ap (λ (n : ℕ). take n (drop 1 draft.slots)) long ∙ ap (take (length (take (draft.parts - 1) (drop 1 draft.slots)))) (four_slots draft.slots four);
+      ap (λ (n : ℕ). take n (drop 1 draft.slots)) long ∙ ap (take (length (take (draft.parts - 1) (drop 1 draft.slots)))) (four_of draft.slots four);
 }
 
 pub opened_within : (geometry : Geometry) (draft : Draft) (body : List ℕ) → IsDraft geometry draft body → IsWithin geometry.slots geometry.slot_size (opened_place draft)

@@ -1,6 +1,7 @@
 // The lists that a store keeps of its slots: the identifiers with the places of their records, and the free slots.
-ghost use Rattle.std.specs.Prelude.{◌≡◌, ◌⊎◌, ℕ, ◌+◌, ◌-◌, ◌<◌, ◌≤◌, List, false, [], ◌∷◌, length, take, drop, Option, IfSome, vec_capacity};
+ghost use Rattle.std.specs.Prelude.{◌≡◌, ◌⊎◌, ℕ, ◌+◌, ◌-◌, ◌<◌, ◌≤◌, List, false, [], ◌∷◌, length, take, drop, Option, IfSome};
 ghost use Rattle.std.specs.List.Sorted.{IsStrictlyIncreasing};
+ghost use Rattle.std.specs.VecDeque.{deque_capacity};
 ghost use Rattle.erst_ids.specs.Next.{IsNextAfter};
 ghost use Rattle.record_model.specs.Records.{Entry, selected, is_reserved};
 ghost use Rattle.record_model.specs.RecordMap.{IsNextAbove};
@@ -118,11 +119,11 @@ fn take_free(found: &mut Found, geometry: &Geometry, count: usize)
 // Lists the slots of the record at a place as free.
 fn free_record(found: &mut Found, geometry: &Geometry, place: SlotOf)
     requires free { AreSlots geometry.now.slots found.old.free.items }
-    requires room { geometry.now.slots ≤ vec_capacity found.old.free }
+    requires room { geometry.now.slots ≤ deque_capacity found.old.free }
     requires within { IsWithin geometry.now.slots geometry.now.slot_size place }
     ensures gains { Gains found.old.free.items found.new.free.items (slots_at (geometry.now.slot_size - 64) place) }
     ensures free { AreSlots geometry.now.slots found.new.free.items }
-    ensures room { vec_capacity found.old.free ≤ vec_capacity found.new.free }
+    ensures room { deque_capacity found.old.free ≤ deque_capacity found.new.free }
     ensures ids { found.new.ids ≡ found.old.ids }
     ensures places { found.new.places ≡ found.old.places }
     ensures looks { found.new.looks ≡ found.old.looks }
@@ -137,11 +138,11 @@ fn free_record(found: &mut Found, geometry: &Geometry, place: SlotOf)
 // Lists a slot as free.
 fn list_free(found: &mut Found, geometry: &Geometry, slot: u32)
     requires free { AreSlots geometry.now.slots found.old.free.items }
-    requires room { geometry.now.slots ≤ vec_capacity found.old.free }
+    requires room { geometry.now.slots ≤ deque_capacity found.old.free }
     requires within { slot < geometry.now.slots }
     ensures gains { Gains found.old.free.items found.new.free.items (slot ∷ []) }
     ensures free { AreSlots geometry.now.slots found.new.free.items }
-    ensures room { vec_capacity found.old.free ≤ vec_capacity found.new.free }
+    ensures room { deque_capacity found.old.free ≤ deque_capacity found.new.free }
     ensures ids { found.new.ids ≡ found.old.ids }
     ensures places { found.new.places ≡ found.old.places }
     ensures looks { found.new.looks ≡ found.old.looks }

@@ -9,7 +9,35 @@ use Rattle.flash_model.specs.declared.power.Power.TheVariants.{Lost}
 use Rattle.flash_model.specs.Simulation.{steps_of, tear_at, image_left}
 use Rattle.flash_model.proofs.Telling.{length-first_changes, first_changes-unnoted, first_changes-noted, AreBelow-more, AreBelow-append, part-range}
 use Rattle.flash_model.proofs.Changes.{SameOutside-image_left, fate_of-last, fate_of-lost, fate_of-powered, at_err, at_ok, ChangeFails-last, ChangeFails-lost, ChangeFails-reaches, ChangeFails-whole, faults_after-torn, faults_after-whole}
+use Rattle.flash_model.specs.Simulation.{Reaches, fate_of}
 use Rattle.flash_model.proofs.sim_flash.SimFlash.change.Goals as goal
+use Rattle.flash_model.proofs.sim_flash.SimFlash.change.Goals.{After-note-noted, After-leave}
+
+-- power is on, and one more change can be counted
+powered : (c : After-note-noted) → fate_of (the_view c.self.inside) ≡ Reaches (tear_at c.self.inside.power c.self.inside.failing.items (steps_of (the_view c.self.inside)))
+powered c =
+    let steps = length-first_changes c.self.inside.journal c.self.inside.steps c.self.inside.image.items in
+    fate_of-powered (the_view c.self.inside) (λ (e : steps_of (the_view c.self.inside) ≡ 2 ^ 64 - 1). c.if-self.false (sym steps ∙ e))
+    (λ (lost : c.self.inside.power ≡ Lost). absurd (let e : true ≡ false = sym (c.is_lost.ensures.1 lost) ∙ c.if-is_lost.false in cc))
+
+torn_so : (c : After-note-noted) → tear_at c.self.inside.power c.self.inside.failing.items c.self.inside.steps ≡ c.tear_at-tear.result
+torn_so c = sym (c.tear_at-tear.ensures ∙ ap (λ (failing : List (ℕ × Tear)). tear_at c.self.inside.power failing c.self.inside.steps) c.deref.ensures.value)
+
+-- the image that it left, and what is told of it
+left_so : (c : After-leave) → c.leave.new.image ≡ image_left c.tear_at-tear.result c.self.inside.image.items c.args.at (bytes_of c.args.content)
+left_so c = c.leave.ensures ∙ ap (λ (image : List ℕ). image_left c.tear_at-tear.result image c.args.at (bytes_of c.args.content)) c.deref_mut.ensures.value
+
+told_so : (c : After-leave) → first_changes c.note-noted.new.self (c.self.inside.steps + 1) c.leave.new.image
+    ≡ first_changes c.self.inside.journal c.self.inside.steps c.self.inside.image.items ++ (record { before = c.self.inside.image.items; at = c.args.at; len = length (bytes_of c.args.content) }) ∷ []
+told_so c =
+    let noted = at_ok c.note-noted.result (sym c.is_err.ensures.value ∙ c.if-is_err.false) c.note-noted.ensures.ok in
+    let within : c.args.at + length (bytes_of c.args.content) ≤ length c.self.inside.image.items = rw (← c.self.view_is) at c.requires.within in
+    let replaced = c.replaced-replaced.ensures ∙ part-range c.self.inside.image.items c.deref-2.result.now c.args.at c.len.result (length (bytes_of c.args.content)) c.deref-2.ensures.value c.len.ensures in
+    ap (λ (journal : List Noted). first_changes journal (c.self.inside.steps + 1) c.leave.new.image) noted
+    ∙ first_changes-noted c.self.inside.journal c.self.inside.steps c.args.at (length (bytes_of c.args.content)) c.self.inside.image.items c.leave.new.image
+    _ c.self.invariant.0 within replaced
+    (subst (λ (image : List ℕ). SameOutside c.args.at (length (bytes_of c.args.content)) c.self.inside.image.items image) (sym (left_so c))
+    (SameOutside-image_left c.tear_at-tear.result c.self.inside.image.items c.args.at (bytes_of c.args.content) within))
 
 pub replaced-replaced-requires-clause-may : goal.replaced-replaced-requires-clause-may
 replaced-replaced-requires-clause-may c =
@@ -53,19 +81,14 @@ invariant_of-self-then-is_err c =
 pub returns-then-is_err-clause-after : goal.returns-then-is_err-clause-after
 returns-then-is_err-clause-after c =
     let steps = length-first_changes c.self.inside.journal c.self.inside.steps c.self.inside.image.items in
-    let more = λ (e : steps_of (the_view c.self.inside) ≡ 2 ^ 64 - 1). c.if-self.false (sym steps ∙ e) in
-    let powered = λ (lost : c.self.inside.power ≡ Lost). absurd (let e : true ≡ false = sym (c.is_lost.ensures.1 lost) ∙ c.if-is_lost.false in cc) in
-    let fate = fate_of-powered (the_view c.self.inside) more powered in
     let same : c.note-noted.new.self ≡ c.self.inside.journal = at_err c.note-noted.result (sym c.is_err.ensures.value ∙ c.if-is_err.true) c.note-noted.ensures.err in
     let past = first_changes-unnoted c.self.inside.journal c.self.inside.steps c.self.inside.image.items c.self.invariant.0 in
-    rw (← c.self.view_is, fate) (inr (rw (same, past, steps, c.after-self-inside.ensures, c.next_count-self-inside-then-is_err.ensures) refl))
+    rw (← c.self.view_is, powered (goal.at.returns-then-is_err-clause-after c).After-note-noted)
+    (inr (rw (same, past, steps, c.after-self-inside.ensures, c.next_count-self-inside-then-is_err.ensures) refl))
 
 pub returns-then-is_err-clause-fails : goal.returns-then-is_err-clause-fails
 returns-then-is_err-clause-fails c =
-    let steps = length-first_changes c.self.inside.journal c.self.inside.steps c.self.inside.image.items in
-    let more = λ (e : steps_of (the_view c.self.inside) ≡ 2 ^ 64 - 1). c.if-self.false (sym steps ∙ e) in
-    let powered = λ (lost : c.self.inside.power ≡ Lost). absurd (let e : true ≡ false = sym (c.is_lost.ensures.1 lost) ∙ c.if-is_lost.false in cc) in
-    let fate = fate_of-powered (the_view c.self.inside) more powered in
+    let fate = powered (goal.at.returns-then-is_err-clause-fails c).After-note-noted in
     rw (← c.self.view_is) (λ _. ChangeFails-reaches _ _ _ fate (inr (omega arith)), λ _. refl)
 
 pub invariant_of-self-then-is_some : goal.invariant_of-self-then-is_some
@@ -76,37 +99,19 @@ invariant_of-self-then-is_some c =
 
 pub returns-then-is_some-clause-after : goal.returns-then-is_some-clause-after
 returns-then-is_some-clause-after c =
+    let here = (goal.at.returns-then-is_some-clause-after c).After-leave in
     let steps = length-first_changes c.self.inside.journal c.self.inside.steps c.self.inside.image.items in
-    let more = λ (e : steps_of (the_view c.self.inside) ≡ 2 ^ 64 - 1). c.if-self.false (sym steps ∙ e) in
-    let powered = λ (lost : c.self.inside.power ≡ Lost). absurd (let e : true ≡ false = sym (c.is_lost.ensures.1 lost) ∙ c.if-is_lost.false in cc) in
-    let fate = fate_of-powered (the_view c.self.inside) more powered in
-    let noted = at_ok c.note-noted.result (sym c.is_err.ensures.value ∙ c.if-is_err.false) c.note-noted.ensures.ok in
-    let tear : tear_at c.self.inside.power c.self.inside.failing.items c.self.inside.steps ≡ c.tear_at-tear.result = sym (c.tear_at-tear.ensures ∙ ap (λ (failing : List (ℕ × Tear)). tear_at c.self.inside.power failing c.self.inside.steps) c.deref.ensures.value) in
     let written = with_items_is c.self.inside.image c.leave.new.image (c.leave.auto.image ∙ c.deref_mut.ensures.len) in
-    let left : c.leave.new.image ≡ image_left c.tear_at-tear.result c.self.inside.image.items c.args.at (bytes_of c.args.content) =
-    c.leave.ensures ∙ ap (λ (image : List ℕ). image_left c.tear_at-tear.result image c.args.at (bytes_of c.args.content)) c.deref_mut.ensures.value in
-    let within : c.args.at + length (bytes_of c.args.content) ≤ length c.self.inside.image.items = rw (← c.self.view_is) at c.requires.within in
-    let replaced = c.replaced-replaced.ensures ∙ part-range c.self.inside.image.items c.deref-2.result.now c.args.at c.len.result (length (bytes_of c.args.content)) c.deref-2.ensures.value c.len.ensures in
-    let past : first_changes c.note-noted.new.self (c.self.inside.steps + 1) c.leave.new.image
-    ≡ first_changes c.self.inside.journal c.self.inside.steps c.self.inside.image.items
-    ++ (record { before = c.self.inside.image.items; at = c.args.at; len = length (bytes_of c.args.content) }) ∷ [] =
-    ap (λ (journal : List Noted). first_changes journal (c.self.inside.steps + 1) c.leave.new.image) noted
-    ∙ first_changes-noted c.self.inside.journal c.self.inside.steps c.args.at (length (bytes_of c.args.content)) c.self.inside.image.items c.leave.new.image
-    _ c.self.invariant.0 within replaced
-    (subst (λ (image : List ℕ). SameOutside c.args.at (length (bytes_of c.args.content)) c.self.inside.image.items image) (sym left)
-    (SameOutside-image_left c.tear_at-tear.result c.self.inside.image.items c.args.at (bytes_of c.args.content) within)) in
     let faults = faults_after-torn c.tear_at-tear.result c.self.inside.faults (sym c.is_some.ensures ∙ c.if-is_some.true) in
-    rw (← c.self.view_is, fate) (inl (rw (written, past, steps, tear, left, c.after-self-inside.ensures, c.next_count-self-inside-then-is_some.ensures, faults) refl))
+    rw (← c.self.view_is, powered (goal.at.returns-then-is_some-clause-after c).After-note-noted)
+    (inl (rw (written, told_so here, steps, torn_so (goal.at.returns-then-is_some-clause-after c).After-note-noted, left_so here, c.after-self-inside.ensures, c.next_count-self-inside-then-is_some.ensures, faults) refl))
 
 pub returns-then-is_some-clause-fails : goal.returns-then-is_some-clause-fails
 returns-then-is_some-clause-fails c =
+    let here = (goal.at.returns-then-is_some-clause-fails c).After-note-noted in
     let steps = length-first_changes c.self.inside.journal c.self.inside.steps c.self.inside.image.items in
-    let more = λ (e : steps_of (the_view c.self.inside) ≡ 2 ^ 64 - 1). c.if-self.false (sym steps ∙ e) in
-    let powered = λ (lost : c.self.inside.power ≡ Lost). absurd (let e : true ≡ false = sym (c.is_lost.ensures.1 lost) ∙ c.if-is_lost.false in cc) in
-    let fate = fate_of-powered (the_view c.self.inside) more powered in
-    let tear : tear_at c.self.inside.power c.self.inside.failing.items c.self.inside.steps ≡ c.tear_at-tear.result = sym (c.tear_at-tear.ensures ∙ ap (λ (failing : List (ℕ × Tear)). tear_at c.self.inside.power failing c.self.inside.steps) c.deref.ensures.value) in
-    let torn : is_some (tear_at c.self.inside.power c.self.inside.failing.items c.self.inside.steps) ≡ true = ap is_some tear ∙ sym c.is_some.ensures ∙ c.if-is_some.true in
-    rw (← c.self.view_is) (λ _. ChangeFails-reaches _ _ _ fate (inl (rw steps torn)), λ _. refl)
+    let torn : is_some (tear_at c.self.inside.power c.self.inside.failing.items c.self.inside.steps) ≡ true = ap is_some (torn_so here) ∙ sym c.is_some.ensures ∙ c.if-is_some.true in
+    rw (← c.self.view_is) (λ _. ChangeFails-reaches _ _ _ (powered here) (inl (rw steps torn)), λ _. refl)
 
 pub invariant_of-self-else-is_some : goal.invariant_of-self-else-is_some
 invariant_of-self-else-is_some c =
@@ -116,37 +121,19 @@ invariant_of-self-else-is_some c =
 
 pub returns-clause-after : goal.returns-clause-after
 returns-clause-after c =
+    let here = (goal.at.returns-clause-after c).After-leave in
     let steps = length-first_changes c.self.inside.journal c.self.inside.steps c.self.inside.image.items in
-    let more = λ (e : steps_of (the_view c.self.inside) ≡ 2 ^ 64 - 1). c.if-self.false (sym steps ∙ e) in
-    let powered = λ (lost : c.self.inside.power ≡ Lost). absurd (let e : true ≡ false = sym (c.is_lost.ensures.1 lost) ∙ c.if-is_lost.false in cc) in
-    let fate = fate_of-powered (the_view c.self.inside) more powered in
-    let noted = at_ok c.note-noted.result (sym c.is_err.ensures.value ∙ c.if-is_err.false) c.note-noted.ensures.ok in
-    let tear : tear_at c.self.inside.power c.self.inside.failing.items c.self.inside.steps ≡ c.tear_at-tear.result = sym (c.tear_at-tear.ensures ∙ ap (λ (failing : List (ℕ × Tear)). tear_at c.self.inside.power failing c.self.inside.steps) c.deref.ensures.value) in
     let written = with_items_is c.self.inside.image c.leave.new.image (c.leave.auto.image ∙ c.deref_mut.ensures.len) in
-    let left : c.leave.new.image ≡ image_left c.tear_at-tear.result c.self.inside.image.items c.args.at (bytes_of c.args.content) =
-    c.leave.ensures ∙ ap (λ (image : List ℕ). image_left c.tear_at-tear.result image c.args.at (bytes_of c.args.content)) c.deref_mut.ensures.value in
-    let within : c.args.at + length (bytes_of c.args.content) ≤ length c.self.inside.image.items = rw (← c.self.view_is) at c.requires.within in
-    let replaced = c.replaced-replaced.ensures ∙ part-range c.self.inside.image.items c.deref-2.result.now c.args.at c.len.result (length (bytes_of c.args.content)) c.deref-2.ensures.value c.len.ensures in
-    let past : first_changes c.note-noted.new.self (c.self.inside.steps + 1) c.leave.new.image
-    ≡ first_changes c.self.inside.journal c.self.inside.steps c.self.inside.image.items
-    ++ (record { before = c.self.inside.image.items; at = c.args.at; len = length (bytes_of c.args.content) }) ∷ [] =
-    ap (λ (journal : List Noted). first_changes journal (c.self.inside.steps + 1) c.leave.new.image) noted
-    ∙ first_changes-noted c.self.inside.journal c.self.inside.steps c.args.at (length (bytes_of c.args.content)) c.self.inside.image.items c.leave.new.image
-    _ c.self.invariant.0 within replaced
-    (subst (λ (image : List ℕ). SameOutside c.args.at (length (bytes_of c.args.content)) c.self.inside.image.items image) (sym left)
-    (SameOutside-image_left c.tear_at-tear.result c.self.inside.image.items c.args.at (bytes_of c.args.content) within)) in
     let faults = faults_after-whole c.tear_at-tear.result c.self.inside.faults (sym c.is_some.ensures ∙ c.if-is_some.false) in
-    rw (← c.self.view_is, fate) (inl (rw (written, past, steps, tear, left, c.after-self-inside.ensures, faults) refl))
+    rw (← c.self.view_is, powered (goal.at.returns-clause-after c).After-note-noted)
+    (inl (rw (written, told_so here, steps, torn_so (goal.at.returns-clause-after c).After-note-noted, left_so here, c.after-self-inside.ensures, faults) refl))
 
 pub returns-clause-fails : goal.returns-clause-fails
 returns-clause-fails c =
+    let here = (goal.at.returns-clause-fails c).After-note-noted in
     let steps = length-first_changes c.self.inside.journal c.self.inside.steps c.self.inside.image.items in
-    let more = λ (e : steps_of (the_view c.self.inside) ≡ 2 ^ 64 - 1). c.if-self.false (sym steps ∙ e) in
-    let powered = λ (lost : c.self.inside.power ≡ Lost). absurd (let e : true ≡ false = sym (c.is_lost.ensures.1 lost) ∙ c.if-is_lost.false in cc) in
-    let fate = fate_of-powered (the_view c.self.inside) more powered in
-    let tear : tear_at c.self.inside.power c.self.inside.failing.items c.self.inside.steps ≡ c.tear_at-tear.result = sym (c.tear_at-tear.ensures ∙ ap (λ (failing : List (ℕ × Tear)). tear_at c.self.inside.power failing c.self.inside.steps) c.deref.ensures.value) in
-    let whole : is_some (tear_at c.self.inside.power c.self.inside.failing.items c.self.inside.steps) ≡ false = ap is_some tear ∙ sym c.is_some.ensures ∙ c.if-is_some.false in
-    rw (← c.self.view_is) (λ failed. cc, λ fails. absurd (ChangeFails-whole _ _ _ fate (rw steps whole) refl fails))
+    let whole : is_some (tear_at c.self.inside.power c.self.inside.failing.items c.self.inside.steps) ≡ false = ap is_some (torn_so here) ∙ sym c.is_some.ensures ∙ c.if-is_some.false in
+    rw (← c.self.view_is) (λ failed. cc, λ fails. absurd (ChangeFails-whole _ _ _ (powered here) (rw steps whole) refl fails))
 
 pub returns-then-self-clause-counted : goal.returns-then-self-clause-counted
 returns-then-self-clause-counted c =
