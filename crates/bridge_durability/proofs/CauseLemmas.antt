@@ -6,7 +6,7 @@ use Rattle.base_model.specs.Faults.{Rose}
 use Rattle.cper_frame.specs.declared.error.FrameError.{FrameError}
 use Rattle.record_model.specs.RecordMap.{Refusal, Command}
 use Rattle.erst_client.specs.declared.errors.ClientError.{ClientError}
-use Rattle.erst_client.specs.declared.errors.ClientError.TheVariants.{Hardware, Stopped, TooLong, Trailing}
+use Rattle.erst_client.specs.declared.errors.ClientError.TheVariants.{Hardware, TooLong, Trailing}
 use Rattle.erst_client.specs.declared.requests.Request.{Request}
 use Rattle.erst_client.specs.Commands.{ClientState, Writes, IsNoRecord as NotWritten, IsNotPut, IsAsked, frame_refusal, write_refusal}
 use Rattle.erst_client.specs.Timings.{enough_steps}

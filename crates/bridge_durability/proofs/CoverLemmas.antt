@@ -1,5 +1,5 @@
 -- While the reader gives a block back, the block's record is stored.
-use Rattle.std.proofs.Common.{◌≡◌, ◌∙◌, ℕ, ◌+◌, ◌^◌, ◌<◌, List, [], ◌∷◌, Ok, refl, sym, ap, subst, arith}
+use Rattle.std.proofs.Common.{◌≡◌, ℕ, List, [], ◌∷◌, Ok, refl, sym, ap, subst, arith}
 use Rattle.record_model.specs.Records.{Stored as Records}
 use Rattle.ghes_ack.specs.declared.events.Side.TheVariants.{Firmware, Reader}
 use Rattle.ghes_ack.specs.declared.events.Event.{Event}

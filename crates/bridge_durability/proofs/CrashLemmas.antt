@@ -21,7 +21,6 @@ use Rattle.erst_commands.specs.Changes.{ChangeCommand, IsTaken, IsRefused, IsFai
 use Rattle.erst_commands.specs.Writes.{WriteAnswered, IsNoRecord, IsWritten, marked, id_of, with_record}
 use Rattle.erst_commands.proofs.WriteLemmas.{written}
 use Rattle.erst_bridge.specs.declared.events.BridgeEvent.{BridgeEvent}
-use Rattle.erst_bridge.specs.declared.events.BridgeEvent.TheVariants.{Line}
 use Rattle.erst_bridge.specs.BridgedRecord.{bridged}
 use Rattle.erst_bridge.specs.Bridges.{BridgeState, TurnsReader, Stores, Keeps, RunsOut}
 use Rattle.bridge_durability.specs.Turns.{BridgesMachine, Turn, OfFirmware, OfBridge, IsTurn}

@@ -1,6 +1,5 @@
 -- A bridge stays in step with the handover of its machine.
-use Rattle.std.proofs.Common.{◌≡◌, ◌∙◌, ℕ, List, [], ◌∷◌, Ok, Err, refl, sym, subst}
-use Rattle.apei_space.specs.Accesses.{Reaches, Stays, Goes}
+use Rattle.std.proofs.Common.{ℕ, List, [], ◌∷◌, Ok, Err, sym, subst}
 use Rattle.ghes_ack.specs.declared.events.Side.TheVariants.{Firmware, Reader}
 use Rattle.ghes_ack.specs.declared.events.Event.{Event}
 use Rattle.ghes_ack.specs.Machine.{Machine, turned}
@@ -12,7 +11,7 @@ use Rattle.erst_machine.specs.Stations.{apart}
 use Rattle.erst_bridge.specs.declared.events.BridgeEvent.{BridgeEvent}
 use Rattle.erst_bridge.specs.declared.events.BridgeEvent.TheVariants.{Line, Stored, Kept, Out}
 use Rattle.erst_bridge.specs.BridgedRecord.{bridged}
-use Rattle.erst_bridge.specs.Bridges.{BridgeState, Holds, Releases, after_reader, TurnsReader, Stores, Keeps, RunsOut}
+use Rattle.erst_bridge.specs.Bridges.{BridgeState, after_reader, TurnsReader, Stores, Keeps, RunsOut}
 use Rattle.erst_bridge.specs.InStep.{IsInStep, IsInOrder}
 use Rattle.erst_bridge.proofs.InStepLemmas.{stays, order}
 use Rattle.bridge_durability.specs.Turns.{last_of, BridgesMachine, Turn, OfFirmware, OfBridge, Step, IsTurn, AreTurns}

@@ -1,6 +1,6 @@
 -- What the write of a record makes of the records.
-use Rattle.std.proofs.Common.{◌≡◌, ◌≢◌, inl, inr, ◌⊎◌, ◌∙◌, ℕ, ◌^◌, ◌<◌, nat_eq, cond, Bool, true, false, List, Option, Some, None, Result, Ok, refl, sym, ap, subst, arith}
-use Rattle.std.specs.Prelude.{is_none, if◌then◌else◌, ◌==◌}
+use Rattle.std.proofs.Common.{◌≡◌, ◌≢◌, inl, inr, ◌⊎◌, ◌∙◌, ℕ, ◌^◌, ◌<◌, nat_eq, cond, Bool, true, false, List, Some, None, Result, Ok, refl, sym, ap, subst, arith}
+use Rattle.std.specs.Prelude.{is_none, if◌then◌else◌}
 use Rattle.std.specs.Ordering.{nat_cmp, eq_by_cmp}
 use Rattle.std.specs.FinMap.{get, insert, get-insert}
 use Rattle.std.specs.Cmp.{nat_cmp_total}

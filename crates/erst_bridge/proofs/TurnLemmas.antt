@@ -1,15 +1,13 @@
 -- A turn of a bridge, from what it was to what is seen of it.
-use Rattle.std.proofs.Common.{◌≡◌, ℕ, List, drop, refl, subst}
+use Rattle.std.proofs.Common.{◌≡◌, ℕ, List, refl, subst}
 use Rattle.apei_space.specs.Calls.{Call}
 use Rattle.ghes_ack.specs.declared.events.Event.{Event}
 use Rattle.ghes_ack.specs.declared.events.Event.TheVariants.{Idle, Fill, Publish, Free, Wait, Nothing, Found, Copied, Took, Clear, Ack}
 use Rattle.erst_client.specs.Commands.{ClientState}
 use Rattle.erst_bridge.specs.declared.events.BridgeEvent.{BridgeEvent}
-use Rattle.erst_bridge.specs.declared.events.BridgeEvent.TheVariants.{Line, Stored, Kept, Out}
 use Rattle.erst_bridge.specs.declared.stages.Stage.{Stage}
 use Rattle.erst_bridge.specs.declared.stages.Stage.TheVariants.{Closed, Awaiting, Holding, Releasing}
-use Rattle.erst_bridge.specs.BridgedRecord.{bridged}
-use Rattle.erst_bridge.specs.Bridges.{BridgeState, Off, Awaits, Holds, Releases, state_of, HasRecord, HoldsNone, after_reader, after_offer, Bridges, TurnsReader, Stores, Keeps, RunsOut}
+use Rattle.erst_bridge.specs.Bridges.{BridgeState, Off, Awaits, Holds, Releases, state_of, HoldsNone, after_reader, Bridges, TurnsReader, Stores, Keeps, RunsOut}
 
 -- a bridge that is on and not holding holds none
 pub holds_none : (stage : Stage) (id : ℕ) (bytes : List ℕ) → (stage ≡ Holding → ⊥) → (state_of stage id bytes ≡ Off → ⊥) → HoldsNone id (state_of stage id bytes)
@@ -17,20 +15,6 @@ holds_none Closed id bytes other on = on refl
 holds_none Awaiting id bytes other on = refl
 holds_none Holding id bytes other on = other refl
 holds_none Releasing id bytes other on = refl
-
--- the record that is held
-pub held_record : (stage : Stage) (id : ℕ) (bytes : List ℕ) → stage ≡ Holding → HasRecord stage id bytes → bytes ≡ bridged (drop 200 bytes) id
-held_record Closed id bytes is has = absurd (cc)
-held_record Awaiting id bytes is has = absurd (cc)
-held_record Holding id bytes is has = has.1
-held_record Releasing id bytes is has = absurd (cc)
-
--- a try that stored nothing leaves the block held
-pub not_stored : (event : BridgeEvent) (id : ℕ) (block : List ℕ) → ((name : ℕ) → event ≡ Stored name → ⊥) → after_offer event id block ≡ Holds id block
-not_stored (Line event) id block other = refl
-not_stored (Stored name) id block other = absurd (other name refl)
-not_stored (Kept error) id block other = refl
-not_stored Out id block other = refl
 
 -- a turn of the reader makes one of three bridges
 pub reader_cases : (P : BridgeState → Type 0) (event : Event) (id : ℕ) (block : List ℕ) (bridge : BridgeState) → P (Holds id block) → P (Awaits id) → P bridge → P (after_reader event id block bridge)

@@ -47,7 +47,14 @@ after_reader Took id block bridge = Holds id block
 after_reader Ack id block bridge = Awaits id
 after_reader event id block bridge = bridge
 
--- behind a try to store the held block
+-- the held block was stored
+abbrev pub IsStored : BridgeEvent → Type 0
+IsStored (Line event) = ⊥
+IsStored (Stored id) = Unit {0}
+IsStored (Kept error) = ⊥
+IsStored Out = ⊥
+
+-- behind a try to store it
 abbrev pub after_offer : BridgeEvent → ℕ → List ℕ → BridgeState
 after_offer (Stored name) id block = Releases (id + 1)
 after_offer event id block = Holds id block

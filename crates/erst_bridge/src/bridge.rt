@@ -1,7 +1,8 @@
 // The bridge.
-ghost use Rattle.std.specs.Prelude.{◌≡◌, ◌≢◌, ◌≤◌, ◌<◌, ◌↔◌, ℕ, List, length, take, IfOk, IsTrue};
+ghost use Rattle.std.specs.Prelude.{◌≡◌, ◌≢◌, ◌≤◌, ◌<◌, ◌↔◌, ◌-◌, ◌^◌, ℕ, List, length, take, drop, IfOk, IsTrue};
 ghost use Rattle.erst_bridge.specs.BridgedRecord.{bridged};
-ghost use Rattle.erst_bridge.specs.Bridges.{Off, Awaits, Holds, Bridges, state_of, HasRecord, after_reader, after_offer};
+ghost use Rattle.erst_bridge.specs.declared.stages.Stage.TheVariants.{Holding as IsHolding};
+ghost use Rattle.erst_bridge.specs.Bridges.{Off, Awaits, Holds, Bridges, state_of, HasRecord, after_reader, after_offer, IsStored};
 ghost use Rattle.erst_bridge.specs.Causes.{OfEvent};
 
 use crate::events::BridgeEvent;
@@ -96,10 +97,7 @@ impl Bridge {
         match self.stage {
             Stage::Holding => {
                 let event = offer(&self.bytes[..self.size], self.id, client, budget, station);
-                if let BridgeEvent::Stored { .. } = event {
-                    self.stage = Stage::Releasing;
-                    self.id += 1;
-                }
+                settle(&event, &mut self.stage, &mut self.id);
                 event
             }
             _ => {
@@ -165,5 +163,23 @@ fn offer<S: Station>(
     match client.write(bytes, budget, station) {
         Ok(()) => BridgeEvent::Stored { id: name },
         Err(error) => BridgeEvent::Kept(error),
+    }
+}
+
+/// What a try to store the held block leaves: only behind one that stored it the reader goes on, and the identifier is used up.
+fn settle(event: &BridgeEvent, stage: &mut Stage, id: &mut u64)
+    requires holding { stage.old ≡ IsHolding }
+    requires spare { IsStored event.now → id.old < 2 ^ 64 - 1 }
+    ensures state { (bytes : List ℕ) → state_of stage.new id.new bytes ≡ after_offer event.now id.old (drop 200 bytes) }
+    ensures has { (bytes : List ℕ) → HasRecord stage.old id.old bytes → HasRecord stage.new id.new bytes }
+{
+    match *event {
+        BridgeEvent::Stored { .. } => {
+            *stage = Stage::Releasing;
+            *id += 1;
+        }
+        BridgeEvent::Kept(_) => {}
+        BridgeEvent::Out => {}
+        BridgeEvent::Line(_) => {}
     }
 }
