@@ -1,4 +1,4 @@
--- A run of a program that begins with a move, stage by stage.
+-- What each instruction of a move does.
 use Rattle.std.proofs.Common.{◌≡◌, ◌∙◌, ℕ, ◌+◌, ◌-◌, ◌*◌, ◌/◌, ◌%◌, ◌^◌, ◌<◌, Result, Ok, Err, refl, sym, ap, subst, arith}
 use Rattle.std.specs.Prelude.{◌==◌, if◌then◌else◌}
 use Rattle.std.proofs.lemmas.Nat.{and_mask}
@@ -46,38 +46,38 @@ same_number : (x y : ℕ) → ◌≡◌ {A = Result ℕ SpaceFault} (Ok x) (Ok y
 same_number x y e = cc
 
 -- what a step did: where it goes on, by how many further steps, and the space after it
-pub record Did {W : Type 0} (d : Configuration) (more : ℕ) (new : W) (to : Configuration) (extra : ℕ) (there : W) : Type 0 where
+pub record HasDone {W : Type 0} (d : Configuration) (more : ℕ) (new : W) (to : Configuration) (extra : ℕ) (there : W) : Type 0 where
   pub goes : d ≡ to
   pub only : more ≡ extra
   pub left : new ≡ there
 
 module _ {W : Type 0} (allows : W → Call → W → Type 0) (fits : W → Type 0) (from target count : ℕ) (space : ServesMove allows fits from target count) where
-  pub read_whole : (r : MoveRegister) (register : Register) (old new : W) (x known : ℕ) → checked (region_of r) ≡ Ok register → FieldRead allows register (2 ^ 64 - 1) old (Ok x) new → fits old → space.value r old ≡ known → known < 2 ^ 64
+  pub reads_number : (r : MoveRegister) (register : Register) (old new : W) (x known : ℕ) → checked (region_of r) ≡ Ok register → FieldRead allows register (2 ^ 64 - 1) old (Ok x) new → fits old → space.value r old ≡ known → known < 2 ^ 64
       → (x ≡ known) × (new ≡ old)
-  read_whole r register old new x known region read fit value_is small =
+  reads_number r register old new x known region read fit value_is small =
       let is : register ≡ register_at r = same_register (register_at r) register (checked (region_of r)) refl region in
       let got = got_of allows (register_at r) (2 ^ 64 - 1) old (Ok x) new x (subst (λ (reg : Register). FieldRead allows reg (2 ^ 64 - 1) old (Ok x) new) is read) refl in
       let reads = space.reads old new r (Ok got.0) fit got.1.1 in
       let number : got.0 ≡ known = same_number got.0 (space.value r old) reads.0 ∙ value_is in
       (got.1.0 ∙ ap (λ (n : ℕ). field n 0 (2 ^ 64 - 1)) number ∙ field_whole known small, reads.1)
 
-  pub read_never : (r : MoveRegister) (register : Register) (old new : W) (fault : SpaceFault) → checked (region_of r) ≡ Ok register → FieldRead allows register (2 ^ 64 - 1) old (Err fault) new → fits old → ⊥
-  read_never r register old new fault region read fit =
+  pub reads_always : (r : MoveRegister) (register : Register) (old new : W) (fault : SpaceFault) → checked (region_of r) ≡ Ok register → FieldRead allows register (2 ^ 64 - 1) old (Err fault) new → fits old → ⊥
+  reads_always r register old new fault region read fit =
       let is : register ≡ register_at r = same_register (register_at r) register (checked (region_of r)) refl region in
       let refused = refused_of allows (register_at r) (2 ^ 64 - 1) old (Err fault) new fault (subst (λ (reg : Register). FieldRead allows reg (2 ^ 64 - 1) old (Err fault) new) is read) refl in
       no_fault (space.value r old) fault (space.reads old new r (Err fault) fit refused).0
 
-  pub write_whole : (r : MoveRegister) (register : Register) (action : Action) (code value number : ℕ) (old new : W) → checked (region_of r) ≡ Ok register
+  pub writes_number : (r : MoveRegister) (register : Register) (action : Action) (code value number : ℕ) (old new : W) → checked (region_of r) ≡ Ok register
       → Store allows register (plain_entry action code (region_of r) value (2 ^ 64 - 1)) number old (Ok tt) new → fits old → number < 2 ^ 64 → new ≡ space.put r number old
-  write_whole r register action code value number old new region store fit small =
+  writes_number r register action code value number old new region store fit small =
       let is : register ≡ register_at r = same_register (register_at r) register (checked (region_of r)) refl region in
       let wrote = whole_of allows (register_at r) (plain_entry action code (region_of r) value (2 ^ 64 - 1)) number old (Ok tt) new
       (subst (λ (reg : Register). Store allows reg (plain_entry action code (region_of r) value (2 ^ 64 - 1)) number old (Ok tt) new) is store) refl in
       (space.writes old new r (stored number 0 (2 ^ 64 - 1)) (Ok tt) fit wrote).1 ∙ ap (λ (n : ℕ). space.put r n old) (stored_whole number small)
 
-  pub write_never : (r : MoveRegister) (register : Register) (action : Action) (code value number : ℕ) (old new : W) (fault : SpaceFault) → checked (region_of r) ≡ Ok register
+  pub writes_always : (r : MoveRegister) (register : Register) (action : Action) (code value number : ℕ) (old new : W) (fault : SpaceFault) → checked (region_of r) ≡ Ok register
       → Store allows register (plain_entry action code (region_of r) value (2 ^ 64 - 1)) number old (Err fault) new → fits old → ⊥
-  write_never r register action code value number old new fault region store fit =
+  writes_always r register action code value number old new fault region store fit =
       let is : register ≡ register_at r = same_register (register_at r) register (checked (region_of r)) refl region in
       let wrote = whole_of allows (register_at r) (plain_entry action code (region_of r) value (2 ^ 64 - 1)) number old (Err fault) new
       (subst (λ (reg : Register). Store allows reg (plain_entry action code (region_of r) value (2 ^ 64 - 1)) number old (Err fault) new) is store) refl in
@@ -86,71 +86,71 @@ module _ {W : Type 0} (allows : W → Call → W → Type 0) (fits : W → Type 
   -- Each kind of entry, in any program
 
   module _ (program : Listed) (given : ℕ) (action : Action) where
-    pub did_set : (r : MoveRegister) (value : ℕ) (entry : Entry) (c : Configuration) (old : W) (d : Configuration) (more : ℕ) (new : W) → put_number action r value ≡ entry → value < 2 ^ 64 → fits old
-        → Step allows (task_of program given entry c) old d more new → Did d more new (next c) 0 (space.put r value old)
-    did_set r value entry c old d more new is small fit step =
+    pub puts_number : (r : MoveRegister) (value : ℕ) (entry : Entry) (c : Configuration) (old : W) (d : Configuration) (more : ℕ) (new : W) → put_number action r value ≡ entry → value < 2 ^ 64 → fits old
+        → Step allows (task_of program given entry c) old d more new → HasDone d more new (next c) 0 (space.put r value old)
+    puts_number r value entry c old d more new is small fit step =
         let did = step_by allows (task_of program given (put_number action r value) c) WriteRegisterValue refl old d more new (subst (λ (e : Entry). Step allows (task_of program given e c) old d more new) (sym is) step) in
-        record { goes = did.1; only = did.2; left = write_whole r did.0 action 0x3 value value old new did.3 did.4 fit small }
+        record { goes = did.1; only = did.2; left = writes_number r did.0 action 0x3 value value old new did.3 did.4 fit small }
 
-    pub did_put : (r : MoveRegister) (entry : Entry) (c : Configuration) (old : W) (d : Configuration) (more : ℕ) (new : W) → use_register action 0x07 r ≡ entry → c.var1 < 2 ^ 64 → fits old
-        → Step allows (task_of program given entry c) old d more new → Did d more new (next c) 0 (space.put r c.var1 old)
-    did_put r entry c old d more new is small fit step =
+    pub stores_var1 : (r : MoveRegister) (entry : Entry) (c : Configuration) (old : W) (d : Configuration) (more : ℕ) (new : W) → use_register action 0x07 r ≡ entry → c.var1 < 2 ^ 64 → fits old
+        → Step allows (task_of program given entry c) old d more new → HasDone d more new (next c) 0 (space.put r c.var1 old)
+    stores_var1 r entry c old d more new is small fit step =
         let did = step_by allows (task_of program given (use_register action 0x07 r) c) StoreVar1 refl old d more new (subst (λ (e : Entry). Step allows (task_of program given e c) old d more new) (sym is) step) in
-        record { goes = did.1; only = did.2; left = write_whole r did.0 action 0x07 0 c.var1 old new did.3 did.4 fit small }
+        record { goes = did.1; only = did.2; left = writes_number r did.0 action 0x07 0 c.var1 old new did.3 did.4 fit small }
 
-    pub did_source : (r : MoveRegister) (known : ℕ) (entry : Entry) (c : Configuration) (old : W) (d : Configuration) (more : ℕ) (new : W) → use_register action 0x10 r ≡ entry → space.value r old ≡ known → known < 2 ^ 64 → fits old
-        → Step allows (task_of program given entry c) old d more new → Did d more new (record (next c) { source = known }) 0 old
-    did_source r known entry c old d more new is value_is small fit step =
+    pub takes_source : (r : MoveRegister) (known : ℕ) (entry : Entry) (c : Configuration) (old : W) (d : Configuration) (more : ℕ) (new : W) → use_register action 0x10 r ≡ entry → space.value r old ≡ known → known < 2 ^ 64 → fits old
+        → Step allows (task_of program given entry c) old d more new → HasDone d more new (record (next c) { source = known }) 0 old
+    takes_source r known entry c old d more new is value_is small fit step =
         let did = step_by allows (task_of program given (use_register action 0x10 r) c) SetSourceBase refl old d more new (subst (λ (e : Entry). Step allows (task_of program given e c) old d more new) (sym is) step) in
-        let read = read_whole r did.0 old new did.1 known did.4 did.5 fit value_is small in
+        let read = reads_number r did.0 old new did.1 known did.4 did.5 fit value_is small in
         record { goes = did.2 ∙ ap (λ (n : ℕ). record (next c) { source = n }) read.0; only = did.3; left = read.1 }
 
-    pub did_target : (r : MoveRegister) (known : ℕ) (entry : Entry) (c : Configuration) (old : W) (d : Configuration) (more : ℕ) (new : W) → use_register action 0x11 r ≡ entry → space.value r old ≡ known → known < 2 ^ 64 → fits old
-        → Step allows (task_of program given entry c) old d more new → Did d more new (record (next c) { target = known }) 0 old
-    did_target r known entry c old d more new is value_is small fit step =
+    pub takes_target : (r : MoveRegister) (known : ℕ) (entry : Entry) (c : Configuration) (old : W) (d : Configuration) (more : ℕ) (new : W) → use_register action 0x11 r ≡ entry → space.value r old ≡ known → known < 2 ^ 64 → fits old
+        → Step allows (task_of program given entry c) old d more new → HasDone d more new (record (next c) { target = known }) 0 old
+    takes_target r known entry c old d more new is value_is small fit step =
         let did = step_by allows (task_of program given (use_register action 0x11 r) c) SetTargetBase refl old d more new (subst (λ (e : Entry). Step allows (task_of program given e c) old d more new) (sym is) step) in
-        let read = read_whole r did.0 old new did.1 known did.4 did.5 fit value_is small in
+        let read = reads_number r did.0 old new did.1 known did.4 did.5 fit value_is small in
         record { goes = did.2 ∙ ap (λ (n : ℕ). record (next c) { target = n }) read.0; only = did.3; left = read.1 }
 
-    pub did_var2 : (r : MoveRegister) (known : ℕ) (entry : Entry) (c : Configuration) (old : W) (d : Configuration) (more : ℕ) (new : W) → use_register action 0x06 r ≡ entry → space.value r old ≡ known → known < 2 ^ 64 → fits old
-        → Step allows (task_of program given entry c) old d more new → Did d more new (record (next c) { var2 = known }) 0 old
-    did_var2 r known entry c old d more new is value_is small fit step =
+    pub takes_var2 : (r : MoveRegister) (known : ℕ) (entry : Entry) (c : Configuration) (old : W) (d : Configuration) (more : ℕ) (new : W) → use_register action 0x06 r ≡ entry → space.value r old ≡ known → known < 2 ^ 64 → fits old
+        → Step allows (task_of program given entry c) old d more new → HasDone d more new (record (next c) { var2 = known }) 0 old
+    takes_var2 r known entry c old d more new is value_is small fit step =
         let did = step_by allows (task_of program given (use_register action 0x06 r) c) LoadVar2 refl old d more new (subst (λ (e : Entry). Step allows (task_of program given e c) old d more new) (sym is) step) in
-        let read = read_whole r did.0 old new did.1 known did.4 did.5 fit value_is small in
+        let read = reads_number r did.0 old new did.1 known did.4 did.5 fit value_is small in
         record { goes = did.2 ∙ ap (λ (n : ℕ). record (next c) { var2 = n }) read.0; only = did.3; left = read.1 }
 
-    pub did_var1 : (r : MoveRegister) (known : ℕ) (entry : Entry) (c : Configuration) (old : W) (d : Configuration) (more : ℕ) (new : W) → use_register action 0x05 r ≡ entry → space.value r old ≡ known → known < 2 ^ 64 → fits old
-        → Step allows (task_of program given entry c) old d more new → Did d more new (record (next c) { var1 = known }) 0 old
-    did_var1 r known entry c old d more new is value_is small fit step =
+    pub takes_var1 : (r : MoveRegister) (known : ℕ) (entry : Entry) (c : Configuration) (old : W) (d : Configuration) (more : ℕ) (new : W) → use_register action 0x05 r ≡ entry → space.value r old ≡ known → known < 2 ^ 64 → fits old
+        → Step allows (task_of program given entry c) old d more new → HasDone d more new (record (next c) { var1 = known }) 0 old
+    takes_var1 r known entry c old d more new is value_is small fit step =
         let did = step_by allows (task_of program given (use_register action 0x05 r) c) LoadVar1 refl old d more new (subst (λ (e : Entry). Step allows (task_of program given e c) old d more new) (sym is) step) in
-        let read = read_whole r did.0 old new did.1 known did.4 did.5 fit value_is small in
+        let read = reads_number r did.0 old new did.1 known did.4 did.5 fit value_is small in
         record { goes = did.2 ∙ ap (λ (n : ℕ). record (next c) { var1 = n }) read.0; only = did.3; left = read.1 }
 
-    pub did_add : (entry : Entry) (c : Configuration) (old : W) (d : Configuration) (more : ℕ) (new : W) → plain_entry action 0x08 no_region 0 0 ≡ entry
-        → Step allows (task_of program given entry c) old d more new → Did d more new (record (next c) { var1 = (c.var1 + c.var2) % 2 ^ 64 }) 0 old
-    did_add entry c old d more new is step =
+    pub adds_both : (entry : Entry) (c : Configuration) (old : W) (d : Configuration) (more : ℕ) (new : W) → plain_entry action 0x08 no_region 0 0 ≡ entry
+        → Step allows (task_of program given entry c) old d more new → HasDone d more new (record (next c) { var1 = (c.var1 + c.var2) % 2 ^ 64 }) 0 old
+    adds_both entry c old d more new is step =
         let did = step_by allows (task_of program given (plain_entry action 0x08 no_region 0 0) c) Add refl old d more new (subst (λ (e : Entry). Step allows (task_of program given e c) old d more new) (sym is) step) in
         record { goes = did.0; only = did.1; left = did.2 }
 
-    pub did_goto : (to : ℕ) (entry : Entry) (c : Configuration) (old : W) (d : Configuration) (more : ℕ) (new : W) → plain_entry action 0x0F no_region to 0 ≡ entry
-        → Step allows (task_of program given entry c) old d more new → Did d more new (record (next c) { place = to }) 0 old
-    did_goto to entry c old d more new is step =
+    pub goes_to : (to : ℕ) (entry : Entry) (c : Configuration) (old : W) (d : Configuration) (more : ℕ) (new : W) → plain_entry action 0x0F no_region to 0 ≡ entry
+        → Step allows (task_of program given entry c) old d more new → HasDone d more new (record (next c) { place = to }) 0 old
+    goes_to to entry c old d more new is step =
         let did = step_by allows (task_of program given (plain_entry action 0x0F no_region to 0) c) Goto refl old d more new (subst (λ (e : Entry). Step allows (task_of program given e c) old d more new) (sym is) step) in
         record { goes = did.0; only = did.1; left = did.2 }
 
-    pub did_skip : (r : MoveRegister) (size known : ℕ) (entry : Entry) (c : Configuration) (old : W) (d : Configuration) (more : ℕ) (new : W) → plain_entry action 0x0E (region_of r) size (2 ^ 64 - 1) ≡ entry → space.value r old ≡ known
-        → known < 2 ^ 64 → fits old → Step allows (task_of program given entry c) old d more new → Did d more new (if known == size then next (next c) else next c) 0 old
-    did_skip r size known entry c old d more new is value_is small fit step =
+    pub skips_or_goes : (r : MoveRegister) (size known : ℕ) (entry : Entry) (c : Configuration) (old : W) (d : Configuration) (more : ℕ) (new : W) → plain_entry action 0x0E (region_of r) size (2 ^ 64 - 1) ≡ entry → space.value r old ≡ known
+        → known < 2 ^ 64 → fits old → Step allows (task_of program given entry c) old d more new → HasDone d more new (if known == size then next (next c) else next c) 0 old
+    skips_or_goes r size known entry c old d more new is value_is small fit step =
         let did = step_by allows (task_of program given (plain_entry action 0x0E (region_of r) size (2 ^ 64 - 1)) c) SkipNextIfTrue refl old d more new (subst (λ (e : Entry). Step allows (task_of program given e c) old d more new) (sym is) step) in
-        let read = read_whole r did.0 old new did.1 known did.4 did.5 fit value_is small in
+        let read = reads_number r did.0 old new did.1 known did.4 did.5 fit value_is small in
         record { goes = did.2 ∙ ap (λ (n : ℕ). if n == size then next (next c) else next c) read.0; only = did.3; left = read.1 }
 
-    pub did_copy : (r : MoveRegister) (i : ℕ) (entry : Entry) (c : Configuration) (old : W) (d : Configuration) (more : ℕ) (new : W) → use_register action 0x12 r ≡ entry → space.value r old ≡ 128 * i → i < count
+    pub copies_piece : (r : MoveRegister) (i : ℕ) (entry : Entry) (c : Configuration) (old : W) (d : Configuration) (more : ℕ) (new : W) → use_register action 0x12 r ≡ entry → space.value r old ≡ 128 * i → i < count
         → from + 128 * count < 2 ^ 64 → target + 128 * count < 2 ^ 64 → c.source ≡ from → c.target ≡ target → c.var2 ≡ 128 → fits old
-        → Step allows (task_of program given entry c) old d more new → Did d more new (next c) 2 (space.copied i old)
-    did_copy r i entry c old d more new is value_is within source_fits target_fits source_is target_is size_is fit step =
+        → Step allows (task_of program given entry c) old d more new → HasDone d more new (next c) 2 (space.copied i old)
+    copies_piece r i entry c old d more new is value_is within source_fits target_fits source_is target_is size_is fit step =
         let did = step_by allows (task_of program given (use_register action 0x12 r) c) MoveData refl old d more new (subst (λ (e : Entry). Step allows (task_of program given e c) old d more new) (sym is) step) in
-        let read = read_whole r did.0 old did.2 did.1 (128 * i) did.5 did.6 fit value_is (omega (arith, within, source_fits)) in
+        let read = reads_number r did.0 old did.2 did.1 (128 * i) did.5 did.6 fit value_is (omega (arith, within, source_fits)) in
         let source : (c.source + did.1) % 2 ^ 64 ≡ from + 128 * i = ap (λ (n : ℕ). (n + did.1) % 2 ^ 64) source_is ∙ ap (λ (n : ℕ). (from + n) % 2 ^ 64) read.0 ∙ (omega (arith, within, source_fits)) in
         let sink : (c.target + did.1) % 2 ^ 64 ≡ target + 128 * i = ap (λ (n : ℕ). (n + did.1) % 2 ^ 64) target_is ∙ ap (λ (n : ℕ). (target + n) % 2 ^ 64) read.0 ∙ (omega (arith, within, target_fits)) in
         let copies = subst (λ (w : W). allows w (Copy ((c.source + did.1) % 2 ^ 64) ((c.target + did.1) % 2 ^ 64) c.var2 (Ok tt)) new) read.1 did.7 in

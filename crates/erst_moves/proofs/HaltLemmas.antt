@@ -16,10 +16,10 @@ use Rattle.erst_moves.specs.MoveEntries.{MoveRegister, Offset, Source, Target, L
 use Rattle.erst_moves.specs.MoveSpaces.{ServesMove, AreAddressable}
 use Rattle.erst_moves.specs.MoveRuns.{move_then, move_steps}
 use Rattle.erst_moves.proofs.WorkLemmas.{IsUnpaid, IsTooLong, IsNotRead, IsNotCopied, halt_by}
-use Rattle.erst_moves.proofs.EntryLemmas.{register_at, no_fault, read_whole, read_never, write_never}
+use Rattle.erst_moves.proofs.EntryLemmas.{register_at, no_fault, reads_number, reads_always, writes_always}
 use Rattle.erst_moves.proofs.StageLemmas.{Stage, First, Second, Third, Fourth, Fifth, Sixth, Seventh, Head, Copied, Loaded, Added, Kept, Again, Done, cost, IsStage, stage_at, stage_in, stage_fits, rounds_hold}
 
--- the budget ran out before so many steps
+-- the budget had fewer steps than were needed
 pub record OutOfSteps {W : Type 0} (paid needs : ℕ) (old : W) (stop : RunStop) (left : ℕ) (new : W) : Type 0 where
   pub stop_is : stop ≡ Budget
   pub left_is : left ≡ 0
@@ -28,82 +28,82 @@ pub record OutOfSteps {W : Type 0} (paid needs : ℕ) (old : W) (stop : RunStop)
 
 module _ {W : Type 0} (allows : W → Call → W → Type 0) (fits : W → Type 0) (from target count : ℕ) (space : ServesMove allows fits from target count) where
   module _ (program : Listed) (given : ℕ) (action : Action) where
-    never_set : (r : MoveRegister) (value : ℕ) (entry : Entry) (c : Configuration) (paid : ℕ) (old : W) (stop : RunStop) (left : ℕ) (new : W) → put_number action r value ≡ entry → fits old
+    no_stop_put : (r : MoveRegister) (value : ℕ) (entry : Entry) (c : Configuration) (paid : ℕ) (old : W) (stop : RunStop) (left : ℕ) (new : W) → put_number action r value ≡ entry → fits old
         → Halt allows (task_of program given entry c) paid old stop left new → ⊥
-    never_set r value entry c paid old stop left new is fit halt =
+    no_stop_put r value entry c paid old stop left new is fit halt =
         let why = halt_by allows (task_of program given (put_number action r value) c) WriteRegisterValue refl (λ used. (register_at r, refl)) paid old stop left new
         (subst (λ (e : Entry). Halt allows (task_of program given e c) paid old stop left new) (sym is) halt) in
-        write_never allows fits from target count space r why.0 action 0x3 value value old new why.1 why.2 why.3 fit
+        writes_always allows fits from target count space r why.0 action 0x3 value value old new why.1 why.2 why.3 fit
 
-    never_put : (r : MoveRegister) (entry : Entry) (c : Configuration) (paid : ℕ) (old : W) (stop : RunStop) (left : ℕ) (new : W) → use_register action 0x07 r ≡ entry → fits old
+    no_stop_store : (r : MoveRegister) (entry : Entry) (c : Configuration) (paid : ℕ) (old : W) (stop : RunStop) (left : ℕ) (new : W) → use_register action 0x07 r ≡ entry → fits old
         → Halt allows (task_of program given entry c) paid old stop left new → ⊥
-    never_put r entry c paid old stop left new is fit halt =
+    no_stop_store r entry c paid old stop left new is fit halt =
         let why = halt_by allows (task_of program given (use_register action 0x07 r) c) StoreVar1 refl (λ used. (register_at r, refl)) paid old stop left new
         (subst (λ (e : Entry). Halt allows (task_of program given e c) paid old stop left new) (sym is) halt) in
-        write_never allows fits from target count space r why.0 action 0x07 0 c.var1 old new why.1 why.2 why.3 fit
+        writes_always allows fits from target count space r why.0 action 0x07 0 c.var1 old new why.1 why.2 why.3 fit
 
-    never_source : (r : MoveRegister) (entry : Entry) (c : Configuration) (paid : ℕ) (old : W) (stop : RunStop) (left : ℕ) (new : W) → use_register action 0x10 r ≡ entry → fits old
+    no_stop_source : (r : MoveRegister) (entry : Entry) (c : Configuration) (paid : ℕ) (old : W) (stop : RunStop) (left : ℕ) (new : W) → use_register action 0x10 r ≡ entry → fits old
         → Halt allows (task_of program given entry c) paid old stop left new → ⊥
-    never_source r entry c paid old stop left new is fit halt =
+    no_stop_source r entry c paid old stop left new is fit halt =
         let why = halt_by allows (task_of program given (use_register action 0x10 r) c) SetSourceBase refl (λ used. (register_at r, refl)) paid old stop left new
         (subst (λ (e : Entry). Halt allows (task_of program given e c) paid old stop left new) (sym is) halt) in
-        read_never allows fits from target count space r why.0 old new why.1 why.2 why.3 fit
+        reads_always allows fits from target count space r why.0 old new why.1 why.2 why.3 fit
 
-    never_target : (r : MoveRegister) (entry : Entry) (c : Configuration) (paid : ℕ) (old : W) (stop : RunStop) (left : ℕ) (new : W) → use_register action 0x11 r ≡ entry → fits old
+    no_stop_target : (r : MoveRegister) (entry : Entry) (c : Configuration) (paid : ℕ) (old : W) (stop : RunStop) (left : ℕ) (new : W) → use_register action 0x11 r ≡ entry → fits old
         → Halt allows (task_of program given entry c) paid old stop left new → ⊥
-    never_target r entry c paid old stop left new is fit halt =
+    no_stop_target r entry c paid old stop left new is fit halt =
         let why = halt_by allows (task_of program given (use_register action 0x11 r) c) SetTargetBase refl (λ used. (register_at r, refl)) paid old stop left new
         (subst (λ (e : Entry). Halt allows (task_of program given e c) paid old stop left new) (sym is) halt) in
-        read_never allows fits from target count space r why.0 old new why.1 why.2 why.3 fit
+        reads_always allows fits from target count space r why.0 old new why.1 why.2 why.3 fit
 
-    never_var2 : (r : MoveRegister) (entry : Entry) (c : Configuration) (paid : ℕ) (old : W) (stop : RunStop) (left : ℕ) (new : W) → use_register action 0x06 r ≡ entry → fits old
+    no_stop_var2 : (r : MoveRegister) (entry : Entry) (c : Configuration) (paid : ℕ) (old : W) (stop : RunStop) (left : ℕ) (new : W) → use_register action 0x06 r ≡ entry → fits old
         → Halt allows (task_of program given entry c) paid old stop left new → ⊥
-    never_var2 r entry c paid old stop left new is fit halt =
+    no_stop_var2 r entry c paid old stop left new is fit halt =
         let why = halt_by allows (task_of program given (use_register action 0x06 r) c) LoadVar2 refl (λ used. (register_at r, refl)) paid old stop left new
         (subst (λ (e : Entry). Halt allows (task_of program given e c) paid old stop left new) (sym is) halt) in
-        read_never allows fits from target count space r why.0 old new why.1 why.2 why.3 fit
+        reads_always allows fits from target count space r why.0 old new why.1 why.2 why.3 fit
 
-    never_var1 : (r : MoveRegister) (entry : Entry) (c : Configuration) (paid : ℕ) (old : W) (stop : RunStop) (left : ℕ) (new : W) → use_register action 0x05 r ≡ entry → fits old
+    no_stop_var1 : (r : MoveRegister) (entry : Entry) (c : Configuration) (paid : ℕ) (old : W) (stop : RunStop) (left : ℕ) (new : W) → use_register action 0x05 r ≡ entry → fits old
         → Halt allows (task_of program given entry c) paid old stop left new → ⊥
-    never_var1 r entry c paid old stop left new is fit halt =
+    no_stop_var1 r entry c paid old stop left new is fit halt =
         let why = halt_by allows (task_of program given (use_register action 0x05 r) c) LoadVar1 refl (λ used. (register_at r, refl)) paid old stop left new
         (subst (λ (e : Entry). Halt allows (task_of program given e c) paid old stop left new) (sym is) halt) in
-        read_never allows fits from target count space r why.0 old new why.1 why.2 why.3 fit
+        reads_always allows fits from target count space r why.0 old new why.1 why.2 why.3 fit
 
-    never_skip : (r : MoveRegister) (size : ℕ) (entry : Entry) (c : Configuration) (paid : ℕ) (old : W) (stop : RunStop) (left : ℕ) (new : W) → plain_entry action 0x0E (region_of r) size (2 ^ 64 - 1) ≡ entry → fits old
+    no_stop_skip : (r : MoveRegister) (size : ℕ) (entry : Entry) (c : Configuration) (paid : ℕ) (old : W) (stop : RunStop) (left : ℕ) (new : W) → plain_entry action 0x0E (region_of r) size (2 ^ 64 - 1) ≡ entry → fits old
         → Halt allows (task_of program given entry c) paid old stop left new → ⊥
-    never_skip r size entry c paid old stop left new is fit halt =
+    no_stop_skip r size entry c paid old stop left new is fit halt =
         let why = halt_by allows (task_of program given (plain_entry action 0x0E (region_of r) size (2 ^ 64 - 1)) c) SkipNextIfTrue refl (λ used. (register_at r, refl)) paid old stop left new
         (subst (λ (e : Entry). Halt allows (task_of program given e c) paid old stop left new) (sym is) halt) in
-        read_never allows fits from target count space r why.0 old new why.1 why.2 why.3 fit
+        reads_always allows fits from target count space r why.0 old new why.1 why.2 why.3 fit
 
-    never_add : (entry : Entry) (c : Configuration) (paid : ℕ) (old : W) (stop : RunStop) (left : ℕ) (new : W) → plain_entry action 0x08 no_region 0 0 ≡ entry
+    no_stop_add : (entry : Entry) (c : Configuration) (paid : ℕ) (old : W) (stop : RunStop) (left : ℕ) (new : W) → plain_entry action 0x08 no_region 0 0 ≡ entry
         → Halt allows (task_of program given entry c) paid old stop left new → ⊥
-    never_add entry c paid old stop left new is halt =
+    no_stop_add entry c paid old stop left new is halt =
         halt_by allows (task_of program given (plain_entry action 0x08 no_region 0 0) c) Add refl (λ used. absurd (cc used)) paid old stop left new
         (subst (λ (e : Entry). Halt allows (task_of program given e c) paid old stop left new) (sym is) halt)
 
-    never_goto : (to : ℕ) (entry : Entry) (c : Configuration) (paid : ℕ) (old : W) (stop : RunStop) (left : ℕ) (new : W) → plain_entry action 0x0F no_region to 0 ≡ entry → to < length program.entries
+    no_stop_goto : (to : ℕ) (entry : Entry) (c : Configuration) (paid : ℕ) (old : W) (stop : RunStop) (left : ℕ) (new : W) → plain_entry action 0x0F no_region to 0 ≡ entry → to < length program.entries
         → Halt allows (task_of program given entry c) paid old stop left new → ⊥
-    never_goto to entry c paid old stop left new is within halt =
+    no_stop_goto to entry c paid old stop left new is within halt =
         let beyond = halt_by allows (task_of program given (plain_entry action 0x0F no_region to 0) c) Goto refl (λ used. absurd (cc used)) paid old stop left new
         (subst (λ (e : Entry). Halt allows (task_of program given e c) paid old stop left new) (sym is) halt) in
         omega (arith, beyond, within)
 
-    halt_copy : (r : MoveRegister) (i : ℕ) (entry : Entry) (c : Configuration) (paid : ℕ) (old : W) (stop : RunStop) (left : ℕ) (new : W) → use_register action 0x12 r ≡ entry → space.value r old ≡ 128 * i → i < count
+    stop_copy : (r : MoveRegister) (i : ℕ) (entry : Entry) (c : Configuration) (paid : ℕ) (old : W) (stop : RunStop) (left : ℕ) (new : W) → use_register action 0x12 r ≡ entry → space.value r old ≡ 128 * i → i < count
         → from + 128 * count < 2 ^ 64 → target + 128 * count < 2 ^ 64 → c.source ≡ from → c.target ≡ target → c.var2 ≡ 128 → fits old
         → Halt allows (task_of program given entry c) paid old stop left new → OutOfSteps paid 2 old stop left new
-    halt_copy r i entry c paid old stop left new is value_is within source_fits target_fits source_is target_is size_is fit halt =
+    stop_copy r i entry c paid old stop left new is value_is within source_fits target_fits source_is target_is size_is fit halt =
         let why = halt_by allows (task_of program given (use_register action 0x12 r) c) MoveData refl (λ used. (register_at r, refl)) paid old stop left new
         (subst (λ (e : Entry). Halt allows (task_of program given e c) paid old stop left new) (sym is) halt) in
         elim why as (λ stop left new why. OutOfSteps paid 2 old stop left new) [
           | IsUnpaid register x new region read short ↦
-              let got = read_whole allows fits from target count space r register old new x (128 * i) region read fit value_is (omega (arith, within, source_fits)) in
+              let got = reads_number allows fits from target count space r register old new x (128 * i) region read fit value_is (omega (arith, within, source_fits)) in
               record { stop_is = refl; left_is = refl; new_is = got.1; short = subst (λ (n : ℕ). paid < n) (ap blocks size_is) short }
           | IsTooLong stop left new more ↦ absurd (omega (arith, more, size_is))
-          | IsNotRead stop left new refused ↦ absurd (read_never allows fits from target count space r refused.0 old new refused.1 refused.2 refused.3 fit)
+          | IsNotRead stop left new refused ↦ absurd (reads_always allows fits from target count space r refused.0 old new refused.1 refused.2 refused.3 fit)
           | IsNotCopied stop left register x fault mid new region read copies ↦
-              let got = read_whole allows fits from target count space r register old mid x (128 * i) region read fit value_is (omega (arith, within, source_fits)) in
+              let got = reads_number allows fits from target count space r register old mid x (128 * i) region read fit value_is (omega (arith, within, source_fits)) in
               let source : (c.source + x) % 2 ^ 64 ≡ from + 128 * i = ap (λ (n : ℕ). (n + x) % 2 ^ 64) source_is ∙ ap (λ (n : ℕ). (from + n) % 2 ^ 64) got.0 ∙ (omega (arith, within, source_fits)) in
               let sink : (c.target + x) % 2 ^ 64 ≡ target + 128 * i = ap (λ (n : ℕ). (n + x) % 2 ^ 64) target_is ∙ ap (λ (n : ℕ). (target + n) % 2 ^ 64) got.0 ∙ (omega (arith, within, target_fits)) in
               let asked = subst (λ (n : ℕ). allows old (Copy n (target + 128 * i) 128 (Err fault)) new) source
@@ -114,38 +114,38 @@ module _ {W : Type 0} (allows : W → Call → W → Type 0) (fits : W → Type 
         ]
 
   module _ (below : AreAddressable from target count) (action : Action) (behind : List Entry) (given : ℕ) (first : W) (fit : fits first) where
-    pub stage_halts : (stage : Stage) → IsStage count stage → (stage ≡ Done → ⊥) → (entry : Entry) → slice_get (move_then action from target count behind).entries (stage_at from target count stage).place ≡ Some entry
+    pub stage_stops : (stage : Stage) → IsStage count stage → (stage ≡ Done → ⊥) → (entry : Entry) → slice_get (move_then action from target count behind).entries (stage_at from target count stage).place ≡ Some entry
         → (paid : ℕ) (stop : RunStop) (left : ℕ) (new : W)
         → Halt allows (task_of (move_then action from target count behind) given entry (stage_at from target count stage)) paid (stage_in allows fits from target count space below first stage) stop left new
         → OutOfSteps paid 2 (stage_in allows fits from target count space below first stage) stop left new × (cost count stage + 3 ≤ move_steps count)
     unfolding move_entries
-    stage_halts First is not entry here paid stop left new halt =
-        absurd (never_set (move_then action from target count behind) given action Source from entry _ paid _ stop left new (same_Some _ _ here) fit halt)
-    stage_halts Second is not entry here paid stop left new halt =
-        absurd (never_set (move_then action from target count behind) given action Target target entry _ paid _ stop left new (same_Some _ _ here) (stage_fits allows fits from target count space below first fit Second tt) halt)
-    stage_halts Third is not entry here paid stop left new halt =
-        absurd (never_set (move_then action from target count behind) given action Length 128 entry _ paid _ stop left new (same_Some _ _ here) (stage_fits allows fits from target count space below first fit Third tt) halt)
-    stage_halts Fourth is not entry here paid stop left new halt =
-        absurd (never_set (move_then action from target count behind) given action Offset 0 entry _ paid _ stop left new (same_Some _ _ here) (stage_fits allows fits from target count space below first fit Fourth tt) halt)
-    stage_halts Fifth is not entry here paid stop left new halt =
-        absurd (never_source (move_then action from target count behind) given action Source entry _ paid _ stop left new (same_Some _ _ here) (stage_fits allows fits from target count space below first fit Fifth tt) halt)
-    stage_halts Sixth is not entry here paid stop left new halt =
-        absurd (never_target (move_then action from target count behind) given action Target entry _ paid _ stop left new (same_Some _ _ here) (stage_fits allows fits from target count space below first fit Sixth tt) halt)
-    stage_halts Seventh is not entry here paid stop left new halt =
-        absurd (never_var2 (move_then action from target count behind) given action Length entry _ paid _ stop left new (same_Some _ _ here) (stage_fits allows fits from target count space below first fit Seventh tt) halt)
-    stage_halts (Head i) is not entry here paid stop left new halt =
+    stage_stops First is not entry here paid stop left new halt =
+        absurd (no_stop_put (move_then action from target count behind) given action Source from entry _ paid _ stop left new (same_Some _ _ here) fit halt)
+    stage_stops Second is not entry here paid stop left new halt =
+        absurd (no_stop_put (move_then action from target count behind) given action Target target entry _ paid _ stop left new (same_Some _ _ here) (stage_fits allows fits from target count space below first fit Second tt) halt)
+    stage_stops Third is not entry here paid stop left new halt =
+        absurd (no_stop_put (move_then action from target count behind) given action Length 128 entry _ paid _ stop left new (same_Some _ _ here) (stage_fits allows fits from target count space below first fit Third tt) halt)
+    stage_stops Fourth is not entry here paid stop left new halt =
+        absurd (no_stop_put (move_then action from target count behind) given action Offset 0 entry _ paid _ stop left new (same_Some _ _ here) (stage_fits allows fits from target count space below first fit Fourth tt) halt)
+    stage_stops Fifth is not entry here paid stop left new halt =
+        absurd (no_stop_source (move_then action from target count behind) given action Source entry _ paid _ stop left new (same_Some _ _ here) (stage_fits allows fits from target count space below first fit Fifth tt) halt)
+    stage_stops Sixth is not entry here paid stop left new halt =
+        absurd (no_stop_target (move_then action from target count behind) given action Target entry _ paid _ stop left new (same_Some _ _ here) (stage_fits allows fits from target count space below first fit Sixth tt) halt)
+    stage_stops Seventh is not entry here paid stop left new halt =
+        absurd (no_stop_var2 (move_then action from target count behind) given action Length entry _ paid _ stop left new (same_Some _ _ here) (stage_fits allows fits from target count space below first fit Seventh tt) halt)
+    stage_stops (Head i) is not entry here paid stop left new halt =
         let holds = rounds_hold allows fits from target count space below first fit i (omega arith) in (
-          halt_copy (move_then action from target count behind) given action Offset i entry _ paid _ stop left new (same_Some _ _ here) holds.offset is below.source below.target_is refl refl refl holds.fit halt,
+          stop_copy (move_then action from target count behind) given action Offset i entry _ paid _ stop left new (same_Some _ _ here) holds.offset is below.source below.target_is refl refl refl holds.fit halt,
           omega arith,
         )
-    stage_halts (Copied i) is not entry here paid stop left new halt =
-        absurd (never_var1 (move_then action from target count behind) given action Offset entry _ paid _ stop left new (same_Some _ _ here) (stage_fits allows fits from target count space below first fit (Copied i) is) halt)
-    stage_halts (Loaded i) is not entry here paid stop left new halt =
-        absurd (never_add (move_then action from target count behind) given action entry _ paid _ stop left new (same_Some _ _ here) halt)
-    stage_halts (Added i) is not entry here paid stop left new halt =
-        absurd (never_put (move_then action from target count behind) given action Offset entry _ paid _ stop left new (same_Some _ _ here) (stage_fits allows fits from target count space below first fit (Added i) is) halt)
-    stage_halts (Kept i) is not entry here paid stop left new halt =
-        absurd (never_skip (move_then action from target count behind) given action Offset (128 * count) entry _ paid _ stop left new (same_Some _ _ here) (stage_fits allows fits from target count space below first fit (Kept i) is) halt)
-    stage_halts (Again i) is not entry here paid stop left new halt =
-        absurd (never_goto (move_then action from target count behind) given action 7 entry _ paid _ stop left new (same_Some _ _ here) (omega arith) halt)
-    stage_halts Done is not entry here paid stop left new halt = absurd (not refl)
+    stage_stops (Copied i) is not entry here paid stop left new halt =
+        absurd (no_stop_var1 (move_then action from target count behind) given action Offset entry _ paid _ stop left new (same_Some _ _ here) (stage_fits allows fits from target count space below first fit (Copied i) is) halt)
+    stage_stops (Loaded i) is not entry here paid stop left new halt =
+        absurd (no_stop_add (move_then action from target count behind) given action entry _ paid _ stop left new (same_Some _ _ here) halt)
+    stage_stops (Added i) is not entry here paid stop left new halt =
+        absurd (no_stop_store (move_then action from target count behind) given action Offset entry _ paid _ stop left new (same_Some _ _ here) (stage_fits allows fits from target count space below first fit (Added i) is) halt)
+    stage_stops (Kept i) is not entry here paid stop left new halt =
+        absurd (no_stop_skip (move_then action from target count behind) given action Offset (128 * count) entry _ paid _ stop left new (same_Some _ _ here) (stage_fits allows fits from target count space below first fit (Kept i) is) halt)
+    stage_stops (Again i) is not entry here paid stop left new halt =
+        absurd (no_stop_goto (move_then action from target count behind) given action 7 entry _ paid _ stop left new (same_Some _ _ here) (omega arith) halt)
+    stage_stops Done is not entry here paid stop left new halt = absurd (not refl)

@@ -13,8 +13,8 @@ use Rattle.erst_interp.specs.Runs.{Walk, Begun as WalkBegun, Then as WalkThen, R
 use Rattle.erst_moves.specs.MoveEntries.{move_entries}
 use Rattle.erst_moves.specs.MoveSpaces.{ServesMove, AreAddressable, after_rounds}
 use Rattle.erst_moves.specs.MoveRuns.{move_then, move_steps, standing, WalkFrom, Begun, Then, Finishes, Exhausted, Halts, MovesFirst, MovesOn, StopsWithin}
-use Rattle.erst_moves.proofs.StageLemmas.{Stage, First, Second, Third, Fourth, Fifth, Sixth, Seventh, Head, Copied, Loaded, Added, Kept, Again, Done, cost, IsStage, stage_at, stage_in, stage_fits, stage_goes}
-use Rattle.erst_moves.proofs.HaltLemmas.{stage_halts}
+use Rattle.erst_moves.proofs.StageLemmas.{Stage, First, Second, Third, Fourth, Fifth, Sixth, Seventh, Head, Copied, Loaded, Added, Kept, Again, Done, cost, IsStage, stage_at, stage_in, stage_fits, stage_leads}
+use Rattle.erst_moves.proofs.HaltLemmas.{stage_stops}
 
 is_done : (stage : Stage) → (stage ≡ Done) ⊎ (stage ≡ Done → ⊥)
 is_done First = inr (λ e. absurd (cc e))
@@ -73,7 +73,7 @@ module _ {W : Type 0} (allows : W → Call → W → Type 0) (fits : W → Type 
   one_more left c mid entry d more after new (Before stage l b w is not there at_w spent) here step sum =
       let moved = subst (λ (x : Configuration). Step allows (task_of (move_then action from target count behind) given entry x) (stage_in allows fits from target count space below first stage) d more new) there
       (subst (λ (v : W). Step allows (task_of (move_then action from target count behind) given entry c) v d more new) at_w step) in
-      let goes = stage_goes allows fits from target count space below action behind given first fit stage is not entry
+      let goes = stage_leads allows fits from target count space below action behind given first fit stage is not entry
       (subst (λ (x : Configuration). slice_get (move_then action from target count behind).entries x.place ≡ Some entry) there here) d more new moved in
       arrives goes.to after d new goes.is_stage goes.goes goes.left (omega (arith, goes.spent, sum, spent)) (is_done goes.to)
   one_more left c mid entry d more after new (Beyond before l b w spent walk) here step sum = Beyond before after d new spent (Then left c mid entry d more after new walk here step sum)
@@ -106,7 +106,7 @@ module _ {W : Type 0} (allows : W → Call → W → Type 0) (fits : W → Type 
   halted paid left_before c mid entry stop left last paid_is (Before stage l b w is not there at_w spent) here halt =
       let moved = subst (λ (x : Configuration). Halt allows (task_of (move_then action from target count behind) given entry x) paid (stage_in allows fits from target count space below first stage) stop left last) there
       (subst (λ (v : W). Halt allows (task_of (move_then action from target count behind) given entry c) paid v stop left last) at_w halt) in
-      let halts = stage_halts allows fits from target count space below action behind given first fit stage is not entry
+      let halts = stage_stops allows fits from target count space below action behind given first fit stage is not entry
       (subst (λ (x : Configuration). slice_get (move_then action from target count behind).entries x.place ≡ Some entry) there here) paid stop left last moved in
       let out = halts.0 in
       subst (λ (s : RunStop). MovesFirst space action behind given budget first (Err s) left last) (sym out.stop_is)

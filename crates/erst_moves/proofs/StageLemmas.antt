@@ -13,7 +13,7 @@ use Rattle.erst_interp.specs.Runs.{task_of}
 use Rattle.erst_moves.specs.MoveEntries.{Offset, Source, Target, Length, move_entries}
 use Rattle.erst_moves.specs.MoveSpaces.{ServesMove, AreAddressable, prepared, after_rounds}
 use Rattle.erst_moves.specs.MoveRuns.{move_then, standing}
-use Rattle.erst_moves.proofs.EntryLemmas.{Did, did_set, did_put, did_source, did_target, did_var1, did_var2, did_add, did_goto, did_skip, did_copy}
+use Rattle.erst_moves.proofs.EntryLemmas.{HasDone, puts_number, stores_var1, takes_source, takes_target, takes_var1, takes_var2, adds_both, goes_to, skips_or_goes, copies_piece}
 
 -- where a run stands: before one of the first seven entries, at the head of round i, behind each of its entries, and behind the move
 pub data Stage : Type 0 where
@@ -156,20 +156,20 @@ module _ {W : Type 0} (allows : W → Call → W → Type 0) (fits : W → Type 
   stage_fits first fit Done is = (rounds_hold first fit count (omega arith)).fit
 
   -- where the next instruction leads
-  pub record Goes (first : W) (stage : Stage) (d : Configuration) (more : ℕ) (new : W) : Type 0 where
+  pub record LeadsOn (first : W) (stage : Stage) (d : Configuration) (more : ℕ) (new : W) : Type 0 where
     pub to : Stage
     pub is_stage : IsStage count to
     pub goes : d ≡ stage_at from target count to
     pub left : new ≡ stage_in first to
     pub spent : more + 1 + cost count stage ≡ cost count to
 
-  by : (first : W) (stage to : Stage) (d : Configuration) (more : ℕ) (new : W) (extra : ℕ) → IsStage count to → Did d more new (stage_at from target count to) extra (stage_in first to) → extra + 1 + cost count stage ≡ cost count to
-      → Goes first stage d more new
+  by : (first : W) (stage to : Stage) (d : Configuration) (more : ℕ) (new : W) (extra : ℕ) → IsStage count to → HasDone d more new (stage_at from target count to) extra (stage_in first to) → extra + 1 + cost count stage ≡ cost count to
+      → LeadsOn first stage d more new
   by first stage to d more new extra is did spent = record { to = to; is_stage = is; goes = did.goes; left = did.left; spent = ap (λ (n : ℕ). n + 1 + cost count stage) did.only ∙ spent }
 
   -- the loop is left exactly behind the last piece
   skipped : (first : W) (i : ℕ) (d : Configuration) (more : ℕ) (new : W) → i < count → (test : Bool) → (128 * suc i == 128 * count) ≡ test
-      → Did d more new (if test then next (next (standing 11 (128 * suc i) 128 from target)) else next (standing 11 (128 * suc i) 128 from target)) 0 (after_rounds space (suc i) first) → Goes first (Kept i) d more new
+      → HasDone d more new (if test then next (next (standing 11 (128 * suc i) 128 from target)) else next (standing 11 (128 * suc i) 128 from target)) 0 (after_rounds space (suc i) first) → LeadsOn first (Kept i) d more new
   skipped first i d more new within true test did =
       let last : suc i ≡ count = grind (arith, nat_tests) in
       by first (Kept i) Done d more new 0 tt
@@ -184,56 +184,56 @@ module _ {W : Type 0} (allows : W → Call → W → Type 0) (fits : W → Type 
       by first (Kept i) (Again i) d more new 0 (omega arith) did (omega arith)
 
   module _ (action : Action) (behind : List Entry) (given : ℕ) (first : W) (fit : fits first) where
-    pub stage_goes : (stage : Stage) → IsStage count stage → (stage ≡ Done → ⊥) → (entry : Entry) → slice_get (move_then action from target count behind).entries (stage_at from target count stage).place ≡ Some entry
-        → (d : Configuration) (more : ℕ) (new : W) → Step allows (task_of (move_then action from target count behind) given entry (stage_at from target count stage)) (stage_in first stage) d more new → Goes first stage d more new
+    pub stage_leads : (stage : Stage) → IsStage count stage → (stage ≡ Done → ⊥) → (entry : Entry) → slice_get (move_then action from target count behind).entries (stage_at from target count stage).place ≡ Some entry
+        → (d : Configuration) (more : ℕ) (new : W) → Step allows (task_of (move_then action from target count behind) given entry (stage_at from target count stage)) (stage_in first stage) d more new → LeadsOn first stage d more new
     unfolding move_entries
-    stage_goes First is not entry here d more new step =
+    stage_leads First is not entry here d more new step =
         let fits_from = below.source in
-        by first First Second d more new 0 tt (did_set allows fits from target count space (move_then action from target count behind) given action Source from entry _ _ d more new (same_Some _ _ here) (omega arith) fit step) refl
-    stage_goes Second is not entry here d more new step =
+        by first First Second d more new 0 tt (puts_number allows fits from target count space (move_then action from target count behind) given action Source from entry _ _ d more new (same_Some _ _ here) (omega arith) fit step) refl
+    stage_leads Second is not entry here d more new step =
         let fits_target = below.target_is in
-        by first Second Third d more new 0 tt (did_set allows fits from target count space (move_then action from target count behind) given action Target target entry _ _ d more new (same_Some _ _ here) (omega arith) (stage_fits first fit Second tt) step) refl
-    stage_goes Third is not entry here d more new step =
-        by first Third Fourth d more new 0 tt (did_set allows fits from target count space (move_then action from target count behind) given action Length 128 entry _ _ d more new (same_Some _ _ here) (omega arith) (stage_fits first fit Third tt) step) refl
-    stage_goes Fourth is not entry here d more new step =
-        by first Fourth Fifth d more new 0 tt (did_set allows fits from target count space (move_then action from target count behind) given action Offset 0 entry _ _ d more new (same_Some _ _ here) (omega arith) (stage_fits first fit Fourth tt) step) refl
-    stage_goes Fifth is not entry here d more new step =
+        by first Second Third d more new 0 tt (puts_number allows fits from target count space (move_then action from target count behind) given action Target target entry _ _ d more new (same_Some _ _ here) (omega arith) (stage_fits first fit Second tt) step) refl
+    stage_leads Third is not entry here d more new step =
+        by first Third Fourth d more new 0 tt (puts_number allows fits from target count space (move_then action from target count behind) given action Length 128 entry _ _ d more new (same_Some _ _ here) (omega arith) (stage_fits first fit Third tt) step) refl
+    stage_leads Fourth is not entry here d more new step =
+        by first Fourth Fifth d more new 0 tt (puts_number allows fits from target count space (move_then action from target count behind) given action Offset 0 entry _ _ d more new (same_Some _ _ here) (omega arith) (stage_fits first fit Fourth tt) step) refl
+    stage_leads Fifth is not entry here d more new step =
         let holds = begun_holds first fit in
         let fits_from = below.source in
-        by first Fifth Sixth d more new 0 tt (did_source allows fits from target count space (move_then action from target count behind) given action Source from entry _ _ d more new (same_Some _ _ here) holds.source (omega arith) holds.fit step) refl
-    stage_goes Sixth is not entry here d more new step =
+        by first Fifth Sixth d more new 0 tt (takes_source allows fits from target count space (move_then action from target count behind) given action Source from entry _ _ d more new (same_Some _ _ here) holds.source (omega arith) holds.fit step) refl
+    stage_leads Sixth is not entry here d more new step =
         let holds = begun_holds first fit in
         let fits_target = below.target_is in
-        by first Sixth Seventh d more new 0 tt (did_target allows fits from target count space (move_then action from target count behind) given action Target target entry _ _ d more new (same_Some _ _ here) holds.target_is (omega arith) holds.fit step) refl
-    stage_goes Seventh is not entry here d more new step =
+        by first Sixth Seventh d more new 0 tt (takes_target allows fits from target count space (move_then action from target count behind) given action Target target entry _ _ d more new (same_Some _ _ here) holds.target_is (omega arith) holds.fit step) refl
+    stage_leads Seventh is not entry here d more new step =
         let holds = begun_holds first fit in
-        by first Seventh (Head 0) d more new 0 below.some (did_var2 allows fits from target count space (move_then action from target count behind) given action Length 128 entry _ _ d more new (same_Some _ _ here) holds.size (omega arith) holds.fit step) refl
-    stage_goes (Head i) is not entry here d more new step =
+        by first Seventh (Head 0) d more new 0 below.some (takes_var2 allows fits from target count space (move_then action from target count behind) given action Length 128 entry _ _ d more new (same_Some _ _ here) holds.size (omega arith) holds.fit step) refl
+    stage_leads (Head i) is not entry here d more new step =
         let holds = rounds_hold first fit i (omega arith) in
         by first (Head i) (Copied i) d more new 2 is
-        (did_copy allows fits from target count space (move_then action from target count behind) given action Offset i entry _ _ d more new (same_Some _ _ here) holds.offset is below.source below.target_is refl refl refl holds.fit step) (omega arith)
-    stage_goes (Copied i) is not entry here d more new step =
+        (copies_piece allows fits from target count space (move_then action from target count behind) given action Offset i entry _ _ d more new (same_Some _ _ here) holds.offset is below.source below.target_is refl refl refl holds.fit step) (omega arith)
+    stage_leads (Copied i) is not entry here d more new step =
         let holds = copied_holds i (after_rounds space i first) is (rounds_hold first fit i (omega arith)) in
         let fits_from = below.source in
         by first (Copied i) (Loaded i) d more new 0 is
-        (did_var1 allows fits from target count space (move_then action from target count behind) given action Offset (128 * i) entry _ _ d more new (same_Some _ _ here) holds.offset (omega arith) holds.fit step) (omega arith)
-    stage_goes (Loaded i) is not entry here d more new step =
-        let did = did_add allows fits from target count space (move_then action from target count behind) given action entry _ _ d more new (same_Some _ _ here) step in
+        (takes_var1 allows fits from target count space (move_then action from target count behind) given action Offset (128 * i) entry _ _ d more new (same_Some _ _ here) holds.offset (omega arith) holds.fit step) (omega arith)
+    stage_leads (Loaded i) is not entry here d more new step =
+        let did = adds_both allows fits from target count space (move_then action from target count behind) given action entry _ _ d more new (same_Some _ _ here) step in
         let fits_from = below.source in
         let sum : (128 * i + 128) % 2 ^ 64 ≡ 128 * suc i = omega arith in
         by first (Loaded i) (Added i) d more new 0 is
         (record { goes = did.goes ∙ ap (λ (n : ℕ). standing 10 n 128 from target) sum; only = did.only; left = did.left }) (omega arith)
-    stage_goes (Added i) is not entry here d more new step =
+    stage_leads (Added i) is not entry here d more new step =
         let holds = copied_holds i (after_rounds space i first) is (rounds_hold first fit i (omega arith)) in
         let fits_from = below.source in
         by first (Added i) (Kept i) d more new 0 is
-        (did_put allows fits from target count space (move_then action from target count behind) given action Offset entry _ _ d more new (same_Some _ _ here) (omega arith) holds.fit step) (omega arith)
-    stage_goes (Kept i) is not entry here d more new step =
+        (stores_var1 allows fits from target count space (move_then action from target count behind) given action Offset entry _ _ d more new (same_Some _ _ here) (omega arith) holds.fit step) (omega arith)
+    stage_leads (Kept i) is not entry here d more new step =
         let holds = rounds_hold first fit (suc i) (omega arith) in
         let fits_from = below.source in
         skipped first i d more new is (128 * suc i == 128 * count) refl
-        (did_skip allows fits from target count space (move_then action from target count behind) given action Offset (128 * count) (128 * suc i) entry _ _ d more new (same_Some _ _ here) holds.offset (omega arith) holds.fit step)
-    stage_goes (Again i) is not entry here d more new step =
+        (skips_or_goes allows fits from target count space (move_then action from target count behind) given action Offset (128 * count) (128 * suc i) entry _ _ d more new (same_Some _ _ here) holds.offset (omega arith) holds.fit step)
+    stage_leads (Again i) is not entry here d more new step =
         by first (Again i) (Head (suc i)) d more new 0 is
-        (did_goto allows fits from target count space (move_then action from target count behind) given action 7 entry _ _ d more new (same_Some _ _ here) step) (omega arith)
-    stage_goes Done is not entry here d more new step = absurd (not refl)
+        (goes_to allows fits from target count space (move_then action from target count behind) given action 7 entry _ _ d more new (same_Some _ _ here) step) (omega arith)
+    stage_leads Done is not entry here d more new step = absurd (not refl)

@@ -73,17 +73,17 @@ tell_straight tells action r number =
     OneEntry (put_number action r number) (use_register action 0x0 r ∷ []) (sets action r number) (λ w v n fault h. no_fault tt fault (register_written tells w v r n (Err fault) h).0)
     (OneEntry (use_register action 0x0 r) [] (reads action r) (λ w v fault h. no_fault (value r w) fault (register_read tells w v r (Err fault) h).0) NoEntry)
 
-pub record IsSaid (number budget : ℕ) (old : MachineState) (result : Result ℕ RunStop) (left : ℕ) (last : MachineState) : Type 0 where
+pub record TellsNumber (number budget : ℕ) (old : MachineState) (result : Result ℕ RunStop) (left : ℕ) (last : MachineState) : Type 0 where
   pub answer : result ≡ Ok number
   pub left_is : left + 2 ≡ budget
   pub long : length last.memory.scratch ≡ 4096
   pub beside : last ≡ holding old.memory.range last.memory.scratch old
 
-said : (tells : Type 0) → StraightRuns tells → (action : Action) (r : MoveRegister) (number budget : ℕ) (old : MachineState) (result : Result ℕ RunStop) (left : ℕ) (last : MachineState) → number < 2 ^ 64 → length old.memory.scratch ≡ 4096 → 2 ≤ budget
-    → Run (Allows tells) (tell_entries action r number) 0 budget old result left last → IsSaid number budget old result left last
+tells_number_in : (tells : Type 0) → StraightRuns tells → (action : Action) (r : MoveRegister) (number budget : ℕ) (old : MachineState) (result : Result ℕ RunStop) (left : ℕ) (last : MachineState) → number < 2 ^ 64 → length old.memory.scratch ≡ 4096 → 2 ≤ budget
+    → Run (Allows tells) (tell_entries action r number) 0 budget old result left last → TellsNumber number budget old result left last
 unfolding tell_straight sets reads
-said tells law action r number budget old result left last small long enough run =
-    elim (law (tell_entries action r number) (tell_straight tells action r number) 0 budget old result left last (omega arith) run) as (λ result left last ran. IsSaid number budget old result left last) [
+tells_number_in tells law action r number budget old result left last small long enough run =
+    elim (law (tell_entries action r number) (tell_straight tells action r number) 0 budget old result left last (omega arith) run) as (λ result left last ran. TellsNumber number budget old result left last) [
       | Through c left last does spent ↦
           let between = does.1.0 in
           let wrote = register_written tells old between r (stored number 0 (2 ^ 64 - 1)) (Ok tt) does.1.1.0.1 in
@@ -140,9 +140,9 @@ stop_no : (answer : ℕ) (stop : RunStop) → Err stop ≡ Ok answer → ⊥
 stop_no answer stop e = absurd (cc)
 
 -- the client of the four answers
-judged_shadow : (first : MachineState) (b d : ℕ) → 128 ≤ b → b ≡ 128 * pieces_in first → d ≡ timings_of first.device.store.layout % 2 ^ 64
+finds_client : (first : MachineState) (b d : ℕ) → 128 ≤ b → b ≡ 128 * pieces_in first → d ≡ timings_of first.device.store.layout % 2 ^ 64
     → attached (shadow_erst (pieces_in first)) (Ok (scratch_at ∷ b ∷ 0 ∷ d ∷ [])) ≡ Ok (shadow_client first)
-judged_shadow first b d least b_is d_is =
+finds_client first b d least b_is d_is =
     let erst = shadow_erst (pieces_in first) in
     let times = timings-halves first.device.store.layout in
     let greatest : d / 2 ^ 32 ≡ 10 * most_changes first.device.store.layout = ap (λ (n : ℕ). n / 2 ^ 32) d_is ∙ times.0 in
@@ -160,16 +160,16 @@ scratch_then : (first w v : MachineState) → OnlyScratch first w → OnlyScratc
 scratch_then first w v is next =
     next ∙ ap (λ (m : MachineState). holding w.memory.range v.memory.scratch m) is ∙ ap (λ (r : List ℕ). holding r v.memory.scratch first) (ap (λ (m : MachineState). m.memory.range) is)
 
-pub attach_shadow : (tells : Type 0) → StraightRuns tells → OwnProgramsRun tells → (budget : ℕ) (first : MachineState) (result : Result ClientState AttachError) (left : ℕ) (last : MachineState) → IsMachine first → 8 ≤ budget
+pub attaches_shadow : (tells : Type 0) → StraightRuns tells → OwnProgramsRun tells → (budget : ℕ) (first : MachineState) (result : Result ClientState AttachError) (left : ℕ) (last : MachineState) → IsMachine first → 8 ≤ budget
     → Attaches (Allows tells) (shadow_erst (pieces_in first)) budget first result left last → AttachesShadow budget first result left last
-attach_shadow tells law own budget first result left last machine enough attaches =
+attaches_shadow tells law own budget first result left last machine enough attaches =
     by_first (first_asked (Allows tells) (shadow_entries (pieces_in first)) _ _ budget first attaches.answers left last (subst (λ (rs : List Request). Asks (Allows tells) (shadow_entries (pieces_in first)) rs budget first attaches.answers left last) (requests-shadow (pieces_in first)) attaches.asks))
   where
     rooms : HoldsPieces first (pieces_in first)
     rooms = holds_pieces first machine
 
-    told_range : (result : Result ℕ RunStop) (left : ℕ) (last : MachineState) → Performs (Allows tells) (shadow_entries (pieces_in first)) GetErrorLogAddressRange 0 budget first result left last → IsSaid scratch_at budget first result left last
-    told_range result left last run = said tells law GetErrorLogAddressRange Source scratch_at budget first result left last (omega arith) rooms.scratch (omega arith)
+    told_range : (result : Result ℕ RunStop) (left : ℕ) (last : MachineState) → Performs (Allows tells) (shadow_entries (pieces_in first)) GetErrorLogAddressRange 0 budget first result left last → TellsNumber scratch_at budget first result left last
+    told_range result left last run = tells_number_in tells law GetErrorLogAddressRange Source scratch_at budget first result left last (omega arith) rooms.scratch (omega arith)
         (subst (λ (p : Listed). Run (Allows tells) p 0 budget first result left last) (program-range (pieces_in first)) run)
 
     by_fourth : (left3 : ℕ) (w3 : MachineState) (others : Result (List ℕ) RunStop) → OnlyScratch first w3 → length w3.memory.scratch ≡ 4096 → left3 + 6 ≡ budget → attaches.answers ≡ with_answer scratch_at (with_answer (128 * (pieces_in first)) (with_answer 0 others))
@@ -190,7 +190,7 @@ attach_shadow tells law own budget first result left last machine enough attache
           let some = rooms.some in
           let two = made.spent in
           record {
-            result_is = attaches.result_is ∙ ap (attached (shadow_erst (pieces_in first))) answers ∙ judged_shadow first (128 * (pieces_in first)) d (omega arith) refl d_is;
+            result_is = attaches.result_is ∙ ap (attached (shadow_erst (pieces_in first))) answers ∙ finds_client first (128 * (pieces_in first)) d (omega arith) refl d_is;
             left_is = omega (arith, end.left_is, two, steps_timings, spent);
             scratch = ap (λ (m : MachineState). length m.memory.scratch) last_is ∙ long;
             last_is = last_is ∙ ap (λ (m : MachineState). with_value (timings_of first.device.store.layout) m) is
@@ -206,12 +206,12 @@ attach_shadow tells law own budget first result left last machine enough attache
         → FirstAsked (Allows tells) (shadow_entries (pieces_in first)) (request_of GetErrorLogAddressRangeAttributes) (request_of GetExecuteOperationTimings ∷ []) left2 w2 others left last → AttachesShadow budget first result left last
     by_third left2 w2 others is long spent answers_are asked = elim asked [
       | Went c left3 w3 more_others run more joined ↦
-          let told = said tells law GetErrorLogAddressRangeAttributes Offset 0 left2 w2 (Ok c) left3 w3 (omega arith) long (omega (arith, spent, enough)) (subst (λ (p : Listed). Run (Allows tells) p 0 left2 w2 (Ok c) left3 w3) (program-attributes (pieces_in first)) run) in
+          let told = tells_number_in tells law GetErrorLogAddressRangeAttributes Offset 0 left2 w2 (Ok c) left3 w3 (omega arith) long (omega (arith, spent, enough)) (subst (λ (p : Listed). Run (Allows tells) p 0 left2 w2 (Ok c) left3 w3) (program-attributes (pieces_in first)) run) in
           by_fourth left3 w3 more_others (scratch_then first w2 w3 is told.beside) told.long (omega (arith, told.left_is, spent))
           (answers_are ∙ ap (λ (r : Result (List ℕ) RunStop). with_answer scratch_at (with_answer (128 * (pieces_in first)) r)) (joined ∙ ap (λ (n : ℕ). with_answer n more_others) (same_answer c 0 told.answer)))
           (first_asked (Allows tells) (shadow_entries (pieces_in first)) _ _ left3 w3 more_others left last more)
       | Halted stop run is_stop ↦
-          let told = said tells law GetErrorLogAddressRangeAttributes Offset 0 left2 w2 (Err stop) left last (omega arith) long (omega (arith, spent, enough)) (subst (λ (p : Listed). Run (Allows tells) p 0 left2 w2 (Err stop) left last) (program-attributes (pieces_in first)) run) in
+          let told = tells_number_in tells law GetErrorLogAddressRangeAttributes Offset 0 left2 w2 (Err stop) left last (omega arith) long (omega (arith, spent, enough)) (subst (λ (p : Listed). Run (Allows tells) p 0 left2 w2 (Err stop) left last) (program-attributes (pieces_in first)) run) in
           absurd (stop_no _ stop told.answer)
     ]
 
@@ -220,12 +220,12 @@ attach_shadow tells law own budget first result left last machine enough attache
         → AttachesShadow budget first result left last
     by_second left1 w1 others is long spent answers_are asked = elim asked [
       | Went b left2 w2 more_others run more joined ↦
-          let told = said tells law GetErrorLogAddressRangeLength Length (128 * (pieces_in first)) left1 w1 (Ok b) left2 w2 (omega (arith, rooms.few)) long (omega (arith, spent, enough)) (subst (λ (p : Listed). Run (Allows tells) p 0 left1 w1 (Ok b) left2 w2) (program-length (pieces_in first)) run) in
+          let told = tells_number_in tells law GetErrorLogAddressRangeLength Length (128 * (pieces_in first)) left1 w1 (Ok b) left2 w2 (omega (arith, rooms.few)) long (omega (arith, spent, enough)) (subst (λ (p : Listed). Run (Allows tells) p 0 left1 w1 (Ok b) left2 w2) (program-length (pieces_in first)) run) in
           by_third left2 w2 more_others (scratch_then first w1 w2 is told.beside) told.long (omega (arith, told.left_is, spent))
           (answers_are ∙ ap (λ (r : Result (List ℕ) RunStop). with_answer scratch_at r) (joined ∙ ap (λ (n : ℕ). with_answer n more_others) (same_answer b (128 * (pieces_in first)) told.answer)))
           (first_asked (Allows tells) (shadow_entries (pieces_in first)) _ _ left2 w2 more_others left last more)
       | Halted stop run is_stop ↦
-          let told = said tells law GetErrorLogAddressRangeLength Length (128 * (pieces_in first)) left1 w1 (Err stop) left last (omega (arith, rooms.few)) long (omega (arith, spent, enough)) (subst (λ (p : Listed). Run (Allows tells) p 0 left1 w1 (Err stop) left last) (program-length (pieces_in first)) run) in
+          let told = tells_number_in tells law GetErrorLogAddressRangeLength Length (128 * (pieces_in first)) left1 w1 (Err stop) left last (omega (arith, rooms.few)) long (omega (arith, spent, enough)) (subst (λ (p : Listed). Run (Allows tells) p 0 left1 w1 (Err stop) left last) (program-length (pieces_in first)) run) in
           absurd (stop_no _ stop told.answer)
     ]
 

@@ -22,7 +22,7 @@ use Rattle.erst_shadow.specs.ShadowMoves.{holding, range_with_record, HoldsPiece
 use Rattle.erst_shadow.specs.ShadowSequences.{SequenceAsOwn}
 use Rattle.erst_shadow.specs.ShadowCommands.{pieces_in, shadow_client}
 use Rattle.erst_shadow.proofs.SequenceLemmas.{write_as_own, clear_as_own, read_as_own, dummy_as_own}
-use Rattle.erst_shadow.proofs.CommandLemmas.{holds_pieces, with_scratch, put_ok, start_holds, no_error}
+use Rattle.erst_shadow.proofs.CommandLemmas.{holds_pieces, with_scratch, puts_record, start_holds, no_error}
 
 -- the device of the machine beside the last is that of the last
 moved_cause : (tells : Type 0) (pieces : ℕ) (timings : Option (ℕ × ℕ)) (requests : List Request) (budget : ℕ) (first : MachineState) (result : Result (Unit {0}) ClientError) (left : ℕ) (last : MachineState)
@@ -75,10 +75,10 @@ module _ (tells : Type 0) (own : OwnProgramsRun tells) (first : MachineState) (m
   pub client_write_cause : (bytes : List ℕ) (budget : ℕ) (result : Result (Unit {0}) ClientError) (left : ℕ) (last : MachineState) → Writes (Allows tells) (shadow_client first) bytes budget first result left last → HasItsCause first last result
   client_write_cause bytes budget result left last writes = elim writes as (λ result left last writes. HasItsCause first last result) [
     | IsNoRecord error is ↦ record { never_falls = omega arith; hardware = λ e. absurd (frame_apart _ (length bytes) (128 * pieces_in first) (is ∙ ap (λ (x : ClientError). Some x) (same_error error Hardware e))) }
-    | IsNotPut error last is puts ↦ absurd (no_error error (sym (put_ok tells first machine bytes (not_refused bytes (128 * pieces_in first) is) (Err error) last puts).0))
+    | IsNotPut error last is puts ↦ absurd (no_error error (sym (puts_record tells first machine bytes (not_refused bytes (128 * pieces_in first) is) (Err error) last puts).0))
     | IsAsked mid result left last is puts sequence ↦
         let framed = not_refused bytes (128 * pieces_in first) is in
-        let there = (put_ok tells first machine bytes framed (Ok tt) mid puts).1 in
+        let there = (puts_record tells first machine bytes framed (Ok tt) mid puts).1 in
         let start = with_scratch (put_at first.memory.scratch 0 (marked bytes)) first in
         let cause = shadow_write_cause tells own (pieces_in first) (own_client first).timings budget start (start_holds first machine bytes framed) result left last
         (subst (λ (m : MachineState). Sequence (Allows tells) (shadow_entries (pieces_in first)) (own_client first).timings write_requests budget m result left last) there sequence) in

@@ -35,7 +35,7 @@ no_fault fault e = absurd (cc e)
 pub no_error : (error : ClientError) → ◌≡◌ {A = Result (Unit {0}) ClientError} (Ok tt) (Err error) → ⊥
 no_error error e = absurd (cc e)
 
--- a machine has the rooms of the table
+-- a machine has room for the pieces of its table
 pub holds_pieces : (state : MachineState) → IsMachine state → HoldsPieces state (pieces_in state)
 holds_pieces state machine =
     let least = reach-least state.device.store.layout in
@@ -47,9 +47,9 @@ holds_pieces state machine =
       few = omega arith;
     }
 
--- and is one with others in these two memories, if they are as long
-pub machine_beside : (state : MachineState) (range scratch : List ℕ) → IsMachine state → length range ≡ length state.memory.range → length scratch ≡ 4096 → IsMachine (holding range scratch state)
-machine_beside state range scratch machine same long = record {
+-- and is one with other bytes in these two memories, if they are as many
+pub is_machine_with : (state : MachineState) (range scratch : List ℕ) → IsMachine state → length range ≡ length state.memory.range → length scratch ≡ 4096 → IsMachine (holding range scratch state)
+is_machine_with state range scratch machine same long = record {
   sizes = record { small = machine.sizes.small; range = same ∙ machine.sizes.range; scratch = long; ports = machine.sizes.ports; region = machine.sizes.region; shared = machine.sizes.shared };
   laid = machine.laid;
   map = machine.map;
@@ -148,7 +148,7 @@ module _ (tells : Type 0) (own : OwnProgramsRun tells) (told : tells) where
         own_left = is.own_left;
         first_is = refl;
         last_is = is.last_is;
-        own = read_command tells own told there (machine_beside first (range_with_record pieces first) is.scratch machine (length_moved first pieces rooms) is.long) id small (own_client first).timings is.own_budget result is.own_left is.own_last is.sequence;
+        own = read_command tells own told there (is_machine_with first (range_with_record pieces first) is.scratch machine (length_moved first pieces rooms) is.long) id small (own_client first).timings is.own_budget result is.own_left is.own_last is.sequence;
         paid = is.paid;
         shown = is.shown;
       }
@@ -177,8 +177,8 @@ module _ (tells : Type 0) (first : MachineState) (machine : IsMachine first) (by
         allowed.1 ∙ ap (λ (s : Spot). (bytes_stored s there 0x106C (codes "ER")).1) spot ∙ ap (λ (scratch : List ℕ). with_scratch scratch first) (marked-put first.memory.scratch bytes (omega (arith, is.least))),
       )
 
-  pub put_ok : (result : Result (Unit {0}) ClientError) (mid : MachineState) → Puts (Allows tells) 0x1000 bytes first result mid → (result ≡ Ok tt) × (mid ≡ with_scratch (put_at first.memory.scratch 0 (marked bytes)) first)
-  put_ok result mid puts = elim puts as (λ result mid puts. (result ≡ Ok tt) × (mid ≡ with_scratch (put_at first.memory.scratch 0 (marked bytes)) first)) [
+  pub puts_record : (result : Result (Unit {0}) ClientError) (mid : MachineState) → Puts (Allows tells) 0x1000 bytes first result mid → (result ≡ Ok tt) × (mid ≡ with_scratch (put_at first.memory.scratch 0 (marked bytes)) first)
+  puts_record result mid puts = elim puts as (λ result mid puts. (result ≡ Ok tt) × (mid ≡ with_scratch (put_at first.memory.scratch 0 (marked bytes)) first)) [
     | NotPut fault last allowed ↦ absurd (no_fault fault (start_spot (Err fault) last allowed).0)
     | NotMarked between fault last allowed marks ↦ absurd (no_fault fault (mark_spot between (Err fault) last (start_spot (Ok tt) between allowed).1 marks).0)
     | IsPut between last allowed marks ↦ (refl, (mark_spot between (Ok tt) last (start_spot (Ok tt) between allowed).1 marks).1)
@@ -198,15 +198,15 @@ start_holds first machine bytes framed =
       few = rooms.few;
     }
 
-pub written : (tells : Type 0) → OwnProgramsRun tells → tells → (bytes : List ℕ) (budget : ℕ) (first : MachineState) (result : Result (Unit {0}) ClientError) (left : ℕ) (last : MachineState) → IsMachine first
+pub writes_as_map : (tells : Type 0) → OwnProgramsRun tells → tells → (bytes : List ℕ) (budget : ℕ) (first : MachineState) (result : Result (Unit {0}) ClientError) (left : ℕ) (last : MachineState) → IsMachine first
     → Writes (Allows tells) (shadow_client first) bytes budget first result left last → ShadowWriteAnswered bytes budget first result left last
-written tells own told bytes budget first result left last machine writes = elim writes as (λ result left last writes. ShadowWriteAnswered bytes budget first result left last) [
+writes_as_map tells own told bytes budget first result left last machine writes = elim writes as (λ result left last writes. ShadowWriteAnswered bytes budget first result left last) [
   | refused error is ↦ IsNoRecord error is
-  | IsNotPut error last is puts ↦ absurd (no_error error (sym (put_ok tells first machine bytes (not_refused bytes (128 * pieces_in first) is) (Err error) last puts).0))
+  | IsNotPut error last is puts ↦ absurd (no_error error (sym (puts_record tells first machine bytes (not_refused bytes (128 * pieces_in first) is) (Err error) last puts).0))
   | IsAsked mid result left last is puts sequence ↦
       let pieces = pieces_in first in
       let framed = not_refused bytes (128 * pieces_in first) is in
-      let there = (put_ok tells first machine bytes framed (Ok tt) mid puts).1 in
+      let there = (puts_record tells first machine bytes framed (Ok tt) mid puts).1 in
       let rooms = holds_pieces first machine in
       let least = framed.least in
       let same = length-put_at bytes 108 (codes "ER") (omega arith) in
@@ -281,9 +281,9 @@ module _ (tells : Type 0) (own : OwnProgramsRun tells) (told : tells) (id : ℕ)
       (subst (λ (n : ℕ). ShadowReadAnswered id out budget first (Ok n) (part has.own_last.memory.range 0 n ++ drop n out) left mid) (sym len_is)
       (IsCopied left mid has (subst (λ (n : ℕ). copy_refusal n (128 * pieces_in first) (length out) ≡ None) len_is taken)))))
 
-  pub read_out : (result : Result ℕ ClientError) (after : List ℕ) (left : ℕ) (last : MachineState) → Reads (Allows tells) (shadow_client first) id out budget first result after left last
+  pub reads_as_map : (result : Result ℕ ClientError) (after : List ℕ) (left : ℕ) (last : MachineState) → Reads (Allows tells) (shadow_client first) id out budget first result after left last
       → ShadowReadAnswered id out budget first result after left last
-  read_out result after left last reads = elim reads as (λ result after left last reads. ShadowReadAnswered id out budget first result after left last) [
+  reads_as_map result after left last reads = elim reads as (λ result after left last reads. ShadowReadAnswered id out budget first result after left last) [
     | not_read error left last sequence ↦
         IsNotRead error left last (shadow_read tells own told first (pieces_in first) id machine (holds_pieces first machine) small budget (Err error) left last sequence)
     | HasNoLength left mid field fault last sequence length_at ↦

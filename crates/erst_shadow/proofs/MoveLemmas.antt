@@ -98,7 +98,7 @@ value_beside first w r other n comes not =
     number-beside w.memory.scratch (spelled 8 n) (place_in r) (place_in other) (put_long first w r n comes)
     (subst (λ (k : ℕ). ShareNone (place_in other) 8 (place_in r) k) (sym (length-spelled 8 n)) (registers_differ r other not))
 
-pub record Stays (first w : MachineState) : Type 0 where
+pub record KeepsRange (first w : MachineState) : Type 0 where
   pub comes : KeepsOthers first w
   pub kept : w.memory.range ≡ first.memory.range
 
@@ -152,14 +152,14 @@ module _ (tells : Type 0) (first : MachineState) (count : ℕ) (room : HoldsPiec
     value_behind = λ w r i comes less. refl;
   }
 
-  -- what so many after_rounds moved
-  record Moved (size : ℕ) (w : MachineState) : Type 0 where
+  -- what was moved in so far
+  record WentIn (size : ℕ) (w : MachineState) : Type 0 where
     comes : KeepsOthers first w
     same : SameOutside 0 size first.memory.range w.memory.range
     there : part w.memory.range 0 size ≡ part first.memory.scratch 0 size
     record_kept : part w.memory.scratch 0 0xF80 ≡ part first.memory.scratch 0 0xF80
 
-  put_moved : (size : ℕ) (w : MachineState) (r : MoveRegister) (n : ℕ) → Moved size w → Moved size (put r n w)
+  put_moved : (size : ℕ) (w : MachineState) (r : MoveRegister) (n : ℕ) → WentIn size w → WentIn size (put r n w)
   put_moved size w r n is = record {
     comes = put_comes first w r n is.comes;
     same = is.same;
@@ -173,7 +173,7 @@ module _ (tells : Type 0) (first : MachineState) (count : ℕ) (room : HoldsPiec
       sym (part-part w.memory.scratch 0 0xF80 (128 * i) 128 (omega arith) ∙ ap (λ (k : ℕ). part w.memory.scratch k 128) (omega arith)) ∙ ap (λ (xs : List ℕ). part xs (128 * i) 128) kept
       ∙ part-part first.memory.scratch 0 0xF80 (128 * i) 128 (omega arith) ∙ ap (λ (k : ℕ). part first.memory.scratch k 128) (omega arith)
 
-  piece_moved : (i : ℕ) (w : MachineState) → i < count → Moved (128 * i) w → Moved (128 * suc i) (piece_in i w)
+  piece_moved : (i : ℕ) (w : MachineState) → i < count → WentIn (128 * i) w → WentIn (128 * suc i) (piece_in i w)
   unfolding space_in
   piece_moved i w less is =
       let others = part w.memory.scratch (128 * i) 128 in
@@ -198,11 +198,11 @@ module _ (tells : Type 0) (first : MachineState) (count : ℕ) (room : HoldsPiec
   pub first_comes : KeepsOthers first first
   first_comes = record { range = refl; scratch = room.scratch; elsewhere = refl }
 
-  none_moved : Moved 0 first
+  none_moved : WentIn 0 first
   unfolding part
   none_moved = record { comes = first_comes; same = SameOutside-refl 0 0 first.memory.range; there = refl; record_kept = refl }
 
-  rounds_moved : (i : ℕ) → i ≤ count → Moved (128 * i) (after_rounds space_in i first)
+  rounds_moved : (i : ℕ) → i ≤ count → WentIn (128 * i) (after_rounds space_in i first)
   unfolding space_in
   rounds_moved zero less = put_moved 0 _ Offset 0 (put_moved 0 _ Length 128 (put_moved 0 _ Target LOG_RANGE (put_moved 0 first Source scratch_at none_moved)))
   rounds_moved (suc i) less = put_moved (128 * suc i) _ Offset (128 * suc i) (piece_moved i (after_rounds space_in i first) (omega arith) (rounds_moved i (omega arith)))
@@ -237,9 +237,9 @@ module _ (tells : Type 0) (first : MachineState) (count : ℕ) (room : HoldsPiec
       ∙ ap (λ (s : Spot). copy_of (Inside LogRange (128 * i)) s w (LOG_RANGE + 128 * i) (scratch_at + 128 * i) 128) (scratch_spot w i comes less) in
       (h.0 ∙ ap (λ (o : Result (Unit {0}) SpaceFault × MachineState). o.0) outcome, h.1 ∙ ap (λ (o : Result (Unit {0}) SpaceFault × MachineState). o.1) outcome)
 
-  -- on the way out the log range stays as it was
-  pub stays_out : ServesMove (Allows tells) (Stays first) LOG_RANGE scratch_at count
-  stays_out = record {
+  -- on the way out the log range stays as it is
+  pub space_out : ServesMove (Allows tells) (KeepsRange first) LOG_RANGE scratch_at count
+  space_out = record {
     value = value;
     put = put;
     copied = piece_out;
@@ -262,20 +262,20 @@ module _ (tells : Type 0) (first : MachineState) (count : ℕ) (room : HoldsPiec
         (inr (let low = (register_low r).0 in omega (arith, range_long w i stays.comes less, room.few)));
   }
 
-  record Fetched (size : ℕ) (w : MachineState) : Type 0 where
+  record CameOut (size : ℕ) (w : MachineState) : Type 0 where
     comes : KeepsOthers first w
     there : part w.memory.scratch 0 size ≡ part first.memory.range 0 size
     kept : w.memory.range ≡ first.memory.range
 
-  put_fetched : (size : ℕ) (w : MachineState) (r : MoveRegister) (n : ℕ) → size ≤ 0xF80 → Fetched size w → Fetched size (put r n w)
+  put_fetched : (size : ℕ) (w : MachineState) (r : MoveRegister) (n : ℕ) → size ≤ 0xF80 → CameOut size w → CameOut size (put r n w)
   put_fetched size w r n less is = record {
     comes = put_comes first w r n is.comes;
     there = part-beside w.memory.scratch (spelled 8 n) (place_in r) 0 size (put_long first w r n is.comes) (inl (let low = (register_low r).0 in omega arith)) ∙ is.there;
     kept = is.kept;
   }
 
-  piece_fetched : (i : ℕ) (w : MachineState) → i < count → Fetched (128 * i) w → Fetched (128 * suc i) (piece_out i w)
-  unfolding stays_out
+  piece_fetched : (i : ℕ) (w : MachineState) → i < count → CameOut (128 * i) w → CameOut (128 * suc i) (piece_out i w)
+  unfolding space_out
   piece_fetched i w less is =
       let others = part w.memory.range (128 * i) 128 in
       let size = range_long w i is.comes less in
@@ -286,23 +286,23 @@ module _ (tells : Type 0) (first : MachineState) (count : ℕ) (room : HoldsPiec
       ap (λ (k : ℕ). part (put_at w.memory.scratch (128 * i) others) k 128) (omega arith) ∙ ap (λ (k : ℕ). part (put_at w.memory.scratch (128 * i) others) (128 * i) k) (sym size)
       ∙ part-put_at w.memory.scratch (128 * i) others fits ∙ ap (λ (xs : List ℕ). part xs (128 * i) 128) is.kept ∙ ap (λ (k : ℕ). part first.memory.range k 128) (omega arith) in
       record {
-        comes = (stays_out.copied_fits w i (record { comes = is.comes; kept = is.kept }) less).comes;
+        comes = (space_out.copied_fits w i (record { comes = is.comes; kept = is.kept }) less).comes;
         there = ap (λ (k : ℕ). part (put_at w.memory.scratch (128 * i) others) 0 k) (sym next) ∙ sym (part-append (put_at w.memory.scratch (128 * i) others) 0 (128 * i) 128)
             ∙ ap (λ (xs : List ℕ). xs ++ part (put_at w.memory.scratch (128 * i) others) (0 + 128 * i) 128) front ∙ ap (λ (xs : List ℕ). part first.memory.range 0 (128 * i) ++ xs) back
             ∙ part-append first.memory.range 0 (128 * i) 128 ∙ ap (λ (k : ℕ). part first.memory.range 0 k) next;
         kept = is.kept;
       }
 
-  none_fetched : Fetched 0 first
+  none_fetched : CameOut 0 first
   unfolding part
   none_fetched = record { comes = first_comes; there = refl; kept = refl }
 
-  rounds_fetched : (i : ℕ) → i ≤ count → Fetched (128 * i) (after_rounds stays_out i first)
-  unfolding stays_out
+  rounds_fetched : (i : ℕ) → i ≤ count → CameOut (128 * i) (after_rounds space_out i first)
+  unfolding space_out
   rounds_fetched zero less =
       put_fetched 0 _ Offset 0 (omega arith) (put_fetched 0 _ Length 128 (omega arith) (put_fetched 0 _ Target scratch_at (omega arith) (put_fetched 0 first Source LOG_RANGE (omega arith) none_fetched)))
   rounds_fetched (suc i) less =
-      put_fetched (128 * suc i) _ Offset (128 * suc i) (omega (arith, room.few)) (piece_fetched i (after_rounds stays_out i first) (omega arith) (rounds_fetched i (omega arith)))
+      put_fetched (128 * suc i) _ Offset (128 * suc i) (omega (arith, room.few)) (piece_fetched i (after_rounds space_out i first) (omega arith) (rounds_fetched i (omega arith)))
 
-  pub moved_out : MovedOut count first (after_rounds stays_out count first)
+  pub moved_out : MovedOut count first (after_rounds space_out count first)
   moved_out = let is = rounds_fetched count (omega arith) in record { others = is.comes; moved = is.there; kept = is.kept }

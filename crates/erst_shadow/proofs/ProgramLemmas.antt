@@ -36,7 +36,7 @@ use Rattle.erst_moves.proofs.BehindLemmas.{IsOfItsOwn, StoresValue, TakesRegiste
 use Rattle.erst_device.specs.declared.device.TheConstants.{LOG_RANGE}
 use Rattle.erst_shadow.specs.ShadowTables.{scratch_at, shadow_entries}
 use Rattle.erst_shadow.specs.ShadowMoves.{HoldsPieces, KeepsOthers, MovesThenExecutes, ExecutesMoved, StopsMovingIn, MovesThenTells, TellsMoved, StopsMovingOut}
-use Rattle.erst_shadow.proofs.MoveLemmas.{below_in, below_out, space_in, moved_in, moved_out, first_comes, Stays, stays_out}
+use Rattle.erst_shadow.proofs.MoveLemmas.{below_in, below_out, space_in, moved_in, moved_out, first_comes, KeepsRange, space_out}
 
 -- The device's registers refuse nothing
 
@@ -49,9 +49,9 @@ action_at = record { place = Memory 0x200000; access = B32; offset = 0 }
 abbrev value_at : Register
 value_at = record { place = Memory 0x200008; access = B64; offset = 0 }
 
-never_act : (tells : Type 0) (program : Listed) (given : ℕ) (action : Action) (entry : Entry) (c : Configuration) (paid : ℕ) (w : MachineState) (stop : RunStop) (left : ℕ) (v : MachineState) → act action ≡ entry
+act_goes : (tells : Type 0) (program : Listed) (given : ℕ) (action : Action) (entry : Entry) (c : Configuration) (paid : ℕ) (w : MachineState) (stop : RunStop) (left : ℕ) (v : MachineState) → act action ≡ entry
     → Halt (Allows tells) (task_of program given entry c) paid w stop left v → ⊥
-never_act tells program given action entry c paid w stop left v is halt =
+act_goes tells program given action entry c paid w stop left v is halt =
     let why = halt_by (Allows tells) (task_of program given (act action) c) WriteRegisterValue refl (λ used. (action_at, refl)) paid w stop left v
     (subst (λ (e : Entry). Halt (Allows tells) (task_of program given e c) paid w stop left v) (sym is) halt) in
     let register : why.0 ≡ action_at = same_register action_at why.0 (checked (act action).region) refl why.2 in
@@ -59,9 +59,9 @@ never_act tells program given action entry c paid w stop left v is halt =
     (subst (λ (r : Register). Store (Allows tells) r (act action) (code_of action) w (Err why.1) v) register why.3) refl in
     no_fault tt why.1 wrote.0
 
-never_answer : (tells : Type 0) (program : Listed) (given : ℕ) (action : Action) (mask : ℕ) (entry : Entry) (c : Configuration) (paid : ℕ) (w : MachineState) (stop : RunStop) (left : ℕ) (v : MachineState) → answer action mask ≡ entry
+answer_goes : (tells : Type 0) (program : Listed) (given : ℕ) (action : Action) (mask : ℕ) (entry : Entry) (c : Configuration) (paid : ℕ) (w : MachineState) (stop : RunStop) (left : ℕ) (v : MachineState) → answer action mask ≡ entry
     → Halt (Allows tells) (task_of program given entry c) paid w stop left v → ⊥
-never_answer tells program given action mask entry c paid w stop left v is halt =
+answer_goes tells program given action mask entry c paid w stop left v is halt =
     let why = halt_by (Allows tells) (task_of program given (answer action mask) c) ReadRegister refl (λ used. (value_at, refl)) paid w stop left v
     (subst (λ (e : Entry). Halt (Allows tells) (task_of program given e c) paid w stop left v) (sym is) halt) in
     let register : why.0 ≡ value_at = same_register value_at why.0 (checked (answer action mask).region) refl why.2 in
@@ -86,20 +86,20 @@ execute_entry : (k : ℕ) (entry : Entry) → slice_get execute_tail k ≡ Some 
 execute_entry zero entry here = same_Some _ _ here
 execute_entry (suc k) entry here = absurd (none-some entry here)
 
-execute_blind : (k : ℕ) (entry : Entry) → slice_get execute_tail k ≡ Some entry → IsOfItsOwn entry
-execute_blind k entry here = subst (λ (e : Entry). IsOfItsOwn e) (execute_entry k entry here) (StoresValue refl)
+execute_is_its_own : (k : ℕ) (entry : Entry) → slice_get execute_tail k ≡ Some entry → IsOfItsOwn entry
+execute_is_its_own k entry here = subst (λ (e : Entry). IsOfItsOwn e) (execute_entry k entry here) (StoresValue refl)
 
-pub shadow_executes : (tells : Type 0) (pieces : ℕ) (first : MachineState) → HoldsPieces first pieces → (given budget : ℕ) (result : Result ℕ RunStop) (left : ℕ) (last : MachineState)
+pub moves_then_executes : (tells : Type 0) (pieces : ℕ) (first : MachineState) → HoldsPieces first pieces → (given budget : ℕ) (result : Result ℕ RunStop) (left : ℕ) (last : MachineState)
     → Performs (Allows tells) (shadow_entries pieces) ExecuteOperation given budget first result left last → MovesThenExecutes tells pieces given budget first result left last
-shadow_executes tells pieces first room given budget result left last run =
+moves_then_executes tells pieces first room given budget result left last run =
     let ran = moves_first (Allows tells) (KeepsOthers first) scratch_at LOG_RANGE pieces (space_in tells first pieces room) (below_in tells first pieces room) ExecuteOperation execute_tail given budget first
     (first_comes tells first pieces room) result left last (subst (λ (p : Listed). Run (Allows tells) p given budget first result left last) (shadow-execute pieces) run) in
     elim ran as (λ result left last ran. MovesThenExecutes tells pieces given budget first result left last) [
       | StopsWithin last short comes ↦ StopsMovingIn last short comes
       | MovesOn before result left last spent behind ↦
           let mid = after_rounds (space_in tells first pieces room) pieces first in
-          let own = runs_behind (Allows tells) scratch_at LOG_RANGE pieces ExecuteOperation execute_tail given before mid execute_blind (omega arith)
-          (λ k entry c paid w stop left v here halt. never_act tells (move_then ExecuteOperation scratch_at LOG_RANGE pieces execute_tail) given ExecuteOperation entry c paid w stop left v (execute_entry k entry here) halt) result left last behind in
+          let own = runs_behind (Allows tells) scratch_at LOG_RANGE pieces ExecuteOperation execute_tail given before mid execute_is_its_own (omega arith)
+          (λ k entry c paid w stop left v here halt. act_goes tells (move_then ExecuteOperation scratch_at LOG_RANGE pieces execute_tail) given ExecuteOperation entry c paid w stop left v (execute_entry k entry here) halt) result left last behind in
           ExecutesMoved before mid result left last spent (moved_in tells first pieces room) (subst (λ (p : Listed). Run (Allows tells) p given before mid result left last) (sym own-execute) own)
     ]
 
@@ -116,27 +116,27 @@ own-status : program_of 0x7 own_entries ≡ record { action = code_of GetCommand
 unfolding own_entries entries_of
 own-status = refl
 
-status_blind : (k : ℕ) (entry : Entry) → slice_get status_tail k ≡ Some entry → IsOfItsOwn entry
-status_blind zero entry here = subst (λ (e : Entry). IsOfItsOwn e) (same_Some _ _ here) (StoresValue refl)
-status_blind (suc zero) entry here = subst (λ (e : Entry). IsOfItsOwn e) (same_Some _ _ here) (TakesRegister refl)
-status_blind (suc (suc k)) entry here = absurd (none-some entry here)
+status_is_its_own : (k : ℕ) (entry : Entry) → slice_get status_tail k ≡ Some entry → IsOfItsOwn entry
+status_is_its_own zero entry here = subst (λ (e : Entry). IsOfItsOwn e) (same_Some _ _ here) (StoresValue refl)
+status_is_its_own (suc zero) entry here = subst (λ (e : Entry). IsOfItsOwn e) (same_Some _ _ here) (TakesRegister refl)
+status_is_its_own (suc (suc k)) entry here = absurd (none-some entry here)
 
 status_never : (tells : Type 0) (program : Listed) (given : ℕ) (k : ℕ) (entry : Entry) (c : Configuration) (paid : ℕ) (w : MachineState) (stop : RunStop) (left : ℕ) (v : MachineState) → slice_get status_tail k ≡ Some entry
     → Halt (Allows tells) (task_of program given entry c) paid w stop left v → ⊥
-status_never tells program given zero entry c paid w stop left v here halt = never_act tells program given GetCommandStatus entry c paid w stop left v (same_Some _ _ here) halt
-status_never tells program given (suc zero) entry c paid w stop left v here halt = never_answer tells program given GetCommandStatus 0xFF entry c paid w stop left v (same_Some _ _ here) halt
+status_never tells program given zero entry c paid w stop left v here halt = act_goes tells program given GetCommandStatus entry c paid w stop left v (same_Some _ _ here) halt
+status_never tells program given (suc zero) entry c paid w stop left v here halt = answer_goes tells program given GetCommandStatus 0xFF entry c paid w stop left v (same_Some _ _ here) halt
 status_never tells program given (suc (suc k)) entry c paid w stop left v here halt = absurd (none-some entry here)
 
-pub shadow_tells : (tells : Type 0) (pieces : ℕ) (first : MachineState) → HoldsPieces first pieces → (given budget : ℕ) (result : Result ℕ RunStop) (left : ℕ) (last : MachineState)
+pub moves_then_tells : (tells : Type 0) (pieces : ℕ) (first : MachineState) → HoldsPieces first pieces → (given budget : ℕ) (result : Result ℕ RunStop) (left : ℕ) (last : MachineState)
     → Performs (Allows tells) (shadow_entries pieces) GetCommandStatus given budget first result left last → MovesThenTells tells pieces given budget first result left last
-shadow_tells tells pieces first room given budget result left last run =
-    let ran = moves_first (Allows tells) (Stays first) LOG_RANGE scratch_at pieces (stays_out tells first pieces room) (below_out tells first pieces room) GetCommandStatus status_tail given budget first
+moves_then_tells tells pieces first room given budget result left last run =
+    let ran = moves_first (Allows tells) (KeepsRange first) LOG_RANGE scratch_at pieces (space_out tells first pieces room) (below_out tells first pieces room) GetCommandStatus status_tail given budget first
     (record { comes = first_comes tells first pieces room; kept = refl }) result left last (subst (λ (p : Listed). Run (Allows tells) p given budget first result left last) (shadow-status pieces) run) in
     elim ran as (λ result left last ran. MovesThenTells tells pieces given budget first result left last) [
       | StopsWithin last short stays ↦ StopsMovingOut last short stays.comes stays.kept
       | MovesOn before result left last spent behind ↦
-          let mid = after_rounds (stays_out tells first pieces room) pieces first in
-          let own = runs_behind (Allows tells) LOG_RANGE scratch_at pieces GetCommandStatus status_tail given before mid status_blind (omega arith)
+          let mid = after_rounds (space_out tells first pieces room) pieces first in
+          let own = runs_behind (Allows tells) LOG_RANGE scratch_at pieces GetCommandStatus status_tail given before mid status_is_its_own (omega arith)
           (λ k entry c paid w stop left v here halt. status_never tells (move_then GetCommandStatus LOG_RANGE scratch_at pieces status_tail) given k entry c paid w stop left v here halt) result left last behind in
           TellsMoved before mid result left last spent (moved_out tells first pieces room) (subst (λ (p : Listed). Run (Allows tells) p given before mid result left last) (sym own-status) own)
     ]

@@ -74,9 +74,9 @@ quiet_effect tells old range other action new quiet effect = record {
 }
 
 -- the same in another log range and scratch memory, which it leaves as they are
-pub quiet_on : (tells : Type 0) (old : MachineState) (code : ℕ) (new : MachineState) (range scratch : List ℕ) → IsQuiet (action_of code) → ActsOn tells old code new
+pub acts_beside : (tells : Type 0) (old : MachineState) (code : ℕ) (new : MachineState) (range scratch : List ℕ) → IsQuiet (action_of code) → ActsOn tells old code new
     → (new.memory ≡ old.memory) × ActsOn tells (holding range scratch old) code (holding range scratch new)
-quiet_on tells old code new range scratch quiet acted =
+acts_beside tells old code new range scratch quiet acted =
     let acts = quiet_acts tells old.device old.memory.range range (action_of code) new.device new.memory.range quiet acted.acts in (
       acted.memory ∙ ap (λ (r : List ℕ). record old.memory { range = r }) acts.0,
       record {
@@ -100,13 +100,13 @@ given_memory true n w = refl
 given_memory false n w = refl
 
 -- a run of such an action, in other memories and with as many steps more or fewer
-pub quiet_run : (tells : Type 0) (action : Action) (given budget : ℕ) (first : MachineState) (result : Result ℕ RunStop) (left : ℕ) (last : MachineState) (range scratch : List ℕ) → IsQuiet (action_of (code_of action))
+pub runs_beside : (tells : Type 0) (action : Action) (given budget : ℕ) (first : MachineState) (result : Result ℕ RunStop) (left : ℕ) (last : MachineState) (range scratch : List ℕ) → IsQuiet (action_of (code_of action))
     → OwnRun tells action given budget first result left last
     → (last.memory ≡ first.memory) × OwnRun tells action given budget (holding range scratch first) result left (holding range scratch last)
-quiet_run tells action given budget first result left last range scratch quiet run =
+runs_beside tells action given budget first result left last range scratch quiet run =
     elim run as (λ result left last run. (last.memory ≡ first.memory) × OwnRun tells action given budget (holding range scratch first) result left (holding range scratch last)) [
       | IsMade left last acted spent ↦
-          let on = quiet_on tells (given_to action given first) (code_of action) last range scratch quiet acted in (
+          let on = acts_beside tells (given_to action given first) (code_of action) last range scratch quiet acted in (
             on.0 ∙ given_memory (takes_value action) (given % 2 ^ 64) first,
             IsMade left (holding range scratch last) (subst (λ (w : MachineState). ActsOn tells w (code_of action) (holding range scratch last)) (sym (given_beside (takes_value action) (given % 2 ^ 64) first range scratch)) on.1) spent,
           )
@@ -116,14 +116,14 @@ quiet_run tells action given budget first result left last range scratch quiet r
         subst (λ (w : MachineState). OwnRun tells action given budget (holding range scratch first) (Err Budget) 0 w) (given_beside (takes_value action) (given % 2 ^ 64) first range scratch) (StopsBefore one takes),
       )
       | StopsBehind last one shows acted ↦
-          let on = quiet_on tells first (code_of action) last range scratch quiet acted in
+          let on = acts_beside tells first (code_of action) last range scratch quiet acted in
           (on.0, StopsBehind (holding range scratch last) one shows on.1)
     ]
 
 -- a run that answers, with other steps left
-pub other_steps : (tells : Type 0) (action : Action) (given budget : ℕ) (first : MachineState) (result : Result ℕ RunStop) (left : ℕ) (last : MachineState) (answer : ℕ) → result ≡ Ok answer
+pub with_other_steps : (tells : Type 0) (action : Action) (given budget : ℕ) (first : MachineState) (result : Result ℕ RunStop) (left : ℕ) (last : MachineState) (answer : ℕ) → result ≡ Ok answer
     → OwnRun tells action given budget first result left last → (steps : ℕ) × (left + steps ≡ budget) × ((spare : ℕ) → OwnRun tells action given (spare + steps) first (Ok answer) spare last)
-other_steps tells action given budget first result left last answer is run =
+with_other_steps tells action given budget first result left last answer is run =
     (elim run as (λ result left last run. result ≡ Ok answer → (steps : ℕ) × (left + steps ≡ budget) × ((spare : ℕ) → OwnRun tells action given (spare + steps) first (Ok answer) spare last)) [
       | IsMade left last acted spent ↦ λ e. (
         steps_of own_entries action,

@@ -1,5 +1,5 @@
-use Rattle.erst_shadow.proofs.CommandLemmas.{written}
+use Rattle.erst_shadow.proofs.CommandLemmas.{writes_as_map}
 use Rattle.erst_shadow.proofs.laws.a_client_writes_as_the_map.Goals as goal
 
 pub returns : goal.returns
-returns g c = written g.F.Flash.tells c.own_programs_run_through.ensures
+returns g c = writes_as_map g.F.Flash.tells c.own_programs_run_through.ensures
