@@ -1,7 +1,7 @@
 -- Sources begun one after another.
-use Rattle.std.proofs.Common.{◌≡◌, ◌∙◌, ℕ, ◌<◌, ◌⊎◌, inl, inr, List, [], ◌∷◌, ◌++◌, length, length-append, Some, slice_get, refl, sym, ap, subst, arith}
+use Rattle.std.proofs.Common.{◌≡◌, ◌∙◌, ℕ, zero, suc, ◌<◌, ◌⊎◌, inl, inr, List, [], ◌∷◌, ◌++◌, length, map, take, length-append, Some, slice_get, refl, sym, ap, subst, arith}
 use Rattle.std.proofs.lemmas.Bool.{cases_lt}
-use Rattle.std.proofs.lemmas.List.{get_or_append_left, get_or_at}
+use Rattle.std.proofs.lemmas.List.{get_or_append_left, get_or_at, map-append}
 use Rattle.std.proofs.lemmas.Option.{slice_get_within, slice_get-get_or}
 use Rattle.apei_gas.specs.declared.registers.Place.TheVariants.{Memory}
 use Rattle.apei_space.specs.declared.windows.Window.{Window}
@@ -14,7 +14,7 @@ use Rattle.ghes_hub.specs.declared.layouts.Layout.TheVariants.{Acknowledged, Pla
 use Rattle.ghes_hub.specs.declared.source.Source.{Source}
 use Rattle.ghes_hub.specs.Layouts.{layout_kind, layout_windows, HasLayout, layout_window, AreLaidOut, IsBegun, AreBegun}
 use Rattle.ghes_hub.specs.Places.{IsOff, AreClear}
-use Rattle.ghes_hub.specs.OneSource.{kind_of, windows_of, SourceStands}
+use Rattle.ghes_hub.specs.OneSource.{kind_of, layout_in, windows_of, SourceStands}
 use Rattle.ghes_hub.specs.SourcesState.{AreServed}
 use Rattle.ghes_hub.proofs.SourceLemmas.{source_kept, same_in_map, plain_windows_kept}
 
@@ -40,16 +40,30 @@ window_kept : (layout : Layout) (windows : List Window) (old new : RamState) →
 window_kept (Acknowledged map) windows old new clear s = s.bytes (Memory map.block) map.len clear.1.1.0
 window_kept (Plain map) windows old new clear s = s.bytes (Memory map.block) map.len clear.1.0
 
+-- one more of the first
+take_next : {X : Type 0} (xs : List X) (n : ℕ) (x : X) → slice_get xs n ≡ Some x → take (suc n) xs ≡ take n xs ++ x ∷ []
+take_next [] n x is = absurd (let w = slice_get_within [] n x is in omega (arith, w))
+take_next {X} (y ∷ ys) zero x is = let e : y ≡ x = cc in ap (λ (z : X). z ∷ []) e
+take_next {X} (y ∷ ys) (suc n) x is = ap (λ (zs : List X). y ∷ zs) (take_next ys n x is)
+
 pub none_begun : (layouts : List Layout) (ram : RamState) → AreLaidOut layouts ram → AreBegun layouts ram ram []
 none_begun layouts ram all = record {
+  so_far = refl;
   begun = λ i handover is. absurd (let w = slice_get_within [] i handover is in omega (arith, w));
   later = λ i layout past is. (all.each i layout is, refl);
 }
 
 pub one_begun : (layouts : List Layout) (first ram new : RamState) (list : List Source) (layout : Layout) (handover : Source) → AreLaidOut layouts first → slice_get layouts (length list) ≡ Some layout →
-    SourceStands handover new (started (layout_window layout ram)) → kind_of handover ≡ layout_kind layout → windows_of handover ≡ layout_windows layout → SameWhere (IsOff (layout_windows layout)) ram new →
+    SourceStands handover new (started (layout_window layout ram)) → layout_in handover ≡ layout → kind_of handover ≡ layout_kind layout → windows_of handover ≡ layout_windows layout → SameWhere (IsOff (layout_windows layout)) ram new →
     AreBegun layouts first ram list → AreBegun layouts first new (list ++ handover ∷ [])
-one_begun layouts first ram new list layout handover laid here stands kind windows s all = record {
+one_begun layouts first ram new list layout handover laid here stands lies kind windows s all = record {
+  so_far =
+      let n : suc (length list) ≡ length (list ++ handover ∷ []) = sym (length-append list (handover ∷ []) ∙ omega arith) in
+      map-append layout_in list (handover ∷ [])
+      ∙ ap (λ (ls : List Layout). ls ++ layout_in handover ∷ []) all.so_far
+      ∙ ap (λ (l : Layout). take (length list) layouts ++ l ∷ []) lies
+      ∙ sym (take_next layouts (length list) layout here)
+      ∙ ap (λ (k : ℕ). take k layouts) n;
   begun = λ i p is. elim (slice_get-push list handover i p is) [
     | inl before ↦
         let b = all.begun i p before.1 in

@@ -16,7 +16,7 @@ use Rattle.ghes_hub.specs.declared.source.Source.TheVariants.{Acknowledged, Plai
 use Rattle.ghes_hub.specs.Kinds.{Kind, turned_by}
 use Rattle.ghes_hub.specs.Runs.{after_by, run_by, events_by, takes, told_at, told_by}
 use Rattle.ghes_hub.specs.OneSource.{SourceStands, last_of}
-use Rattle.ghes_hub.specs.SourcesState.{SourcesState, StandsAt, TurnsAt}
+use Rattle.ghes_hub.specs.SourcesState.{SourcesState, layouts_in, StandsAt, TurnsAt}
 use Rattle.ghes_hub.specs.Hubs.{HubState, last_if, last_in, Told, Call, Submits, Turns, Removes, DoAll, steps_at, events_at, removals_at, left_of, Serves}
 use Rattle.ghes_hub.proofs.KindLemmas.{turned_keeps}
 use Rattle.ghes_hub.proofs.RunLemmas.{blocks_by, taken_by, order_by, told_is, took_fits}
@@ -162,3 +162,10 @@ took_head kind side event i old new m st t took =
     let head = (took_fits kind (length m.window) side m (state_at kind old i m st) (sym (ap takes t.event_is) ∙ took)).head in
     let last = ap length (last_at kind new i (turned_by kind side m).1 t.stands) in
     omega (arith, head, last)
+
+-- no call moves a source
+pub stays : {L : Type 0} (hearing : L → Hearing) (calls : List Call) (first last : HubState L) → DoAll hearing calls first last → layouts_in last.sources ≡ layouts_in first.sources
+stays {L} hearing [] first last same = ap (λ (h : HubState L). layouts_in h.sources) same
+stays hearing (Submits i block ∷ calls) first last (between, does, later) = stays hearing calls between last later ∙ does.layouts
+stays hearing (Turns i side event ∷ calls) first last (between, does, later) = stays hearing calls between last later ∙ does.layouts
+stays hearing (Removes i at ∷ calls) first last (between, does, later) = stays hearing calls between last later ∙ ap layouts_in does.sources

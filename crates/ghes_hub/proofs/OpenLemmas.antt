@@ -3,7 +3,7 @@ use Rattle.std.proofs.Common.{◌≡◌, ◌∙◌, ℕ, zero, suc, ◌+◌, ◌
 use Rattle.std.specs.Option.{option_map}
 use Rattle.std.proofs.lemmas.Bool.{cases_lt}
 use Rattle.std.proofs.lemmas.Bool.Decides.{nat_tests}
-use Rattle.std.proofs.lemmas.List.{append-nil}
+use Rattle.std.proofs.lemmas.List.{append-nil, length-map}
 use Rattle.std.proofs.lemmas.Option.{slice_get-map}
 use Rattle.std.specs.declared.alloc.Global.{Global}
 use Rattle.apei_gas.specs.declared.registers.Place.{Place}
@@ -28,6 +28,7 @@ pub opened : {L : Type 0} (sources : List HestSource) (s new : SourcesState) (al
     IsOpened sources all (record { sources = new; chains = chains })
 opened {L} sources s new all n k lists chains ready same count dealt chains_are = subst (λ (x : SourcesState). IsOpened sources all (record { sources = x; chains = chains })) (sym same) (record {
   ready = ready;
+  chains = ap length chains_are ∙ length-map lists (λ list. list.items) ∙ dealt.count ∙ count;
   dealt = λ i within.
       let c = dealt.count in
       let at = some_at lists i (omega (arith, within, count, c)) in

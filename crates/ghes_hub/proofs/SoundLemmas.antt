@@ -1,7 +1,7 @@
 -- What it says that no source is refused.
 use Rattle.std.proofs.Common.{◌≡◌, ◌≢◌, ◌∙◌, ℕ, zero, suc, ◌+◌, ◌-◌, ◌*◌, ◌/◌, ◌^◌, ◌%◌, ◌<◌, ◌≤◌, ◌==◌, Bool, true, false, cond, not, nat_lt, ◌||◌, ◌&&◌, List, [], ◌∷◌, ◌++◌, length, replicate, take, Option, Some, None, Result, Ok, Err, slice_get, refl, sym, ap, subst, arith}
 use Rattle.std.proofs.lemmas.Bool.Decides.{nat_tests}
-use Rattle.std.proofs.lemmas.List.{drop-replicate, take-replicate, length-replicate}
+use Rattle.std.proofs.lemmas.List.{drop-replicate, take-replicate, length-replicate, take_all}
 use Rattle.std.proofs.lemmas.Option.{slice_get_within}
 use Rattle.std.proofs.Math.Nat.{mod-eq_of_lt}
 use Rattle.std.proofs.lemmas.Nat.{pow_pos}
@@ -228,6 +228,7 @@ is_ready table first ram list layouts are none some few blank laid count begun =
       count = count ∙ m ∙ n;
       some = omega (arith, count, m, n, some);
       few = omega (arith, count, m, n, few);
+      layouts = begun.so_far ∙ ap (λ (k : ℕ). take k layouts) count ∙ take_all (length layouts) layouts (omega arith) ∙ are;
       stands = λ i source is.
           let here : slice_get (layouts_from 0 gens) i ≡ Some (layout_of i source) = layout_at 0 gens i source is ∙ ap (λ (k : ℕ). Some (layout_of k source)) (omega arith) in
           let within = slice_get_within gens i source is in

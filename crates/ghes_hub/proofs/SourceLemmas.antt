@@ -1,8 +1,8 @@
 -- What a call on one source leaves of the others.
-use Rattle.std.proofs.Common.{◌≡◌, ◌≢◌, ◌∙◌, ℕ, ◌<◌, inl, inr, List, length, set, get_or, Option, Some, Result, Ok, Err, OnOk, OnErr, IfSome, slice_get, refl, sym, ap, subst, arith}
+use Rattle.std.proofs.Common.{◌≡◌, ◌≢◌, ◌∙◌, ℕ, zero, suc, ◌<◌, inl, inr, List, [], ◌∷◌, map, length, set, get_or, Option, Some, Result, Ok, Err, OnOk, OnErr, IfSome, slice_get, refl, sym, ap, subst, arith}
 use Rattle.std.proofs.lemmas.Bool.{cases_lt, cases_eq}
 use Rattle.std.proofs.lemmas.List.{get_or-set_same, get_or-set_other, length-set}
-use Rattle.std.proofs.lemmas.Option.{slice_get_past, slice_get_read, slice_get-get_or}
+use Rattle.std.proofs.lemmas.Option.{slice_get_past, slice_get_read, slice_get-get_or, slice_get_within}
 use Rattle.base_model.specs.Bytes.{little}
 use Rattle.apei_gas.specs.declared.registers.Place.TheVariants.{Memory}
 use Rattle.apei_space.specs.declared.windows.Window.{Window}
@@ -22,8 +22,8 @@ use Rattle.ghes_hub.specs.declared.source.Source.TheVariants.{Acknowledged, Plai
 use Rattle.ghes_hub.specs.Kinds.{Kind}
 use Rattle.ghes_hub.specs.Plain.{HasPlainWindows, PlainState, PlainStands}
 use Rattle.ghes_hub.specs.Places.{places_of, plain_places_of, IsOff, AreClear}
-use Rattle.ghes_hub.specs.OneSource.{kind_of, windows_of, SourceStands, Stands, SamePlaces, SourceTurned}
-use Rattle.ghes_hub.specs.SourcesState.{SourcesState, AreServed, StandsAt, TurnsAt}
+use Rattle.ghes_hub.specs.OneSource.{kind_of, layout_in, windows_of, SourceStands, Stands, SamePlaces, SourceTurned}
+use Rattle.ghes_hub.specs.SourcesState.{SourcesState, layouts_in, AreServed, StandsAt, TurnsAt}
 
 pub slice_get-same : {X : Type 0} (xs : List X) (i : ℕ) (y : X) → i < length xs → slice_get (set xs i y) i ≡ Some y
 slice_get-same xs i y h =
@@ -173,3 +173,12 @@ stands_here ram list i p m is st = record { handover = p; is = is; kind_is = ref
 
 pub if_some : {X : Type 0} (o : Option X) (x : X) (P : X → Type 0) → o ≡ Some x → P x → IfSome o P
 if_some {X} o x P is p = subst (λ (y : Option X). IfSome y P) (sym is) p
+
+set_same : {X Y : Type 0} (f : X → Y) (xs : List X) (i : ℕ) (x y : X) → slice_get xs i ≡ Some x → f y ≡ f x → map f (set xs i y) ≡ map f xs
+set_same f [] i x y is e = absurd (let w = slice_get_within [] i x is in omega (arith, w))
+set_same {X} {Y} f (z ∷ zs) zero x y is e = let same : x ≡ z = cc in ap (λ (w : Y). w ∷ map f zs) (e ∙ ap f same)
+set_same {X} {Y} f (z ∷ zs) (suc i) x y is e = ap (λ (ws : List Y). f z ∷ ws) (set_same f zs i x y is e)
+
+-- all sources lie where they lay
+pub same_layouts : (ram new : RamState) (list : List Source) (i : ℕ) (before after : Source) (s : SourcesState) → Moves ram new list i before after → record { ram = ram; list = list } ≡ s → map layout_in (set list i after) ≡ layouts_in s
+same_layouts ram new list i before after s h view = set_same layout_in list i before after h.is h.places.layout ∙ ap layouts_in view

@@ -10,7 +10,7 @@ use Rattle.ghes_hub.specs.declared.source.Source.{Source}
 use Rattle.ghes_hub.specs.Kinds.{Kind}
 use Rattle.ghes_hub.specs.Runs.{run_by, events_by, told_at}
 use Rattle.ghes_hub.specs.OneSource.{last_of}
-use Rattle.ghes_hub.specs.SourcesState.{SourcesState, StandsAt, TurnsAt}
+use Rattle.ghes_hub.specs.SourcesState.{SourcesState, layouts_in, StandsAt, TurnsAt}
 
 -- `L` is the type of a listener
 pub record HubState (L : Type 0) : Type 0 where
@@ -56,12 +56,14 @@ pub record HubSubmits {L : Type 0} (i : ℕ) (block : List ℕ) (old new : HubSt
   pub submitted : (kind : Kind) (m : Machine) → StandsAt kind old.sources i m → StandsAt kind new.sources i (submitted m block)
   pub others : OthersStand i old.sources new.sources
   pub chains : new.chains ≡ old.chains
+  pub layouts : layouts_in new.sources ≡ layouts_in old.sources
   pub count : sources_in new ≡ sources_in old
 
 pub record HubTurns {L : Type 0} (hearing : L → Hearing) (i : ℕ) (side : Side) (event : Event) (old new : HubState L) : Type 0 where
   pub turned : (kind : Kind) (m : Machine) → StandsAt kind old.sources i m → TurnsAt kind i side event new.sources m
   pub others : OthersStand i old.sources new.sources
   pub told : TellsAt hearing i (told_at event (last_in new.sources i)) old.chains new.chains
+  pub layouts : layouts_in new.sources ≡ layouts_in old.sources
   pub count : sources_in new ≡ sources_in old
 
 pub record HubRemoves {L : Type 0} (i at : ℕ) (old new : HubState L) : Type 0 where

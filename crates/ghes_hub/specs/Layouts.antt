@@ -1,5 +1,5 @@
 -- Layouts of sources in a memory.
-use Rattle.std.specs.Prelude.{◌≡◌, ◌≢◌, ℕ, ◌≤◌, List, length, Some, slice_get}
+use Rattle.std.specs.Prelude.{◌≡◌, ◌≢◌, ℕ, ◌≤◌, List, length, map, take, Some, slice_get}
 use Rattle.apei_space.specs.declared.windows.Window.{Window}
 use Rattle.apei_space.specs.RamState.{RamState}
 use Rattle.ghes_ack.specs.Machine.{started}
@@ -10,7 +10,7 @@ use Rattle.ghes_hub.specs.declared.source.Source.{Source}
 use Rattle.ghes_hub.specs.Kinds.{Kind, ByRegister, ByStatus}
 use Rattle.ghes_hub.specs.Plain.{HasPlainWindows, plain_window}
 use Rattle.ghes_hub.specs.Places.{places_of, plain_places_of, AreClear}
-use Rattle.ghes_hub.specs.OneSource.{kind_of, windows_of, SourceStands}
+use Rattle.ghes_hub.specs.OneSource.{kind_of, layout_in, windows_of, SourceStands}
 
 abbrev pub layout_kind : Layout → Kind
 layout_kind (Acknowledged map) = ByRegister
@@ -44,5 +44,6 @@ pub record IsBegun (layouts : List Layout) (first ram : RamState) (i : ℕ) (han
 
 -- the first sources are begun, and the memory of the others is as at first
 pub record AreBegun (layouts : List Layout) (first ram : RamState) (list : List Source) : Type 0 where
+  pub so_far : map layout_in list ≡ take (length list) layouts
   pub begun : (i : ℕ) (handover : Source) → slice_get list i ≡ Some handover → IsBegun layouts first ram i handover
   pub later : (i : ℕ) (layout : Layout) → length list ≤ i → slice_get layouts i ≡ Some layout → HasLayout layout ram × (layout_window layout ram ≡ layout_window layout first)

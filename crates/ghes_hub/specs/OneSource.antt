@@ -7,6 +7,8 @@ use Rattle.ghes_ack.specs.declared.events.Event.{Event}
 use Rattle.ghes_ack.specs.declared.submission.SubmitError.{SubmitError}
 use Rattle.ghes_ack.specs.Machine.{Machine}
 use Rattle.ghes_ack.specs.Handovers.{StandsFor, refusal}
+use Rattle.ghes_hub.specs.declared.layouts.Layout.{Layout}
+use Rattle.ghes_hub.specs.declared.layouts.Layout.TheVariants.{Acknowledged as WithRegister, Plain as WithStatus}
 use Rattle.ghes_hub.specs.declared.source.Source.{Source}
 use Rattle.ghes_hub.specs.declared.source.Source.TheVariants.{Acknowledged, Plain}
 use Rattle.ghes_hub.specs.Kinds.{Kind, ByRegister, ByStatus, turned_by}
@@ -16,6 +18,11 @@ use Rattle.ghes_hub.specs.Places.{places_of, plain_places_of}
 abbrev pub kind_of : Source → Kind
 kind_of (Acknowledged h) = ByRegister
 kind_of (Plain h) = ByStatus
+
+-- where its parts lie
+abbrev pub layout_in : Source → Layout
+layout_in (Acknowledged h) = WithRegister h.map
+layout_in (Plain h) = WithStatus h.map
 
 abbrev pub windows_of : Source → List Window
 windows_of (Acknowledged h) = places_of h.map
@@ -43,6 +50,7 @@ refusal_of (Plain h) block = plain_refusal h block
 
 -- the same source in another state
 pub record SamePlaces (old new : Source) : Type 0 where
+  pub layout : layout_in new ≡ layout_in old
   pub kind : kind_of new ≡ kind_of old
   pub windows : windows_of new ≡ windows_of old
 

@@ -1,17 +1,22 @@
 -- Sources over one memory.
-use Rattle.std.specs.Prelude.{◌≡◌, ◌≢◌, ℕ, List, Some, slice_get}
+use Rattle.std.specs.Prelude.{◌≡◌, ◌≢◌, ℕ, List, map, Some, slice_get}
 use Rattle.apei_space.specs.RamState.{RamState}
 use Rattle.ghes_ack.specs.declared.events.Side.{Side}
 use Rattle.ghes_ack.specs.declared.events.Event.{Event}
 use Rattle.ghes_ack.specs.Machine.{Machine}
+use Rattle.ghes_hub.specs.declared.layouts.Layout.{Layout}
 use Rattle.ghes_hub.specs.declared.source.Source.{Source}
 use Rattle.ghes_hub.specs.Kinds.{Kind, turned_by}
 use Rattle.ghes_hub.specs.Places.{AreClear}
-use Rattle.ghes_hub.specs.OneSource.{kind_of, windows_of, SourceStands, Stands}
+use Rattle.ghes_hub.specs.OneSource.{kind_of, layout_in, windows_of, SourceStands, Stands}
 
 pub record SourcesState : Type 0 where
   pub ram : RamState
   pub list : List Source
+
+-- where the parts of each source lie
+abbrev pub layouts_in : SourcesState → List Layout
+layouts_in s = map layout_in s.list
 
 -- each source stands for a state of its machine, and no two have a byte in common
 pub record AreServed (ram : RamState) (list : List Source) : Type 0 where

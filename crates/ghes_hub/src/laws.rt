@@ -6,7 +6,7 @@ ghost use Rattle.ghes_hub.specs.Hubs.{HubState, Call, DoAll, Serves, Told};
 ghost use Rattle.apei_notify.specs.Telling.{wanted};
 ghost use Rattle.std.specs.List.{AllZip};
 ghost use Rattle.ghes_hub.specs.Kinds.{Kind};
-ghost use Rattle.ghes_hub.specs.SourcesState.{StandsAt};
+ghost use Rattle.ghes_hub.specs.SourcesState.{StandsAt, layouts_in};
 ghost use Rattle.ghes_hub.specs.Runs.{run_by, told_by};
 
 use apei_notify::Listener;
@@ -29,9 +29,10 @@ pub fn every_source_in_order()
 /// What the calls of a hub say, put together: for every list of calls and each source, whatever stands between, the source is served as
 /// its own submissions, turns and removals alone say.
 pub fn every_list_of_calls<L: Listener>()
-    ensures { (kind : Kind) (j : ℕ) (window : List ℕ) (members : List L) (calls : List Call) (first last : HubState L) →
+    ensures serves { (kind : Kind) (j : ℕ) (window : List ℕ) (members : List L) (calls : List Call) (first last : HubState L) →
         StandsAt kind first.sources j (started window) → slice_get first.chains j ≡ Some members → DoAll L.hearing calls first last →
         Serves L.hearing kind j window members calls last }
+    ensures layouts { (calls : List Call) (first last : HubState L) → DoAll L.hearing calls first last → layouts_in last.sources ≡ layouts_in first.sources }
 {}
 
 /// A listener that was told of some blocks has heard of exactly those that it wants, each once.

@@ -5,7 +5,7 @@ ghost use Rattle.ghes_ack.specs.Machine.{Machine, started, submitted};
 ghost use Rattle.ghes_ack.specs.Elsewhere.{SameWhere};
 ghost use Rattle.ghes_hub.specs.Layouts.{HasLayout, layout_kind, layout_windows, layout_window};
 ghost use Rattle.ghes_hub.specs.Places.{IsOff};
-ghost use Rattle.ghes_hub.specs.OneSource.{SourceStands, Stands, SamePlaces, SourceTurned, kind_of, windows_of, last_of, waiting_of, refusal_of};
+ghost use Rattle.ghes_hub.specs.OneSource.{SourceStands, Stands, SamePlaces, SourceTurned, kind_of, layout_in, windows_of, last_of, waiting_of, refusal_of};
 
 use crate::layouts::Layout;
 use crate::plain::PlainHandover;
@@ -25,6 +25,7 @@ impl Source {
     pub fn new(alloc: Global, layout: Layout, ram: &mut Ram) -> Result<Source, Memory>
         requires { HasLayout layout ram.old }
         ensures stands { IfOk result (λ handover. SourceStands handover ram.new (started (layout_window layout ram.old))) }
+        ensures layout { IfOk result (λ handover. layout_in handover ≡ layout) }
         ensures kind { IfOk result (λ handover. kind_of handover ≡ layout_kind layout) }
         ensures windows { IfOk result (λ handover. windows_of handover ≡ layout_windows layout) }
         ensures elsewhere { SameWhere (IsOff (layout_windows layout)) ram.old ram.new }

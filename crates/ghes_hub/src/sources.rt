@@ -6,7 +6,7 @@ ghost use Rattle.ghes_hub.specs.Kinds.{Kind};
 ghost use Rattle.ghes_hub.specs.Layouts.{AreLaidOut, AreBegun};
 ghost use Rattle.ghes_hub.specs.OneSource.{waiting_of, refusal_of};
 ghost use Rattle.ghes_hub.specs.Runs.{takes};
-ghost use Rattle.ghes_hub.specs.SourcesState.{StandsAt, TurnsAt};
+ghost use Rattle.ghes_hub.specs.SourcesState.{StandsAt, TurnsAt, layouts_in};
 
 use crate::layouts::Layout;
 use crate::source::Source;
@@ -62,6 +62,7 @@ impl Sources {
         requires { source < length self.old.list }
         ensures turned { (kind : Kind) (m : Machine) → StandsAt kind self.old source m → TurnsAt kind source side result self.new m }
         ensures others { (kind : Kind) (other : ℕ) (m : Machine) → other ≢ source → StandsAt kind self.old other m → StandsAt kind self.new other m }
+        ensures layouts { layouts_in self.new ≡ layouts_in self.old }
         ensures count { length self.new.list ≡ length self.old.list }
         ensures took { takes result ≡ true → 20 ≤ length (last_in self.new source) }
     {
@@ -74,6 +75,7 @@ impl Sources {
         ensures others { (kind : Kind) (other : ℕ) (m : Machine) → other ≢ source → StandsAt kind self.old other m → StandsAt kind self.new other m }
         ensures number { IfOk result (λ waiting. IfSome (slice_get self.new.list source) (λ handover. waiting ≡ length (waiting_of handover))) }
         ensures exact { IfSome (slice_get self.old.list source) (λ handover. MatchResult result (λ _. refusal_of handover block.now ≡ None) (λ error. refusal_of handover block.now ≡ Some error)) }
+        ensures layouts { layouts_in self.new ≡ layouts_in self.old }
         ensures count { length self.new.list ≡ length self.old.list }
         ensures refused { OnErr result (self.new ≡ self.old) }
     {

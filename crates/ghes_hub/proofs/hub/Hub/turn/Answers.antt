@@ -37,6 +37,7 @@ returns-then-is_taking g c =
       others = c.turn-event.ensures.others;
       told = tells_one _ members_of xs c.args.source c.index_mut.result.now c.tell.new.self c.get_u32.result c.taken-block.result.now (last_in c.turn-event.new.self c.args.source) (takes c.turn-event.result)
           here c.index_mut.ensures.value (sym c.is_taking.ensures ∙ c.if-is_taking.true) c.taken-block.ensures c.get_u32.ensures c.tell.ensures;
+      layouts = c.turn-event.ensures.layouts;
       count = c.turn-event.ensures.count;
     }
 
@@ -45,5 +46,6 @@ returns-else-is_taking g c = record {
   turned = c.turn-event.ensures.turned;
   others = c.turn-event.ensures.others;
   told = tells_none _ (chains_of c.args.self.now.chains.items) c.args.source (last_in c.turn-event.new.self c.args.source) (takes c.turn-event.result) (sym c.is_taking.ensures ∙ c.if-is_taking.false);
+  layouts = c.turn-event.ensures.layouts;
   count = c.turn-event.ensures.count;
 }

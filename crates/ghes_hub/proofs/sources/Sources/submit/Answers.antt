@@ -4,7 +4,7 @@ use Rattle.ghes_ack.proofs.ElsewhereLemmas.{SameWhere-refl}
 use Rattle.ghes_hub.specs.Places.{IsOff}
 use Rattle.ghes_hub.specs.OneSource.{windows_of, waiting_of}
 use Rattle.ghes_hub.specs.SourcesState.{SourcesState}
-use Rattle.ghes_hub.proofs.SourceLemmas.{moves, of_view, served, others_stand, submits_at, stands_after, slice_get-same, if_some}
+use Rattle.ghes_hub.proofs.SourceLemmas.{moves, same_layouts, of_view, served, others_stand, submits_at, stands_after, slice_get-same, if_some}
 use Rattle.ghes_hub.proofs.sources.Sources.submit.Goals as goal
 
 pub invariant_of-self : goal.invariant_of-self
@@ -47,3 +47,11 @@ returns-clause-exact c =
     let before = c.index_mut.result.now in
     let h = moves c.args.self.now ram ram list c.args.source before c.submit.new.self c.self.view_is c.requires c.index_mut.ensures.value c.submit.ensures.places (SameWhere-refl (IsOff (windows_of before)) ram) in
     if_some _ before _ (ap (λ (s : SourcesState). slice_get s.list c.args.source) (sym c.self.view_is) ∙ h.is) c.submit.ensures.exact
+
+pub returns-clause-layouts : goal.returns-clause-layouts
+returns-clause-layouts c =
+    let ram = c.self.inside.ram in
+    let list = c.self.inside.list.items in
+    let before = c.index_mut.result.now in
+    let h = moves c.args.self.now ram ram list c.args.source before c.submit.new.self c.self.view_is c.requires c.index_mut.ensures.value c.submit.ensures.places (SameWhere-refl (IsOff (windows_of before)) ram) in
+    same_layouts ram ram list c.args.source before c.submit.new.self c.args.self.now h c.self.view_is

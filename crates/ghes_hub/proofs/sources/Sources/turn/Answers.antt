@@ -1,4 +1,4 @@
-use Rattle.ghes_hub.proofs.SourceLemmas.{moves, of_view, served, others_stand, turns_at, stands_here}
+use Rattle.ghes_hub.proofs.SourceLemmas.{moves, same_layouts, of_view, served, others_stand, turns_at, stands_here}
 use Rattle.ghes_hub.specs.OneSource.{kind_of}
 use Rattle.ghes_hub.proofs.HubLemmas.{took_head}
 use Rattle.std.proofs.Common.{set}
@@ -39,3 +39,11 @@ returns-clause-took c =
     let at = stands_here ram list c.args.source before m h.is st in
     λ took. took_head (kind_of before) c.args.side c.turn.result c.args.source (record { ram = ram; list = list }) (record { ram = c.turn.new.ram; list = set list c.args.source c.turn.new.self }) m at
     (turns_at ram c.turn.new.ram list c.args.source before c.turn.new.self c.args.side c.turn.result h c.turn.ensures.turned (kind_of before) m at) took
+
+pub returns-clause-layouts : goal.returns-clause-layouts
+returns-clause-layouts c =
+    let ram = c.self.inside.ram in
+    let list = c.self.inside.list.items in
+    let before = c.index_mut.result.now in
+    let h = moves c.args.self.now ram c.turn.new.ram list c.args.source before c.turn.new.self c.self.view_is c.requires c.index_mut.ensures.value c.turn.ensures.places c.turn.ensures.elsewhere in
+    same_layouts ram c.turn.new.ram list c.args.source before c.turn.new.self c.args.self.now h c.self.view_is
