@@ -1,0 +1,9 @@
+use Rattle.std.proofs.Common.{◌≡◌, ◌++◌, ◌+◌, ◌≤◌, length, vec_len, vec_capacity}
+use Rattle.ghes_hub.specs.Chains.{chains_of, in_order}
+use Rattle.ghes_hub.proofs.deals.gather.Given as goal
+
+abbrev pub invariant-loop-chain : goal.invariant-loop-chain
+invariant-loop-chain g l =
+    ((goal.iterator-loop-chain g).can_next l.chain-iterator × (goal.iterator-loop-chain g).is_finite l.chain-iterator)
+    × (l.members.items ++ in_order (chains_of l.chain-iterator.rest.items) ≡ l.fn.members.items ++ in_order (chains_of l.fn.chains.items))
+    × (vec_len l.members + length (in_order (chains_of l.chain-iterator.rest.items)) ≤ vec_capacity l.members)

@@ -1,0 +1,32 @@
+use Rattle.std.proofs.Common.{◌≡◌, ◌∙◌, ℕ, ◌≤◌, List, length, vec_len, sym, ap, subst, arith}
+use Rattle.ghes_hub.proofs.PlainBlocks.{fits_in_hand, fills_hand, publishes_hand, idles_at}
+use Rattle.ghes_hub.proofs.plain.firmware.fill_or_publish.Goals as goal
+
+pub returns-in_default-clause-turns : goal.returns-in_default-clause-turns
+returns-in_default-clause-turns c = λ m st. idles_at c.args.blocks.now c.next.new.self c.args.ram.now c.in_default.ensures m st
+
+pub fill-requires-clause-fits : goal.fill-requires-clause-fits
+fill-requires-clause-fits c =
+    let good = fits_in_hand c.args.blocks.now c.next.new.self c.in-Some.block c.args.ram.now c.in-Some.ensures c.requires.stands in
+    let fits : length c.deref.result.now ≤ c.args.blocks.now.map.len = subst (λ (x : List ℕ). length x ≤ c.args.blocks.now.map.len) (sym c.deref.ensures.value) good.1.fits in
+    let same : c.next.new.self.map.len ≡ c.args.blocks.now.map.len = ap (λ at. at.len) c.in-Some.ensures.same.map in
+    omega (arith, fits, same)
+
+pub returns-then-blocks-len-clause-turns : goal.returns-then-blocks-len-clause-turns
+returns-then-blocks-len-clause-turns c =
+    let n : length c.in-Some.block.items ≡ vec_len c.in-Some.block = ap length (sym c.deref.ensures.value) ∙ c.deref.ensures.len in
+    let l = c.len.ensures in
+    let more = c.if-blocks-len.true in
+    λ m st. fills_hand c.args.blocks.now c.next.new.self c.in-Some.block c.deref.result.now c.args.ram.now c.fill.new.ram c.in-Some.ensures c.deref.ensures.value (omega (arith, n, l, more)) c.fill.ensures m st
+
+pub publish-wait-requires-clause-head : goal.publish-wait-requires-clause-head
+publish-wait-requires-clause-head c =
+    let good = fits_in_hand c.args.blocks.now c.next.new.self c.in-Some.block c.args.ram.now c.in-Some.ensures c.requires.stands in
+    subst (λ (x : List ℕ). 20 ≤ length x) (sym c.deref-2.ensures.value) good.1.head
+
+pub returns-clause-turns : goal.returns-clause-turns
+returns-clause-turns c =
+    let n : length c.in-Some.block.items ≡ vec_len c.in-Some.block = ap length (sym c.deref-2.ensures.value) ∙ c.deref-2.ensures.len in
+    let l = c.len.ensures in
+    let none = c.if-blocks-len.false in
+    λ m st. publishes_hand c.args.blocks.now c.next.new.self c.in-Some.block c.deref-2.result.now c.args.ram.now c.publish-wait.new.ram c.in-Some.ensures c.deref-2.ensures.value (omega (arith, n, l, none)) c.publish-wait.ensures m st

@@ -1,0 +1,15 @@
+pub mod Kinds
+pub mod Runs
+pub mod Plain
+pub mod PlainSides
+pub mod Places
+pub mod OneSource
+pub mod SourcesState
+pub mod Hubs
+pub mod Seen
+pub mod Chains
+pub mod Layouts
+pub mod Deals
+pub mod Joins
+pub mod Refusals
+pub mod Opens

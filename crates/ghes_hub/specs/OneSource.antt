@@ -1,0 +1,60 @@
+-- A source of either kind, and the states of the machine that it stands for.
+use Rattle.std.specs.Prelude.{◌≡◌, ℕ, List, Option}
+use Rattle.apei_space.specs.declared.windows.Window.{Window}
+use Rattle.apei_space.specs.RamState.{RamState}
+use Rattle.ghes_ack.specs.declared.events.Side.{Side}
+use Rattle.ghes_ack.specs.declared.events.Event.{Event}
+use Rattle.ghes_ack.specs.declared.submission.SubmitError.{SubmitError}
+use Rattle.ghes_ack.specs.Machine.{Machine}
+use Rattle.ghes_ack.specs.Handovers.{StandsFor, refusal}
+use Rattle.ghes_hub.specs.declared.layouts.Layout.{Layout}
+use Rattle.ghes_hub.specs.declared.layouts.Layout.TheVariants.{Acknowledged as WithRegister, Plain as WithStatus}
+use Rattle.ghes_hub.specs.declared.source.Source.{Source}
+use Rattle.ghes_hub.specs.declared.source.Source.TheVariants.{Acknowledged, Plain}
+use Rattle.ghes_hub.specs.Kinds.{Kind, ByRegister, ByStatus, turned_by}
+use Rattle.ghes_hub.specs.Plain.{PlainStands, plain_refusal}
+use Rattle.ghes_hub.specs.Places.{places_of, plain_places_of}
+
+abbrev pub kind_of : Source → Kind
+kind_of (Acknowledged h) = ByRegister
+kind_of (Plain h) = ByStatus
+
+-- where its parts lie
+abbrev pub layout_in : Source → Layout
+layout_in (Acknowledged h) = WithRegister h.map
+layout_in (Plain h) = WithStatus h.map
+
+abbrev pub windows_of : Source → List Window
+windows_of (Acknowledged h) = places_of h.map
+windows_of (Plain h) = plain_places_of h.map
+
+abbrev pub SourceStands : Source → RamState → Machine → Type 0
+SourceStands (Acknowledged h) ram m = StandsFor h ram m
+SourceStands (Plain h) ram m = PlainStands h ram m
+
+-- it stands for some state
+abbrev pub Stands : Source → RamState → Type 0
+Stands handover ram = (m : Machine) × SourceStands handover ram m
+
+abbrev pub waiting_of : Source → List (List ℕ)
+waiting_of (Acknowledged h) = h.waiting
+waiting_of (Plain h) = h.waiting
+
+abbrev pub last_of : Source → List ℕ
+last_of (Acknowledged h) = h.last
+last_of (Plain h) = h.last
+
+abbrev pub refusal_of : Source → List ℕ → Option SubmitError
+refusal_of (Acknowledged h) block = refusal h block
+refusal_of (Plain h) block = plain_refusal h block
+
+-- the same source in another state
+pub record SamePlaces (old new : Source) : Type 0 where
+  pub layout : layout_in new ≡ layout_in old
+  pub kind : kind_of new ≡ kind_of old
+  pub windows : windows_of new ≡ windows_of old
+
+-- a turn, from a state of the machine: the machine's event, and afterwards it stands for the machine's next state
+pub record SourceTurned (kind : Kind) (side : Side) (event : Event) (after : Source) (memory : RamState) (m : Machine) : Type 0 where
+  pub event_is : event ≡ (turned_by kind side m).0
+  pub stands : SourceStands after memory (turned_by kind side m).1

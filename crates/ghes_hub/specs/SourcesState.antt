@@ -1,0 +1,36 @@
+-- Sources over one memory.
+use Rattle.std.specs.Prelude.{◌≡◌, ◌≢◌, ℕ, List, map, Some, slice_get}
+use Rattle.apei_space.specs.RamState.{RamState}
+use Rattle.ghes_ack.specs.declared.events.Side.{Side}
+use Rattle.ghes_ack.specs.declared.events.Event.{Event}
+use Rattle.ghes_ack.specs.Machine.{Machine}
+use Rattle.ghes_hub.specs.declared.layouts.Layout.{Layout}
+use Rattle.ghes_hub.specs.declared.source.Source.{Source}
+use Rattle.ghes_hub.specs.Kinds.{Kind, turned_by}
+use Rattle.ghes_hub.specs.Places.{AreClear}
+use Rattle.ghes_hub.specs.OneSource.{kind_of, layout_in, windows_of, SourceStands, Stands}
+
+pub record SourcesState : Type 0 where
+  pub ram : RamState
+  pub list : List Source
+
+-- where the parts of each source lie
+abbrev pub layouts_in : SourcesState → List Layout
+layouts_in s = map layout_in s.list
+
+-- each source stands for a state of its machine, and no two have a byte in common
+pub record AreServed (ram : RamState) (list : List Source) : Type 0 where
+  pub stands : (i : ℕ) (p : Source) → slice_get list i ≡ Some p → Stands p ram
+  pub apart : (i j : ℕ) (p q : Source) → i ≢ j → slice_get list i ≡ Some p → slice_get list j ≡ Some q → AreClear (windows_of p) (windows_of q)
+
+-- source number i is of this kind, and stands for this state of its machine
+pub record StandsAt (kind : Kind) (s : SourcesState) (i : ℕ) (m : Machine) : Type 0 where
+  pub handover : Source
+  pub is : slice_get s.list i ≡ Some handover
+  pub kind_is : kind_of handover ≡ kind
+  pub stands : SourceStands handover s.ram m
+
+-- a turn of source i
+pub record TurnsAt (kind : Kind) (i : ℕ) (side : Side) (event : Event) (new : SourcesState) (m : Machine) : Type 0 where
+  pub event_is : event ≡ (turned_by kind side m).0
+  pub stands : StandsAt kind new i (turned_by kind side m).1

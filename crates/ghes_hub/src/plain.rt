@@ -1,0 +1,11 @@
+// A handover without a read acknowledgement.
+mod blocks;
+mod ends;
+mod firmware;
+mod handover;
+mod map;
+mod reader;
+mod turns;
+
+pub use handover::PlainHandover;
+pub use map::PlainMap;

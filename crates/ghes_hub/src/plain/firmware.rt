@@ -1,0 +1,57 @@
+// The firmware's turns of a plain handover, by its own end, its blocks and the memory alone.
+ghost use Rattle.std.specs.Prelude.{◌≡◌, ◌<◌};
+ghost use Rattle.ghes_ack.specs.declared.events.Side.TheVariants.{Firmware as OfFirmware};
+ghost use Rattle.ghes_ack.specs.Machine.{Machine, Filling};
+ghost use Rattle.ghes_hub.specs.Plain.{HasPlainWindows, PlainStands};
+ghost use Rattle.ghes_hub.specs.PlainSides.{IsSound, Stands, Turns, FindsClear, FirmwareIsAble, FirmwareTurns, firmware_at, state_of};
+
+use crate::plain::blocks::Blocks;
+use crate::plain::ends::{FirmwareEnd, PlainFirm, PlainWait};
+use crate::plain::map::{PIECE, PlainMap};
+use apei_space::Ram;
+use ghes_ack::Event;
+
+/// One turn of the firmware.
+pub fn firmware_turn(end: FirmwareEnd, blocks: &mut Blocks, ram: &mut Ram) -> (FirmwareEnd, Event)
+    requires { FirmwareIsAble end blocks.old ram.old }
+    ensures { FirmwareTurns end blocks.old ram.old result.1 result.0 blocks.new ram.new }
+{
+    match end {
+        FirmwareEnd::Writes(firm) => fill_or_publish(firm, blocks, ram),
+        FirmwareEnd::Waits(wait) => look_for_clear(wait, &blocks.map, ram),
+    }
+}
+
+/// Looks whether the block was cleared.
+fn look_for_clear(wait: PlainWait, map: &PlainMap, ram: &Ram) -> (FirmwareEnd, Event)
+    requires { HasPlainWindows map.now ram.now }
+    ensures { FindsClear map.now ram.now result.1 result.0 }
+{
+    match wait.poll(map, ram) {
+        Ok(firm) => (FirmwareEnd::Writes(firm), Event::Free),
+        Err(wait) => (FirmwareEnd::Waits(wait), Event::Wait),
+    }
+}
+
+/// Writes the next piece, or publishes a block all of whose pieces are written.
+fn fill_or_publish(firm: PlainFirm, blocks: &mut Blocks, ram: &mut Ram) -> (FirmwareEnd, Event)
+    requires sound { IsSound Filling blocks.old }
+    requires stands { Stands (state_of Filling blocks.old) ram.old }
+    ensures sound { IsSound (firmware_at result.0) blocks.new }
+    ensures turns { (m : Machine) → PlainStands (state_of Filling blocks.old) ram.old m →
+        Turns OfFirmware result.1 (state_of Filling blocks.old) ram.old (state_of (firmware_at result.0) blocks.new) ram.new m }
+{
+    let Some(block) = blocks.next() else {
+        return (FirmwareEnd::Writes(firm), Event::Idle);
+    };
+    if PIECE * (blocks.filled as usize) < block.len() {
+        firm.fill(&blocks.map, ram, &block, blocks.filled);
+        blocks.filled += 1;
+        blocks.at_work = Some(block);
+        return (FirmwareEnd::Writes(firm), Event::Fill);
+    }
+    let wait = firm.publish(&blocks.map, ram, &block);
+    blocks.filled = 0;
+    blocks.at_work = Some(block);
+    (FirmwareEnd::Waits(wait), Event::Publish)
+}

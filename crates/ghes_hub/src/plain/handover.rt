@@ -1,0 +1,123 @@
+// Both sides of a plain handover.
+ghost use Rattle.std.specs.Prelude.{◌≡◌, ◌∷◌, ◌++◌, [], length, IfOk, OnOk, OnErr, MatchResult, Some, None};
+ghost use Rattle.apei_space.specs.RamState.{RamState};
+ghost use Rattle.ghes_ack.specs.Machine.{Machine, started, submitted};
+ghost use Rattle.ghes_hub.specs.Plain.{HasPlainWindows, PlainStands, plain_window, plain_started, plain_fresh, plain_refusal};
+ghost use Rattle.ghes_hub.specs.PlainSides.{Turns};
+
+use crate::plain::blocks::{Blocks, WAITING};
+use crate::plain::ends::{FirmwareEnd, PlainEnds, ReaderEnd, begin};
+use crate::plain::map::PlainMap;
+use crate::plain::turns::one_turn;
+use apei_bytes::Memory;
+use apei_space::Ram;
+use ghes_ack::{Event, Side, SubmitError};
+use ghes_block::Block;
+use std::alloc::Global;
+use std::marker::Model;
+
+/// Both sides of a plain handover, and the blocks that the firmware hands over. It may not be dropped: `end` spends it.
+pub struct PlainHandover {
+    /// Always there between two calls.
+    ends: Option<PlainEnds>,
+    blocks: Blocks,
+}
+
+impl Model for PlainHandover {
+    ghost use Rattle.ghes_hub.specs.Plain.{PlainState};
+    ghost use Rattle.ghes_hub.specs.PlainSides.{view_of, AreConsistent};
+
+    ghost Value = { PlainState };
+
+    ghost view = { λ handover. view_of handover.ends handover.blocks };
+
+    ghost invariant = { λ handover. AreConsistent handover.ends handover.blocks };
+}
+
+impl PlainHandover {
+    /// Begins a handover, with room for 66 blocks. No other call takes memory.
+    pub fn new(alloc: Global, map: PlainMap, ram: &mut Ram) -> Result<PlainHandover, Memory>
+        requires { HasPlainWindows map ram.old }
+        ensures fresh { IfOk result (λ handover. handover ≡ plain_fresh map) }
+        ensures stands { IfOk result (λ handover. PlainStands handover ram.new (started (plain_window map ram.old))) }
+        ensures memory { OnOk result (ram.new ≡ plain_started map ram.old) }
+        ensures refused { OnErr result (ram.new ≡ ram.old) }
+    {
+        let blocks = Blocks::new(alloc, map)?;
+        let (firm, idle) = begin(&map, ram);
+        Ok(PlainHandover {
+            ends: Some(PlainEnds {
+                firmware: FirmwareEnd::Writes(firm),
+                reader: ReaderEnd::Looks(idle),
+            }),
+            blocks,
+        })
+    }
+
+    /// Takes a block over, and answers how many wait then.
+    pub fn submit(&mut self, block: &[u8]) -> Result<u32, SubmitError>
+        ensures added { OnOk result (self.new ≡ record self.old { waiting = self.old.waiting ++ block.now ∷ [] }) }
+        ensures number { IfOk result (λ waiting. waiting ≡ length self.new.waiting) }
+        ensures stands { OnOk result ((ram : RamState) (m : Machine) → PlainStands self.old ram m → PlainStands self.new ram (submitted m block.now)) }
+        ensures exact { MatchResult result (λ _. plain_refusal self.old block.now ≡ None) (λ error. plain_refusal self.old block.now ≡ Some error) }
+        ensures refused { OnErr result (self.new ≡ self.old) }
+    {
+        let len = block.len() as u64;
+        if len > u64::from(self.blocks.map.len) {
+            return Err(SubmitError::Long { len });
+        }
+        match Block::decode(block) {
+            Err(error) => return Err(SubmitError::Malformed(error)),
+            Ok((_, size)) => {
+                if size < block.len() {
+                    let bytes = (block.len() - size) as u64;
+                    return Err(SubmitError::Trailing { bytes });
+                }
+            }
+        }
+        if self.blocks.waiting.len() >= WAITING {
+            return Err(SubmitError::Full);
+        }
+        self.blocks.add(block);
+        Ok(self.blocks.waiting.len() as u32)
+    }
+
+    /// One turn of a side, over the memory that it was begun with.
+    pub fn turn(&mut self, side: Side, ram: &mut Ram) -> Event
+        requires { (m : Machine) × PlainStands self.old ram.old m }
+        ensures turned { (m : Machine) → PlainStands self.old ram.old m → Turns side result self.old ram.old self.new ram.new m }
+    {
+        let Some(ends) = self.ends.take() else {
+            unreachable!();
+        };
+        let (next, event) = one_turn(side, ends, &mut self.blocks, ram);
+        put_back(&mut self.ends, next);
+        event
+    }
+
+    /// The block taken last since the start, empty where none was.
+    pub fn taken(&self) -> &[u8]
+        ensures { result.now ≡ self.now.last }
+    {
+        &self.blocks.last
+    }
+
+    /// Spends the handover, in any situation.
+    pub fn end(self) {
+        let PlainHandover { ends, blocks: _ } = self;
+        if let Some(ends) = ends {
+            ends.end();
+        }
+    }
+}
+
+/// Puts the sides to their empty place.
+fn put_back(place: &mut Option<PlainEnds>, ends: PlainEnds)
+    requires { place.old ≡ None }
+    ensures { place.new ≡ Some ends }
+{
+    match place.replace(ends) {
+        None => {}
+        Some(_old) => unreachable!(),
+    }
+}

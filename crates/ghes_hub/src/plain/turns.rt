@@ -1,0 +1,33 @@
+// One turn of either side of a plain handover.
+ghost use Rattle.ghes_hub.specs.PlainSides.{IsConsistent, Stands, SideDone, handover_of};
+
+use crate::plain::blocks::Blocks;
+use crate::plain::ends::PlainEnds;
+use crate::plain::firmware::firmware_turn;
+use crate::plain::reader::reader_turn;
+use apei_space::Ram;
+use ghes_ack::{Event, Side};
+
+/// One turn of a side. The other one stays where it is.
+pub fn one_turn(
+    side: Side,
+    ends: PlainEnds,
+    blocks: &mut Blocks,
+    ram: &mut Ram,
+) -> (PlainEnds, Event)
+    requires consistent { IsConsistent ends blocks.old }
+    requires stands { Stands (handover_of ends blocks.old) ram.old }
+    ensures { SideDone side result.1 ends result.0 blocks.old blocks.new ram.old ram.new }
+{
+    let PlainEnds { firmware, reader } = ends;
+    match side {
+        Side::Firmware => {
+            let (firmware, event) = firmware_turn(firmware, blocks, ram);
+            (PlainEnds { firmware, reader }, event)
+        }
+        Side::Reader => {
+            let (reader, event) = reader_turn(reader, blocks, ram);
+            (PlainEnds { firmware, reader }, event)
+        }
+    }
+}

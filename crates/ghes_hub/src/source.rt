@@ -1,0 +1,79 @@
+// A source of either kind.
+ghost use Rattle.std.specs.Prelude.{◌≡◌, ◌∷◌, ◌++◌, [], length, IfOk, OnOk, OnErr, MatchResult, Some, None};
+ghost use Rattle.apei_space.specs.RamState.{RamState};
+ghost use Rattle.ghes_ack.specs.Machine.{Machine, started, submitted};
+ghost use Rattle.ghes_ack.specs.Elsewhere.{SameWhere};
+ghost use Rattle.ghes_hub.specs.Layouts.{HasLayout, layout_kind, layout_windows, layout_window};
+ghost use Rattle.ghes_hub.specs.Places.{IsOff};
+ghost use Rattle.ghes_hub.specs.OneSource.{SourceStands, Stands, SamePlaces, SourceTurned, kind_of, layout_in, windows_of, last_of, waiting_of, refusal_of};
+
+use crate::layouts::Layout;
+use crate::plain::PlainHandover;
+use apei_bytes::Memory;
+use apei_space::Ram;
+use ghes_ack::{Event, Handover, Side, SubmitError};
+use std::alloc::Global;
+
+/// The handover of a source: with a read acknowledgement, or without.
+pub enum Source {
+    Acknowledged(Handover),
+    Plain(PlainHandover),
+}
+
+impl Source {
+    /// Begins the handover of a source. No other call takes memory.
+    pub fn new(alloc: Global, layout: Layout, ram: &mut Ram) -> Result<Source, Memory>
+        requires { HasLayout layout ram.old }
+        ensures stands { IfOk result (λ handover. SourceStands handover ram.new (started (layout_window layout ram.old))) }
+        ensures layout { IfOk result (λ handover. layout_in handover ≡ layout) }
+        ensures kind { IfOk result (λ handover. kind_of handover ≡ layout_kind layout) }
+        ensures windows { IfOk result (λ handover. windows_of handover ≡ layout_windows layout) }
+        ensures elsewhere { SameWhere (IsOff (layout_windows layout)) ram.old ram.new }
+    {
+        match layout {
+            Layout::Acknowledged(map) => Ok(Source::Acknowledged(Handover::new(alloc, map, ram)?)),
+            Layout::Plain(map) => Ok(Source::Plain(PlainHandover::new(alloc, map, ram)?)),
+        }
+    }
+
+    pub fn submit(&mut self, block: &[u8]) -> Result<u32, SubmitError>
+        ensures stands { OnOk result ((ram : RamState) (m : Machine) → SourceStands self.old ram m → SourceStands self.new ram (submitted m block.now)) }
+        ensures number { IfOk result (λ waiting. waiting ≡ length (waiting_of self.new)) }
+        ensures exact { MatchResult result (λ _. refusal_of self.old block.now ≡ None) (λ error. refusal_of self.old block.now ≡ Some error) }
+        ensures places { SamePlaces self.old self.new }
+        ensures refused { OnErr result (self.new ≡ self.old) }
+    {
+        match self {
+            Source::Acknowledged(handover) => handover.submit(block),
+            Source::Plain(handover) => handover.submit(block),
+        }
+    }
+
+    pub fn turn(&mut self, side: Side, ram: &mut Ram) -> Event
+        requires { Stands self.old ram.old }
+        ensures turned { (m : Machine) → SourceStands self.old ram.old m → SourceTurned (kind_of self.old) side result self.new ram.new m }
+        ensures elsewhere { SameWhere (IsOff (windows_of self.old)) ram.old ram.new }
+        ensures places { SamePlaces self.old self.new }
+    {
+        match self {
+            Source::Acknowledged(handover) => handover.turn(side, ram),
+            Source::Plain(handover) => handover.turn(side, ram),
+        }
+    }
+
+    pub fn taken(&self) -> &[u8]
+        ensures { result.now ≡ last_of self.now }
+    {
+        match self {
+            Source::Acknowledged(handover) => handover.taken(),
+            Source::Plain(handover) => handover.taken(),
+        }
+    }
+
+    pub fn end(self) {
+        match self {
+            Source::Acknowledged(handover) => handover.end(),
+            Source::Plain(handover) => handover.end(),
+        }
+    }
+}
