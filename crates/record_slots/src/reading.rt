@@ -10,6 +10,7 @@ use crate::places::{BODY_AT, place_of};
 use flash_model::{Flash, FlashFailed, Geometry};
 
 /// The head and the tail mark of a slot, by one read of each.
+#[inline(always)]
 pub fn look<F: Flash>(
     flash: &mut F,
     geometry: &Geometry,

@@ -5,7 +5,20 @@ use Rattle.record_store.specs.Kept.{Knows, IsWork, pending_of}
 use Rattle.record_store.specs.declared.work.Work.{Work}
 use Rattle.record_store.proofs.ScanLemmas.{IsListing-rescanned, KnowsSlots-recovered}
 use Rattle.record_store.proofs.StoreLemmas.{IsScanned, idle_work, ready_knows, looks_ready, looks_again, looks_failed, rescanned_spare, free_rescanned, ready_reads, looked_reads}
+use Rattle.record_store.proofs.store.Store.settle.Given as given
 use Rattle.record_store.proofs.store.Store.settle.Goals as goal
+use Rattle.record_store.proofs.store.Store.settle.Goals.{After-rescan}
+
+-- what a scan leaves
+scanned : (g : given.Over) (c : goal.After-rescan g) → IsScanned g.F.Flash.tells c.self.inside.geometry (g.F.Flash.state c.self.inside.flash) (g.F.Flash.state c.rescan.new.flash)
+scanned g c = record {
+  crash = c.rescan.ensures.crash;
+  changes = c.rescan.ensures.changes;
+  nearly = c.self.invariant.spare;
+  size = c.rescan.ensures.shape.size;
+  sector_size = c.rescan.ensures.shape.sector_size;
+  power = c.rescan.ensures.shape.power;
+}
 
 pub returns-then-not-self-clause-leaves : goal.returns-then-not-self-clause-leaves
 returns-then-not-self-clause-leaves g c =
@@ -56,16 +69,8 @@ pub returns-in-Ok-clause-leaves : goal.returns-in-Ok-clause-leaves
 returns-in-Ok-clause-leaves g c =
     let i = c.self.inside in
     let shape = c.rescan.ensures.shape in
-    let scanned : IsScanned g.F.Flash.tells i.geometry (g.F.Flash.state i.flash) (g.F.Flash.state c.rescan.new.flash) = record {
-      crash = c.rescan.ensures.crash;
-      changes = c.rescan.ensures.changes;
-      nearly = c.self.invariant.spare;
-      size = shape.size;
-      sector_size = shape.sector_size;
-      power = shape.power;
-    } in
     looks_again g.F.Flash.tells i.geometry (g.F.Flash.state i.flash) (g.F.Flash.state c.rescan.new.flash) c.rescan.new.found i.in_doubt (pending_of (layout_of i.geometry) i.buffer.items i.work) c.args.self.now _ c.self.view_is
-    c.if-not-self.false (ap (λ (u : StoreView). u.pending) c.self.view_is ∙ c.requires.idle) scanned c.in-Ok.ensures.recovered c.in-Ok.ensures.shape.cause.ok
+    c.if-not-self.false (ap (λ (u : StoreView). u.pending) c.self.view_is ∙ c.requires.idle) (scanned g (goal.at.returns-in-Ok-clause-leaves g c).After-rescan) c.in-Ok.ensures.recovered c.in-Ok.ensures.shape.cause.ok
     (record {
       once = tt;
       lit = shape.lit;
@@ -77,16 +82,8 @@ pub returns-in-Err-clause-leaves : goal.returns-in-Err-clause-leaves
 returns-in-Err-clause-leaves g c =
     let i = c.self.inside in
     let shape = c.rescan.ensures.shape in
-    let scanned : IsScanned g.F.Flash.tells i.geometry (g.F.Flash.state i.flash) (g.F.Flash.state c.rescan.new.flash) = record {
-      crash = c.rescan.ensures.crash;
-      changes = c.rescan.ensures.changes;
-      nearly = c.self.invariant.spare;
-      size = shape.size;
-      sector_size = shape.sector_size;
-      power = shape.power;
-    } in
     looks_failed g.F.Flash.tells i.geometry (g.F.Flash.state i.flash) (g.F.Flash.state c.rescan.new.flash) i.in_doubt (pending_of (layout_of i.geometry) i.buffer.items i.work) c.args.self.now c.self.view_is
-    c.if-not-self.false (ap (λ (u : StoreView). u.pending) c.self.view_is ∙ c.requires.idle) scanned shape.cause.never_falls c.in-Err.ensures.shape.cause.err shape.lit c.in-Err.ensures.shape.once
+    c.if-not-self.false (ap (λ (u : StoreView). u.pending) c.self.view_is ∙ c.requires.idle) (scanned g (goal.at.returns-in-Err-clause-leaves g c).After-rescan) shape.cause.never_falls c.in-Err.ensures.shape.cause.err shape.lit c.in-Err.ensures.shape.once
 
 pub returns-in-Ok-clause-free : goal.returns-in-Ok-clause-free
 returns-in-Ok-clause-free g c tells =
