@@ -1,0 +1,7 @@
+pub mod Places
+pub mod Parts
+pub mod LookLemmas
+pub mod SlotLemmas
+pub mod KindLemmas
+pub mod CountLemmas
+pub mod ReadLemmas

@@ -1,0 +1,28 @@
+-- What a look at a flash leaves, and when it gives each answer.
+use Rattle.std.specs.Prelude.{◌≡◌, ◌≤◌, ℕ, Result, Ok, Err}
+use Rattle.std.specs.declared.alloc.Global.{Global}
+use Rattle.std.specs.declared.vec.Vec.{Vec}
+use Rattle.base_model.specs.Faults.{Rose}
+use Rattle.flash_model.specs.declared.geometry.Geometry.{Geometry}
+use Rattle.flash_words.specs.Flash.{FlashState, StaysLit}
+use Rattle.record_slots.specs.Slots.{Fits}
+use Rattle.image_survey.specs.declared.flash.ImageError.{ImageError}
+use Rattle.image_survey.specs.declared.flash.ImageError.TheVariants.{Size, Flash, Memory}
+
+-- no change was made and none was asked for: the content, the size, the count of changes and the power are as before
+pub record LeavesAlone (tells : Type 0) (old new : FlashState) : Type 0 where
+  pub told : tells → new.told ≡ old.told
+  pub size : new.size ≡ old.size
+  pub sector_size : new.sector_size ≡ old.sector_size
+  pub steps : new.steps ≡ old.steps
+  pub power : new.powered ≡ old.powered
+  pub lit : StaysLit old new
+
+-- another size is answered exactly where the flash has one, a fault only where the count of faults rose, and before an
+-- answer of size or memory the flash is not even read
+abbrev pub IsAnswer : Geometry → FlashState → FlashState → Result (Vec ℕ Global) ImageError → Type 0
+IsAnswer geometry old new (Ok image) = Fits geometry old × (new.faults ≡ old.faults)
+IsAnswer geometry old new (Err (Size found sector)) =
+    (Fits geometry old → ⊥) × (found ≡ old.size) × (sector ≡ old.sector_size) × (new ≡ old)
+IsAnswer geometry old new (Err Flash) = Fits geometry old × (old.faults ≤ new.faults) × Rose old.faults new.faults
+IsAnswer geometry old new (Err Memory) = Fits geometry old × (new ≡ old)

@@ -1,0 +1,6 @@
+pub mod Looks
+pub mod Kinds
+pub mod Shown
+pub mod Reading
+pub mod Copies
+pub mod Counts

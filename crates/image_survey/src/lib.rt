@@ -1,0 +1,22 @@
+//! What the image of a record store's flash holds, without a change of it: what each slot is, and the records that a boot
+//! finds.
+#![tactic(auto)]
+
+mod finding;
+mod firsts;
+mod flash;
+mod further;
+mod kinds;
+mod lives;
+mod looks;
+mod reading;
+mod survey;
+mod totals;
+
+pub use finding::find;
+pub use flash::{ImageError, read_image};
+pub use kinds::SlotKind;
+pub use looks::Look;
+pub use reading::record_at;
+pub use survey::{SlotView, survey_slots};
+pub use totals::{Totals, count_slots};
