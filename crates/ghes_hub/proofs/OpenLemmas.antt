@@ -4,7 +4,7 @@ use Rattle.std.specs.Option.{option_map}
 use Rattle.std.proofs.lemmas.Bool.{cases_lt}
 use Rattle.std.proofs.lemmas.Bool.Decides.{nat_tests}
 use Rattle.std.proofs.lemmas.List.{append-nil, length-map}
-use Rattle.std.proofs.lemmas.Option.{slice_get-map}
+use Rattle.std.proofs.lemmas.Option.{slice_get-map, slice_get_within}
 use Rattle.std.specs.declared.alloc.Global.{Global}
 use Rattle.apei_gas.specs.declared.registers.Place.{Place}
 use Rattle.apei_gas.specs.declared.registers.Place.TheVariants.{Memory, Io}
@@ -16,7 +16,13 @@ use Rattle.ghes_hub.specs.Deals.{dealt_to, item_lists, AreDealt}
 use Rattle.ghes_hub.specs.Joins.{AreFree}
 use Rattle.ghes_hub.specs.Opens.{IsReady, IsOpened}
 use Rattle.ghes_hub.specs.Places.{IsOff}
-use Rattle.ghes_hub.specs.Refusals.{overlap_at, overlaps, is_late, clashes}
+use Rattle.ghes_hub.specs.Layouts.{layout_kind}
+use Rattle.apei_notify.specs.Telling.{Hearing}
+use Rattle.hest_sources.specs.declared.sources.Ghes.{Ghes}
+use Rattle.ghes_ack.specs.Machine.{zeros}
+use Rattle.ghes_hub.specs.Hubs.{HubState, Call, DoAll, Serves, sources_in}
+use Rattle.ghes_hub.proofs.HubLemmas.{serves}
+use Rattle.ghes_hub.specs.Refusals.{generics, layout_of, overlap_at, overlaps, is_late, clashes}
 use Rattle.ghes_hub.specs.SourcesState.{SourcesState}
 
 some_at : {X : Type 0} (xs : List X) (i : ℕ) → i < length xs → (x : X) × (slice_get xs i ≡ Some x)
@@ -35,6 +41,14 @@ opened {L} sources s new all n k lists chains ready same count dealt chains_are 
       let got : at.0.items ≡ dealt_to n i 0 all = sym (append-nil at.0.items) ∙ dealt.each i at.0 at.1 in
       ap (λ (xs : List (List L)). slice_get xs i) chains_are ∙ slice_get-map (λ list. list.items) lists i ∙ ap (option_map (λ list. list.items)) at.1 ∙ ap Some (got ∙ ap (λ (j : ℕ). dealt_to j i 0 all) count);
 })
+
+-- each source is served from the opening on
+pub from_opening : {L : Type 0} (hearing : L → Hearing) (table : List HestSource) (listeners : List L) (i : ℕ) (source : Ghes) (calls : List Call) (first last : HubState L) → IsOpened table listeners first → slice_get (generics table) i ≡ Some source → DoAll hearing calls first last →
+    Serves hearing (layout_kind (layout_of i source)) i (zeros source.block_len) (dealt_to (sources_in first) i 0 listeners) calls last
+from_opening hearing table listeners i source calls first last opened is all =
+    let w = slice_get_within (generics table) i source is in
+    let n = opened.ready.count in
+    serves hearing (layout_kind (layout_of i source)) i (zeros source.block_len) (dealt_to (sources_in first) i 0 listeners) calls first last (opened.ready.stands i source is) (opened.dealt i (omega (arith, w, n))) all
 
 -- what it says that nothing clashes
 neither : (a b : Bool) → (a || b) ≡ false → (a ≡ false) × (b ≡ false)

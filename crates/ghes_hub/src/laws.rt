@@ -1,8 +1,14 @@
 // Laws of a hub: the functions do nothing, and their clauses are the laws.
 ghost use Rattle.std.specs.Prelude.{◌≡◌, ◌≤◌, ◌+◌, ◌-◌, ◌^◌, min, ℕ, List, length, take, Some, slice_get};
-ghost use Rattle.ghes_ack.specs.Machine.{IsState, started};
+ghost use Rattle.ghes_ack.specs.Machine.{IsState, started, zeros};
 ghost use Rattle.ghes_ack.specs.Schedules.{Step, from_start, AreFitting, AreInOrder, submissions};
-ghost use Rattle.ghes_hub.specs.Hubs.{HubState, Call, DoAll, Serves, Told};
+ghost use Rattle.hest_sources.specs.declared.sources.Ghes.{Ghes as Generic};
+ghost use Rattle.hest_sources.specs.declared.sources.HestSource.{HestSource};
+ghost use Rattle.ghes_hub.specs.Deals.{dealt_to};
+ghost use Rattle.ghes_hub.specs.Layouts.{layout_kind};
+ghost use Rattle.ghes_hub.specs.Opens.{IsOpened};
+ghost use Rattle.ghes_hub.specs.Refusals.{generics, layout_of};
+ghost use Rattle.ghes_hub.specs.Hubs.{HubState, Call, DoAll, Serves, Told, sources_in};
 ghost use Rattle.apei_notify.specs.Telling.{wanted};
 ghost use Rattle.std.specs.List.{AllZip};
 ghost use Rattle.ghes_hub.specs.Kinds.{Kind};
@@ -33,6 +39,14 @@ pub fn every_list_of_calls<L: Listener>()
         StandsAt kind first.sources j (started window) → slice_get first.chains j ≡ Some members → DoAll L.hearing calls first last →
         Serves L.hearing kind j window members calls last }
     ensures layouts { (calls : List Call) (first last : HubState L) → DoAll L.hearing calls first last → layouts_in last.sources ≡ layouts_in first.sources }
+{}
+
+/// From the opening of a hub on: each generic source of its table is served, over a window of zeros, with the listeners that were dealt
+/// to it.
+pub fn a_hub_from_its_opening<L: Listener>()
+    ensures { (table : List HestSource) (listeners : List L) (i : ℕ) (source : Generic) (calls : List Call) (first last : HubState L) →
+        IsOpened table listeners first → slice_get (generics table) i ≡ Some source → DoAll L.hearing calls first last →
+        Serves L.hearing (layout_kind (layout_of i source)) i (zeros source.block_len) (dealt_to (sources_in first) i 0 listeners) calls last }
 {}
 
 /// A listener that was told of some blocks has heard of exactly those that it wants, each once.

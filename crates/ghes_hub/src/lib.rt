@@ -16,4 +16,6 @@ mod sources;
 
 pub use errors::{HubError, HubRefused};
 pub use hub::Hub;
-pub use laws::{each_has_heard, every_list_of_calls, every_source_in_order};
+pub use laws::{
+    a_hub_from_its_opening, each_has_heard, every_list_of_calls, every_source_in_order,
+};
