@@ -5,8 +5,6 @@ use Rattle.apei_gas.specs.declared.registers.Place.TheVariants.{Memory, Io}
 use Rattle.apei_gas.specs.declared.widths.Width.{Width}
 use Rattle.apei_gas.specs.declared.widths.Width.TheVariants.{B8, B16, B32, B64}
 use Rattle.apei_space.specs.declared.windows.Window.{Window}
-use Rattle.erst_device.specs.declared.device.TheConstants.{LOG_RANGE}
-use Rattle.erst_machine.specs.declared.areas.TheConstants.{ACTION, DEVICE_LEN, SCRATCH, SCRATCH_LEN, STATUS, HANDOVER_LEN, BOOT_ERRORS, BOOT_ERRORS_LEN, PORTS, PORTS_LEN}
 use Rattle.erst_machine.specs.declared.areas.Area.{Area}
 use Rattle.erst_machine.specs.declared.areas.Area.TheVariants.{Device, Scratch, LogRange, Handover, BootErrors, Ports}
 use Rattle.erst_machine.specs.declared.areas.Spot.{Spot}
@@ -16,21 +14,21 @@ use Rattle.erst_machine.specs.declared.areas.Register.TheVariants.{Action, Value
 
 -- where each area begins
 abbrev pub base_of : Area → ℕ
-base_of Device = ACTION
-base_of Scratch = SCRATCH
-base_of LogRange = LOG_RANGE
-base_of Handover = STATUS
-base_of BootErrors = BOOT_ERRORS
-base_of Ports = PORTS
+base_of Device = 0x200000
+base_of Scratch = 0x1000
+base_of LogRange = 0x100000
+base_of Handover = 0x300000
+base_of BootErrors = 0x400000
+base_of Ports = 0x500
 
 -- how many bytes it has; the log range has as many as the longest record
 abbrev pub size_of : ℕ → Area → ℕ
-size_of reach Device = DEVICE_LEN
-size_of reach Scratch = SCRATCH_LEN
+size_of reach Device = 16
+size_of reach Scratch = 4096
 size_of reach LogRange = reach
-size_of reach Handover = HANDOVER_LEN
-size_of reach BootErrors = BOOT_ERRORS_LEN
-size_of reach Ports = PORTS_LEN
+size_of reach Handover = 8192
+size_of reach BootErrors = 16384
+size_of reach Ports = 16
 
 -- of n bytes from an address on, all are in the area, or the first that is not has this address
 abbrev pub within : Area → ℕ → ℕ → ℕ → ℕ → Spot

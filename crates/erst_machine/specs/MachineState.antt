@@ -10,7 +10,6 @@ use Rattle.ghes_ack.specs.declared.maps.HandoverMap.{HandoverMap}
 use Rattle.ghes_ack.specs.Handovers.{HandoverState}
 use Rattle.ghes_ack.specs.Sides.{Stands}
 use Rattle.erst_device.specs.DeviceState.{DeviceState, records}
-use Rattle.erst_machine.specs.declared.areas.TheConstants.{STATUS, ACKNOWLEDGE, BLOCK, BLOCK_LEN}
 use Rattle.erst_machine.specs.declared.areas.Spot.{Spot}
 use Rattle.erst_machine.specs.declared.contents.Contents.{Contents}
 use Rattle.erst_machine.specs.Areas.{place_spot}
@@ -36,12 +35,12 @@ spot_at state at n = spot_of state (Memory at) n
 -- where the two sides of the handover meet: the machine's one error source
 abbrev pub own_map : HandoverMap
 own_map = record {
-  status = STATUS;
-  ack = record { place = Memory ACKNOWLEDGE; access = B64; offset = 0 };
+  status = 0x300000;
+  ack = record { place = Memory 0x300008; access = B64; offset = 0 };
   preserve = 2 ^ 64 - 2;
   write = 1;
-  block = BLOCK;
-  len = BLOCK_LEN;
+  block = 0x301000;
+  len = 4096;
 }
 
 -- the bytes of the longest record

@@ -13,7 +13,6 @@ use Rattle.hest_sources.specs.declared.sources.Ghes.{Ghes}
 use Rattle.hest_sources.specs.declared.sources.Ack.{Ack}
 use Rattle.hest_sources.specs.Layout.{ghes_bytes}
 use Rattle.bert_region.specs.declared.table.Bert.{Bert}
-use Rattle.erst_machine.specs.declared.areas.TheConstants.{ACTION, VALUE, STATUS, ACKNOWLEDGE, BLOCK_LEN, BOOT_ERRORS, BOOT_ERRORS_LEN}
 
 abbrev pub own_header : List ℕ → ℕ → ℕ → Header
 own_header signature size checksum = record {
@@ -34,10 +33,10 @@ register_of width access address = record { space = 0; width = width; offset = 0
 
 -- ACTION and VALUE
 abbrev pub action_register : Gas
-action_register = register_of 32 3 ACTION
+action_register = register_of 32 3 0x200000
 
 abbrev pub value_register : Gas
-value_register = register_of 64 4 VALUE
+value_register = register_of 64 4 0x200008
 
 -- an entry of an action that replaces the whole register
 abbrev pub entry_of : Action → ℕ → Gas → ℕ → ℕ → Entry
@@ -83,7 +82,7 @@ own_erst = record { header = own_header (codes "ERST") 880 0x83; header_size = 4
 
 -- the one error source: the handover's, with a read acknowledgement, polled every second
 abbrev pub own_ack : Ack
-own_ack = record { register = register_of 64 4 ACKNOWLEDGE; preserve = 2 ^ 64 - 2; write = 1 }
+own_ack = record { register = register_of 64 4 0x300008; preserve = 2 ^ 64 - 2; write = 1 }
 
 abbrev pub own_source : Ghes
 own_source = record {
@@ -93,10 +92,10 @@ own_source = record {
   enabled = 1;
   records = 1;
   sections = 4;
-  raw = BLOCK_LEN;
-  status = register_of 64 4 STATUS;
+  raw = 4096;
+  status = register_of 64 4 0x300000;
   notify = 0 ∷ 0x1C ∷ 0 ∷ 0 ∷ 0xE8 ∷ 3 ∷ 0 ∷ 0 ∷ replicate 20 0;
-  block_len = BLOCK_LEN;
+  block_len = 4096;
   ack = Some own_ack;
 }
 
@@ -105,7 +104,7 @@ unfoldable pub own_hest : List ℕ
 own_hest = header_spelling (own_header (codes "HEST") 132 0x1E) ++ spelled 4 1 ++ ghes_bytes own_source
 
 abbrev pub own_bert : Bert
-own_bert = record { len = BOOT_ERRORS_LEN; region = BOOT_ERRORS }
+own_bert = record { len = 16384; region = 0x400000 }
 
 -- 48 bytes
 unfoldable pub own_bert_bytes : List ℕ
