@@ -3,6 +3,7 @@ use Rattle.std.proofs.Common.{◌≡◌, ℕ, ◌≤◌, inl, inr, Bool, true, f
 use Rattle.std.proofs.lemmas.Bool.{cases_lt}
 use Rattle.std.specs.Prelude.{MatchBool}
 use Rattle.line_grammar.specs.Columns.{BreaksAt}
+use Rattle.line_grammar.specs.declared.lengths.TheConstants.{LONGEST_LINE}
 use Rattle.script_text.specs.CheckGrammar.{IsCheckLine}
 use Rattle.script_text.specs.CheckText.{IsCheckText, checked_line_of}
 use Rattle.script_text.specs.declared.check_line.CheckLine.{CheckLine}
@@ -26,8 +27,8 @@ on_false true P Q e q = absurd (cc e)
 on_false false P Q e q = q
 
 -- a line within the lengths has no more bytes than are parsed
-pub is_short : (text : List ℕ) (line : Line) → text ≡ line.text → (IsTooLong line → ⊥) → length text ≤ 140000
-is_short text line is within = elim (cases_lt 140000 (length line.text)) [ inl long ↦ absurd (within (inl long)) | inr short ↦ omega (arith, ap length is) ]
+pub is_short : (text : List ℕ) (line : Line) → text ≡ line.text → (IsTooLong line → ⊥) → length text ≤ LONGEST_LINE
+is_short text line is within = elim (cases_lt LONGEST_LINE (length line.text)) [ inl long ↦ absurd (within (inl long)) | inr short ↦ omega (arith, ap length is) ]
 
 -- the lines that were read, and what was written of them
 pub record SoFar (told_source told_sink : Type 0) (show : Show) (script rest written written_now : List ℕ) (reading : Reading) : Type 0 where

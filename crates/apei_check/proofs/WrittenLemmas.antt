@@ -100,6 +100,17 @@ pub wrote_head_broken : (told : Type 0) (show : Show) (line head : List ℕ) (pa
 wrote_head_broken told show line head parts a b is first =
     wrote_part_of_more told (head_shown show head) (if shows_parts show then parts else []) a b (subst (λ (x : List ℕ). WritesPart told (head_shown show x) a b) is first)
 
+-- the same where those on the parts are asked for
+pub wrote_item : (told : Type 0) (show : Show) (line : List ℕ) (parts : List (List ℕ)) (a b c : List ℕ) (asked : Bool) → asked ≡ shows_parts show → asked ≡ true
+    → Writes told (head_shown show line) a b → Writes told parts b c → Writes told (lines_shown show line parts) a c
+wrote_item told show line parts a b c asked is on first second =
+    wrote_shown told show line line parts a b c refl first (subst (λ (x : Bool). Writes told (if x then parts else []) b c) (sym on ∙ is) second)
+
+pub wrote_item_part : (told : Type 0) (show : Show) (line : List ℕ) (parts : List (List ℕ)) (a b c : List ℕ) (asked : Bool) → asked ≡ shows_parts show → asked ≡ true
+    → Writes told (head_shown show line) a b → WritesPart told parts b c → WritesPart told (lines_shown show line parts) a c
+wrote_item_part told show line parts a b c asked is on first second =
+    wrote_parts_broken told show line line parts a b c refl first (subst (λ (x : Bool). WritesPart told (if x then parts else []) b c) (sym on ∙ is) second)
+
 -- the line on an item without parts
 pub wrote_head_alone : (told : Type 0) (show : Show) (line head : List ℕ) (a b : List ℕ) → line ≡ head
     → Writes told (head_shown show line) a b → Writes told (lines_shown show head []) a b

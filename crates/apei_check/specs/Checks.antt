@@ -1,8 +1,8 @@
 -- What a check of a script leaves, by its end.
 use Rattle.std.specs.Prelude.{◌≡◌, ℕ, List, [], ◌∷◌, ◌++◌, take}
-use Rattle.base_model.specs.Faults.{Rose}
 use Rattle.line_grammar.specs.Columns.{BreaksAt}
 use Rattle.script_text.specs.CheckGrammar.{CheckedLine, IsCheckLine}
+use Rattle.script_lines.specs.Causes.{Fault, OfSource, OfSink, NoFault}
 use Rattle.script_lines.specs.Lines.{Line, lines_of, IsTooLong}
 use Rattle.script_lines.specs.Reads.{StandsAt, AreTaken}
 use Rattle.apei_check.specs.declared.text.show.Show.{Show}
@@ -59,11 +59,8 @@ pub record ChecksScript (told_source told_sink : Type 0) (show : Show) (script r
   pub ends : told_source → EndsBehind script rest lines ending
   pub writes : WritesByEnd told_sink show lines written written_now ending
 
--- a fault comes only where its count rose, and every other end leaves the count
-abbrev pub HasSourceCause : ℕ → ℕ → CheckEnd → Type 0
-HasSourceCause before after SourceFault = Rose before after
-HasSourceCause before after ending = after ≡ before
-
-abbrev pub HasSinkCause : ℕ → ℕ → CheckEnd → Type 0
-HasSinkCause before after SinkFault = Rose before after
-HasSinkCause before after ending = after ≡ before
+-- the fault that an end tells of
+abbrev pub fault_of : CheckEnd → Fault
+fault_of SourceFault = OfSource
+fault_of SinkFault = OfSink
+fault_of ending = NoFault

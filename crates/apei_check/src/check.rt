@@ -1,21 +1,20 @@
 // A script, checked line by line.
 ghost use Rattle.std.specs.Prelude.{◌≡◌, ◌⊎◌, [], false, length};
 ghost use Rattle.base_model.specs.Faults.{Rose};
+ghost use Rattle.script_lines.specs.Causes.{HasSourceCause, HasSinkCause};
 ghost use Rattle.script_lines.specs.Lines.{lines_of};
 ghost use Rattle.script_lines.specs.Reads.{first_reading};
 ghost use Rattle.apei_check.specs.Texts.{AreInGrammar};
-ghost use Rattle.apei_check.specs.Checks.{ChecksScript, HasSourceCause, HasSinkCause};
+ghost use Rattle.apei_check.specs.Checks.{ChecksScript, fault_of};
 
 use crate::ending::CheckEnd;
 use crate::item::show_line;
 use crate::text::{CheckStop, Show};
 use apei_bytes::{Sink, Source};
-use script_lines::{LineReader, LineStop, MAX_LINE, lines_are_read_in_order};
+use line_grammar::LONGEST_BYTES;
+use script_lines::{LineReader, LineStop, lines_are_read_in_order};
 use script_text::CheckLine;
 use std::alloc::Global;
-
-// The most bytes that the digits of a line stand for.
-const MAX_BYTES: usize = MAX_LINE / 2;
 
 /// Checks the lines of a script, one after another, until it ends or a line ends the check.
 fn check_lines<I: Source, O: Sink>(
@@ -27,10 +26,10 @@ fn check_lines<I: Source, O: Sink>(
     out: &mut O,
 ) -> CheckEnd
     requires start { lines.old ≡ first_reading }
-    requires room { length buffer.old ≡ 70000 }
+    requires room { length buffer.old ≡ LONGEST_BYTES }
     ensures checked { ChecksScript I.tells O.tells show (I.rest script.old) (I.rest script.new) (O.written out.old) (O.written out.new) result }
-    ensures source { HasSourceCause (I.faults script.old) (I.faults script.new) result }
-    ensures sink { HasSinkCause (O.faults out.old) (O.faults out.new) result }
+    ensures source { HasSourceCause (I.faults script.old) (I.faults script.new) (fault_of result) }
+    ensures sink { HasSinkCause (O.faults out.old) (O.faults out.new) (fault_of result) }
 {
     lines_are_read_in_order::<I>();
     'lines: loop {
@@ -75,8 +74,8 @@ pub fn check_script<I: Source, O: Sink>(
     // Where there is no memory to begin with, nothing was touched.
     ensures checked { ((result ≡ CheckEnd.Memory) × (script.new ≡ script.old) × (out.new ≡ out.old))
         ⊎ ChecksScript I.tells O.tells show (I.rest script.old) (I.rest script.new) (O.written out.old) (O.written out.new) result }
-    ensures source { HasSourceCause (I.faults script.old) (I.faults script.new) result }
-    ensures sink { HasSinkCause (O.faults out.old) (O.faults out.new) result }
+    ensures source { HasSourceCause (I.faults script.old) (I.faults script.new) (fault_of result) }
+    ensures sink { HasSinkCause (O.faults out.old) (O.faults out.new) (fault_of result) }
     // A script whose lines are all in the grammar and within the lengths is read to its end, want of memory aside.
     ensures done { I.tells → AreInGrammar (lines_of 0 (I.rest script.old)) → (Rose (I.faults script.old) (I.faults script.new) → ⊥)
         → (Rose (O.faults out.old) (O.faults out.new) → ⊥) → (result ≡ CheckEnd.Done) ⊎ (result ≡ CheckEnd.Memory) }
@@ -84,7 +83,7 @@ pub fn check_script<I: Source, O: Sink>(
     let Ok(mut lines) = LineReader::new(alloc) else {
         return CheckEnd::Memory;
     };
-    let Ok(mut buffer) = vec![in alloc; 0u8; MAX_BYTES] else {
+    let Ok(mut buffer) = vec![in alloc; 0u8; LONGEST_BYTES] else {
         return CheckEnd::Memory;
     };
     check_lines(alloc, show, &mut lines, &mut buffer, script, out)

@@ -1,5 +1,6 @@
 // One line of a script, checked.
 ghost use Rattle.std.specs.Prelude.{◌≡◌, ◌≤◌, length, OnOk};
+ghost use Rattle.line_grammar.specs.declared.lengths.TheConstants.{LONGEST_LINE, LONGEST_BYTES};
 ghost use Rattle.script_text.specs.CheckGrammar.{IsValidCheck, check_text_of};
 ghost use Rattle.script_text.specs.CheckText.{checked_line_of};
 ghost use Rattle.apei_check.specs.Shown.{Shows, ShowsPart, HasStopCause};
@@ -21,8 +22,8 @@ pub fn show_line<O: Sink>(
     out: &mut O,
 ) -> Result<(), CheckStop>
     requires valid { IsValidCheck (checked_line_of line.now) }
-    requires fits { length (check_text_of (checked_line_of line.now)) ≤ 140000 }
-    requires room { length buffer.old ≡ 70000 }
+    requires fits { length (check_text_of (checked_line_of line.now)) ≤ LONGEST_LINE }
+    requires room { length buffer.old ≡ LONGEST_BYTES }
     ensures shown { OnOk result (Shows O.tells (AreShownBy show (checked_line_of line.now)) (O.written out.old) (O.written out.new)) }
     ensures part { result ≡ Err CheckStop.SinkFault → ShowsPart O.tells (AreShownBy show (checked_line_of line.now)) (O.written out.old) (O.written out.new) }
     ensures memory { result ≡ Err CheckStop.Memory → TakesMemory (checked_line_of line.now) × (out.new ≡ out.old) }

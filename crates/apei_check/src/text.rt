@@ -2,11 +2,13 @@
 
 mod head;
 mod line;
+mod parts;
 mod refused;
 mod show;
 mod stop;
 
 pub(crate) use line::write_line;
+pub(crate) use parts::Parts;
 pub(crate) use refused::write_refused;
 pub use show::Show;
 pub use stop::CheckStop;

@@ -6,10 +6,8 @@ use Rattle.std.specs.Prelude.{MatchBool, ◌↔◌}
 use Rattle.base_model.specs.Faults.{Rose}
 use Rattle.line_grammar.specs.Columns.{BreaksAt}
 use Rattle.erst_machine.specs.MachineState.{MachineState}
-use Rattle.script_text.specs.ScriptGrammar.{Line as ScriptLine, IsLine, blank, comment, table}
-use Rattle.script_text.specs.ScriptText.{IsText, IsWritten, line_of as meant}
-use Rattle.script_text.specs.declared.script_line.ScriptLine.{ScriptLine as Parsed}
-use Rattle.script_text.specs.declared.script_line.ScriptLine.TheVariants.{Blank, Write, Read, Clear, Count, Next, Dummy, Action, Table, TableOwn, TableShadow, Error, Turns, Peek, Fatal, Bert, Heard, Reset, Power, Bridge}
+use Rattle.script_text.specs.ScriptGrammar.{Line as ScriptLine, IsLine, table}
+use Rattle.script_text.specs.ScriptText.{Means}
 use Rattle.apei_notify.specs.Telling.{Hearing, counts_of, wants_of}
 use Rattle.apei_script.specs.declared.player.PlayStop.{PlayStop}
 use Rattle.apei_script.specs.declared.player.PlayStop.TheVariants.{FlashFault as RestartFailed, Memory as NoMemory}
@@ -19,66 +17,13 @@ use Rattle.apei_script.specs.Plays.{IsBuilt, LinePlayed, HasHappened, FailsResta
 use Rattle.erst_machine.specs.Shown.{changes_of}
 use Rattle.apei_script.specs.History.{Played, Follows, AreCounted, blocks_of, reply_of, text_of, heard_after}
 use Rattle.script_lines.specs.Lines.{Line, Reading, lines_of, IsTooLong, IsNextLine, IsAtEnd, NextIsTooLong, HasNoLine}
-use Rattle.script_lines.specs.Reads.{HasRead, StandsAt, AreTaken, first_reading, last_line}
-use Rattle.apei_cli.specs.Played.{Means, IsLine as MeansLine, IsComment, CanPlay, ArePlayed}
+use Rattle.script_lines.specs.Reads.{HasRead, StandsAt, AreReadInOrder, last_line}
+use Rattle.apei_cli.specs.Played.{CanPlay, ArePlayed}
 use Rattle.apei_cli.specs.Statuses.{StopsAt, EndsLines, LeavesLast}
 use Rattle.apei_cli.specs.Runs.{PlaysScript}
 use Rattle.apei_cli.specs.declared.status.Status.{Status}
 use Rattle.apei_cli.specs.declared.status.Status.TheVariants.{Done, BadWords, BadLine, SourceFault, SinkFault, FlashFault, BadGeometry, TooLong, Memory, NotYet}
 use Rattle.apei_cli.proofs.ToldLemmas.{WantsOf, wants_first, wants_stay, none_told, all_told_then, heard_all}
-
--- what is known of a script that is read line by line
-pub record InOrder (tells : Type 0) : Type 0 where
-  pub start : (script : List ℕ) → HasRead tells script script [] first_reading
-  pub next : (script rest rest_now : List ℕ) (lines : List Line) (old new : Reading) → HasRead tells script rest lines old
-      → IsNextLine tells old new rest rest_now → HasRead tells script rest_now (lines ++ last_line new ∷ []) new
-  pub stands : (script rest rest_now : List ℕ) (lines : List Line) (old new : Reading) → HasRead tells script rest lines old
-      → IsNextLine tells old new rest rest_now → tells → StandsAt script lines new.number (last_line new)
-  pub at_end : (script rest rest_now : List ℕ) (lines : List Line) (old new : Reading) → HasRead tells script rest lines old
-      → IsAtEnd tells old new rest rest_now → tells → (lines_of 0 script ≡ lines) × (rest_now ≡ [])
-  pub too_long : (script rest : List ℕ) (lines : List Line) (old new : Reading) → HasRead tells script rest lines old
-      → NextIsTooLong tells old new rest → tells → (line : Line) × StandsAt script lines (new.number + 1) line × IsTooLong line
-  pub failed : (script rest rest_now : List ℕ) (lines : List Line) (old new : Reading) → HasRead tells script rest lines old
-      → HasNoLine tells old new rest rest_now → tells → AreTaken script rest_now lines
-
-pub in_order : {tells : Type 0}
-    → ((script : List ℕ) → HasRead tells script script [] first_reading)
-    → ((script rest rest_now : List ℕ) (lines : List Line) (old new : Reading) → HasRead tells script rest lines old
-    → IsNextLine tells old new rest rest_now → HasRead tells script rest_now (lines ++ last_line new ∷ []) new)
-    → ((script rest rest_now : List ℕ) (lines : List Line) (old new : Reading) → HasRead tells script rest lines old
-    → IsNextLine tells old new rest rest_now → tells → StandsAt script lines new.number (last_line new))
-    → ((script rest rest_now : List ℕ) (lines : List Line) (old new : Reading) → HasRead tells script rest lines old
-    → IsAtEnd tells old new rest rest_now → tells → (lines_of 0 script ≡ lines) × (rest_now ≡ []))
-    → ((script rest : List ℕ) (lines : List Line) (old new : Reading) → HasRead tells script rest lines old
-    → NextIsTooLong tells old new rest → tells → (line : Line) × StandsAt script lines (new.number + 1) line × IsTooLong line)
-    → ((script rest rest_now : List ℕ) (lines : List Line) (old new : Reading) → HasRead tells script rest lines old
-    → HasNoLine tells old new rest rest_now → tells → AreTaken script rest_now lines)
-    → InOrder tells
-in_order start next stands at_end too_long failed = record { start = start; next = next; stands = stands; at_end = at_end; too_long = too_long; failed = failed }
-
--- what a text that was read means
-pub means : (text : List ℕ) (line : Parsed) → IsText text line → Means text (meant line)
-means text Blank (inl empty) = MeansLine blank empty
-means text Blank (inr (rest, written)) = IsComment rest written
-means text (Write hex) written = MeansLine _ written
-means text (Read id) written = MeansLine _ written
-means text (Clear id) written = MeansLine _ written
-means text Count written = MeansLine _ written
-means text Next written = MeansLine _ written
-means text Dummy written = MeansLine _ written
-means text (Action code value) written = MeansLine _ written
-means text (Table hex) written = MeansLine _ written
-means text TableOwn written = MeansLine _ written
-means text TableShadow written = MeansLine _ written
-means text (Error hex) written = MeansLine _ written
-means text (Turns letters) written = MeansLine _ written
-means text (Peek at len) written = MeansLine _ written
-means text (Fatal hex) written = MeansLine _ written
-means text Bert written = MeansLine _ written
-means text Heard written = MeansLine _ written
-means text Reset written = MeansLine _ written
-means text Power written = MeansLine _ written
-means text (Bridge id) written = MeansLine _ written
 
 -- which of two cases it is
 pub on_true : (b : Bool) (P Q : Type 0) → b ≡ true → MatchBool b P Q → P
@@ -93,9 +38,9 @@ pub is_not : (b : Bool) (P : Type 0) → (b ≡ true ↔ P) → b ≡ false → 
 is_not b P tests e p = let clash : true ≡ false = sym (tests.1 p) ∙ e in absurd (cc clash)
 
 -- the line that was read can be played
-pub playable : (tells : Type 0) (a b : Reading) (rest rest_now text : List ℕ) (line : Parsed) → IsNextLine tells a b rest rest_now → text ≡ b.line → IsText text line → IsBuilt (meant line)
-    → CanPlay (last_line b) (meant line)
-playable tells a b rest rest_now text line next is read built = record { within = next.within; means = subst (λ (t : List ℕ). Means t (meant line)) is (means text line read); built = built }
+pub playable : (tells : Type 0) (a b : Reading) (rest rest_now text : List ℕ) (line : ScriptLine) → IsNextLine tells a b rest rest_now → text ≡ b.line → Means text line → IsBuilt line
+    → CanPlay (last_line b) line
+playable tells a b rest rest_now text line next is read built = record { within = next.within; means = subst (λ (t : List ℕ). Means t line) is read; built = built }
 
 AreCounted-push : (some : List Played) (one : Played) → AreCounted some → changes_of one.left.machine ≡ step_of one.left → AreCounted (some ++ one ∷ [])
 AreCounted-push [] one before is = (is, tt)
@@ -148,7 +93,7 @@ module _ {L : Type 0} (hearing : L → Hearing) (told_source told_sink tells : T
     pub text : told_sink → written_now ≡ written ++ text_of played
     pub counted : tells → AreCounted played
 
-module _ {L : Type 0} (hearing : L → Hearing) (told_source told_sink tells : Type 0) (order : InOrder told_source) where
+module _ {L : Type 0} (hearing : L → Hearing) (told_source told_sink tells : Type 0) (order : AreReadInOrder told_source) where
   -- nothing was read
   pub SoFar-start : (script written : List ℕ) (listeners : List L) (player : PlayerState) (reading : Reading)
       → reading ≡ record { line = []; number = 0; end = 0; pending = []; at_end = false } → SoFar hearing told_source told_sink tells script script written written listeners listeners player player reading

@@ -1,15 +1,10 @@
 -- The lines of a script that were played.
-use Rattle.std.specs.Prelude.{◌≡◌, ℕ, List, [], ◌∷◌}
-use Rattle.script_text.specs.ScriptGrammar.{Line as ScriptLine, blank, comment}
-use Rattle.script_text.specs.ScriptText.{IsWritten}
+use Rattle.std.specs.Prelude.{List, [], ◌∷◌}
+use Rattle.script_text.specs.ScriptGrammar.{Line as ScriptLine}
+use Rattle.script_text.specs.ScriptText.{Means}
 use Rattle.apei_script.specs.Plays.{IsBuilt}
 use Rattle.apei_script.specs.History.{Played}
 use Rattle.script_lines.specs.Lines.{Line, IsTooLong}
-
--- what a text means: the line that is written so; a text that begins with '#' is a blank line
-pub data Means (text : List ℕ) : ScriptLine → Type 0 where
-  IsLine : (line : ScriptLine) → IsWritten text line → Means text line
-  IsComment : (rest : List ℕ) → IsWritten text (comment rest) → Means text blank
 
 -- a line of the script is this line, and can be played
 pub record CanPlay (text : Line) (line : ScriptLine) : Type 0 where

@@ -3,12 +3,13 @@ use Rattle.std.specs.Prelude.{◌≡◌, ◌⊎◌, ℕ, ◌+◌, List, [], ◌�
 use Rattle.line_grammar.specs.Columns.{BreaksAt}
 use Rattle.erst_machine.specs.MachineState.{MachineState}
 use Rattle.script_text.specs.ScriptGrammar.{Line as ScriptLine, IsLine, table}
+use Rattle.script_text.specs.ScriptText.{Means}
 use Rattle.apei_script.specs.Words.{Reply}
 use Rattle.apei_script.specs.Plays.{IsBuilt, LeftIn, FailsRestart, PartlyWritten}
 use Rattle.apei_script.specs.History.{Played, text_of}
 use Rattle.script_lines.specs.Lines.{Line, lines_of, IsTooLong}
 use Rattle.script_lines.specs.Reads.{StandsAt, AreTaken}
-use Rattle.apei_cli.specs.Played.{Means, CanPlay, ArePlayed}
+use Rattle.apei_cli.specs.Played.{CanPlay, ArePlayed}
 use Rattle.apei_cli.specs.declared.status.Status.{Status}
 use Rattle.apei_cli.specs.declared.status.Status.TheVariants.{Done, BadWords, BadLine, SourceFault, SinkFault, FlashFault, BadGeometry, TooLong, Memory, NotYet}
 

@@ -3,7 +3,7 @@ ghost use Rattle.std.specs.Prelude.{◌≡◌, ⊤, IfOk, IfErr};
 ghost use Rattle.apei_notify.specs.Chains.{members_of};
 ghost use Rattle.apei_script.specs.Desks.{state_of};
 ghost use Rattle.apei_cli.specs.Orders.{order_of};
-ghost use Rattle.apei_cli.specs.Runs.{boot_status, HasBooted, HasNotBegun, IsOnGeometry, HasFlashCause};
+ghost use Rattle.apei_cli.specs.Runs.{boot_status, IsBootOf, HasBooted, HasNotBegun, IsOnGeometry, HasFlashCause};
 
 use crate::status::Status;
 use apei_notify::{Chain, Listener};
@@ -31,6 +31,41 @@ fn boot_status(why: BootError, refused: Status) -> Status
     }
 }
 
+/// Why no machine was booted, and the flash that was handed in.
+struct NotBooted<F: Flash> {
+    status: Status,
+    flash: F,
+}
+
+/// Boots the machine of a flash on a plan's geometry.
+fn boot_machine<F: Flash>(alloc: Global, plan: &Plan, flash: F) -> Result<Machine<F>, NotBooted<F>>
+    requires { ⊤ }
+    ensures booted { IfOk result (λ machine. IsBootOf F.tells (order_of plan.now) (F.state flash) machine) }
+    ensures refused { IfErr result (λ none. HasNotBegun F.tells (order_of plan.now) (F.state flash) (F.state none.flash) none.status) }
+    ensures geometry { IfErr result (λ none. IsOnGeometry (order_of plan.now) (F.state flash) none.status) }
+    ensures cause { IfErr result (λ none. HasFlashCause (F.state flash).faults (F.state none.flash).faults none.status) }
+{
+    let refused = Status::BadGeometry {
+        sector: plan.sector,
+        per_slot: plan.per_slot,
+        slots: plan.slots,
+        size: flash.size(),
+    };
+    let Ok(geometry) = Geometry::new(plan.sector, plan.per_slot, plan.slots) else {
+        return Err(NotBooted {
+            status: refused,
+            flash,
+        });
+    };
+    match Machine::boot(alloc, flash, geometry) {
+        Ok(machine) => Ok(machine),
+        Err(BootRefused { why, flash }) => Err(NotBooted {
+            status: boot_status(why, refused),
+            flash,
+        }),
+    }
+}
+
 /// Boots the machine of a flash, attaches a client to its own table, and makes its player.
 pub fn boot_player<F: Flash>(
     alloc: Global,
@@ -46,24 +81,11 @@ pub fn boot_player<F: Flash>(
     ensures geometry { IfErr result (λ none. IsOnGeometry (order_of plan.now) (F.state flash) none.status) }
     ensures cause { IfErr result (λ none. HasFlashCause (F.state flash).faults (F.state none.flash).faults none.status) }
 {
-    let refused = Status::BadGeometry {
-        sector: plan.sector,
-        per_slot: plan.per_slot,
-        slots: plan.slots,
-        size: flash.size(),
-    };
-    let Ok(geometry) = Geometry::new(plan.sector, plan.per_slot, plan.slots) else {
-        return Err(NotBegun {
-            status: refused,
-            flash,
-            listeners,
-        });
-    };
-    let mut machine = match Machine::boot(alloc, flash, geometry) {
+    let mut machine = match boot_machine(alloc, plan, flash) {
         Ok(machine) => machine,
-        Err(BootRefused { why, flash }) => {
+        Err(NotBooted { status, flash }) => {
             return Err(NotBegun {
-                status: boot_status(why, refused),
+                status,
                 flash,
                 listeners,
             });

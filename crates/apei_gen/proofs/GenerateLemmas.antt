@@ -4,17 +4,12 @@ use Rattle.std.specs.Prelude.{count_by}
 use Rattle.std.proofs.lemmas.List.{map-append, append-nil}
 use Rattle.std.proofs.lemmas.List.Concat.{flat_map-append}
 use Rattle.std.proofs.lemmas.List.Sums.{sum_by-append}
-use Rattle.std.proofs.lemmas.Bool.{false≢true}
-use Rattle.erst_machine.specs.MachineState.{MachineState}
 use Rattle.erst_machine.specs.Shown.{changes_of}
 use Rattle.script_text.specs.ScriptGrammar.{Line, count}
 use Rattle.erst_client.specs.declared.errors.ClientError.{ClientError}
-use Rattle.erst_client.specs.Commands.{ClientState}
-use Rattle.apei_script.specs.Players.{PlayerState, client_of, budget_of}
-use Rattle.apei_script.specs.Asked.{Asked, WritesRecord, ReadsRecord, ClearsRecord, CountsRecords, FindsNext, WritesDummy, RunsAction}
-use Rattle.apei_script.specs.Happened.{Happened, IsGiven, Turn, IsPeeked, IsLaid, IsListed}
-use Rattle.apei_script.specs.Words.{Reply, said_at, words_in, reply_at, words_of_count}
-use Rattle.apei_script.specs.Plays.{Plays, Blank, ByClient, GivenTable, OwnTable, OnMachine, Heard, Reset, Power, LinePlayed, IsOwnLine, step_of}
+use Rattle.apei_script.specs.Players.{PlayerState}
+use Rattle.apei_script.specs.Words.{said_at, reply_at, words_of_count}
+use Rattle.apei_script.specs.Plays.{Plays, LinePlayed, IsOwnLine, step_of}
 use Rattle.apei_script.specs.History.{Played, Follows, AreCounted, AreOwnLines, blocks_of, reply_of, heard_after}
 use Rattle.apei_gen.specs.declared.command.Command.{Command}
 use Rattle.apei_gen.specs.declared.command.Command.TheVariants.{Write, Clear, Read, Next}
@@ -194,74 +189,25 @@ SoFar-next tells old seed n mid new number tally tally_now command refused reply
     subst (λ (k : ℕ). SoFar tells old seed k new (number_behind number) tally_now) (omega arith)
     (next_so_far tells old seed n mid new number tally tally_now command refused reply sofar made asked is counts)
 
--- the reply to a count tells a number of records, or that it was refused
-is_count : Line → Bool
-is_count count = true
-is_count line = false
-
-record ToldLive (said : List (List ℕ)) : Type 0 where
-  words : List ℕ
-  said_is : said ≡ words ∷ []
-  live : ℕ
-  told : TellsLive words live
-
-told_by : (answer : Result ℕ ClientError) → ToldLive (words_of_count answer ∷ [])
-told_by (Ok n) = record { words = words_of_count (Ok n); said_is = refl; live = n; told = Counted n }
-told_by (Err error) = record { words = words_of_count (Err error); said_is = refl; live = 0; told = Refused error }
-
-abbrev first_words : List (List ℕ) → List ℕ
-first_words [] = []
-first_words (words ∷ rest) = words
+-- the number of records that the reply to a count tells
+told_by : (answer : Result ℕ ClientError) → (live : ℕ) × TellsLive (words_of_count answer) live
+told_by (Ok n) = (n, Counted n)
+told_by (Err error) = (0, Refused error)
 
 module _ (tells : Type 0) where
-  asked_count : (client : ClientState) (steps : ℕ) (old : MachineState) (line : Line) (words : List ℕ) (new : MachineState) → Asked tells client steps old line words new → is_count line ≡ true → ToldLive (words ∷ [])
-  unfolding is_count
-  asked_count client steps old line words new asked = elim asked as (λ line words new asked. is_count line ≡ true → ToldLive (words ∷ [])) [
-    | WritesRecord hex bytes result left new decoded writes ↦ λ is. absurd (false≢true is)
-    | ReadsRecord id out after result left new long reads ↦ λ is. absurd (false≢true is)
-    | ClearsRecord id result left new clears ↦ λ is. absurd (false≢true is)
-    | CountsRecords result left new counts ↦ λ is. told_by result
-    | FindsNext result left new names ↦ λ is. absurd (false≢true is)
-    | WritesDummy result left new writes ↦ λ is. absurd (false≢true is)
-    | RunsAction code value answer left new runs ↦ λ is. absurd (false≢true is)
-  ]
-
-  no_count : (old : MachineState) (line : Line) (said blocks : List (List ℕ)) (new : MachineState) → Happened tells old line said blocks new → is_count line ≡ true → ⊥
-  unfolding is_count
-  no_count old line said blocks new happened = elim happened as (λ line said blocks new happened. is_count line ≡ true → ⊥) [
-    | IsGiven hex block result new decoded submits ↦ λ is. false≢true is
-    | Turn letters events blocks new turns ↦ λ is. false≢true is
-    | IsPeeked at len before after answer new long allowed ↦ λ is. false≢true is
-    | IsLaid hex block result new decoded lays ↦ λ is. false≢true is
-    | IsListed blocks left laid ↦ λ is. false≢true is
-  ]
-
-  played_count : (counts : List ℕ) (old : PlayerState) (line : Line) (said : List Reply) (blocks : List (List ℕ)) (new : PlayerState) → Plays tells counts old line said blocks new → is_count line ≡ true → ToldLive (words_in said)
-  unfolding is_count
-  played_count counts old line said blocks new plays = elim plays as (λ line said blocks new plays. is_count line ≡ true → ToldLive (words_in said)) [
-    | Blank ↦ λ is. absurd (false≢true is)
-    | ByClient line words machine commanded ↦ λ is. asked_count (client_of old) (budget_of old) old.machine line words machine commanded.asked is
-    | GivenTable hex bytes words machine other decoded gives ↦ λ is. absurd (false≢true is)
-    | OwnTable ↦ λ is. absurd (false≢true is)
-    | OnMachine line said blocks machine happened ↦ λ is. absurd (no_count old.machine line said blocks machine happened is)
-    | Heard ↦ λ is. absurd (false≢true is)
-    | Reset n machine warms ↦ λ is. absurd (false≢true is)
-    | Power n machine powers ↦ λ is. absurd (false≢true is)
-  ]
-
-  count_told : (old : PlayerState) (words : List ℕ) (new : PlayerState) → Plays tells [] old count (said_at (step_of new) (words ∷ [])) [] new → (live : ℕ) × TellsLive words live
-  unfolding is_count
-  count_told old words new plays =
-      let told = played_count [] old count (said_at (step_of new) (words ∷ [])) [] new plays refl in
-      (told.live, subst (λ (w : List ℕ). TellsLive w told.live) (ap first_words (sym told.said_is)) told.told)
-
   -- the commands, and a count of the records behind them
-  pub generated : {E : Type 0} (told_sink : Type 0) (old : PlayerState) (seed commands : ℕ) (mid new : PlayerState) (tally : Tally) (reply : List ℕ) (step : ℕ) (written written_now : List ℕ)
+  pub generated : {E : Type 0}
+      → ((counts : List ℕ) (old : PlayerState) (words : List ℕ) (new : PlayerState) → Plays tells counts old count (said_at (step_of new) (words ∷ [])) [] new
+      → (answer : Result ℕ ClientError) × (words ≡ words_of_count answer))
+      → (told_sink : Type 0) (old : PlayerState) (seed commands : ℕ) (mid new : PlayerState) (tally : Tally) (reply : List ℕ) (step : ℕ) (written written_now : List ℕ)
       (result : Result (Unit {0}) E) → ArePlayed tells old seed commands mid tally → IsAsked tells mid count new reply → step ≡ step_of new
       → ((words : List ℕ) (live : ℕ) → TellsLive words live → reply ≡ reply_at step words → told_sink → WritesText (summary_of commands tally live step) written written_now result)
       → IsGenerated tells told_sink old seed commands new written written_now result
-  generated told_sink old seed commands mid new tally reply step written written_now result are asked at text =
-      let live = count_told mid asked.words new (asked.played []).plays in
+  generated numbers told_sink old seed commands mid new tally reply step written written_now result are asked at text =
+      let answer = numbers [] mid asked.words new (asked.played []).plays in
+      let told = told_by answer.0 in
+      let live = told.0 in
+      let told_live : TellsLive asked.words live = subst (λ (words : List ℕ). TellsLive words live) (sym answer.1) told.1 in
       record {
         played = are.played;
         last = played_as count asked.words new;
@@ -273,10 +219,10 @@ module _ (tells : Type 0) where
         blocks = blocks_of-push are.played count asked.words new are.blocks;
         words = asked.words;
         said = refl;
-        live = live.0;
-        told_live = live.1;
+        live = live;
+        told_live = told_live;
         text = λ told.
-            subst (λ (t : Tally). WritesText (summary_of commands t live.0 (step_of new)) written written_now result) are.tallied
-            (subst (λ (s : ℕ). WritesText (summary_of commands tally live.0 s) written written_now result) at
-            (text asked.words live.0 live.1 (asked.text ∙ ap (λ (s : ℕ). reply_at s asked.words) (sym at)) told));
+            subst (λ (t : Tally). WritesText (summary_of commands t live (step_of new)) written written_now result) are.tallied
+            (subst (λ (s : ℕ). WritesText (summary_of commands tally live s) written written_now result) at
+            (text asked.words live told_live (asked.text ∙ ap (λ (s : ℕ). reply_at s asked.words) (sym at)) told));
       }

@@ -14,7 +14,7 @@ use crate::record::{LONGEST, put_record};
 use crate::summary::write_summary;
 use crate::tally::Tally;
 use apei_bytes::{Sink, SinkFault};
-use apei_script::Player;
+use apei_script::{Player, a_count_tells_a_number};
 use flash_model::Flash;
 use script_text::ScriptLine;
 
@@ -30,6 +30,7 @@ pub fn generate<F: Flash, O: Sink>(
     ensures listeners { members_of player.new.chain ≡ members_of player.old.chain }
     ensures cause { HasCause (O.faults out.old) (O.faults out.new) result }
 {
+    a_count_tells_a_number::<F>();
     let tally = play_commands(player, count, seed);
     let _ = ask(player, &ScriptLine::Count);
     let step = player.steps();

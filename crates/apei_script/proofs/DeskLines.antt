@@ -1,19 +1,21 @@
 -- Lines of one reply, as a desk carries them out.
-use Rattle.std.proofs.Common.{◌≡◌, ℕ, ◌≤◌, List, [], ◌∷◌, length, Option, Some, None, Ok, Err, refl, sym, subst}
+use Rattle.std.proofs.Common.{◌≡◌, ℕ, ◌≤◌, List, [], ◌∷◌, length, take, Option, Some, None, Result, Ok, Err, refl, sym, subst}
 use Rattle.hex.specs.Hex.{decode_of}
 use Rattle.base_model.specs.Faults.{Rose}
 use Rattle.erst_client.specs.Commands.{ClientState}
 use Rattle.erst_machine.proofs.CrashTrail.{events_are_shown}
 use Rattle.erst_machine.specs.declared.errors.BootError.{BootError}
 use Rattle.erst_machine.specs.MachineState.{MachineState}
-use Rattle.erst_machine.specs.Events.{Event, Warmed, Powered, Warms, Powers, Happens}
-use Rattle.script_text.specs.ScriptGrammar.{Line, table, own_table, reset, power}
+use Rattle.ghes_ack.specs.declared.submission.SubmitError.{SubmitError}
+use Rattle.erst_machine.specs.declared.errors.FatalError.{FatalError}
+use Rattle.erst_machine.specs.Events.{Event, Warmed, Powered, Submits, LaysFatal, Warms, Powers, Happens}
+use Rattle.script_text.specs.ScriptGrammar.{Line, table, own_table, error, fatal, reset, power}
 use Rattle.apei_script.specs.declared.player.PlayStop.TheVariants.{FlashFault}
 use Rattle.apei_script.specs.Replies.{IsMade}
 use Rattle.apei_script.specs.Players.{PlayerState, budget_by}
-use Rattle.apei_script.specs.Words.{words_of_table, words_of_reset, words_of_power}
+use Rattle.apei_script.specs.Words.{words_of_table, words_of_submission, words_of_laid, words_of_reset, words_of_power}
 use Rattle.apei_script.specs.Asked.{Answers}
-use Rattle.apei_script.specs.Happened.{Happened}
+use Rattle.apei_script.specs.Happened.{Happened, IsGiven, IsLaid}
 use Rattle.apei_script.specs.Tables.{GivesTable}
 use Rattle.apei_script.specs.Plays.{ByClient, GivenTable, OwnTable, OnMachine, Reset, Power, ResetFails, PowerFails, HasHappened, Stops}
 use Rattle.apei_script.specs.Desks.{MakesReply}
@@ -21,6 +23,10 @@ use Rattle.apei_script.specs.Desks.{MakesReply}
 -- what a player is made of
 abbrev player : MachineState → ClientState → Option ClientState → Option ℕ → PlayerState
 player machine own other steps = record { machine = machine; own = own; other = other; steps = steps }
+
+-- the bytes of digits, where those of a vector are lent
+pub as_lent : (hex items lent : List ℕ) (len : ℕ) → decode_of hex ≡ Ok (take len items) → lent ≡ items → decode_of hex ≡ Ok (take len lent)
+as_lent hex items lent len decoded is = subst (λ (xs : List ℕ). decode_of hex ≡ Ok (take len xs)) (sym is) decoded
 
 module _ (tells : Type 0) (old : MachineState) (own : ClientState) (steps : Option ℕ) where
   -- one thing happened, and the flash counted a fault
@@ -52,6 +58,18 @@ module _ (tells : Type 0) (old : MachineState) (own : ClientState) (steps : Opti
   pub by_machine : (other : Option ClientState) (line : Line) (words : List ℕ) (new : MachineState) (reply : List ℕ) → Happened tells old line (words ∷ []) [] new → IsMade reply words
       → MakesReply tells (player old own other steps) line (player new own other steps) reply
   by_machine other line words new reply happened made = record { words = words; plays = λ counts. OnMachine line (words ∷ []) [] new happened; made = made }
+
+  pub by_block : (other : Option ClientState) (hex items lent : List ℕ) (len : ℕ) (result : Result ℕ SubmitError) (new : MachineState) (reply : List ℕ) → decode_of hex ≡ Ok (take len items)
+      → lent ≡ items → Submits old (take len lent) result new → IsMade reply (words_of_submission result)
+      → MakesReply tells (player old own other steps) (error hex) (player new own other steps) reply
+  by_block other hex items lent len result new reply decoded is submits made =
+      by_machine other (error hex) (words_of_submission result) new reply (IsGiven hex (take len lent) result new (as_lent hex items lent len decoded is) submits) made
+
+  pub by_fatal : (other : Option ClientState) (hex items lent : List ℕ) (len : ℕ) (result : Result ℕ FatalError) (new : MachineState) (reply : List ℕ) → decode_of hex ≡ Ok (take len items)
+      → lent ≡ items → LaysFatal old (take len lent) result new → IsMade reply (words_of_laid result)
+      → MakesReply tells (player old own other steps) (fatal hex) (player new own other steps) reply
+  by_fatal other hex items lent len result new reply decoded is lays made =
+      by_machine other (fatal hex) (words_of_laid result) new reply (IsLaid hex (take len lent) result new (as_lent hex items lent len decoded is) lays) made
 
   pub by_table : (other : Option ClientState) (hex bytes words : List ℕ) (new : MachineState) (new_other : Option ClientState) (reply : List ℕ) → decode_of hex ≡ Ok bytes
       → GivesTable tells old other bytes words new new_other → IsMade reply words → MakesReply tells (player old own other steps) (table hex) (player new own new_other steps) reply

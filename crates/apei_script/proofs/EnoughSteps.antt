@@ -11,11 +11,12 @@ use Rattle.erst_commands.specs.Causes.{GoesThrough}
 use Rattle.erst_commands.proofs.ThroughLemmas.{clear_through, dummy_through, count_through, next_through, client_write_through, client_read_through}
 use Rattle.script_text.specs.ScriptGrammar.{Line, IsValid}
 use Rattle.script_text.specs.RunWords.{words_of_stop}
+use Rattle.script_text.proofs.RefusalLemmas.{told}
 use Rattle.apei_script.specs.Words.{refused}
 use Rattle.apei_script.specs.Asked.{Asked, WritesRecord, ReadsRecord, ClearsRecord, CountsRecords, FindsNext, WritesDummy, RunsAction}
 use Rattle.apei_script.specs.Plays.{names_command}
 use Rattle.apei_script.proofs.OwnClientLemmas.{no_command}
-use Rattle.apei_script.proofs.WordLemmas.{Refuses, stopped, late, of_write, of_read, of_clear, of_count, of_next, of_dummy}
+use Rattle.apei_script.proofs.WordLemmas.{Refuses, of_write, of_read, of_clear, of_count, of_next, of_dummy}
 
 -- the words of a reply are neither of a stop nor of a wait
 pub record SaysNeither (words : List ℕ) : Type 0 where
@@ -27,11 +28,11 @@ says_neither : {T : Type 0} (words : List ℕ) (result : Result T ClientError) �
 says_neither words result through of = record {
   not_stopped = λ stop says.
       let refuses = of (codes "stopped " ++ words_of_stop stop) says in
-      let why = stopped stop refuses.error refuses.says in
+      let why = (told refuses.error).stopped stop refuses.says in
       through.not_stopped why.0 (refuses.is ∙ ap (λ (x : ClientError). Err x) why.1);
   in_time = λ time says.
       let refuses = of (codes "late " ++ decimal time) says in
-      let waited = late time refuses.error refuses.says in
+      let waited = (told refuses.error).late time refuses.says in
       through.in_time waited.0 (refuses.is ∙ ap (λ (x : ClientError). Err x) waited.1);
 }
 

@@ -4,6 +4,7 @@ use Rattle.std.specs.List.{AllZip}
 use Rattle.hex.specs.Hex.{decode_of}
 use Rattle.base_model.specs.Faults.{Rose}
 use Rattle.apei_space.specs.Accesses.{Move, Trail}
+use Rattle.line_grammar.specs.declared.lengths.TheConstants.{LONGEST_LINE}
 use Rattle.apei_notify.specs.Telling.{IsToldOfAll, Hearing, counts_of}
 use Rattle.ghes_ack.specs.declared.events.Event.{Event as TurnEvent}
 use Rattle.ghes_ack.specs.declared.events.Event.TheVariants.{Took}
@@ -89,7 +90,7 @@ digits_of line = []
 pub record IsPlayable (line : Line) : Type 0 where
   pub valid : IsValid line
   pub built : IsBuilt line
-  pub fits : length (digits_of line) ≤ 140000
+  pub fits : length (digits_of line) ≤ LONGEST_LINE
 
 -- a line has exactly one reply, and the listeners have no part in it
 abbrev pub has_one_reply : Line → Bool

@@ -1,5 +1,6 @@
 // What a line asks of the machine itself: error status blocks, memory, and the boot error region.
 ghost use Rattle.std.specs.Prelude.{◌≡◌, ◌≤◌, ℕ, List, [], ◌∷◌, length};
+ghost use Rattle.line_grammar.specs.declared.lengths.TheConstants.{LONGEST_LINE};
 ghost use Rattle.line_grammar.specs.Parts.{IsPairs};
 ghost use Rattle.script_text.specs.ScriptGrammar.{error, peek, fatal};
 ghost use Rattle.apei_script.specs.Words.{word_of};
@@ -14,16 +15,15 @@ use apei_space::Space;
 use erst_machine::Machine;
 use flash_model::Flash;
 use ghes_ack::{Event, Side};
-use script_text::decode;
 
 impl<F: Flash> Desk<F> {
     /// Gives an error status block to the handover.
     pub fn give_block(&mut self, hex: &[u8])
         requires pairs { IsPairs hex.now }
-        requires fits { length hex.now ≤ 140_000 }
+        requires fits { length hex.now ≤ LONGEST_LINE }
         ensures { MakesReply F.tells (state_of self.old) (error hex.now) (state_of self.new) self.new.buffers.reply }
     {
-        let len = decode(hex, &mut self.buffers.bytes);
+        let len = self.buffers.decode(hex);
         match self.machine.submit(&self.buffers.bytes[..len]) {
             Ok(waiting) => {
                 self.buffers.reply.begin(b"queued ");
@@ -36,10 +36,10 @@ impl<F: Flash> Desk<F> {
     /// Lays a fatal block into the boot error region.
     pub fn lay_block(&mut self, hex: &[u8])
         requires pairs { IsPairs hex.now }
-        requires fits { length hex.now ≤ 140_000 }
+        requires fits { length hex.now ≤ LONGEST_LINE }
         ensures { MakesReply F.tells (state_of self.old) (fatal hex.now) (state_of self.new) self.new.buffers.reply }
     {
-        let len = decode(hex, &mut self.buffers.bytes);
+        let len = self.buffers.decode(hex);
         match self.machine.lay_fatal(&self.buffers.bytes[..len]) {
             Ok(at) => {
                 self.buffers.reply.begin(b"laid ");

@@ -1,13 +1,15 @@
 // The memory in which lines are carried out.
-ghost use Rattle.std.specs.Prelude.{◌≡◌, ◌≤◌, [], vec_len, vec_capacity, IfOk};
+ghost use Rattle.std.specs.Prelude.{◌≡◌, ◌≤◌, [], length, take, vec_len, vec_capacity, Ok, IfOk};
+ghost use Rattle.hex.specs.Hex.{decode_of};
+ghost use Rattle.line_grammar.specs.declared.lengths.TheConstants.{LONGEST_LINE, LONGEST_BYTES};
+ghost use Rattle.line_grammar.specs.Parts.{IsPairs};
 
 use crate::reply::Reply;
 use apei_bytes::Memory;
 use ghes_ack::Event;
+use line_grammar::LONGEST_BYTES;
+use script_text::decode;
 use std::alloc::Global;
-
-/// The bytes that the longest line stands for.
-const LONGEST_HEX: usize = 70_000;
 
 /// The most turns of a line.
 const MOST_TURNS: usize = 4096;
@@ -18,7 +20,7 @@ pub struct Buffers {
     pub bytes: Vec<u8>,
     pub reply: Reply,
     pub events: Vec<Event>,
-    ghost size: { vec_len bytes ≡ 70000 },
+    ghost size: { vec_len bytes ≡ LONGEST_BYTES },
     ghost room: { 4096 ≤ vec_capacity events },
 }
 
@@ -28,9 +30,18 @@ impl Buffers {
         ensures { IfOk result (λ buffers. buffers.reply ≡ []) }
     {
         Ok(Buffers {
-            bytes: vec![in alloc; 0u8; LONGEST_HEX]?,
+            bytes: vec![in alloc; 0u8; LONGEST_BYTES]?,
             reply: Reply::new(alloc)?,
             events: Vec::with_capacity(alloc, MOST_TURNS)?,
         })
+    }
+    /// The first bytes become those of a line's hexadecimal digits; their number is answered.
+    pub fn decode(&mut self, hex: &[u8]) -> usize
+        requires pairs { IsPairs hex.now }
+        requires fits { length hex.now ≤ LONGEST_LINE }
+        ensures bytes { decode_of hex.now ≡ Ok (take result self.new.bytes.items) }
+        ensures within { result ≤ vec_len self.new.bytes }
+    {
+        decode(hex, &mut self.bytes)
     }
 }

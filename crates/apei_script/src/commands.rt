@@ -1,5 +1,6 @@
 // What a line asks of the client in use.
 ghost use Rattle.std.specs.Prelude.{◌≡◌, ◌*◌, ◌≤◌, ℕ, List, length, true, Ok};
+ghost use Rattle.line_grammar.specs.declared.lengths.TheConstants.{LONGEST_BYTES};
 ghost use Rattle.line_grammar.specs.Parts.{IsPairs};
 ghost use Rattle.script_text.specs.ScriptGrammar.{Line, write, read, clear, count, next, dummy, action};
 ghost use Rattle.script_text.specs.ScriptText.{line_of};
@@ -14,6 +15,7 @@ use crate::desk::Desk;
 use crate::refusals::{refuse, refuse_behind};
 use crate::reply::Reply;
 use apei_bytes::get_u64;
+use cper_frame::ID_AT;
 use erst_client::Client;
 use erst_interp::{Budget, run};
 use erst_machine::Machine;
@@ -22,9 +24,6 @@ use script_text::{ScriptLine, decode};
 
 /// The bytes of the longest record that is read.
 const READ_BUFFER: usize = 65_536;
-
-/// The offset of a record's identifier, and the bytes of its header.
-const ID: usize = 96;
 
 impl<F: Flash> Desk<F> {
     /// Carries out what a line asks of the client in use.
@@ -65,7 +64,7 @@ fn run_command<F: Flash>(
 )
     requires playable { IsPlayable (line_of line.now) }
     requires asks { asks_client (line_of line.now) ≡ true }
-    requires room { length bytes.old ≡ 70_000 }
+    requires room { length bytes.old ≡ LONGEST_BYTES }
     ensures answers { Answers F.tells client.old (budget_by steps client.old) machine.old (line_of line.now) machine.new reply.new }
     ensures kept { client.new ≡ client.old }
     ensures size { length bytes.new ≡ length bytes.old }
@@ -114,7 +113,7 @@ fn wrote(bytes: &[u8], reply: &mut Reply)
     ensures { IsMade reply.new (words_of_write bytes.now (Ok tt)) }
 {
     reply.begin(b"wrote ");
-    reply.add_number(get_u64(bytes, ID));
+    reply.add_number(get_u64(bytes, ID_AT));
     reply.add(b" ");
     reply.add_number(bytes.len() as u64);
 }

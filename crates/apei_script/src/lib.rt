@@ -19,8 +19,8 @@ pub use history::{
     lines_are_one_list, lines_are_shown, lines_keep_a_machine, scripts_play_alike,
 };
 pub use laws::{
-    a_failed_restart_has_happened, a_line_is_the_maps, a_line_keeps_a_machine,
-    events_take_their_changes,
+    a_count_tells_a_number, a_failed_restart_has_happened, a_line_is_the_maps,
+    a_line_keeps_a_machine, events_take_their_changes,
 };
 pub use own::own_client;
 pub use player::{PlayStop, Player, PlayerRefused};

@@ -4,6 +4,7 @@ ghost use Rattle.hex.specs.Hex.{encode_lower};
 ghost use Rattle.apei_script.specs.Words.{words_of_record, words_of_block, reply_at};
 
 use apei_bytes::{Memory, get_u32, get_u64};
+use cper_frame::ID_AT;
 use hex::encode_to_slice;
 use itoa::Buffer;
 use std::alloc::Global;
@@ -12,9 +13,7 @@ use std::marker::Model;
 /// The longest reply that is made whole shows a record of 65,536 bytes, two numbers, a step and less than forty bytes of words.
 const LONGEST: usize = 131_264;
 
-/// The offset of a record's identifier, and that of a block's severity.
-const ID: usize = 96;
-
+/// The offset of a block's severity.
 const SEVERITY: usize = 16;
 
 /// A reply.
@@ -100,7 +99,7 @@ impl Reply {
         ensures room { length self.new + 23 ≤ 131264 }
     {
         self.begin(b"record ");
-        self.add_number(get_u64(bytes, ID));
+        self.add_number(get_u64(bytes, ID_AT));
         self.add(b" ");
         self.add_number(bytes.len() as u64);
         self.add(b" ");

@@ -1,5 +1,6 @@
 // Lines that say whose table is used.
 ghost use Rattle.std.specs.Prelude.{◌≡◌, ◌≤◌, length, OnOk, IfErr};
+ghost use Rattle.line_grammar.specs.declared.lengths.TheConstants.{LONGEST_LINE};
 ghost use Rattle.line_grammar.specs.Parts.{IsPairs};
 ghost use Rattle.script_text.specs.ScriptGrammar.{table, own_table};
 ghost use Rattle.apei_script.specs.Plays.{Stops};
@@ -12,7 +13,6 @@ use erst_client::Client;
 use erst_entries::{ErstError, ErstTable};
 use erst_interp::Budget;
 use flash_model::Flash;
-use script_text::decode;
 
 /// The steps that attaching to a table is given.
 pub const ATTACH_STEPS: u64 = 64;
@@ -22,11 +22,11 @@ impl<F: Flash> Desk<F> {
     /// refused that one stays.
     pub fn give_table(&mut self, hex: &[u8]) -> Result<(), PlayStop>
         requires pairs { IsPairs hex.now }
-        requires fits { length hex.now ≤ 140_000 }
+        requires fits { length hex.now ≤ LONGEST_LINE }
         ensures made { OnOk result (MakesReply F.tells (state_of self.old) (table hex.now) (state_of self.new) self.new.buffers.reply) }
         ensures stopped { IfErr result (λ stop. Stops F.tells (state_of self.old) (table hex.now) (state_of self.new) stop) }
     {
-        let len = decode(hex, &mut self.buffers.bytes);
+        let len = self.buffers.decode(hex);
         let table = match ErstTable::decode(self.alloc, &self.buffers.bytes[..len]) {
             Ok((table, _)) => table,
             Err(ErstError::Memory) => return Err(PlayStop::Memory),

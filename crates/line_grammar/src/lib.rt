@@ -5,7 +5,9 @@
 #![tactic(auto)]
 
 mod keywords;
+mod lengths;
 mod parts;
 
 pub use keywords::{Keyword, common_len, keyword_of};
+pub use lengths::{LONGEST_BYTES, LONGEST_LINE};
 pub use parts::{end, number, pairs, two_numbers};

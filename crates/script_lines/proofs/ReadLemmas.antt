@@ -3,6 +3,7 @@ use Rattle.std.proofs.Common.{◌≡◌, ℕ, ◌+◌, ◌^◌, ◌<◌, ◌≤�
 use Rattle.std.proofs.lemmas.List.{append-nil, length-take, take_at}
 use Rattle.script_lines.specs.declared.lines.LineStop.{LineStop}
 use Rattle.script_lines.specs.declared.lines.LineStop.TheVariants.{TooLong}
+use Rattle.line_grammar.specs.declared.lengths.TheConstants.{LONGEST_LINE}
 use Rattle.script_lines.specs.Lines.{Line, Reading, lines_of, lines_ahead, IsOneLine, IsFirstLine, TakesMore, TakesLine, SamePlace, PastLimits, IsTooLong, with_newline, last_one, IsNextLine, IsAtEnd, NextIsTooLong}
 use Rattle.script_lines.proofs.LineLemmas.{lines_of-newline, lines_of-begin, BeginsWith}
 
@@ -43,7 +44,7 @@ next_line tells old mid new rest rest_now n text more place first short takes =
       read = with_newline more.bytes (subst IsOneLine (sym takes.line) first.one_line) (sym more.pending ∙ newline) end (takes.at_end ∙ place.at_end) more.given;
     }
   where
-    past : (140000 < length new.line) ⊎ (2 ^ 24 < new.end) → length new.line ≡ text → new.end ≡ mid.end + text + 1 → PastLimits mid.end text 1
+    past : (LONGEST_LINE < length new.line) ⊎ (2 ^ 24 < new.end) → length new.line ≡ text → new.end ≡ mid.end + text + 1 → PastLimits mid.end text 1
     past (inl long) size end = inl (omega arith)
     past (inr far) size end = inr (omega arith)
 
@@ -61,7 +62,7 @@ next_is_too_long tells old mid rest rest_now n text more place first past = reco
       (line, lines_of (mid.end + length (take text mid.pending) + 1) behind, lines_ahead-more tells old mid rest rest_now n more place told ∙ ap (lines_of mid.end) script ∙ lines_of-newline mid.end (take text mid.pending) behind first.one_line, long past size);
 }
   where
-    long : PastLimits mid.end text 1 → length (take text mid.pending) ≡ text → (140000 < length (take text mid.pending)) ⊎ (2 ^ 24 < mid.end + length (take text mid.pending) + 1)
+    long : PastLimits mid.end text 1 → length (take text mid.pending) ≡ text → (LONGEST_LINE < length (take text mid.pending)) ⊎ (2 ^ 24 < mid.end + length (take text mid.pending) + 1)
     long (inl past) size = inl (omega arith)
     long (inr past) size = inr (omega arith)
 
@@ -102,7 +103,7 @@ next_is_last tells old mid new rest rest_now n more place one empty Z (Ok true) 
       (omega (arith, read.5, place.end, ap length read.2)) at_end (λ told. more.given told ∙ ap (λ (bs : List ℕ). more.bytes ++ bs) (empty told) ∙ append-nil more.bytes) empty;
 }
   where
-    past : (140000 < length new.line) ⊎ (2 ^ 24 < new.end) → PastLimits mid.end (length mid.pending) 0
+    past : (LONGEST_LINE < length new.line) ⊎ (2 ^ 24 < new.end) → PastLimits mid.end (length mid.pending) 0
     past (inl long) = inl (omega (arith, ap length read.2))
     past (inr far) = inr (omega (arith, read.5))
 next_is_last tells old mid new rest rest_now n more place one empty Z (Ok false) at_end read = record {

@@ -1,6 +1,7 @@
 -- The lines of a script, and where each of them ends.
 use Rattle.std.specs.Prelude.{◌≡◌, ℕ, ◌+◌, ◌^◌, ◌<◌, ◌⊎◌, Bool, true, false, ◌==◌, List, [], ◌∷◌, ◌++◌, length, take, drop}
 use Rattle.std.specs.List.{slice_split}
+use Rattle.line_grammar.specs.declared.lengths.TheConstants.{LONGEST_LINE}
 
 -- a line: its text, and where it ends in the script, its newline counted where it has one
 pub record Line : Type 0 where
@@ -40,9 +41,9 @@ ended_in at (part ∷ parts) = ended_before at part parts (ended_in (at + length
 unfoldable pub ended_lines_of : ℕ → List ℕ → List Line
 ended_lines_of at script = ended_in at (parts_of script)
 
--- a line's text has more than 140,000 bytes, or the line ends past byte 2 ^ 24 of the script
+-- a line's text is longer than the longest, or the line ends past byte 2 ^ 24 of the script
 abbrev pub IsTooLong : Line → Type 0
-IsTooLong line = (140000 < length line.text) ⊎ (2 ^ 24 < line.end)
+IsTooLong line = (LONGEST_LINE < length line.text) ⊎ (2 ^ 24 < line.end)
 
 -- a script that is being read: the line read last, how many were read and where the last of them ends, the bytes taken
 -- behind it, and whether the source came to its end
@@ -91,7 +92,7 @@ pub record TakesLine (text newline : ℕ) (old new : Reading) : Type 0 where
 
 -- a line of this many bytes with its newline, from a place on, is too long
 abbrev pub PastLimits : ℕ → ℕ → ℕ → Type 0
-PastLimits at text newline = (140000 < text) ⊎ (2 ^ 24 < at + text + newline)
+PastLimits at text newline = (LONGEST_LINE < text) ⊎ (2 ^ 24 < at + text + newline)
 
 -- the next line was read: one that its newline ends, or the last of a source that came to its end
 pub data ReadsLine (tells : Type 0) (old new : Reading) (rest rest_now : List ℕ) : Type 0 where

@@ -1,6 +1,6 @@
 -- What was read of a script so far, from its start on.
-use Rattle.std.specs.Prelude.{◌≡◌, ℕ, ◌+◌, false, List, [], ◌∷◌, ◌++◌, length}
-use Rattle.script_lines.specs.Lines.{Line, Reading, lines_of, ended_lines_of, lines_ahead}
+use Rattle.std.specs.Prelude.{◌≡◌, ℕ, ◌+◌, ◌^◌, ◌<◌, ◌≤◌, false, List, [], ◌∷◌, ◌++◌, length}
+use Rattle.script_lines.specs.Lines.{Line, Reading, lines_of, ended_lines_of, lines_ahead, IsNextLine, IsAtEnd, NextIsTooLong, HasNoLine, IsTooLong}
 
 -- nothing was read
 abbrev pub first_reading : Reading
@@ -33,3 +33,20 @@ pub record AreTaken (script rest : List ℕ) (lines : List Line) : Type 0 where
   pub taken : List ℕ
   pub source : script ≡ taken ++ rest
   pub are : ended_lines_of 0 taken ≡ lines
+
+-- What is read line by line from the start of a script on are its lines, one after another, and each answer of `advance` says where among
+-- them it stands
+pub record AreReadInOrder (tells : Type 0) : Type 0 where
+  pub start : (script : List ℕ) → HasRead tells script script [] first_reading
+  pub next : (script rest rest_now : List ℕ) (lines : List Line) (old new : Reading) → HasRead tells script rest lines old
+      → IsNextLine tells old new rest rest_now → HasRead tells script rest_now (lines ++ last_line new ∷ []) new
+  pub stands : (script rest rest_now : List ℕ) (lines : List Line) (old new : Reading) → HasRead tells script rest lines old
+      → IsNextLine tells old new rest rest_now → tells → StandsAt script lines new.number (last_line new)
+  pub at_end : (script rest rest_now : List ℕ) (lines : List Line) (old new : Reading) → HasRead tells script rest lines old
+      → IsAtEnd tells old new rest rest_now → tells → (lines_of 0 script ≡ lines) × (rest_now ≡ [])
+  pub too_long : (script rest : List ℕ) (lines : List Line) (old new : Reading) → HasRead tells script rest lines old
+      → NextIsTooLong tells old new rest → tells → (line : Line) × StandsAt script lines (new.number + 1) line × IsTooLong line
+  pub failed : (script rest rest_now : List ℕ) (lines : List Line) (old new : Reading) → HasRead tells script rest lines old
+      → HasNoLine tells old new rest rest_now → tells → AreTaken script rest_now lines
+  -- a loop over the lines of a script ends
+  pub ends : (rest rest_now : List ℕ) (old new : Reading) → IsNextLine tells old new rest rest_now → (old.end < new.end) × (new.end ≤ 2 ^ 24)

@@ -5,4 +5,4 @@ mod laws;
 mod lines;
 
 pub use laws::lines_are_read_in_order;
-pub use lines::{LineReader, LineStop, MAX_LINE, MAX_SCRIPT};
+pub use lines::{LineReader, LineStop, MAX_SCRIPT};

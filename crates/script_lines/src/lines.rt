@@ -4,12 +4,10 @@ ghost use Rattle.base_model.specs.Faults.{HasCause, Rose};
 ghost use Rattle.script_lines.specs.Lines.{Line, Reading, lines_of, ended_lines_of, lines_ahead, IsNextLine, IsAtEnd, NextIsTooLong, HasNoLine, IsOneLine, IsFirstLine, StaysAt, TakesMore, TakesLine, SamePlace, PastLimits, IsTooLong};
 
 use apei_bytes::{Memory, ReadFailed, Source};
+use line_grammar::LONGEST_LINE;
 use memchr::memchr;
 use std::alloc::Global;
 use std::marker::Model;
-
-/// The most bytes that a line's text has.
-pub const MAX_LINE: usize = 140_000;
 
 /// The most bytes that a script has.
 pub const MAX_SCRIPT: usize = 1 << 24;
@@ -164,7 +162,7 @@ impl LineReader {
         ensures limits { IsTrue result ↔ PastLimits self.now.end text newline }
         ensures within { self.now.end ≤ 2 ^ 24 }
     {
-        text > MAX_LINE || self.position + text + newline > MAX_SCRIPT
+        text > LONGEST_LINE || self.position + text + newline > MAX_SCRIPT
     }
 
     // Makes the next `text` bytes the line that was read, and leaves its newline, of `newline` bytes, behind.
@@ -221,7 +219,7 @@ impl LineReader {
 
     // Takes more bytes from the script, and forgets the line read last.
     fn fill<I: Source>(&mut self, script: &mut I) -> Result<usize, ReadFailed>
-        requires { length self.old.pending ≤ 140000 }
+        requires { length self.old.pending ≤ LONGEST_LINE }
         ensures place { SamePlace self.old self.new }
         ensures more { IfOk result (TakesMore I.tells self.old self.new (I.rest script.old) (I.rest script.new)) }
         ensures none { OnErr result (TakesMore I.tells self.old self.new (I.rest script.old) (I.rest script.new) 0) }
@@ -243,7 +241,7 @@ impl LineReader {
 // where they begin now.
 fn make_room(buffer: &mut Vec<u8>, start: usize, end: usize) -> usize
     requires order { start ≤ end }
-    requires few { end - start ≤ 140000 }
+    requires few { end - start ≤ LONGEST_LINE }
     requires within { end ≤ 262144 }
     requires size { vec_len buffer.old ≡ 262144 }
     ensures size { vec_len buffer.new ≡ 262144 }

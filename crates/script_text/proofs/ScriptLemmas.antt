@@ -6,6 +6,9 @@ use Rattle.std.proofs.lemmas.List.Elements.{All-cons, All-nil}
 use Rattle.script_text.specs.Turns.{IsTurns}
 use Rattle.script_text.specs.ScriptGrammar.{Line, IsLine, IsValid, text_of, blank, comment, write, read, clear, count, next, dummy, action, table, own_table, shadow_table, error, turns, peek, fatal, bert, heard, reset, power, bridge}
 use Rattle.line_grammar.specs.Columns.{Begins}
+use Rattle.script_text.specs.ScriptText.{IsText, Means, AsWritten, AsComment, line_of}
+use Rattle.script_text.specs.declared.script_line.ScriptLine.{ScriptLine}
+use Rattle.script_text.specs.declared.script_line.ScriptLine.TheVariants as read
 use Rattle.script_text.specs.ScriptWords.{codes_of, all_words, Follows}
 use Rattle.script_text.specs.declared.script_word.ScriptWord.{ScriptWord}
 use Rattle.script_text.specs.declared.script_word.ScriptWord.TheVariants.{Comment, Write, Read, Clear, Count, Next, Dummy, Action, Table, Error, Turns, Peek, Fatal, Bert, Heard, Reset, Power, Bridge}
@@ -135,3 +138,27 @@ script = record {
   from_word = line_behind;
   to_word = λ text (line, valid, is). line_is line valid text is;
 }
+
+-- what a text that was read means
+pub means : (text : List ℕ) (line : ScriptLine) → IsText text line → Means text (line_of line)
+means text read.Blank (inl empty) = AsWritten _ empty
+means text read.Blank (inr (rest, is)) = AsComment rest is
+means text (read.Write hex) is = AsWritten _ is
+means text (read.Read id) is = AsWritten _ is
+means text (read.Clear id) is = AsWritten _ is
+means text read.Count is = AsWritten _ is
+means text read.Next is = AsWritten _ is
+means text read.Dummy is = AsWritten _ is
+means text (read.Action code value) is = AsWritten _ is
+means text (read.Table hex) is = AsWritten _ is
+means text read.TableOwn is = AsWritten _ is
+means text read.TableShadow is = AsWritten _ is
+means text (read.Error hex) is = AsWritten _ is
+means text (read.Turns letters) is = AsWritten _ is
+means text (read.Peek at len) is = AsWritten _ is
+means text (read.Fatal hex) is = AsWritten _ is
+means text read.Bert is = AsWritten _ is
+means text read.Heard is = AsWritten _ is
+means text read.Reset is = AsWritten _ is
+means text read.Power is = AsWritten _ is
+means text (read.Bridge id) is = AsWritten _ is

@@ -33,11 +33,16 @@ line_of (Bridge id) = bridge id
 abbrev pub IsWritten : List ℕ → Line → Type 0
 IsWritten text line = IsValid line × (text ≡ text_of line)
 
--- a text is this line; a blank line is empty or a comment
+-- what a text means: the line that is written so; a text that begins with '#' is a blank line
+pub data Means (text : List ℕ) : Line → Type 0 where
+  AsWritten : (line : Line) → IsWritten text line → Means text line
+  AsComment : (rest : List ℕ) → IsWritten text (comment rest) → Means text blank
+
+-- how each line that is read is written; a blank line is empty or a comment
 abbrev pub IsText : List ℕ → ScriptLine → Type 0
 IsText text Blank = IsWritten text blank ⊎ ((rest : List ℕ) × IsWritten text (comment rest))
 IsText text line = IsWritten text (line_of line)
 
--- a word and what follows it are this line
+-- a keyword and what follows it are this line
 abbrev pub IsTextBehind : ScriptWord → List ℕ → ScriptLine → Type 0
 IsTextBehind word rest line = IsText (codes_of word ++ rest) line

@@ -1,6 +1,7 @@
 // A line of what is checked.
 ghost use Rattle.std.specs.Prelude.{◌≡◌, ℕ, ◌+◌, ◌≤◌, ◌++◌, length, MatchResult};
 ghost use Rattle.line_grammar.specs.Columns.{Breaks, BreaksAt};
+ghost use Rattle.line_grammar.specs.declared.lengths.TheConstants.{LONGEST_LINE};
 ghost use Rattle.script_text.specs.CheckGrammar.{IsCheckLine};
 ghost use Rattle.script_text.specs.CheckText.{IsCheckText, IsCheckTextBehind};
 ghost use Rattle.script_text.specs.CheckWords.{check_codes_of, CheckFollows};
@@ -58,7 +59,7 @@ impl Keyword for CheckWord {
 impl CheckLine<'_> {
     /// The line that a text without a newline is.
     pub fn parse(text: &[u8]) -> Result<CheckLine<'_>, BadLine>
-        requires { length text.now ≤ 140_000 }
+        requires { length text.now ≤ LONGEST_LINE }
         ensures { MatchResult result (λ line. IsCheckText text.now line) (λ bad. BreaksAt IsCheckLine text.now bad.column) }
     {
         if text.is_empty() {

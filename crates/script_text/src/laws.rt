@@ -1,12 +1,24 @@
 // Laws on lines: the functions do nothing, and their clauses are the laws.
-ghost use Rattle.std.specs.Prelude.{◌≡◌, ℕ, List};
+ghost use Rattle.std.specs.Prelude.{◌≡◌, ℕ, List, ◌++◌, codes, decimal};
 ghost use Rattle.line_grammar.specs.Columns.{BreaksAt};
+ghost use Rattle.erst_interp.specs.declared.stops.RunStop.{RunStop as AnyStop};
+ghost use Rattle.erst_client.specs.declared.errors.ClientError.{ClientError as AnyError};
+ghost use Rattle.erst_client.specs.declared.errors.ClientError.TheVariants.{Hardware, Stopped, Late};
+ghost use Rattle.script_text.specs.ClientWords.{words_of_client};
+ghost use Rattle.script_text.specs.RunWords.{words_of_stop};
+ghost use Rattle.script_text.specs.ScriptText.{IsText, Means, line_of};
+ghost use Rattle.script_text.specs.declared.script_line.ScriptLine.{ScriptLine as AnyLine};
 ghost use Rattle.script_text.specs.CheckGrammar.{CheckedLine, IsCheckLine, IsValidCheck, check_text_of};
 ghost use Rattle.script_text.specs.ScriptGrammar.{Line, IsLine, IsValid, text_of};
 
 /// Script lines with one text are one line.
 pub fn one_line()
     ensures { (a b : Line) → IsValid a → IsValid b → text_of a ≡ text_of b → a ≡ b }
+{}
+
+/// What a text means that was read as a line.
+pub fn a_text_means_its_line()
+    ensures { (text : List ℕ) (line : AnyLine) → IsText text line → Means text (line_of line) }
 {}
 
 /// A text has at most one column as a script line.
@@ -22,4 +34,11 @@ pub fn one_check_line()
 /// A text has at most one column as a check line.
 pub fn one_check_column()
     ensures { (text : List ℕ) (a b : ℕ) → BreaksAt IsCheckLine text a → BreaksAt IsCheckLine text b → a ≡ b }
+{}
+
+/// The words of a client's refusal tell it: that the flash failed, that a program was stopped, or that the device was busy for too long.
+pub fn words_tell_the_refusal()
+    ensures hardware { (error : AnyError) → words_of_client error ≡ codes "hardware" → error ≡ Hardware }
+    ensures stopped { (stop : AnyStop) (error : AnyError) → words_of_client error ≡ codes "stopped " ++ words_of_stop stop → (why : AnyStop) × (error ≡ Stopped why) }
+    ensures late { (time : ℕ) (error : AnyError) → words_of_client error ≡ codes "late " ++ decimal time → (waited : ℕ) × (error ≡ Late waited) }
 {}

@@ -1,9 +1,11 @@
 // A line of a script.
-ghost use Rattle.std.specs.Prelude.{◌≡◌, ℕ, ◌+◌, ◌<◌, ◌≤◌, ◌++◌, length, MatchResult};
+ghost use Rattle.std.specs.Prelude.{◌≡◌, ℕ, ◌+◌, ◌<◌, ◌≤◌, ◌++◌, length, decimal, MatchResult};
 ghost use Rattle.line_grammar.specs.Columns.{Breaks, BreaksAt};
+ghost use Rattle.line_grammar.specs.declared.lengths.TheConstants.{LONGEST_LINE};
+ghost use Rattle.line_grammar.specs.Parts.{IsEnd, IsNumber};
 ghost use Rattle.script_text.specs.ScriptGrammar.{IsLine};
 ghost use Rattle.script_text.specs.ScriptText.{IsText, IsTextBehind};
-ghost use Rattle.script_text.specs.ScriptWords.{Follows, IsTable};
+ghost use Rattle.script_text.specs.ScriptWords.{Follows, IsTable, codes_of};
 
 use crate::script_word::{SCRIPT_WORDS, ScriptWord};
 use crate::turns::turns;
@@ -48,7 +50,7 @@ pub struct BadLine {
 impl ScriptLine<'_> {
     /// The line that a text without a newline is.
     pub fn parse(text: &[u8]) -> Result<ScriptLine<'_>, BadLine>
-        requires { length text.now ≤ 140_000 }
+        requires { length text.now ≤ LONGEST_LINE }
         ensures { MatchResult result (λ line. IsText text.now line) (λ bad. BreaksAt IsLine text.now bad.column) }
     {
         if text.is_empty() {
@@ -88,26 +90,11 @@ impl ScriptLine<'_> {
                 pairs(rest)?;
                 Ok(ScriptLine::Write { hex: rest })
             }
-            ScriptWord::Read => {
-                let id = number(rest, 0, u64::MAX)?;
-                Ok(ScriptLine::Read { id })
-            }
-            ScriptWord::Clear => {
-                let id = number(rest, 0, u64::MAX)?;
-                Ok(ScriptLine::Clear { id })
-            }
-            ScriptWord::Count => {
-                end(rest)?;
-                Ok(ScriptLine::Count)
-            }
-            ScriptWord::Next => {
-                end(rest)?;
-                Ok(ScriptLine::Next)
-            }
-            ScriptWord::Dummy => {
-                end(rest)?;
-                Ok(ScriptLine::Dummy)
-            }
+            ScriptWord::Read => Ok(ScriptLine::Read { id: id(rest)? }),
+            ScriptWord::Clear => Ok(ScriptLine::Clear { id: id(rest)? }),
+            ScriptWord::Count => ScriptLine::alone(ScriptWord::Count, ScriptLine::Count, rest),
+            ScriptWord::Next => ScriptLine::alone(ScriptWord::Next, ScriptLine::Next, rest),
+            ScriptWord::Dummy => ScriptLine::alone(ScriptWord::Dummy, ScriptLine::Dummy, rest),
             ScriptWord::Action => {
                 let (code, value) = two_numbers(rest, 255, 0, u64::MAX)?;
                 Ok(ScriptLine::Action { code, value })
@@ -129,27 +116,25 @@ impl ScriptLine<'_> {
                 pairs(rest)?;
                 Ok(ScriptLine::Fatal { hex: rest })
             }
-            ScriptWord::Bert => {
-                end(rest)?;
-                Ok(ScriptLine::Bert)
-            }
-            ScriptWord::Heard => {
-                end(rest)?;
-                Ok(ScriptLine::Heard)
-            }
-            ScriptWord::Reset => {
-                end(rest)?;
-                Ok(ScriptLine::Reset)
-            }
-            ScriptWord::Power => {
-                end(rest)?;
-                Ok(ScriptLine::Power)
-            }
-            ScriptWord::Bridge => {
-                let id = number(rest, 0, u64::MAX)?;
-                Ok(ScriptLine::Bridge { id })
-            }
+            ScriptWord::Bert => ScriptLine::alone(ScriptWord::Bert, ScriptLine::Bert, rest),
+            ScriptWord::Heard => ScriptLine::alone(ScriptWord::Heard, ScriptLine::Heard, rest),
+            ScriptWord::Reset => ScriptLine::alone(ScriptWord::Reset, ScriptLine::Reset, rest),
+            ScriptWord::Power => ScriptLine::alone(ScriptWord::Power, ScriptLine::Power, rest),
+            ScriptWord::Bridge => Ok(ScriptLine::Bridge { id: id(rest)? }),
         }
+    }
+
+    // The line of a keyword that stands alone, which this line is.
+    fn alone<'a>(
+        word: ScriptWord,
+        line: ScriptLine<'a>,
+        rest: &[u8],
+    ) -> Result<ScriptLine<'a>, usize>
+        requires { IsText (codes_of word) line }
+        ensures { MatchResult result (λ line. IsTextBehind word rest.now line) (λ reach. Breaks IsEnd rest.now reach) }
+    {
+        end(rest)?;
+        Ok(line)
     }
 
     // The line that takes a table into use: one in hexadecimal digits, the machine's own, or its shadow.
@@ -168,4 +153,11 @@ impl ScriptLine<'_> {
         };
         Err(reach.max(common_len(rest, b"own").max(common_len(rest, b"shadow"))))
     }
+}
+
+// An identifier, which is any number.
+fn id(text: &[u8]) -> Result<u64, usize>
+    ensures { MatchResult result (λ n. text.now ≡ decimal n) (λ reach. Breaks (IsNumber 0 0xFFFF_FFFF_FFFF_FFFF) text.now reach) }
+{
+    Ok(number(text, 0, u64::MAX)?)
 }

@@ -1,12 +1,12 @@
 // What a check of an error status block shows.
-ghost use Rattle.std.specs.Prelude.{◌≡◌, ◌≢◌, ℕ, ◌≤◌, [], ◌∷◌, length, if◌then◌else◌, OnOk, OnErr, Err};
+ghost use Rattle.std.specs.Prelude.{◌≡◌, ◌≢◌, ◌≤◌, length, OnOk, OnErr, Err};
 ghost use Rattle.base_model.specs.Faults.{HasCause};
-ghost use Rattle.apei_check.specs.Shown.{shows_parts, lines_shown, Shows, ShowsPart, HasStopCause};
+ghost use Rattle.apei_check.specs.Shown.{Shows, ShowsPart, HasStopCause};
 ghost use Rattle.apei_check.specs.Written.{Writes, WritesPart};
 ghost use Rattle.ghes_block.specs.Entries.{value_of, IsPlace};
 ghost use Rattle.apei_check.specs.Frames.{AreBlockLines, block_line, entry_line, entry_lines};
 
-use crate::text::{CheckStop, Show, write_line, write_refused};
+use crate::text::{CheckStop, Parts, Show, write_line, write_refused};
 use apei_bytes::{Sink, SinkFault};
 use ghes_block::{Block, DataEntry};
 use line_text::LineText;
@@ -64,33 +64,17 @@ fn write_entries<O: Sink>(block: &Block<'_>, out: &mut O) -> Result<(), SinkFaul
     Ok(())
 }
 
-/// Writes the lines of the entries where they are to be shown.
-fn write_parts<O: Sink>(block: &Block<'_>, show: Show, out: &mut O) -> Result<(), SinkFault>
-    requires { IsPlace block.now.entries 20 }
-    ensures all { OnOk result (Writes O.tells (if shows_parts show then entry_lines block.now.entries else []) (O.written out.old) (O.written out.new)) }
-    ensures part { OnErr result (WritesPart O.tells (if shows_parts show then entry_lines block.now.entries else []) (O.written out.old) (O.written out.new)) }
-    ensures cause { HasCause (O.faults out.old) (O.faults out.new) result }
-{
-    if !show.parts() {
-        return Ok(());
-    }
-    write_entries(block, out)
-}
+impl Parts for Block<'_> {
+    ghost use Rattle.ghes_block.specs.Entries.{IsPlace};
+    ghost use Rattle.apei_check.specs.Frames.{entry_lines};
 
-/// Writes the lines of a block that are to be shown.
-fn write_block<O: Sink>(
-    block: &Block<'_>,
-    rest: usize,
-    show: Show,
-    out: &mut O,
-) -> Result<(), SinkFault>
-    requires { IsPlace block.now.entries 20 }
-    ensures all { OnOk result (Writes O.tells (lines_shown show (block_line block.now rest) (entry_lines block.now.entries)) (O.written out.old) (O.written out.new)) }
-    ensures part { OnErr result (WritesPart O.tells (lines_shown show (block_line block.now rest) (entry_lines block.now.entries)) (O.written out.old) (O.written out.new)) }
-    ensures cause { HasCause (O.faults out.old) (O.faults out.new) result }
-{
-    show.write_head(block_line(block, rest), out)?;
-    write_parts(block, show, out)
+    ghost is_decoded = { λ block. IsPlace block.entries 20 };
+
+    ghost lines = { λ block. entry_lines block.entries };
+
+    fn write_parts<O: Sink>(&self, out: &mut O) -> Result<(), SinkFault> {
+        write_entries(self, out)
+    }
 }
 
 /// Writes what a check of a block shows.
@@ -100,7 +84,7 @@ fn write_check<O: Sink>(bytes: &[u8], show: Show, out: &mut O) -> Result<(), Sin
     ensures cause { HasCause (O.faults out.old) (O.faults out.new) result }
 {
     match Block::decode(bytes) {
-        Ok((block, size)) => write_block(&block, bytes.len() - size, show, out),
+        Ok((block, size)) => show.write(block_line(&block, bytes.len() - size), &block, out),
         Err(error) => write_refused(b"bad block ", &error, out),
     }
 }

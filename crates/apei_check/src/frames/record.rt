@@ -1,12 +1,12 @@
 // What a check of an error record shows.
-ghost use Rattle.std.specs.Prelude.{◌≡◌, ◌≢◌, ℕ, ◌≤◌, [], ◌∷◌, length, if◌then◌else◌, OnOk, OnErr, Err};
+ghost use Rattle.std.specs.Prelude.{◌≡◌, ◌≢◌, ◌≤◌, length, OnOk, OnErr, Err};
 ghost use Rattle.base_model.specs.Faults.{HasCause};
-ghost use Rattle.apei_check.specs.Shown.{shows_parts, lines_shown, Shows, ShowsPart, HasStopCause};
+ghost use Rattle.apei_check.specs.Shown.{Shows, ShowsPart, HasStopCause};
 ghost use Rattle.apei_check.specs.Written.{Writes, WritesPart};
 ghost use Rattle.cper_frame.specs.Sections.{value_of};
 ghost use Rattle.apei_check.specs.Frames.{AreRecordLines, record_line, section_line, section_lines};
 
-use crate::text::{CheckStop, Show, write_line, write_refused};
+use crate::text::{CheckStop, Parts, Show, write_line, write_refused};
 use apei_bytes::{Sink, SinkFault};
 use cper_frame::{Record, Section};
 use line_text::LineText;
@@ -57,32 +57,16 @@ fn write_sections<O: Sink>(framed: &Record<'_>, out: &mut O) -> Result<(), SinkF
     Ok(())
 }
 
-/// Writes the lines of the sections where they are to be shown.
-fn write_parts<O: Sink>(framed: &Record<'_>, show: Show, out: &mut O) -> Result<(), SinkFault>
-    ensures all { OnOk result (Writes O.tells (if shows_parts show then section_lines framed.now.sections else []) (O.written out.old) (O.written out.new)) }
-    ensures part { OnErr result (WritesPart O.tells (if shows_parts show then section_lines framed.now.sections else []) (O.written out.old) (O.written out.new)) }
-    ensures cause { HasCause (O.faults out.old) (O.faults out.new) result }
-{
-    if !show.parts() {
-        return Ok(());
-    }
-    write_sections(framed, out)
-}
+impl Parts for Record<'_> {
+    ghost use Rattle.apei_check.specs.Frames.{section_lines};
 
-/// Writes the lines of a record that are to be shown.
-fn write_record<O: Sink>(
-    framed: &Record<'_>,
-    size: usize,
-    rest: usize,
-    show: Show,
-    out: &mut O,
-) -> Result<(), SinkFault>
-    ensures all { OnOk result (Writes O.tells (lines_shown show (record_line framed.now size rest) (section_lines framed.now.sections)) (O.written out.old) (O.written out.new)) }
-    ensures part { OnErr result (WritesPart O.tells (lines_shown show (record_line framed.now size rest) (section_lines framed.now.sections)) (O.written out.old) (O.written out.new)) }
-    ensures cause { HasCause (O.faults out.old) (O.faults out.new) result }
-{
-    show.write_head(record_line(framed, size, rest), out)?;
-    write_parts(framed, show, out)
+    ghost is_decoded = { λ _. Unit {0} };
+
+    ghost lines = { λ framed. section_lines framed.sections };
+
+    fn write_parts<O: Sink>(&self, out: &mut O) -> Result<(), SinkFault> {
+        write_sections(self, out)
+    }
 }
 
 /// Writes what a check of a record shows.
@@ -92,7 +76,10 @@ fn write_check<O: Sink>(bytes: &[u8], show: Show, out: &mut O) -> Result<(), Sin
     ensures cause { HasCause (O.faults out.old) (O.faults out.new) result }
 {
     match Record::decode(bytes) {
-        Ok((framed, size)) => write_record(&framed, size, bytes.len() - size, show, out),
+        Ok((framed, size)) => {
+            let head = record_line(&framed, size, bytes.len() - size);
+            show.write(head, &framed, out)
+        }
         Err(error) => write_refused(b"bad record ", &error, out),
     }
 }

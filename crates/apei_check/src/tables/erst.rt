@@ -1,12 +1,12 @@
 // The lines of an Error Record Serialization Table.
-ghost use Rattle.std.specs.Prelude.{◌≡◌, ◌≤◌, ◌<◌, ◌^◌, length, Err, OnOk, OnErr, if◌then◌else◌, []};
+ghost use Rattle.std.specs.Prelude.{◌≡◌, ◌≤◌, ◌<◌, ◌^◌, length, Err, OnOk, OnErr};
 ghost use Rattle.base_model.specs.Faults.{HasCause};
-ghost use Rattle.apei_check.specs.Shown.{Shows, ShowsPart, HasStopCause, lines_shown, shows_parts};
+ghost use Rattle.apei_check.specs.Shown.{Shows, ShowsPart, HasStopCause};
 ghost use Rattle.apei_check.specs.Written.{Writes, WritesPart};
 ghost use Rattle.apei_check.specs.TableLines.{erst_line, entry_line, entry_lines};
 ghost use Rattle.apei_check.specs.Tables.{AreErstLines};
 
-use crate::text::{CheckStop, Show, write_line, write_refused};
+use crate::text::{CheckStop, Parts, Show, write_line, write_refused};
 use apei_bytes::{Sink, SinkFault};
 use erst_entries::{Entry, ErstError, ErstTable};
 use line_text::LineText;
@@ -26,26 +26,13 @@ pub fn check_erst<O: Sink>(
     ensures cause { HasStopCause (O.faults out.old) (O.faults out.new) result }
 {
     match ErstTable::decode(alloc, bytes) {
-        Ok((table, len)) => Ok(show_table(&table, len, bytes.len() - len, show, out)?),
+        Ok((table, len)) => {
+            let head = table_line(&table, len, bytes.len() - len);
+            Ok(show.write(head, &table, out)?)
+        }
         Err(ErstError::Memory) => Err(CheckStop::Memory),
         Err(why) => Ok(write_refused(b"bad erst ", &why, out)?),
     }
-}
-
-/// Writes the lines of a table of `len` bytes with `rest` behind it.
-fn show_table<O: Sink>(
-    table: &ErstTable,
-    len: usize,
-    rest: usize,
-    show: Show,
-    out: &mut O,
-) -> Result<(), SinkFault>
-    ensures all { OnOk result (Writes O.tells (lines_shown show (erst_line len (length table.now.entries) rest) (entry_lines table.now.entries)) (O.written out.old) (O.written out.new)) }
-    ensures part { OnErr result (WritesPart O.tells (lines_shown show (erst_line len (length table.now.entries) rest) (entry_lines table.now.entries)) (O.written out.old) (O.written out.new)) }
-    ensures cause { HasCause (O.faults out.old) (O.faults out.new) result }
-{
-    show.write_head(table_line(table, len, rest), out)?;
-    show_entries(table, show, out)
 }
 
 /// The line on a table.
@@ -60,16 +47,15 @@ fn table_line(table: &ErstTable, len: usize, rest: usize) -> LineText
     line
 }
 
-/// Writes the lines of the entries where they are asked for.
-fn show_entries<O: Sink>(table: &ErstTable, show: Show, out: &mut O) -> Result<(), SinkFault>
-    ensures all { OnOk result (Writes O.tells (if shows_parts show then entry_lines table.now.entries else []) (O.written out.old) (O.written out.new)) }
-    ensures part { OnErr result (WritesPart O.tells (if shows_parts show then entry_lines table.now.entries else []) (O.written out.old) (O.written out.new)) }
-    ensures cause { HasCause (O.faults out.old) (O.faults out.new) result }
-{
-    if show.parts() {
-        write_entries(table, out)
-    } else {
-        Ok(())
+impl Parts for ErstTable {
+    ghost use Rattle.apei_check.specs.TableLines.{entry_lines};
+
+    ghost is_decoded = { λ _. Unit {0} };
+
+    ghost lines = { λ table. entry_lines table.entries };
+
+    fn write_parts<O: Sink>(&self, out: &mut O) -> Result<(), SinkFault> {
+        write_entries(self, out)
     }
 }
 

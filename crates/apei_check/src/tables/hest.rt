@@ -1,14 +1,14 @@
 // The lines of a Hardware Error Source Table.
-ghost use Rattle.std.specs.Prelude.{◌≡◌, ◌≤◌, length, Err, OnOk, OnErr, if◌then◌else◌, []};
+ghost use Rattle.std.specs.Prelude.{◌≡◌, ◌≤◌, length, Err, OnOk, OnErr};
 ghost use Rattle.base_model.specs.Faults.{HasCause};
-ghost use Rattle.apei_check.specs.Shown.{Shows, ShowsPart, HasStopCause, lines_shown, shows_parts};
+ghost use Rattle.apei_check.specs.Shown.{Shows, ShowsPart, HasStopCause};
 ghost use Rattle.apei_check.specs.Written.{Writes, WritesPart};
 ghost use Rattle.apei_check.specs.TableLines.{hest_line, kind_line, source_line, source_lines};
 ghost use Rattle.apei_check.specs.Tables.{AreHestLines};
 ghost use Rattle.hest_sources.specs.declared.sources.HestSource.TheVariants.{Ghes as Generic};
 ghost use Rattle.hest_sources.specs.Layout.{type_of};
 
-use crate::text::{CheckStop, Show, write_line, write_refused};
+use crate::text::{CheckStop, Parts, Show, write_line, write_refused};
 use apei_bytes::{Sink, SinkFault};
 use hest_sources::{Ghes, Hest, HestError, HestSource};
 use line_text::LineText;
@@ -28,26 +28,13 @@ pub fn check_hest<O: Sink>(
     ensures cause { HasStopCause (O.faults out.old) (O.faults out.new) result }
 {
     match Hest::decode(alloc, bytes) {
-        Ok((table, len)) => Ok(show_table(table.sources(), len, bytes.len() - len, show, out)?),
+        Ok((table, len)) => {
+            let head = table_line(table.sources(), len, bytes.len() - len);
+            Ok(show.write(head, &table, out)?)
+        }
         Err(HestError::Memory) => Err(CheckStop::Memory),
         Err(why) => Ok(write_refused(b"bad hest ", &why, out)?),
     }
-}
-
-/// Writes the lines of a table of these sources, of `len` bytes with `rest` behind it.
-fn show_table<O: Sink>(
-    sources: &[HestSource],
-    len: usize,
-    rest: usize,
-    show: Show,
-    out: &mut O,
-) -> Result<(), SinkFault>
-    ensures all { OnOk result (Writes O.tells (lines_shown show (hest_line len (length sources.now) rest) (source_lines sources.now)) (O.written out.old) (O.written out.new)) }
-    ensures part { OnErr result (WritesPart O.tells (lines_shown show (hest_line len (length sources.now) rest) (source_lines sources.now)) (O.written out.old) (O.written out.new)) }
-    ensures cause { HasCause (O.faults out.old) (O.faults out.new) result }
-{
-    show.write_head(table_line(sources, len, rest), out)?;
-    show_sources(sources, show, out)
 }
 
 /// The line on a table.
@@ -62,16 +49,15 @@ fn table_line(sources: &[HestSource], len: usize, rest: usize) -> LineText
     line
 }
 
-/// Writes the lines of the sources where they are asked for.
-fn show_sources<O: Sink>(sources: &[HestSource], show: Show, out: &mut O) -> Result<(), SinkFault>
-    ensures all { OnOk result (Writes O.tells (if shows_parts show then source_lines sources.now else []) (O.written out.old) (O.written out.new)) }
-    ensures part { OnErr result (WritesPart O.tells (if shows_parts show then source_lines sources.now else []) (O.written out.old) (O.written out.new)) }
-    ensures cause { HasCause (O.faults out.old) (O.faults out.new) result }
-{
-    if show.parts() {
-        write_sources(sources, out)
-    } else {
-        Ok(())
+impl Parts for Hest {
+    ghost use Rattle.apei_check.specs.TableLines.{source_lines};
+
+    ghost is_decoded = { λ _. Unit {0} };
+
+    ghost lines = { source_lines };
+
+    fn write_parts<O: Sink>(&self, out: &mut O) -> Result<(), SinkFault> {
+        write_sources(self.sources(), out)
     }
 }
 

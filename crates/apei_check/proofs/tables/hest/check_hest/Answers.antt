@@ -1,25 +1,23 @@
-use Rattle.std.proofs.Common.{rules, List, sym, subst, take}
-use Rattle.hest_sources.specs.declared.sources.HestSource.{HestSource}
-use Rattle.hest_sources.specs.Tables.{IsHest}
+use Rattle.std.proofs.Common.{rules}
 use Rattle.script_text.specs.TableWords.{HestHasWords}
 use Rattle.apei_check.specs.Tables.{AreHestLines}
-use Rattle.apei_check.proofs.AnswerLemmas.{shows, shows_part}
+use Rattle.apei_check.proofs.AnswerLemmas.{shows_part, shows_item, shows_item_part}
 use Rattle.apei_check.proofs.TableLemmas.{hest_lines, bad_hest, first_of_hest}
 use Rattle.apei_check.proofs.tables.hest.check_hest.Goals as goal
 
-pub returns-in_err-show_table-in-Ok-clause-part : goal.returns-in_err-show_table-in-Ok-clause-part
-returns-in_err-show_table-in-Ok-clause-part g c _ =
+pub returns-in_err-write-in-Ok-clause-part : goal.returns-in_err-write-in-Ok-clause-part
+returns-in_err-write-in-Ok-clause-part g c _ =
     let found = c.in-Ok.ensures.found in
-    let is = subst (λ (xs : List HestSource). IsHest xs (take c.in-Ok.len c.args.bytes.now)) (sym c.sources.ensures) found.1 in
-    shows_part _ (AreHestLines c.args.show c.args.bytes.now) _ _ _ (hest_lines c.args.show c.args.bytes.now c.sources.result.now c.in-Ok.len is found.0) c.in_err-show_table-in-Ok.ensures.part
+    let is = rw c.sources.ensures at c.table_line-head.ensures.text in
+    shows_item_part _ (AreHestLines c.args.show c.args.bytes.now) c.args.show _ _ _ _ _ is (hest_lines c.args.show c.args.bytes.now c.in-Ok.table c.in-Ok.len found.1 found.0) c.in_err-write-in-Ok.ensures.part
 
 pub returns-in_err-write_refused-in-Err-clause-part : goal.returns-in_err-write_refused-in-Err-clause-part
 returns-in_err-write_refused-in-Err-clause-part g c _ =
     let has : HestHasWords c.in-Err.why = search rules in
     shows_part _ (AreHestLines c.args.show c.args.bytes.now) _ _ _ (bad_hest c.args.show c.args.bytes.now c.in-Err.why (first_of_hest c.args.bytes.now c.in-Err.why has c.in-Err.ensures.refused)) c.in_err-write_refused-in-Err.ensures.part
 
-pub returns-in_ok-show_table-in-Ok-clause-shown : goal.returns-in_ok-show_table-in-Ok-clause-shown
-returns-in_ok-show_table-in-Ok-clause-shown g c =
+pub returns-in_ok-write-in-Ok-clause-shown : goal.returns-in_ok-write-in-Ok-clause-shown
+returns-in_ok-write-in-Ok-clause-shown g c =
     let found = c.in-Ok.ensures.found in
-    let is = subst (λ (xs : List HestSource). IsHest xs (take c.in-Ok.len c.args.bytes.now)) (sym c.sources.ensures) found.1 in
-    shows _ (AreHestLines c.args.show c.args.bytes.now) _ _ _ (hest_lines c.args.show c.args.bytes.now c.sources.result.now c.in-Ok.len is found.0) c.in_ok-show_table-in-Ok.ensures.all
+    let is = rw c.sources.ensures at c.table_line-head.ensures.text in
+    shows_item _ (AreHestLines c.args.show c.args.bytes.now) c.args.show _ _ _ _ _ is (hest_lines c.args.show c.args.bytes.now c.in-Ok.table c.in-Ok.len found.1 found.0) c.in_ok-write-in-Ok.ensures.all

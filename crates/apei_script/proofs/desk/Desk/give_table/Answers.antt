@@ -1,31 +1,21 @@
-use Rattle.std.proofs.Common.{◌≡◌, ℕ, List, length, take, Ok, sym, ap, subst, ◌∙◌, arith, rules}
-use Rattle.std.proofs.lemmas.List.{with_items_is}
-use Rattle.hex.specs.Hex.{decode_of}
+use Rattle.std.proofs.Common.{take, arith, rules}
 use Rattle.script_text.specs.TableWords.{ErstHasWords}
 use Rattle.apei_script.specs.Tables.{IsNoTable}
 use Rattle.apei_script.proofs.Made.{made_number}
 use Rattle.apei_script.proofs.Giving.{refused_for, begins_with, not_attached, attached}
-use Rattle.apei_script.proofs.DeskLines.{by_table}
+use Rattle.apei_script.proofs.DeskLines.{as_lent, by_table}
 use Rattle.apei_script.proofs.desk.Desk.give_table.Goals as goal
 
 pub returns-in-Err-clause-made : goal.returns-in-Err-clause-made
 returns-in-Err-clause-made g c =
-    let bytes = c.args.self.now.buffers.bytes in
-    let size : length c.decode-len.new.out ≡ bytes.len = c.decode-len.ensures.size ∙ ap length c.deref_mut.ensures.value ∙ sym bytes.ok.0 in
-    let is : c.deref.result.now ≡ c.decode-len.new.out = c.deref.ensures.value ∙ with_items_is bytes c.decode-len.new.out size in
-    let decoded : decode_of c.args.hex.now ≡ Ok (take c.decode-len.result c.deref.result.now) =
-    subst (λ (xs : List ℕ). decode_of c.args.hex.now ≡ Ok (take c.decode-len.result xs)) (sym is) c.decode-len.ensures.bytes in
+    let decoded = as_lent c.args.hex.now _ c.deref.result.now c.decode-len.result c.decode-len.ensures.bytes c.deref.ensures.value in
     let has : ErstHasWords c.in-Err.error = search rules in
     by_table g.F.Flash.tells c.args.self.now.machine c.args.self.now.own c.args.self.now.steps c.args.self.now.other c.args.hex.now _ _ _ _ _ decoded
     (IsNoTable c.in-Err.error (refused_for (take c.decode-len.result c.deref.result.now) c.in-Err.error has c.in-Err.ensures.refused)) c.refuse_behind.ensures
 
 pub returns-in-Ok-attach-clause-made : goal.returns-in-Ok-attach-clause-made
 returns-in-Ok-attach-clause-made g c =
-    let bytes = c.args.self.now.buffers.bytes in
-    let size : length c.decode-len.new.out ≡ bytes.len = c.decode-len.ensures.size ∙ ap length c.deref_mut.ensures.value ∙ sym bytes.ok.0 in
-    let is : c.deref.result.now ≡ c.decode-len.new.out = c.deref.ensures.value ∙ with_items_is bytes c.decode-len.new.out size in
-    let decoded : decode_of c.args.hex.now ≡ Ok (take c.decode-len.result c.deref.result.now) =
-    subst (λ (xs : List ℕ). decode_of c.args.hex.now ≡ Ok (take c.decode-len.result xs)) (sym is) c.decode-len.ensures.bytes in
+    let decoded = as_lent c.args.hex.now _ c.deref.result.now c.decode-len.result c.decode-len.ensures.bytes c.deref.ensures.value in
     by_table g.F.Flash.tells c.args.self.now.machine c.args.self.now.own c.args.self.now.steps c.args.self.now.other c.args.hex.now _ _ _ _ _ decoded
     (attached g.F.Flash.tells c.args.self.now.machine c.args.self.now.other _ _ c.in-Ok-attach.client _ _ _ _
     (begins_with _ _ _ c.in-Ok.ensures.found.0 c.in-Ok.ensures.found.1 c.in-Ok.ensures.refused c.in-Ok.ensures.only) c.new-budget.ensures
@@ -34,11 +24,7 @@ returns-in-Ok-attach-clause-made g c =
 
 pub returns-in-Err-attach-clause-made : goal.returns-in-Err-attach-clause-made
 returns-in-Err-attach-clause-made g c =
-    let bytes = c.args.self.now.buffers.bytes in
-    let size : length c.decode-len.new.out ≡ bytes.len = c.decode-len.ensures.size ∙ ap length c.deref_mut.ensures.value ∙ sym bytes.ok.0 in
-    let is : c.deref.result.now ≡ c.decode-len.new.out = c.deref.ensures.value ∙ with_items_is bytes c.decode-len.new.out size in
-    let decoded : decode_of c.args.hex.now ≡ Ok (take c.decode-len.result c.deref.result.now) =
-    subst (λ (xs : List ℕ). decode_of c.args.hex.now ≡ Ok (take c.decode-len.result xs)) (sym is) c.decode-len.ensures.bytes in
+    let decoded = as_lent c.args.hex.now _ c.deref.result.now c.decode-len.result c.decode-len.ensures.bytes c.deref.ensures.value in
     by_table g.F.Flash.tells c.args.self.now.machine c.args.self.now.own c.args.self.now.steps c.args.self.now.other c.args.hex.now _ _ _ _ _ decoded
     (not_attached g.F.Flash.tells c.args.self.now.machine c.args.self.now.other _ _ _ _ _ _
     (begins_with _ _ _ c.in-Ok.ensures.found.0 c.in-Ok.ensures.found.1 c.in-Ok.ensures.refused c.in-Ok.ensures.only) c.new-budget.ensures

@@ -1,0 +1,70 @@
+-- The words of a client's refusal tell it.
+use Rattle.std.proofs.Common.{◌≡◌, ℕ, ◌+◌, ◌*◌, false, List, [], ◌∷◌, ◌++◌, drop, refl, ap, arith}
+use Rattle.std.specs.Prelude.{codes, decimal, ◌==◌}
+use Rattle.std.proofs.lemmas.Bool.Decides.{nat_tests}
+use Rattle.erst_interp.specs.declared.stops.RunStop.{RunStop}
+use Rattle.erst_client.specs.declared.errors.ClientError.{ClientError}
+use Rattle.erst_client.specs.declared.errors.ClientError.TheVariants.{NoSpace, Hardware, Failed, Empty, NotFound, Frame, TooLong, SmallBuffer, BadLength, Status, Stopped, Trailing, Range, Late}
+use Rattle.script_text.specs.ClientWords.{words_of_client}
+use Rattle.script_text.specs.RunWords.{words_of_stop}
+
+-- the first three codes of a text, as one number
+abbrev pub first : List ℕ → ℕ
+first [] = 0
+first (x ∷ rest) = x
+
+abbrev pub mark : List ℕ → ℕ
+mark xs = first xs * 65536 + first (drop 1 xs) * 256 + first (drop 2 xs)
+
+same_number : (a b : ℕ) → a ≡ b → (a == b) ≡ false → ⊥
+same_number a b e apart = grind (arith, nat_tests)
+
+-- two texts that begin otherwise
+pub apart : (xs ys : List ℕ) → xs ≡ ys → (mark xs == mark ys) ≡ false → ⊥
+apart xs ys e other = same_number (mark xs) (mark ys) (ap mark e) other
+
+abbrev of_hardware : List ℕ
+of_hardware = codes "hardware"
+
+-- what the words of a refusal tell of it
+pub record IsTold (error : ClientError) : Type 0 where
+  pub hardware : words_of_client error ≡ of_hardware → error ≡ Hardware
+  pub stopped : (stop : RunStop) → words_of_client error ≡ codes "stopped " ++ words_of_stop stop → (why : RunStop) × (error ≡ Stopped why)
+  pub late : (time : ℕ) → words_of_client error ≡ codes "late " ++ decimal time → (waited : ℕ) × (error ≡ Late waited)
+
+-- words that begin otherwise than those three
+other : (error : ClientError) → (mark (words_of_client error) == mark (codes "har")) ≡ false → (mark (words_of_client error) == mark (codes "sto")) ≡ false
+    → (mark (words_of_client error) == mark (codes "lat")) ≡ false → IsTold error
+other error not_hardware not_stopped not_late = record {
+  hardware = λ e. absurd (apart (words_of_client error) of_hardware e not_hardware);
+  stopped = λ stop e. absurd (apart (words_of_client error) (codes "stopped " ++ words_of_stop stop) e not_stopped);
+  late = λ time e. absurd (apart (words_of_client error) (codes "late " ++ decimal time) e not_late);
+}
+
+pub told : (error : ClientError) → IsTold error
+told NoSpace = other NoSpace refl refl refl
+told Hardware = record {
+  hardware = λ e. refl;
+  stopped = λ stop e. absurd (apart of_hardware (codes "stopped " ++ words_of_stop stop) e refl);
+  late = λ time e. absurd (apart of_hardware (codes "late " ++ decimal time) e refl);
+}
+told Failed = other Failed refl refl refl
+told Empty = other Empty refl refl refl
+told NotFound = other NotFound refl refl refl
+told (Frame why) = other (Frame why) refl refl refl
+told (TooLong len range) = other (TooLong len range) refl refl refl
+told (SmallBuffer need) = other (SmallBuffer need) refl refl refl
+told (BadLength found) = other (BadLength found) refl refl refl
+told (Status found) = other (Status found) refl refl refl
+told (Stopped why) = record {
+  hardware = λ e. absurd (apart (words_of_client (Stopped why)) of_hardware e refl);
+  stopped = λ stop e. (why, refl);
+  late = λ time e. absurd (apart (words_of_client (Stopped why)) (codes "late " ++ decimal time) e refl);
+}
+told (Trailing bytes) = other (Trailing bytes) refl refl refl
+told (Range fault) = other (Range fault) refl refl refl
+told (Late waited) = record {
+  hardware = λ e. absurd (apart (words_of_client (Late waited)) of_hardware e refl);
+  stopped = λ stop e. absurd (apart (words_of_client (Late waited)) (codes "stopped " ++ words_of_stop stop) e refl);
+  late = λ time e. (waited, refl);
+}
