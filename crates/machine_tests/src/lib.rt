@@ -1,4 +1,4 @@
-//! Tests of the machine and what runs on it: programs, a client, areas of memory, the handover, listeners.
+//! Tests of the machine and what runs on it: programs, a client, areas of memory, the handover, a hub of error sources, listeners.
 #![tactic(auto)]
 
 #[cfg(test)]
@@ -7,6 +7,8 @@ mod areas;
 mod clients;
 #[cfg(test)]
 mod handovers;
+#[cfg(test)]
+mod hubs;
 #[cfg(test)]
 mod listeners;
 #[cfg(test)]
