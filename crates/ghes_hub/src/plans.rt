@@ -1,5 +1,5 @@
 // The layouts of a table's sources.
-ghost use Rattle.std.specs.Prelude.{◌≡◌, ◌++◌, ◌∷◌, OnOk, ◌<◌, ◌≤◌, ◌+◌, ◌*◌, [], ℕ, List, length, Some, None, Ok, MatchResult, vec_len, vec_capacity};
+ghost use Rattle.std.specs.Prelude.{◌≡◌, ◌++◌, ◌∷◌, OnOk, ◌<◌, ◌≤◌, ◌+◌, ◌*◌, [], List, length, Some, None, Ok, MatchResult, vec_len, vec_capacity};
 ghost use Rattle.hest_sources.specs.declared.sources.HestSource.{HestSource as AnySource};
 ghost use Rattle.ghes_hub.specs.Layouts.{layout_windows};
 ghost use Rattle.ghes_hub.specs.Refusals.{generics, layout_of, layouts_from, checked_source, source_refusal, sources_refusal, all_windows};

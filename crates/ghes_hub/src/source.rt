@@ -1,5 +1,5 @@
 // A source of either kind.
-ghost use Rattle.std.specs.Prelude.{◌≡◌, ◌∷◌, ◌++◌, [], length, IfOk, OnOk, OnErr, MatchResult, Some, None};
+ghost use Rattle.std.specs.Prelude.{◌≡◌, length, IfOk, OnOk, OnErr, MatchResult, Some, None};
 ghost use Rattle.apei_space.specs.RamState.{RamState};
 ghost use Rattle.ghes_ack.specs.Machine.{Machine, started, submitted};
 ghost use Rattle.ghes_ack.specs.Elsewhere.{SameWhere};

@@ -23,7 +23,6 @@ pub struct Sources {
 }
 
 impl Model for Sources {
-    ghost use Rattle.ghes_hub.specs.Runs.{takes};
     ghost use Rattle.ghes_hub.specs.SourcesState.{SourcesState, AreServed};
 
     ghost Value = { SourcesState };

@@ -1,5 +1,5 @@
 // A line of a script of several error sources.
-ghost use Rattle.std.specs.Prelude.{◌≡◌, ◌+◌, ◌<◌, ◌≤◌, ◌++◌, length, MatchResult};
+ghost use Rattle.std.specs.Prelude.{◌+◌, ◌≤◌, length, MatchResult};
 ghost use Rattle.line_grammar.specs.Columns.{Breaks, BreaksAt};
 ghost use Rattle.hub_script.specs.HubGrammar.{IsLine};
 ghost use Rattle.hub_script.specs.HubText.{IsText, IsTextBehind};

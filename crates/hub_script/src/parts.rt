@@ -1,7 +1,7 @@
 // What may follow a keyword.
-ghost use Rattle.std.specs.Prelude.{◌≡◌, ◌≤◌, ◌-◌, ◌^◌, ◌++◌, ◌∷◌, length, decimal, MatchResult};
+ghost use Rattle.std.specs.Prelude.{◌≡◌, ◌-◌, ◌^◌, ◌++◌, ◌∷◌, decimal, MatchResult};
 ghost use Rattle.line_grammar.specs.Columns.{Breaks};
-ghost use Rattle.line_grammar.specs.Parts.{IsPairs, IsNumber, IsNumberThen};
+ghost use Rattle.line_grammar.specs.Parts.{IsPairs, IsNumberThen};
 ghost use Rattle.hub_script.specs.Turns.{AreTurns, is_source, is_side, may_stand};
 
 use line_grammar::{number, pairs};

@@ -1,5 +1,5 @@
 // What refuses a line.
-ghost use Rattle.std.specs.Prelude.{◌≡◌, ◌+◌, ◌≤◌, ◌++◌, length, codes};
+ghost use Rattle.std.specs.Prelude.{◌≡◌, ◌+◌, ◌≤◌, ◌++◌, length};
 ghost use Rattle.hub_script.specs.RefusalWords.{words_of_refusal, words_of_hub, HasWords, HubHasWords};
 
 use ghes_ack::SubmitError;

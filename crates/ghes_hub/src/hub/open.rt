@@ -1,11 +1,9 @@
 // The opening of a hub.
-ghost use Rattle.std.specs.Prelude.{◌≡◌, ℕ, ◌<◌, ◌≤◌, [], length, map, IfOk, IfErr, MatchResult, Some, None, slice_get, vec_capacity};
-ghost use Rattle.hest_sources.specs.declared.sources.Ghes.{Ghes as Generic};
-ghost use Rattle.ghes_ack.specs.Machine.{started, zeros};
+ghost use Rattle.std.specs.Prelude.{◌≡◌, ◌≤◌, [], length, IfOk, IfErr, MatchResult, None, vec_capacity};
 ghost use Rattle.ghes_hub.specs.Deals.{AreEmpty};
 ghost use Rattle.ghes_hub.specs.Opens.{IsOpened, IsReady};
 ghost use Rattle.ghes_hub.specs.Seen.{seen};
-ghost use Rattle.ghes_hub.specs.Refusals.{generics, hub_refusal, IsRefusal};
+ghost use Rattle.ghes_hub.specs.Refusals.{hub_refusal, IsRefusal};
 
 use crate::deals::{chains, deal, empty_lists};
 use crate::errors::{HubError, HubRefused};

@@ -1,5 +1,5 @@
 // The firmware's turns of a plain handover, by its own end, its blocks and the memory alone.
-ghost use Rattle.std.specs.Prelude.{◌≡◌, ◌<◌};
+ghost use Rattle.std.specs.Prelude.{◌<◌};
 ghost use Rattle.ghes_ack.specs.declared.events.Side.TheVariants.{Firmware as OfFirmware};
 ghost use Rattle.ghes_ack.specs.Machine.{Machine, Filling};
 ghost use Rattle.ghes_hub.specs.Plain.{HasPlainWindows, PlainStands};
