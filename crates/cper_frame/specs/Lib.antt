@@ -4,3 +4,4 @@ pub mod Sections
 pub mod Writer
 pub mod Stream
 pub mod Pieces
+pub mod Names

@@ -1,0 +1,113 @@
+//! Shows what the image of a record store's flash holds, and changes nothing: `apei-look --image=PATH`. It writes to standard
+//! output, and what it refuses to standard error.
+#![tactic(auto)]
+
+ghost use Rattle.std.specs.Prelude.{◌≡◌, ◌*◌, length};
+ghost use Rattle.image_survey.specs.Shown.{AreShown};
+
+mod image_file;
+mod status;
+
+use crate::image_file::read_file;
+use crate::status::Status;
+use flash_model::Geometry;
+use image_survey::{SlotView, find, record_at, survey_slots};
+use look_text::{json_of, text_of};
+use look_words::{Options, OptionsError, Show, options_of};
+use std::env;
+use std::io::{ErrorKind, Write};
+use std::process::ExitCode;
+
+fn main(rt: HostRuntime) -> ExitCode {
+    let status = run(&rt);
+    if status != Status::Done {
+        // Where standard error is closed nothing can be said.
+        let _ = eprintln!(rt; "{status}");
+    }
+    ExitCode::from(status.number())
+}
+
+// Does what the words behind the program's name ask for.
+fn run(rt: &HostRuntime) -> Status {
+    let words = match words(rt) {
+        Ok(words) => words,
+        Err(status) => return status,
+    };
+    match options_of(rt.alloc(), &words) {
+        Ok(options) => look(rt, &options),
+        Err(OptionsError::BadWords) => Status::BadWords,
+        Err(OptionsError::Memory) => Status::Memory,
+    }
+}
+
+// Looks at the image. Where the geometry is outside its limits no file is touched.
+fn look(rt: &HostRuntime, options: &Options) -> Status {
+    let Ok(geometry) = Geometry::new(options.sector, options.per_slot, options.slots) else {
+        return Status::BadGeometry;
+    };
+    let image = match read_file(rt, rt.alloc(), options.image.as_str(), geometry.size()) {
+        Ok(image) => image,
+        Err(status) => return status,
+    };
+    show_image(rt, &image, &geometry, options.show)
+}
+
+// Shows the image.
+fn show_image(rt: &HostRuntime, image: &[u8], geometry: &Geometry, show: Show) -> Status
+    requires { length image.now ≡ geometry.now.slot_size * geometry.now.slots }
+{
+    let Ok(views) = survey_slots(rt.alloc(), image, geometry) else {
+        return Status::Memory;
+    };
+    let shown = match show {
+        Show::Text => text_of(rt.alloc(), image, geometry, &views),
+        Show::Json => json_of(rt.alloc(), image, geometry, &views),
+        Show::Record(id) => return write_record(rt, image, geometry, &views, id),
+    };
+    match shown {
+        Ok(shown) => write(rt, shown.as_bytes()),
+        Err(_) => Status::Memory,
+    }
+}
+
+// Writes the bytes of a record.
+fn write_record(
+    rt: &HostRuntime,
+    image: &[u8],
+    geometry: &Geometry,
+    views: &[SlotView],
+    id: u64,
+) -> Status
+    requires sized { length image.now ≡ geometry.now.slot_size * geometry.now.slots }
+    requires all { length views.now ≡ geometry.now.slots }
+    requires shown { AreShown geometry.now.slot_size geometry.now.slots image.now views.now }
+{
+    let Some(slot) = find(views, geometry, id) else {
+        return Status::NoRecord { id };
+    };
+    match record_at(rt.alloc(), image, geometry, views, slot) {
+        Ok(Some(bytes)) => write(rt, &bytes),
+        Ok(None) => Status::NoRecord { id },
+        Err(_) => Status::Memory,
+    }
+}
+
+// Writes to standard output.
+fn write(rt: &HostRuntime, bytes: &[u8]) -> Status {
+    match rt.stdout().write_all(bytes) {
+        Ok(()) => Status::Done,
+        Err(_) => Status::SinkFault,
+    }
+}
+
+// The words behind the program's name. One that is not UTF-8 is not of the program's form.
+fn words(rt: &HostRuntime) -> Result<Vec<String>, Status> {
+    match env::args(rt) {
+        Ok(words) => words
+            .skip(1)
+            .collect(rt.alloc())
+            .map_err(|_| Status::Memory),
+        Err(error) if error.kind() == ErrorKind::InvalidData => Err(Status::BadWords),
+        Err(_) => Err(Status::Memory),
+    }
+}

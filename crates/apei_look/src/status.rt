@@ -1,0 +1,62 @@
+// How a run ended.
+use std::alloc::AllocError;
+use thiserror::Error;
+
+/// How a run ended, and what is said of it.
+#[derive(Clone, Copy, Debug, PartialEq, Eq, Error)]
+pub enum Status {
+    /// What was asked for was written.
+    #[error("apei-look: done")]
+    Done,
+    /// The words are not of the program's form.
+    #[error("apei-look: bad words")]
+    BadWords,
+    /// The output could not be written.
+    #[error("apei-look: write failed")]
+    SinkFault,
+    /// The file can't be opened or read.
+    #[error("apei-look: the image can't be read")]
+    Unreadable,
+    /// There is no such file.
+    #[error("apei-look: there is no such image")]
+    Missing,
+    /// It is no regular file.
+    #[error("apei-look: the image is no regular file")]
+    NoFile,
+    /// Another run holds the file.
+    #[error("apei-look: another run holds the image")]
+    Held,
+    /// The geometry is outside its limits.
+    #[error("apei-look: the geometry is outside its limits")]
+    BadGeometry,
+    /// The file has another length than the geometry.
+    #[error("apei-look: the image has {found} bytes, and the geometry {wanted}")]
+    Length { found: u64, wanted: u64 },
+    /// There was no memory.
+    #[error("apei-look: out of memory")]
+    Memory,
+    /// A boot finds no record of the identifier.
+    #[error("apei-look: there is no record {id}")]
+    NoRecord { id: u64 },
+}
+
+impl Status {
+    /// The program's exit number. Those that `apei` has too mean the same.
+    pub fn number(&self) -> u8 {
+        match self {
+            Status::Done => 0,
+            Status::BadWords => 1,
+            Status::SinkFault => 4,
+            Status::Unreadable | Status::Missing | Status::NoFile | Status::Held => 5,
+            Status::BadGeometry | Status::Length { .. } => 6,
+            Status::Memory => 8,
+            Status::NoRecord { .. } => 10,
+        }
+    }
+}
+
+impl From<AllocError> for Status {
+    fn from(_: AllocError) -> Self {
+        Status::Memory
+    }
+}

@@ -1,0 +1,204 @@
+// The whole as JSON.
+ghost use Rattle.std.specs.Prelude.{◌≡◌, ◌*◌, ◌<◌, length};
+ghost use Rattle.image_survey.specs.Shown.{AreShown};
+
+use crate::guid::add_guid;
+use crate::kind::word;
+use crate::slots::further_of;
+use crate::time::{add_time, has_time, is_precise};
+use cper_frame::{Record, RecordHead, notification_name, section_name, severity_name};
+use flash_model::Geometry;
+use image_survey::{SlotKind, SlotView, count_slots, record_at};
+use record_slots::Head;
+use std::alloc::{AllocError, Global};
+
+/// What `text_of` says of an image, as one JSON object on one line. Identifiers are strings, as some programs round great
+/// numbers.
+pub fn json_of(
+    alloc: Global,
+    image: &[u8],
+    geometry: &Geometry,
+    views: &[SlotView],
+) -> Result<String, AllocError>
+    requires sized { length image.now ≡ geometry.now.slot_size * geometry.now.slots }
+    requires all { length views.now ≡ geometry.now.slots }
+    requires shown { AreShown geometry.now.slot_size geometry.now.slots image.now views.now }
+{
+    let mut out = String::new(alloc);
+    add_totals(&mut out, geometry, views)?;
+    add_slots(&mut out, views)?;
+    add_records(alloc, &mut out, image, geometry, views)?;
+    out.push_str("}\n")?;
+    Ok(out)
+}
+
+fn add_totals(out: &mut String, geometry: &Geometry, views: &[SlotView]) -> Result<(), AllocError>
+    requires all { length views.now ≡ geometry.now.slots }
+{
+    let all = count_slots(views, geometry);
+    let free = all.free;
+    let records = all.records;
+    let second_copies = all.second_copies;
+    let bytes = all.bytes;
+    write!(
+        out,
+        "{{\"free\":{free},\"records\":{records},\"second_copies\":{second_copies},\"bytes\":{bytes}"
+    )
+}
+
+fn add_slots(out: &mut String, views: &[SlotView]) -> Result<(), AllocError> {
+    out.push_str(",\"slots\":[")?;
+    for (slot, view) in views.iter().enumerate() {
+        add_comma(out, slot == 0)?;
+        add_slot(out, view)?;
+    }
+    out.push(']')
+}
+
+// The kind of a slot, and its head and its tail mark where it is not erased.
+fn add_slot(out: &mut String, view: &SlotView) -> Result<(), AllocError> {
+    let kind = word(view.kind);
+    write!(out, "{{\"kind\":\"{kind}\"")?;
+    if view.kind != SlotKind::Erased {
+        add_marks(out, &view.look.head, view.look.tail)?;
+        add_numbers(out, &view.look.head)?;
+    }
+    out.push('}')
+}
+
+fn add_marks(out: &mut String, head: &Head, tail: u8) -> Result<(), AllocError> {
+    let gate = head.gate;
+    let kill = head.kill;
+    let format = head.format;
+    write!(
+        out,
+        ",\"gate\":{gate},\"kill\":{kill},\"tail\":{tail},\"format\":{format}"
+    )
+}
+
+fn add_numbers(out: &mut String, head: &Head) -> Result<(), AllocError> {
+    let id = head.id;
+    let generation = head.generation;
+    let len = head.len;
+    let [one, two, three] = head.next;
+    write!(
+        out,
+        ",\"id\":\"{id}\",\"generation\":{generation},\"bytes\":{len},\"next\":[{one},{two},{three}]"
+    )
+}
+
+fn add_records(
+    alloc: Global,
+    out: &mut String,
+    image: &[u8],
+    geometry: &Geometry,
+    views: &[SlotView],
+) -> Result<(), AllocError>
+    requires sized { length image.now ≡ geometry.now.slot_size * geometry.now.slots }
+    requires all { length views.now ≡ geometry.now.slots }
+    requires shown { AreShown geometry.now.slot_size geometry.now.slots image.now views.now }
+{
+    out.push_str(",\"stored\":[")?;
+    let mut is_first = true;
+    for slot in 0..geometry.slots as u32 {
+        if let Some(bytes) = record_at(alloc, image, geometry, views, slot)? {
+            add_comma(out, is_first)?;
+            is_first = false;
+            add_stored(out, geometry, slot, &views[slot as usize].look.head)?;
+            add_frame(out, &bytes)?;
+        }
+    }
+    out.push(']')
+}
+
+// A comma before all but the first item of a list.
+fn add_comma(out: &mut String, is_first: bool) -> Result<(), AllocError> {
+    if is_first { Ok(()) } else { out.push(',') }
+}
+
+// What the store says of a record.
+fn add_stored(
+    out: &mut String,
+    geometry: &Geometry,
+    slot: u32,
+    head: &Head,
+) -> Result<(), AllocError> {
+    let id = head.id;
+    let generation = head.generation;
+    let len = head.len;
+    write!(
+        out,
+        "{{\"id\":\"{id}\",\"generation\":{generation},\"bytes\":{len},\"slots\":[{slot}"
+    )?;
+    for next in &head.next[..further_of(geometry, head)] {
+        let next = *next;
+        write!(out, ",{next}")?;
+    }
+    out.push(']')
+}
+
+// What its bytes say, `null` where they are no error record.
+fn add_frame(out: &mut String, bytes: &[u8]) -> Result<(), AllocError> {
+    match Record::decode(bytes) {
+        Ok((frame, _)) => {
+            add_head(out, &frame.head())?;
+            out.push_str(",\"sections\":[")?;
+            for index in 0..frame.sections() {
+                add_comma(out, index == 0)?;
+                add_section(out, &frame, index)?;
+            }
+            out.push_str("]}}")
+        }
+        Err(_) => out.push_str(",\"frame\":null}"),
+    }
+}
+
+// What its header says.
+fn add_head(out: &mut String, head: &RecordHead) -> Result<(), AllocError> {
+    let severity = head.severity;
+    write!(
+        out,
+        ",\"frame\":{{\"severity\":{severity},\"severity_name\":"
+    )?;
+    add_name(out, severity_name(severity))?;
+    out.push_str(",\"time\":")?;
+    add_time_or_null(out, head)?;
+    let is_precise = has_time(head) && is_precise(head);
+    write!(out, ",\"precise\":{is_precise},\"creator\":\"")?;
+    add_guid(out, &head.creator)?;
+    out.push_str("\",\"notification\":\"")?;
+    add_guid(out, &head.notification)?;
+    out.push_str("\",\"notification_name\":")?;
+    add_name(out, notification_name(&head.notification))
+}
+
+fn add_time_or_null(out: &mut String, head: &RecordHead) -> Result<(), AllocError> {
+    if !has_time(head) {
+        return out.push_str("null");
+    }
+    out.push('"')?;
+    add_time(out, head)?;
+    out.push('"')
+}
+
+// What the descriptor of a section says.
+fn add_section(out: &mut String, frame: &Record<'_>, index: u16) -> Result<(), AllocError>
+    requires { index < length frame.now.sections }
+{
+    let section = frame.section(index);
+    let len = section.body.len();
+    let severity = section.head.severity;
+    out.push_str("{\"type\":\"")?;
+    add_guid(out, &section.head.kind)?;
+    out.push_str("\",\"name\":")?;
+    add_name(out, section_name(&section.head.kind))?;
+    write!(out, ",\"bytes\":{len},\"severity\":{severity}}}")
+}
+
+// A name as a string, or `null`.
+fn add_name(out: &mut String, name: Option<&str>) -> Result<(), AllocError> {
+    match name {
+        Some(name) => write!(out, "\"{name}\""),
+        None => out.push_str("null"),
+    }
+}

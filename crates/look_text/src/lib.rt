@@ -1,0 +1,15 @@
+//! What is shown of an image: its totals, a picture of its slots, a line for each slot and for each record, as text or as
+//! JSON.
+#![tactic(auto)]
+
+mod guid;
+mod json;
+mod kind;
+mod picture;
+mod records;
+mod slots;
+mod text;
+mod time;
+
+pub use json::json_of;
+pub use text::text_of;

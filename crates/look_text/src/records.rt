@@ -1,0 +1,117 @@
+// Lines for each record.
+ghost use Rattle.std.specs.Prelude.{◌≡◌, ◌*◌, ◌<◌, length};
+ghost use Rattle.image_survey.specs.Shown.{AreShown};
+
+use crate::guid::add_guid;
+use crate::slots::further_of;
+use crate::time::{add_time, has_time, is_precise};
+use cper_frame::{Record, RecordHead, notification_name, section_name, severity_name};
+use flash_model::Geometry;
+use image_survey::{SlotView, record_at};
+use record_slots::Head;
+use std::alloc::{AllocError, Global};
+
+/// Lines for each record that a boot finds, in the order of their first slots: its identifier, its generation, its length and
+/// its slots, and behind them what its header and its section descriptors say.
+pub fn add_records(
+    alloc: Global,
+    out: &mut String,
+    image: &[u8],
+    geometry: &Geometry,
+    views: &[SlotView],
+) -> Result<(), AllocError>
+    requires sized { length image.now ≡ geometry.now.slot_size * geometry.now.slots }
+    requires all { length views.now ≡ geometry.now.slots }
+    requires shown { AreShown geometry.now.slot_size geometry.now.slots image.now views.now }
+{
+    for slot in 0..geometry.slots as u32 {
+        if let Some(bytes) = record_at(alloc, image, geometry, views, slot)? {
+            add_stored(out, geometry, slot, &views[slot as usize].look.head)?;
+            add_frame(out, &bytes)?;
+        }
+    }
+    Ok(())
+}
+
+// What the store says of a record.
+fn add_stored(
+    out: &mut String,
+    geometry: &Geometry,
+    slot: u32,
+    head: &Head,
+) -> Result<(), AllocError> {
+    let id = head.id;
+    let generation = head.generation;
+    let len = head.len;
+    write!(
+        out,
+        "\nrecord {id} generation {generation} bytes {len} slots {slot}"
+    )?;
+    for next in &head.next[..further_of(geometry, head)] {
+        let next = *next;
+        write!(out, " {next}")?;
+    }
+    out.push('\n')
+}
+
+// What its bytes say.
+fn add_frame(out: &mut String, bytes: &[u8]) -> Result<(), AllocError> {
+    match Record::decode(bytes) {
+        Ok((frame, _)) => {
+            add_head(out, &frame.head())?;
+            for index in 0..frame.sections() {
+                add_section(out, &frame, index)?;
+            }
+            Ok(())
+        }
+        Err(_) => out.push_str("  no error record\n"),
+    }
+}
+
+// What its header says.
+fn add_head(out: &mut String, head: &RecordHead) -> Result<(), AllocError> {
+    add_severity(out, "  severity ", head.severity)?;
+    out.push_str("\n  time ")?;
+    if has_time(head) {
+        add_time(out, head)?;
+        if !is_precise(head) {
+            out.push_str(" or about then")?;
+        }
+    } else {
+        out.push_str("none")?;
+    }
+    out.push_str("\n  creator ")?;
+    add_guid(out, &head.creator)?;
+    out.push_str("\n  notification ")?;
+    add_guid(out, &head.notification)?;
+    add_name(out, notification_name(&head.notification))?;
+    out.push('\n')
+}
+
+// What the descriptor of a section says.
+fn add_section(out: &mut String, frame: &Record<'_>, index: u16) -> Result<(), AllocError>
+    requires { index < length frame.now.sections }
+{
+    let section = frame.section(index);
+    let len = section.body.len();
+    write!(out, "  section {index} ")?;
+    add_guid(out, &section.head.kind)?;
+    add_name(out, section_name(&section.head.kind))?;
+    write!(out, " bytes {len}")?;
+    add_severity(out, " severity ", section.head.severity)?;
+    out.push('\n')
+}
+
+// A severity behind a label: its number, and its word where it has one.
+fn add_severity(out: &mut String, label: &str, severity: u32) -> Result<(), AllocError> {
+    write!(out, "{label}{severity}")?;
+    add_name(out, severity_name(severity))
+}
+
+// The name of what stands before it, where it has one.
+fn add_name(out: &mut String, name: Option<&str>) -> Result<(), AllocError> {
+    match name {
+        Some(name) => write!(out, " ({name})"),
+        None => Ok(()),
+    }
+}

@@ -1,0 +1,106 @@
+// A line for each slot.
+ghost use Rattle.std.specs.Prelude.{◌≤◌};
+
+use crate::kind::word;
+use flash_model::Geometry;
+use image_survey::{SlotKind, SlotView};
+use record_slots::{GATE_FURTHER, Head, parts_of};
+use std::alloc::AllocError;
+
+// The format of a slot whose head is not programmed yet.
+const NO_FORMAT: u16 = 0xFFFF;
+
+/// A line for each slot that is not erased: what it is, the identifier, the generation and the length in its head, and the
+/// slots that it names.
+pub fn add_slots(
+    out: &mut String,
+    geometry: &Geometry,
+    views: &[SlotView],
+) -> Result<(), AllocError> {
+    for (slot, view) in views.iter().enumerate() {
+        if view.kind != SlotKind::Erased {
+            add_slot(out, geometry, slot, view)?;
+        }
+    }
+    Ok(())
+}
+
+fn add_slot(
+    out: &mut String,
+    geometry: &Geometry,
+    slot: usize,
+    view: &SlotView,
+) -> Result<(), AllocError> {
+    let kind = word(view.kind);
+    write!(out, "slot {slot} {kind}")?;
+    let head = &view.look.head;
+    match view.kind {
+        SlotKind::First | SlotKind::SecondCopy | SlotKind::Killed => {
+            add_first(out, geometry, head)?;
+        }
+        SlotKind::Further | SlotKind::Orphan => add_part(out, head)?,
+        SlotKind::Filling => add_filling(out, geometry, head)?,
+        SlotKind::Unknown => add_marks(out, head, view.look.tail)?,
+        SlotKind::Erased => (),
+    }
+    out.push('\n')
+}
+
+// The head of a first slot.
+fn add_first(out: &mut String, geometry: &Geometry, head: &Head) -> Result<(), AllocError> {
+    let id = head.id;
+    let generation = head.generation;
+    let len = head.len;
+    write!(out, " id {id} generation {generation} bytes {len}")?;
+    let further = further_of(geometry, head);
+    if further > 0 {
+        out.push_str(" further")?;
+    }
+    for next in &head.next[..further] {
+        let next = *next;
+        write!(out, " {next}")?;
+    }
+    Ok(())
+}
+
+/// How many further slots a head names.
+pub fn further_of(geometry: &Geometry, head: &Head) -> usize
+    ensures { result ≤ 3 }
+{
+    parts_of(geometry, head.len).saturating_sub(1).min(3) as usize
+}
+
+// The head of a further slot.
+fn add_part(out: &mut String, head: &Head) -> Result<(), AllocError> {
+    let id = head.id;
+    let generation = head.generation;
+    let len = head.len;
+    let part = head.next[0];
+    let first = head.next[1];
+    write!(
+        out,
+        " id {id} generation {generation} bytes {len} part {part} of slot {first}"
+    )
+}
+
+// The head of a slot that is being filled or erased, as far as it has one.
+fn add_filling(out: &mut String, geometry: &Geometry, head: &Head) -> Result<(), AllocError> {
+    if head.gate == GATE_FURTHER {
+        return add_part(out, head);
+    }
+    if head.format == NO_FORMAT {
+        return out.push_str(" no head");
+    }
+    add_first(out, geometry, head)
+}
+
+// The marks of a slot that is of no known form.
+fn add_marks(out: &mut String, head: &Head, tail: u8) -> Result<(), AllocError> {
+    let gate = head.gate;
+    let kill = head.kill;
+    let format = head.format;
+    write!(
+        out,
+        " gate {gate:#04x} kill {kill:#04x} format {format} tail {tail:#04x}"
+    )
+}
