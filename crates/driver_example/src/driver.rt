@@ -1,5 +1,5 @@
 // A driver: flash in memory that counts the erases of each sector.
-ghost use Rattle.std.specs.Prelude.{◌≡◌, ◌*◌, ◌+◌, ◌≤◌, length, replicate};
+ghost use Rattle.std.specs.Prelude.{◌≡◌, ◌*◌, ◌+◌, ◌≤◌, length, replicate, IfOk};
 ghost use Rattle.base_model.specs.Bytes.{part, put_at};
 ghost use Rattle.driver_example.specs.Wear.{erased_once_more};
 
@@ -17,7 +17,11 @@ const ERASED: u8 = 0xFF;
 
 impl Driver {
     /// Erased flash of 8 sectors of 256 bytes.
-    pub fn new(alloc: Global) -> Result<Driver, AllocError> {
+    pub fn new(alloc: Global) -> Result<Driver, AllocError>
+        ensures bytes { IfOk result (λ driver. driver.bytes.items ≡ replicate 2048 0xFF) }
+        ensures erases { IfOk result (λ driver. driver.erases.items ≡ replicate 8 0) }
+        ensures sector { IfOk result (λ driver. driver.sector ≡ 256) }
+    {
         Ok(Driver {
             bytes: vec![in alloc; ERASED; 2048]?,
             erases: vec![in alloc; 0; 8]?,

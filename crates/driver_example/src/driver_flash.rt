@@ -29,7 +29,13 @@ fn next_count(count: u64) -> u64
 
 impl DriverFlash {
     /// The flash of a driver, before its first call.
-    pub fn new(driver: Driver) -> DriverFlash {
+    pub fn new(driver: Driver) -> DriverFlash
+        ensures driver { result.driver ≡ driver }
+        ensures steps { result.steps ≡ 0 }
+        ensures reads { result.reads ≡ 0 }
+        ensures faults { result.faults ≡ 0 }
+        ensures restarts { result.restarts ≡ 0 }
+    {
         DriverFlash {
             driver,
             steps: 0,
