@@ -11,6 +11,8 @@ pub enum Failure {
     Geometry,
     /// The store was refused, or refused a command.
     Store,
+    /// A record is shorter or longer than the store takes.
+    Length,
     /// There was no memory.
     Memory,
     /// The output could not be written.

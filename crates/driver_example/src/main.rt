@@ -14,7 +14,7 @@ use crate::driver_flash::DriverFlash;
 use crate::failure::Failure;
 use erst_ids::RecordId;
 use flash_model::Geometry;
-use record_store::{Store, StoreError};
+use record_store::Store;
 use std::process::ExitCode;
 
 // The lengths of the records that are stored one in the place of the other.
@@ -64,16 +64,17 @@ fn keep(rt: &HostRuntime, store: &mut Store<DriverFlash>) -> Result<(), Failure>
 }
 
 // Stores a record of so many bytes.
-fn put(store: &mut Store<DriverFlash>, id: RecordId, length: usize) -> Result<(), StoreError>
+fn put(store: &mut Store<DriverFlash>, id: RecordId, length: usize) -> Result<(), Failure>
     requires { store.old.pending ≡ Idle }
     ensures { store.new.pending ≡ Idle }
 {
     let bytes = [FILL; 512];
     let reach = store.geometry().reach();
     if length < 128 || length > bytes.len() || length as u64 > reach {
-        return Err(StoreError::NoSpace { free: 0 });
+        return Err(Failure::Length);
     }
-    store.write(id, &bytes[..length])
+    store.write(id, &bytes[..length])?;
+    Ok(())
 }
 
 // Shows the erases of each sector.
