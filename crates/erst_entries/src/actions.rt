@@ -1,6 +1,7 @@
 // The serialization actions by name.
 ghost use Rattle.std.specs.Prelude.{◌≡◌, Some};
 ghost use Rattle.erst_entries.specs.Actions.{action_of, code_of};
+ghost use Rattle.erst_entries.specs.Names.{action_name};
 
 /// A serialization action (ACPI 6.4, section 18.5.1.1).
 #[derive(Clone, Copy, Debug, PartialEq, Eq)]
@@ -71,6 +72,30 @@ impl Action {
             Action::GetErrorLogAddressRangeLength => 0xe,
             Action::GetErrorLogAddressRangeAttributes => 0xf,
             Action::GetExecuteOperationTimings => 0x10,
+        }
+    }
+
+    /// Its name, as ACPI writes it.
+    pub fn name(self) -> &'static str
+        ensures { result.now ≡ action_name self }
+    {
+        match self {
+            Action::BeginWriteOperation => "BEGIN_WRITE_OPERATION",
+            Action::BeginReadOperation => "BEGIN_READ_OPERATION",
+            Action::BeginClearOperation => "BEGIN_CLEAR_OPERATION",
+            Action::EndOperation => "END_OPERATION",
+            Action::SetRecordOffset => "SET_RECORD_OFFSET",
+            Action::ExecuteOperation => "EXECUTE_OPERATION",
+            Action::CheckBusyStatus => "CHECK_BUSY_STATUS",
+            Action::GetCommandStatus => "GET_COMMAND_STATUS",
+            Action::GetRecordIdentifier => "GET_RECORD_IDENTIFIER",
+            Action::SetRecordIdentifier => "SET_RECORD_IDENTIFIER",
+            Action::GetRecordCount => "GET_RECORD_COUNT",
+            Action::BeginDummyWriteOperation => "BEGIN_DUMMY_WRITE_OPERATION",
+            Action::GetErrorLogAddressRange => "GET_ERROR_LOG_ADDRESS_RANGE",
+            Action::GetErrorLogAddressRangeLength => "GET_ERROR_LOG_ADDRESS_RANGE_LENGTH",
+            Action::GetErrorLogAddressRangeAttributes => "GET_ERROR_LOG_ADDRESS_RANGE_ATTRIBUTES",
+            Action::GetExecuteOperationTimings => "GET_EXECUTE_OPERATION_TIMINGS",
         }
     }
 }

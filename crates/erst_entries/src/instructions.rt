@@ -1,6 +1,7 @@
 // The serialization instructions by name.
 ghost use Rattle.std.specs.Prelude.{◌≡◌, Some};
 ghost use Rattle.erst_entries.specs.Instructions.{instruction_of};
+ghost use Rattle.erst_entries.specs.Names.{instruction_name};
 
 /// A serialization instruction (ACPI 6.4, section 18.5.1.2).
 #[derive(Clone, Copy, Debug, PartialEq, Eq)]
@@ -98,6 +99,33 @@ impl Instruction {
             Instruction::SetSourceBase => 0x10,
             Instruction::SetTargetBase => 0x11,
             Instruction::MoveData => 0x12,
+        }
+    }
+
+    /// Its name, as ACPI writes it.
+    pub fn name(self) -> &'static str
+        ensures { result.now ≡ instruction_name self }
+    {
+        match self {
+            Instruction::ReadRegister => "READ_REGISTER",
+            Instruction::ReadRegisterValue => "READ_REGISTER_VALUE",
+            Instruction::WriteRegister => "WRITE_REGISTER",
+            Instruction::WriteRegisterValue => "WRITE_REGISTER_VALUE",
+            Instruction::Noop => "NOOP",
+            Instruction::LoadVar1 => "LOAD_VAR1",
+            Instruction::LoadVar2 => "LOAD_VAR2",
+            Instruction::StoreVar1 => "STORE_VAR1",
+            Instruction::Add => "ADD",
+            Instruction::Subtract => "SUBTRACT",
+            Instruction::AddValue => "ADD_VALUE",
+            Instruction::SubtractValue => "SUBTRACT_VALUE",
+            Instruction::Stall => "STALL",
+            Instruction::StallWhileTrue => "STALL_WHILE_TRUE",
+            Instruction::SkipNextIfTrue => "SKIP_NEXT_INSTRUCTION_IF_TRUE",
+            Instruction::Goto => "GOTO",
+            Instruction::SetSourceBase => "SET_SRC_ADDRESS_BASE",
+            Instruction::SetTargetBase => "SET_DST_ADDRESS_BASE",
+            Instruction::MoveData => "MOVE_DATA",
         }
     }
 }
