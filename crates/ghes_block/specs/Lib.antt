@@ -2,3 +2,4 @@ pub mod Grammar
 pub mod Reading
 pub mod Entries
 pub mod Writer
+pub mod Names

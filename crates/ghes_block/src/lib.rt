@@ -4,10 +4,12 @@
 mod block;
 mod entry;
 mod error;
+mod names;
 mod writer;
 
 pub use apei_fields::NoRoom;
 pub use block::{Block, one_end};
 pub use entry::{DataEntry, EntryHead};
 pub use error::BlockError;
+pub use names::severity_name;
 pub use writer::BlockWriter;
