@@ -1,14 +1,17 @@
 #!/usr/bin/env python3
 """Has apei-look show images, and compares it with a plain model of the slots; the gate runs it.
 
-    tools/look.py [PROGRAM] [IMAGES] [SEED]
+    tools/look.py [PROGRAM] [IMAGES] [SEED] [PLAYER]
 
-PROGRAM is the built program, by default crates/apei_look/out/apei_look. It is run on an erased image, on images that scripts leave, on one after
-each change of a replacement, on slots of the old format, on the images of tests/scripts and of tools/slots.py, and on IMAGES more, 60 where it is
-not said, of slots and of bytes that are drawn at random. The kinds of the slots, the totals and the records are those of the model, the bytes of
-each record are its own, and the file is as before, with its times but that of access. Then what is no image of the geometry is refused: a file of
-another length, a folder, a pipe, a file that is not there, one that another run holds and one without the right to read it. The last line is
-'N images, M wrong'; the exit status is 0 where none is.
+PROGRAM is the built program, by default crates/apei_look/out/apei_look, and PLAYER the one that plays scripts, by default crates/apei/out/apei.
+PROGRAM is run on an erased image, on images that scripts leave by the model of tools/model.py, on one after each change of a replacement and on
+one that power lost in it left, on the images of tests/scripts and of tools/slots.py, slots of the old format among them, and on IMAGES more, 60
+where it is not said, of slots and of bytes that are drawn at random. It is also run on the images that PLAYER leaves: behind each line of a script
+of writes, replacements, clears and losses of power, behind scripts that are drawn at random, and behind those of examples/. The kinds of the slots,
+the totals and the records are those of the model, the bytes of each record are its own, and the file is as before, with its times but that of
+access. Then what is no image of the geometry is refused: a file of another length, a folder, a pipe, a file that is not there, one that another
+run holds and one without the right to read it; a file without the right to write is shown. The last line is 'N images, M wrong'; the exit status
+is 0 where none is.
 """
 
 import fcntl
@@ -16,18 +19,18 @@ import glob
 import json
 import os
 import random
+import shutil
 import subprocess
 import sys
 import tempfile
+import uuid
+from itertools import chain
 
 import slots as slot_images
-from model import GATE_FURTHER, GATE_OPEN, NOT_KILLED, TAIL_MARK, Model, number, record
+from look_model import PER_SLOT, SECTOR, SIZE, Shown
+from model import Model, line, record
 
 TOP = os.path.dirname(os.path.dirname(os.path.abspath(__file__)))
-GATE_CLOSED = 0xFF
-SECTOR, PER_SLOT = 256, 2
-SIZE = SECTOR * PER_SLOT
-LETTERS = {"first": "R", "further": "+", "second-copy": "2", "orphan": "o", "filling": "w", "killed": "k", "erased": ".", "unknown": "?"}
 
 
 class Recorder(Model):
@@ -42,42 +45,12 @@ class Recorder(Model):
         self.images.append(b"".join(self.slots))
 
 
-def model_of(image):
-    model = Model(PER_SLOT, len(image) // SIZE, sector=SECTOR)
-    model.slots = [bytearray(image[at : at + SIZE]) for at in range(0, len(image), SIZE)]
-    return model
+def geometry(path, slots):
+    return [f"--image={path}", f"--sector={SECTOR}", f"--per-slot={PER_SLOT}", f"--slots={slots}"]
 
 
-def kind_of(model, firsts, taken, slot):
-    """What a slot is, in the words of docs/FORMATS.md."""
-    data = model.slots[slot]
-    if slot in firsts:
-        return "first"
-    if model.upright(slot):
-        return "second-copy"
-    if slot in taken:
-        return "further"
-    if all(byte == 0xFF for byte in data):
-        return "erased"
-    if data[0] == GATE_OPEN:
-        return "unknown" if data[1] == NOT_KILLED else "killed"
-    if data[0] == GATE_FURTHER and number(data[2:4]) == 3:
-        return "orphan" if data[-1] == TAIL_MARK else "filling"
-    return "filling" if data[0] == GATE_CLOSED else "unknown"
-
-
-def facts(image):
-    """The kinds, the records by their first slots, and the totals."""
-    model = model_of(image)
-    found = {slot: (identifier, generation, body, further) for identifier, (slot, generation, body, further) in model.records().items()}
-    taken = set(found) | {slot for _, _, _, further in found.values() for slot in further}
-    kinds = [kind_of(model, found, taken, slot) for slot in range(len(model.slots))]
-    return kinds, found, len(model.slots) - len(taken), kinds.count("second-copy")
-
-
-def run(program, path, slots, *words):
-    geometry = [f"--image={path}", f"--sector={SECTOR}", f"--per-slot={PER_SLOT}", f"--slots={slots}"]
-    return subprocess.run([program, *geometry, *words], capture_output=True, timeout=60)
+def run(program, path, slots, *words, **options):
+    return subprocess.run([program, *geometry(path, slots), *words], capture_output=True, timeout=60, **options)
 
 
 def times(path):
@@ -85,37 +58,24 @@ def times(path):
     return stat.st_mtime_ns, stat.st_ctime_ns, stat.st_size, stat.st_ino, stat.st_mode
 
 
-def wrong_of(program, path, image, with_records=True):
+def wrong_of(program, path, image):
     """What the program shows of an image that is not so."""
     with open(path, "wb") as file:
         file.write(image)
     before, wrong = times(path), []
-    slots = len(image) // SIZE
-    kinds, found, free, copies = facts(image)
+    slots, wanted = len(image) // SIZE, Shown(image)
     ran = run(program, path, slots, "--json")
     if ran.returncode:
         return [f"status {ran.returncode}, {ran.stderr.decode()!r}"]
-    shown = json.loads(ran.stdout)
-    if [it["kind"] for it in shown["slots"]] != kinds:
-        wrong.append(f"kinds {[it['kind'] for it in shown['slots']]}, wanted {kinds}")
-    totals = (free, len(found), copies, sum(len(body) for _, _, body, _ in found.values()))
-    if (shown["free"], shown["records"], shown["second_copies"], shown["bytes"]) != totals:
-        wrong.append(f"totals are not {totals}")
-    listed = [(it["slots"][0], int(it["id"]), it["generation"], it["bytes"], it["slots"][1:]) for it in shown["stored"]]
-    if listed != [(slot, identifier, generation, len(body), further) for slot, (identifier, generation, body, further) in sorted(found.items())]:
-        wrong.append(f"records {listed}")
+    if json.loads(ran.stdout) != wanted.json() or ran.stdout.count(b"\n") != 1:
+        wrong.append(f"JSON {ran.stdout.decode()}, wanted {wanted.json()}")
     text = run(program, path, slots).stdout.decode()
-    rows = "".join(line[6:] for line in text.split("\n\n")[1].splitlines())
-    if rows != "".join(LETTERS[kind] for kind in kinds):
-        wrong.append(f"picture {rows}")
-    if sum(line.startswith("slot ") for line in text.splitlines()) != sum(kind != "erased" for kind in kinds):
-        wrong.append("not a line for each slot that is not erased")
-    if sum(line.startswith("record ") for line in text.splitlines()) != len(found):
-        wrong.append("not a line for each record")
-    for identifier, _, body, _ in found.values() if with_records else []:
+    if text != wanted.text():
+        wrong.append(f"text {text}, wanted {wanted.text()}")
+    for identifier, _, body, _ in wanted.records.values():
         if run(program, path, slots, f"--record={identifier}").stdout != body:
             wrong.append(f"other bytes of record {identifier}")
-    missing = next(it for it in range(1, 1000) if all(it != found_one[0] for found_one in found.values()))
+    missing = next(it for it in range(1, 1000) if all(it != found[0] for found in wanted.records.values()))
     none = run(program, path, slots, f"--record={missing}")
     if (none.returncode, none.stdout) != (10, b""):
         wrong.append(f"record {missing}, which is not there: status {none.returncode}")
@@ -133,10 +93,54 @@ def played(slots, *lines):
     return model.images
 
 
+REPLACEMENT = ["write " + record(1, 128).hex(), "write " + record(1, 200).hex()]
+
+
+def cut_images():
+    """The images that power lost in each change of a replacement leaves, by what is left of the change."""
+    for number in range(len(played(6, *REPLACEMENT))):
+        for torn in range(4):
+            model = Model(PER_SLOT, 6, number, torn, sector=SECTOR)
+            for command in REPLACEMENT:
+                if not model.in_doubt:
+                    model.play(command)
+            yield b"".join(bytes(slot) for slot in model.slots)
+
+
+def named_record(identifier, severity, time, notification, *kinds):
+    """A record with a section of eight bytes for each type, and with a time where one is given."""
+    at = 128 + 72 * len(kinds)
+    header = b"CPER\x01\x01" + b"\xff" * 4 + little(len(kinds), 2) + little(severity, 4) + little(2 if time else 0, 4)
+    header += little(at + 8 * len(kinds), 4) + (time or bytes(8)) + bytes(32) + bytes(range(16)) + uuid.UUID(notification).bytes_le
+    header += little(identifier, 8) + bytes(24)
+    parts = b"".join(
+        little(at + 8 * index, 4) + little(8, 4) + bytes(8) + uuid.UUID(kind).bytes_le + bytes(16) + little(severity + index, 4) + bytes(20)
+        for index, kind in enumerate(kinds)
+    )
+    return header + parts + bytes(8 * len(kinds))
+
+
+def little(value, size):
+    return value.to_bytes(size, "little")
+
+
+def named_images():
+    """Images of records whose fields have names, a time and sections, and of one without."""
+    memory, iommu, other = "a5bc1114-6f64-4ede-b863-3e83ed7c83b1", "036f84e1-7f37-428c-a79e-575fdfaa84ec", "00112233-4455-6677-8899-aabbccddeeff"
+    check, boot = "2dce8bb1-bdd7-450e-b9ad-9cf4ebd4f890", "3d61a466-ab40-409a-a698-f362d464b38f"
+    records = [
+        named_record(3, 0, bytes.fromhex("0015060128112620"), check, memory, iommu),
+        named_record(4, 1, bytes.fromhex("5959230031129919"), boot, other, memory, memory, memory, memory),
+        named_record(5, 7, None, other),
+    ]
+    yield from played(8, *("write " + it.hex() for it in records))[-1:]
+
+
 def some_images(count, chance):
     yield b"\xff" * (SIZE * 6)
-    lines = ["write " + record(1, 128).hex(), "write " + record(1, 200).hex()]
-    yield from played(6, *lines)
+    yield from named_images()
+    yield from played(6, *REPLACEMENT)
+    yield from cut_images()
     longer = ["write " + record(5, 900).hex(), "write " + record(5, 1300).hex(), "write " + record(7, 200).hex(), "clear 5"]
     yield from played(9, *longer)[::3]
     for path in sorted(glob.glob(os.path.join(TOP, "tests/scripts/*.image"))):
@@ -151,14 +155,41 @@ def some_images(count, chance):
     yield chance.randbytes(SIZE * 70)
 
 
+def left_by(player, path, slots, script):
+    """The image that the player leaves behind a script over the file, as it then stands."""
+    subprocess.run([player, "play", *geometry(path, slots)], input=script, capture_output=True, timeout=60, check=True)
+    with open(path, "rb") as file:
+        return file.read()
+
+
+def played_images(player, folder, chance):
+    """Images that the player leaves: behind each line of a script, behind scripts drawn at random, and behind the examples."""
+    path = os.path.join(folder, "played")
+    lines = [*REPLACEMENT, "power", "write " + record(7, 900).hex(), "write " + record(7, 1300).hex(), "reset", "clear 1", "power", "clear 7"]
+    for command in lines:
+        yield left_by(player, path, 9, command.encode())
+    for slots in (3, 5, 9):
+        os.remove(path)
+        for _ in range(4):
+            script = [chance.choice(["power", "reset"]) if chance.random() < 0.1 else line(chance.choice) for _ in range(6)]
+            yield left_by(player, path, slots, "\n".join(script).encode())
+    for name in ("two-records", "several-slots", "replaced-and-cleared", "crash-in-a-replacement", "kept-in-a-file"):
+        os.remove(path)
+        with open(os.path.join(TOP, f"examples/{name}.script"), "rb") as file:
+            yield left_by(player, path, 8, file.read())
+
+
 def refusals(program, folder):
     """What is no image of the geometry, each with its status."""
     wrong = []
 
-    def refused(what, path, status, said, *words, slots=3):
-        ran = run(program, path, slots, *words)
+    def refused(what, path, status, said, *words, slots=3, **options):
+        before = times(path) if os.path.exists(path) else None
+        ran = run(program, path, slots, *words, **options)
         if (ran.returncode, ran.stdout) != (status, b"") or said not in ran.stderr.decode():
             wrong.append(f"{what}: status {ran.returncode}, {ran.stderr.decode()!r}")
+        if (times(path) if os.path.exists(path) else None) != before:
+            wrong.append(f"{what}: it is another")
 
     def file_of(name, data):
         path = os.path.join(folder, name)
@@ -185,22 +216,33 @@ def refusals(program, folder):
         fcntl.flock(reader, fcntl.LOCK_SH)
         if run(program, image, 3).returncode:
             wrong.append("a file that another run reads is refused")
+    # The rights of a file do not bind the system's user, who runs the program as nobody.
+    options = {"user": 65534, "group": 65534, "extra_groups": []} if os.getuid() == 0 else {}
+    os.chmod(folder, 0o755)
+    program = shutil.copy(program, os.path.join(folder, "program"))
+    os.chmod(program, 0o755)
     os.chmod(image, 0o444)
-    if run(program, image, 3).returncode:
+    if run(program, image, 3, **options).returncode:
         wrong.append("a file without the right to write is refused")
     os.chmod(image, 0)
-    if os.getuid():
-        refused("a file without the right to read", image, 5, "can't be read")
+    refused("a file without the right to read", image, 5, "can't be read", **options)
+    os.chmod(image, 0o644)
+    with open(image, "rb") as file:
+        if file.read() != b"\xff" * (SIZE * 3):
+            wrong.append("the file that was refused is another")
     return wrong
 
 
-def main():
-    program = os.path.abspath(sys.argv[1] if len(sys.argv) > 1 else os.path.join(TOP, "crates/apei_look/out/apei_look"))
-    count = int(sys.argv[2]) if len(sys.argv) > 2 else 60
-    chance = random.Random(int(sys.argv[3]) if len(sys.argv) > 3 else 1)
+def main(words):
+    program = os.path.abspath(words[0] if words else os.path.join(TOP, "crates/apei_look/out/apei_look"))
+    count = int(words[1]) if len(words) > 1 else 60
+    seed = int(words[2]) if len(words) > 2 else 1
+    player = os.path.abspath(words[3] if len(words) > 3 else os.path.join(TOP, "crates/apei/out/apei"))
+    chance = random.Random(seed)
+    random.seed(seed)
     images = wrong = 0
     with tempfile.TemporaryDirectory() as folder:
-        for image in some_images(count, chance):
+        for image in chain(some_images(count, chance), played_images(player, folder, chance)):
             found = wrong_of(program, os.path.join(folder, f"image-{images}"), image)
             images += 1
             wrong += bool(found)
@@ -214,4 +256,4 @@ def main():
 
 
 if __name__ == "__main__":
-    sys.exit(main())
+    sys.exit(main(sys.argv[1:]))

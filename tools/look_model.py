@@ -1,0 +1,163 @@
+"""What apei-look shows of an image, written plainly: tools/look.py compares the program with it.
+
+Kinds of slots are told by the words of docs/FORMATS.md, records by the model of tools/model.py, and the fields of an error record by their
+places (UEFI 2.8, N.2.1 and N.2.2). Only the names that the images of tools/look.py need stand here.
+"""
+
+import uuid
+
+from model import GATE_FURTHER, GATE_OPEN, NOT_KILLED, TAIL_MARK, Model, number
+
+SECTOR, PER_SLOT = 256, 2
+SIZE = SECTOR * PER_SLOT
+ROOM = SIZE - 64
+GATE_CLOSED = 0xFF
+LETTERS = {"first": "R", "further": "+", "second-copy": "2", "orphan": "o", "filling": "w", "killed": "k", "erased": ".", "unknown": "?"}
+LEGEND = (
+    "R first slot of a record  + further slot of a record  2 second copy  o orphan\n"
+    "w being filled or erased  k killed  . erased  ? unknown\n\n"
+)
+SEVERITIES = ["recoverable", "fatal", "corrected", "informational"]
+NOTIFICATIONS = {"2dce8bb1-bdd7-450e-b9ad-9cf4ebd4f890": "Corrected Machine Check", "3d61a466-ab40-409a-a698-f362d464b38f": "Boot"}
+SECTIONS = {"a5bc1114-6f64-4ede-b863-3e83ed7c83b1": "Platform Memory", "036f84e1-7f37-428c-a79e-575fdfaa84ec": "IOMMU"}
+
+
+def model_of(image):
+    model = Model(PER_SLOT, len(image) // SIZE, sector=SECTOR)
+    model.slots = [bytearray(image[at : at + SIZE]) for at in range(0, len(image), SIZE)]
+    return model
+
+
+def kind_of(model, firsts, taken, slot):
+    """What a slot is."""
+    data = model.slots[slot]
+    if slot in firsts:
+        return "first"
+    if model.upright(slot):
+        return "second-copy"
+    if slot in taken:
+        return "further"
+    if all(byte == 0xFF for byte in data):
+        return "erased"
+    if data[0] == GATE_OPEN:
+        return "unknown" if data[1] == NOT_KILLED else "killed"
+    if data[0] == GATE_FURTHER and number(data[2:4]) == 3:
+        return "orphan" if data[-1] == TAIL_MARK else "filling"
+    return "filling" if data[0] == GATE_CLOSED else "unknown"
+
+
+class Shown:
+    """The kinds of an image's slots, its records by their first slots, and its totals."""
+
+    def __init__(self, image):
+        model = model_of(image)
+        found = {slot: (identifier, generation, bytes(body), further) for identifier, (slot, generation, body, further) in model.records().items()}
+        self.records = dict(sorted(found.items()))
+        taken = set(found) | {slot for _, _, _, further in found.values() for slot in further}
+        self.slots = model.slots
+        self.kinds = [kind_of(model, found, taken, slot) for slot in range(len(model.slots))]
+        self.free = len(model.slots) - len(taken)
+        self.copies = self.kinds.count("second-copy")
+        self.bytes = sum(len(body) for _, _, body, _ in found.values())
+
+    def text(self):
+        out = f"slots {len(self.slots)} free {self.free} records {len(self.records)} second copies {self.copies} bytes {self.bytes}\n"
+        letters = "".join(LETTERS[kind] for kind in self.kinds)
+        for at in range(0, len(letters), 64):
+            out += f"\n{at:>5} {letters[at : at + 64]}"
+        out += "\n\n" + LEGEND
+        for slot, kind in enumerate(self.kinds):
+            if kind != "erased":
+                out += f"slot {slot} {kind}{self.slot_text(slot, kind)}\n"
+        for slot, (identifier, generation, body, further) in self.records.items():
+            numbers = " ".join(map(str, [slot, *further]))
+            out += f"\nrecord {identifier} generation {generation} bytes {len(body)} slots {numbers}\n" + frame_text(body)
+        return out
+
+    def slot_text(self, slot, kind):
+        head = head_of(self.slots[slot])
+        if kind == "unknown":
+            return f" gate {head['gate']:#04x} kill {head['kill']:#04x} format {head['format']} tail {head['tail']:#04x}"
+        if kind == "filling" and head["gate"] != GATE_FURTHER and head["format"] == 0xFFFF:
+            return " no head"
+        numbers = f" id {head['id']} generation {head['generation']} bytes {head['bytes']}"
+        if kind in ("further", "orphan") or kind == "filling" and head["gate"] == GATE_FURTHER:
+            return numbers + f" part {head['next'][0]} of slot {head['next'][1]}"
+        further = head["next"][: max(-(-head["bytes"] // ROOM) - 1, 0)]
+        return numbers + (" further " + " ".join(map(str, further)) if further else "")
+
+    def json(self):
+        slots = [{"kind": kind, **(head_of(data) if kind != "erased" else {})} for kind, data in zip(self.kinds, self.slots)]
+        stored = [
+            {"id": str(identifier), "generation": generation, "bytes": len(body), "slots": [slot, *further], "frame": frame_of(body)}
+            for slot, (identifier, generation, body, further) in self.records.items()
+        ]
+        totals = {"free": self.free, "records": len(self.records), "second_copies": self.copies, "bytes": self.bytes}
+        for slot in slots:
+            if "id" in slot:
+                slot["id"] = str(slot["id"])
+        return {**totals, "slots": slots, "stored": stored}
+
+
+def head_of(data):
+    """The marks and the head of a slot."""
+    return {
+        "gate": data[0],
+        "kill": data[1],
+        "tail": data[-1],
+        "format": number(data[2:4]),
+        "id": number(data[8:16]),
+        "generation": number(data[4:8]),
+        "bytes": number(data[16:20]),
+        "next": [number(data[at : at + 2]) for at in (20, 22, 24)],
+    }
+
+
+def guid(data):
+    return str(uuid.UUID(bytes_le=bytes(data)))
+
+
+def severity_name(severity):
+    return SEVERITIES[severity] if severity < len(SEVERITIES) else None
+
+
+def frame_of(body):
+    """What an error record says of itself; none where the bytes are none."""
+    if body[:4] != b"CPER":
+        return None
+    severity, notification, time = number(body[12:16]), guid(body[80:96]), body[24:32]
+    has_time = number(body[16:20]) & 2 != 0
+    digits = [f"{byte:02x}" for byte in time]
+    return {
+        "severity": severity,
+        "severity_name": severity_name(severity),
+        "time": "{7}{6}-{5}-{4}T{2}:{1}:{0}".format(*digits) if has_time else None,
+        "precise": has_time and time[3] & 1 != 0,
+        "creator": guid(body[64:80]),
+        "notification": notification,
+        "notification_name": NOTIFICATIONS.get(notification),
+        "sections": [section_of(body[at : at + 72]) for at in range(128, 128 + 72 * number(body[10:12]), 72)],
+    }
+
+
+def section_of(descriptor):
+    kind = guid(descriptor[16:32])
+    return {"type": kind, "name": SECTIONS.get(kind), "bytes": number(descriptor[4:8]), "severity": number(descriptor[48:52])}
+
+
+def named(value, name):
+    return f"{value} ({name})" if name else f"{value}"
+
+
+def frame_text(body):
+    frame = frame_of(body)
+    if not frame:
+        return "  no error record\n"
+    time = frame["time"] or "none"
+    out = f"  severity {named(frame['severity'], frame['severity_name'])}\n"
+    out += f"  time {time}{' or about then' if frame['time'] and not frame['precise'] else ''}\n"
+    out += f"  creator {frame['creator']}\n  notification {named(frame['notification'], frame['notification_name'])}\n"
+    for index, section in enumerate(frame["sections"]):
+        severity = named(section["severity"], severity_name(section["severity"]))
+        out += f"  section {index} {named(section['type'], section['name'])} bytes {section['bytes']} severity {severity}\n"
+    return out
