@@ -1,6 +1,7 @@
 // The standard's words for the numbers and the GUIDs of a record.
-ghost use Rattle.std.specs.Prelude.{◌≡◌, option_map};
-ghost use Rattle.cper_frame.specs.Names.{severity_word};
+ghost use Rattle.std.specs.Prelude.{◌≡◌, map, option_map};
+ghost use Rattle.apei_bytes.specs.Guid.{guid_text};
+ghost use Rattle.cper_frame.specs.Names.{severity_word, notifications, sections, name_in, row_of};
 
 use apei_bytes::Guid;
 
@@ -129,22 +130,31 @@ pub fn severity_name(severity: u32) -> Option<&'static str>
 }
 
 /// The name of a notification type; none for a GUID that UEFI doesn't name.
-pub fn notification_name(guid: &Guid) -> Option<&'static str> {
-    name_in(&NOTIFICATIONS, guid)
+pub fn notification_name(guid: &Guid) -> Option<&'static str>
+    ensures { option_map (λ name. name.now) result ≡ name_in notifications (guid_text guid.now) }
+{
+    let mut text = [0; 36];
+    guid.text(&mut text);
+    name_in(&NOTIFICATIONS, &text)
 }
 
 /// The name of a section type; none for a GUID that UEFI doesn't name.
-pub fn section_name(guid: &Guid) -> Option<&'static str> {
-    name_in(&SECTIONS, guid)
-}
-
-fn name_in(names: &[Named], guid: &Guid) -> Option<&'static str> {
+pub fn section_name(guid: &Guid) -> Option<&'static str>
+    ensures { option_map (λ name. name.now) result ≡ name_in sections (guid_text guid.now) }
+{
     let mut text = [0; 36];
     guid.text(&mut text);
-    for named in names {
-        if named.guid == &text {
+    name_in(&SECTIONS, &text)
+}
+
+fn name_in(mut names: &[Named], guid: &[u8; 36]) -> Option<&'static str>
+    ensures { option_map (λ name. name.now) result ≡ name_in (map row_of names.entry.now) guid.now }
+{
+    while let [named, rest @ ..] = names {
+        if named.guid == guid {
             return Some(named.name);
         }
+        names = rest;
     }
     None
 }
