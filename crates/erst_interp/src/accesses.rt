@@ -25,6 +25,7 @@ pub fn read_field<S: Space>(
     }
 }
 
+#[inline(always)]
 #[tactic(auto, using(crate::proofs::Rules::accesses))]
 /// Stores a value into the entry's field, beside the register's other bits where the entry preserves them.
 pub fn store<S: Space>(

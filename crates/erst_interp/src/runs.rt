@@ -52,10 +52,10 @@ fn walk<S: Space>(
     }
     let mut at = Configuration::begin();
     while at.place < len {
-        let entry = program.entry(at.place);
         if !budget.take(1) {
             return Err(RunStop::Budget);
         }
+        let entry = program.entry(at.place);
         let task = Task {
             entry,
             given,

@@ -111,6 +111,6 @@ fn list_if_free(free: &mut VecDeque<u32>, is_taken: bool, slot: u32)
     ensures capacity { deque_capacity free.new ≡ deque_capacity free.old }
 {
     if !is_taken {
-        let _ = free.push_back(slot);
+        free.push_back_reserved(slot);
     }
 }
