@@ -10,14 +10,15 @@ use Rattle.apei_space.specs.RamState.{RamState}
 use Rattle.ghes_block.specs.declared.error.BlockError.{BlockError}
 use Rattle.ghes_block.specs.Reading.{checked, head_verdict, status_at}
 use Rattle.ghes_ack.specs.declared.maps.HandoverMap.{HandoverMap}
-use Rattle.ghes_ack.specs.declared.blocks.Blocks.{Blocks}
+use Rattle.ghes_window.specs.Queues.{IsEmpty}
+use Rattle.ghes_ack.specs.Queues.{Blocks, Adds}
 use Rattle.ghes_ack.specs.Machine.{Machine, Situation, Filling, Published, Reading, Cleared, Acknowledged, Fits, with_status, started, submitted, waiting_in, InSituation, IsState}
 use Rattle.ghes_ack.specs.Maps.{HasAckBits, HasWindows, address_in, ack_read, window, with_ack, with_address, with_set, memory_started, IsSet}
 use Rattle.ghes_ack.specs.Handovers.{HandoverState, fresh, StandsFor, reason, refusal}
 use Rattle.ghes_ack.specs.declared.submission.SubmitError.TheVariants.{Long, Trailing, Full}
 use Rattle.std.specs.VecDeque.{deque_len}
 use Rattle.ghes_ack.specs.declared.ends.Ends.{Ends}
-use Rattle.ghes_ack.specs.Sides.{IsEmpty, Adds, AreConsistent, situation_in, state_of, view_of, in_work}
+use Rattle.ghes_ack.specs.Sides.{AreConsistent, situation_in, state_of, view_of, in_work}
 use Rattle.ghes_ack.proofs.StepLemmas.{start_is, submit_keeps}
 use Rattle.ghes_ack.proofs.ScheduleLemmas.{state_in_order}
 use Rattle.ghes_ack.proofs.MemoryLemmas.{length-window, window-with_window, address-with_window, address-with_ack, address-with_address, HasWindows-with_ack, HasWindows-with_address}
@@ -78,7 +79,7 @@ checked_fits bytes n len is room = go (nat_lt (length bytes) 20) (status_at byte
   go false false e f = record { head = grind (arith, nat_tests); fits = room; published = grind (arith, nat_tests) }
 
 -- a block whose pieces are filled is one of those submitted
-filled_in : (m : Machine) (s : Situation) → InSituation m s → 0 < m.filled → m.published < length m.blocks
+pub filled_in : (m : Machine) (s : Situation) → InSituation m s → 0 < m.filled → m.published < length m.blocks
 filled_in m Filling h some = let b = h.begun some in let p = h.published in omega (arith, b, p)
 filled_in m Published h some = let z = h.none_filled in absurd (omega (arith, z, some))
 filled_in m Reading (inl h) some = let z = h.1.none_filled in absurd (omega (arith, z, some))
@@ -87,7 +88,7 @@ filled_in m Cleared h some = let z = h.none_filled in absurd (omega (arith, z, s
 filled_in m Acknowledged h some = let z = h.none_filled in absurd (omega (arith, z, some))
 
 -- one more waits
-waits_more : (m : Machine) (block : List ℕ) → m.published ≤ length m.blocks → (0 < m.filled → m.published < length m.blocks) → waiting_in m + 1 ≡ waiting_in (submitted m block)
+pub waits_more : (m : Machine) (block : List ℕ) → m.published ≤ length m.blocks → (0 < m.filled → m.published < length m.blocks) → waiting_in m + 1 ≡ waiting_in (submitted m block)
 waits_more m block few begun = go (cases_lt 0 m.filled) where
   n : length (m.blocks ++ block ∷ []) ≡ length m.blocks + 1
   n = length-append m.blocks (block ∷ [])
