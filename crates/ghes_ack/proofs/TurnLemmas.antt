@@ -20,7 +20,7 @@ use Rattle.ghes_ack.proofs.MemoryLemmas.{length-window, window-with_window, wind
 use Rattle.ghes_ack.proofs.EffectLemmas.{windows_window, windows_ack, length-status}
 
 -- what it keeps, with other bytes in its window
-abbrev kept_with : HandoverState → List ℕ → Kept
+abbrev pub kept_with : HandoverState → List ℕ → Kept
 kept_with h bytes = record {
   len = h.map.len;
   situation = h.situation;
@@ -32,7 +32,7 @@ kept_with h bytes = record {
   bytes = bytes;
 }
 
-agrees : (h : HandoverState) (ram : RamState) (m : Machine) → StandsFor h ram m → Agrees (kept_with h (window h.map ram)) m
+pub agrees : (h : HandoverState) (ram : RamState) (m : Machine) → StandsFor h ram m → Agrees (kept_with h (window h.map ram)) m
 agrees h ram m st = record {
   state = st.state;
   bytes_are = st.window_is;
@@ -42,6 +42,21 @@ agrees h ram m st = record {
   filled_is = st.filled;
   copied_is = st.copied;
   last_is = st.last;
+}
+
+pub stands_by : (h : HandoverState) (ram : RamState) (bytes : List ℕ) (m : Machine) → Agrees (kept_with h bytes) m → bytes ≡ window h.map ram → HasWindows h.map ram → address_in h.map ram ≡ h.map.block → AcksAre h.situation h.map ram → StandsFor h ram m
+stands_by h ram bytes m a seen windows address acks = record {
+  state = a.state;
+  windows = windows;
+  address = address;
+  acks = acks;
+  window_is = a.bytes_are ∙ seen;
+  situation = a.situation_is;
+  blocks = a.blocks;
+  wait = a.wait;
+  filled = a.filled_is;
+  copied = a.copied_is;
+  last = a.last_is;
 }
 
 pub acks_in : (h : HandoverState) (ram : RamState) (m : Machine) (s : Situation) → h.situation ≡ s → StandsFor h ram m → AcksAre s h.map ram
@@ -61,24 +76,11 @@ set_and_clear at ram bits set clear = let some = bits.some in let e : ack_mask a
 turns : (side : Side) (event : Event) (h after : HandoverState) (ram memory : RamState) (bytes : List ℕ) (m : Machine) → Next side event (kept_with after bytes) m → bytes ≡ window after.map memory → after.map ≡ h.map →
     memory ≡ memory_after h.map event ram (window h.map memory) → HasWindows after.map memory → address_in after.map memory ≡ after.map.block → AcksAre after.situation after.map memory → Turns side event h ram after memory m
 turns side event h after ram memory bytes m next seen same memory_is windows address acks =
-    let a = next.agrees in
     let e : (turned side m).1 ≡ next.machine = ap (λ (t : Turned). t.1) next.is in
     record {
       turned = record {
         event_is = sym (ap (λ (t : Turned). t.0) next.is);
-        stands = subst (StandsFor after memory) (sym e) (record {
-          state = a.state;
-          windows = windows;
-          address = address;
-          acks = acks;
-          window_is = a.bytes_are ∙ seen;
-          situation = a.situation_is;
-          blocks = a.blocks;
-          wait = a.wait;
-          filled = a.filled_is;
-          copied = a.copied_is;
-          last = a.last_is;
-        });
+        stands = subst (StandsFor after memory) (sym e) (stands_by after memory bytes next.machine next.agrees seen windows address acks);
       };
       map = same;
       memory_is = memory_is;

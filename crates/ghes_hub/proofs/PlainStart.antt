@@ -2,7 +2,7 @@
 use Rattle.std.proofs.Common.{◌≡◌, ◌∙◌, ℕ, ◌+◌, ◌≤◌, List, [], ◌∷◌, ◌++◌, length, length-append, map, Vec, Option, Some, None, option_to_list, refl, sym, ap, subst, arith, append_assoc}
 use Rattle.std.specs.declared.alloc.Global.{Global}
 use Rattle.std.specs.VecDeque.{deque_len}
-use Rattle.std.proofs.lemmas.List.{drop-append-le, get_or_append_left, length-map}
+use Rattle.std.proofs.lemmas.List.{length-map}
 use Rattle.base_model.specs.Bytes.{spelled, put_at}
 use Rattle.base_model.proofs.BytesLemmas.{length-spelled}
 use Rattle.apei_gas.specs.declared.registers.Place.TheVariants.{Memory}
@@ -14,9 +14,8 @@ use Rattle.ghes_ack.specs.declared.events.Event.{Event}
 use Rattle.ghes_ack.specs.Machine.{Machine, Situation, Filling, Fits, with_status, started, submitted, IsState}
 use Rattle.ghes_ack.specs.Elsewhere.{SameWhere}
 use Rattle.ghes_ack.specs.Sides.{in_work}
-use Rattle.ghes_ack.proofs.StepLemmas.{start_is, submit_keeps}
-use Rattle.ghes_ack.proofs.ScheduleLemmas.{state_in_order}
-use Rattle.ghes_ack.proofs.StartLemmas.{filled_in, waits_more}
+use Rattle.ghes_ack.proofs.StepLemmas.{start_is}
+use Rattle.ghes_ack.proofs.StartLemmas.{submits_more}
 use Rattle.ghes_ack.proofs.ElsewhereLemmas.{SameWhere-then, SameWhere-stored}
 use Rattle.ghes_hub.specs.declared.plain.map.PlainMap.{PlainMap}
 use Rattle.ghes_hub.specs.declared.plain.ends.PlainEnds.{PlainEnds}
@@ -24,6 +23,7 @@ use Rattle.ghes_hub.specs.Places.{IsOff, plain_places_of}
 use Rattle.ghes_hub.specs.Plain.{HasPlainWindows, plain_window, plain_window_of, plain_address, with_plain_window, with_plain_address, plain_started, PlainState, plain_fresh, PlainStands}
 use Rattle.ghes_hub.specs.PlainSides.{Turns, AreConsistent, situation_in, state_of, view_of}
 use Rattle.ghes_hub.proofs.PlainMemory.{length-window, block_some, block_placed, status_placed, window-with_window, address-with_window, window-with_address, address-with_address, windows_window, HasPlain-with_address, length-plain_status}
+use Rattle.ghes_hub.proofs.PlainTurns.{kept_now, agrees, stands_by}
 
 -- the two sides of a start, with no block
 pub fresh_is : (b : Blocks PlainMap) → IsEmpty b → state_of Filling b ≡ plain_fresh b.map
@@ -66,23 +66,9 @@ begun_stands at b ram new same e w is = subst (λ (h : PlainState). PlainStands 
 
 pub submits : (h : PlainState) (ram : RamState) (m : Machine) (block : List ℕ) → Fits h.map.len block → PlainStands h ram m → PlainStands (record h { waiting = h.waiting ++ block ∷ [] }) ram (submitted m block)
 submits h ram m block good st =
-    let o = state_in_order h.map.len m st.state in
-    let a = o.acknowledged in
-    let t = o.taken in
-    let s = o.submitted in
-    record {
-      state = submit_keeps h.map.len m block good st.state;
-      windows = st.windows;
-      address = st.address;
-      occurs = st.occurs;
-      window_is = st.window_is;
-      situation = st.situation;
-      blocks = sym (append_assoc (option_to_list h.at_work) h.waiting (block ∷ [])) ∙ ap (λ (xs : List (List ℕ)). xs ++ block ∷ []) st.blocks ∙ sym (drop-append-le m.acknowledged m.blocks (block ∷ []) (omega (arith, a, t, s)));
-      wait = length-append h.waiting (block ∷ []) ∙ ap (λ (n : ℕ). n + 1) st.wait ∙ waits_more m block s (filled_in m m.situation st.state.holds);
-      filled = st.filled;
-      copied = st.copied;
-      last = st.last ∙ sym (get_or_append_left ([] ∷ m.blocks) (block ∷ []) [] m.taken (omega (arith, t, s)));
-    }
+    let more = submits_more (kept_now h ram) m block (option_to_list h.at_work ++ (h.waiting ++ block ∷ [])) (length (h.waiting ++ block ∷ []))
+        (sym (append_assoc (option_to_list h.at_work) h.waiting (block ∷ []))) (length-append h.waiting (block ∷ [])) good (agrees h ram m st) in
+    stands_by (record h { waiting = h.waiting ++ block ∷ [] }) ram (plain_window h.map ram) (submitted m block) more refl st.windows st.address st.occurs
 
 -- the blocks that wait
 pub waiting_of : (ends : Option PlainEnds) (b : Blocks PlainMap) → AreConsistent ends b → length (view_of ends b).waiting ≡ deque_len b.waiting

@@ -19,7 +19,7 @@ use Rattle.ghes_hub.specs.PlainSides.{Turns, Stands}
 use Rattle.ghes_hub.proofs.PlainMemory.{length-window, window-with_window, address-with_window, windows_window, length-plain_status, unchanged}
 
 -- what it keeps, with other bytes in its window
-abbrev kept_with : PlainState → List ℕ → Kept
+abbrev pub kept_with : PlainState → List ℕ → Kept
 kept_with h bytes = record {
   len = h.map.len;
   situation = h.situation;
@@ -31,10 +31,10 @@ kept_with h bytes = record {
   bytes = bytes;
 }
 
-abbrev kept_now : PlainState → RamState → Kept
+abbrev pub kept_now : PlainState → RamState → Kept
 kept_now h ram = kept_with h (plain_window h.map ram)
 
-agrees : (h : PlainState) (ram : RamState) (m : Machine) → PlainStands h ram m → Agrees (kept_now h ram) m
+pub agrees : (h : PlainState) (ram : RamState) (m : Machine) → PlainStands h ram m → Agrees (kept_now h ram) m
 agrees h ram m st = record {
   state = st.state;
   bytes_are = st.window_is;
@@ -44,6 +44,21 @@ agrees h ram m st = record {
   filled_is = st.filled;
   copied_is = st.copied;
   last_is = st.last;
+}
+
+pub stands_by : (h : PlainState) (ram : RamState) (bytes : List ℕ) (m : Machine) → Agrees (kept_with h bytes) m → bytes ≡ plain_window h.map ram → HasPlainWindows h.map ram → plain_address h.map ram ≡ h.map.block → Occurs ByStatus h.situation → PlainStands h ram m
+stands_by h ram bytes m a seen windows address occurs = record {
+  state = a.state;
+  windows = windows;
+  address = address;
+  window_is = a.bytes_are ∙ seen;
+  situation = a.situation_is;
+  occurs = occurs;
+  blocks = a.blocks;
+  wait = a.wait;
+  filled = a.filled_is;
+  copied = a.copied_is;
+  last = a.last_is;
 }
 
 -- a machine in one of the four situations is settled
@@ -63,19 +78,7 @@ made : (side : Side) (event : Event) (h after : PlainState) (ram memory : RamSta
     after.map ≡ h.map → memory ≡ with_plain_window h.map ram (plain_window h.map memory) → HasPlainWindows after.map memory → plain_address after.map memory ≡ after.map.block → Turns side event h ram after memory m
 made side event h after ram memory bytes m n is a occurs seen same memory_is windows address = record {
   event_is = sym (ap (λ (t : Turned). t.0) is);
-  stands = subst (PlainStands after memory) (sym (ap (λ (t : Turned). t.1) is)) (record {
-    state = a.state;
-    windows = windows;
-    address = address;
-    window_is = a.bytes_are ∙ seen;
-    situation = a.situation_is;
-    occurs = occurs;
-    blocks = a.blocks;
-    wait = a.wait;
-    filled = a.filled_is;
-    copied = a.copied_is;
-    last = a.last_is;
-  });
+  stands = subst (PlainStands after memory) (sym (ap (λ (t : Turned). t.1) is)) (stands_by after memory bytes n a seen windows address occurs);
   map = same;
   memory_is = memory_is;
 }

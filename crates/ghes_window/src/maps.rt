@@ -9,5 +9,6 @@ pub trait HasWindow {
     ghost window_of: { Self → AnyWindow };
 
     fn window(&self) -> BlockWindow
-        ensures { result ≡ window_of self.now };
+        ensures window { result ≡ window_of self.now }
+        ensures len { result.len ≡ (window_of self.now).len };
 }

@@ -8,10 +8,10 @@ use Rattle.ghes_hub.proofs.plain.ends.begin.Goals as goal
 
 pub show-requires : goal.show-requires
 show-requires c =
-    has_block c.args.map.now c.window.result c.write_address.new.ram c.window.ensures
+    has_block c.args.map.now c.window.result c.write_address.new.ram c.window.ensures.window
     (subst (HasPlainWindows c.args.map.now) (sym c.write_address.ensures) (HasPlain-with_address c.args.map.now c.args.ram.now c.requires))
 
 pub returns : goal.returns
 returns c =
     started_is c.args.map.now c.args.ram.now c.write_address.new.ram c.show.new.ram c.requires c.write_address.ensures
-    (by_window c.args.map.now c.window.result c.write_address.new.ram c.show.new.ram (λ (w : List ℕ). with_status w (spelled 4 0)) c.window.ensures c.show.ensures)
+    (by_window c.args.map.now c.window.result c.write_address.new.ram c.show.new.ram (λ (w : List ℕ). with_status w (spelled 4 0)) c.window.ensures.window c.show.ensures)

@@ -8,12 +8,12 @@ use Rattle.ghes_hub.proofs.PlainMemory.{has_block, by_window}
 use Rattle.ghes_hub.proofs.plain.ends.PlainFirm.publish.Goals as goal
 
 pub show-requires : goal.show-requires
-show-requires c = has_block c.args.map.now c.window.result c.args.ram.now c.window.ensures c.requires.windows
+show-requires c = has_block c.args.map.now c.window.result c.args.ram.now c.window.ensures.window c.requires.windows
 
 pub returns : goal.returns
 returns c =
     let block = c.args.block.now in
     let head = c.requires.head in
     let front : spelled 4 c.get_u32.result ≡ take 4 block = ap (spelled 4) c.get_u32.ensures ∙ spelled-number_at block 0 4 (AreBytes-each block (λ k. omega (arith, c.type_inv.block k))) (omega (arith, head)) ∙ part-front block 4 in
-    by_window c.args.map.now c.window.result c.args.ram.now c.show.new.ram (λ (w : List ℕ). with_status w (spelled 4 c.get_u32.result)) c.window.ensures c.show.ensures
+    by_window c.args.map.now c.window.result c.args.ram.now c.show.new.ram (λ (w : List ℕ). with_status w (spelled 4 c.get_u32.result)) c.window.ensures.window c.show.ensures
     ∙ ap (λ (word : List ℕ). with_plain_window c.args.map.now c.args.ram.now (with_status (plain_window c.args.map.now c.args.ram.now) word)) front
