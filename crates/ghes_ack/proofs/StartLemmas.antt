@@ -128,7 +128,7 @@ submits_more k m block held waiting is_held is_waiting good a =
 pub submits : (h : HandoverState) (ram : RamState) (m : Machine) (block : List ℕ) → Fits h.map.len block → StandsFor h ram m → StandsFor (record h { waiting = h.waiting ++ block ∷ [] }) ram (submitted m block)
 submits h ram m block good st =
     let more = submits_more (kept_with h (window h.map ram)) m block (option_to_list h.at_work ++ (h.waiting ++ block ∷ [])) (length (h.waiting ++ block ∷ []))
-        (sym (append_assoc (option_to_list h.at_work) h.waiting (block ∷ []))) (length-append h.waiting (block ∷ [])) good (agrees h ram m st) in
+    (sym (append_assoc (option_to_list h.at_work) h.waiting (block ∷ []))) (length-append h.waiting (block ∷ [])) good (agrees h ram m st) in
     stands_by (record h { waiting = h.waiting ++ block ∷ [] }) ram (window h.map ram) (submitted m block) more refl st.windows st.address st.acks
 
 -- the acknowledge bits

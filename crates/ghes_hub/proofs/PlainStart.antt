@@ -67,7 +67,7 @@ begun_stands at b ram new same e w is = subst (λ (h : PlainState). PlainStands 
 pub submits : (h : PlainState) (ram : RamState) (m : Machine) (block : List ℕ) → Fits h.map.len block → PlainStands h ram m → PlainStands (record h { waiting = h.waiting ++ block ∷ [] }) ram (submitted m block)
 submits h ram m block good st =
     let more = submits_more (kept_now h ram) m block (option_to_list h.at_work ++ (h.waiting ++ block ∷ [])) (length (h.waiting ++ block ∷ []))
-        (sym (append_assoc (option_to_list h.at_work) h.waiting (block ∷ []))) (length-append h.waiting (block ∷ [])) good (agrees h ram m st) in
+    (sym (append_assoc (option_to_list h.at_work) h.waiting (block ∷ []))) (length-append h.waiting (block ∷ [])) good (agrees h ram m st) in
     stands_by (record h { waiting = h.waiting ++ block ∷ [] }) ram (plain_window h.map ram) (submitted m block) more refl st.windows st.address st.occurs
 
 -- the blocks that wait

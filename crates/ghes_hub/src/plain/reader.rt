@@ -13,7 +13,11 @@ use ghes_ack::Event;
 use ghes_window::{Blocks, PIECE};
 
 /// One turn of the reader.
-pub fn reader_turn(end: ReaderEnd, blocks: &mut Blocks<PlainMap>, ram: &mut Ram) -> (ReaderEnd, Event)
+pub fn reader_turn(
+    end: ReaderEnd,
+    blocks: &mut Blocks<PlainMap>,
+    ram: &mut Ram,
+) -> (ReaderEnd, Event)
     requires { ReaderIsAble end blocks.old ram.old }
     ensures { ReaderTurns end blocks.old ram.old result.1 result.0 blocks.new ram.new }
 {
@@ -39,7 +43,11 @@ fn look_for_block(idle: PlainIdle, blocks: &mut Blocks<PlainMap>, ram: &Ram) -> 
 
 /// Copies the next piece, or clears the block status once all are copied. The block at work holds the same bytes already, so its
 /// own buffer takes them.
-fn copy_or_clear(read: PlainBlock, blocks: &mut Blocks<PlainMap>, ram: &mut Ram) -> (ReaderEnd, Event)
+fn copy_or_clear(
+    read: PlainBlock,
+    blocks: &mut Blocks<PlainMap>,
+    ram: &mut Ram,
+) -> (ReaderEnd, Event)
     requires sound { IsSound Reading blocks.old }
     requires stands { Stands (state_of Reading blocks.old) ram.old }
     ensures sound { IsSound (reader_at result.0) blocks.new }
