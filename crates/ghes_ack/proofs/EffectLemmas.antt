@@ -1,17 +1,18 @@
 -- What the calls of the two sides leave in memory.
-use Rattle.std.proofs.Common.{◌≡◌, ◌∙◌, ℕ, ◌+◌, ◌-◌, ◌*◌, ◌<◌, ◌≤◌, ◌^◌, min, List, length, take, Result, IfOk, refl, sym, ap, subst, arith, bit_and}
+use Rattle.std.proofs.Common.{◌≡◌, ◌∙◌, ℕ, ◌<◌, ◌≤◌, ◌^◌, List, length, take, Result, IfOk, refl, sym, ap, subst, arith, bit_and}
 use Rattle.std.specs.Result.{result_unwrap_or}
 use Rattle.apei_gas.specs.Access.{bits}
 use Rattle.apei_space.specs.declared.faults.SpaceFault.{SpaceFault}
-use Rattle.base_model.specs.Bytes.{part, number_at, spelled, put_at, AreBytes}
+use Rattle.base_model.specs.Bytes.{number_at, spelled, put_at, AreBytes}
 use Rattle.base_model.proofs.BytesLemmas.{length-spelled, spelled-number_at}
 use Rattle.apei_space.specs.RamState.{RamState, Allows, located}
 use Rattle.ghes_ack.specs.declared.maps.HandoverMap.{HandoverMap}
-use Rattle.ghes_ack.specs.Machine.{hidden, with_piece, with_status}
-use Rattle.ghes_ack.specs.Maps.{HasWindows, IsSet, IsClear, ack_bytes, ack_read, ack_mask, with_ack, with_window, with_address, window, with_set, with_clear, memory_started}
+use Rattle.ghes_ack.specs.Machine.{with_status}
+use Rattle.ghes_ack.specs.Maps.{HasWindows, IsSet, IsClear, ack_bytes, ack_read, ack_mask, with_ack, with_window, with_address, window, window_of, with_set, with_clear, memory_started}
 use Rattle.ghes_ack.specs.Publications.{ClearsThenShows}
-use Rattle.ghes_ack.proofs.PieceLemmas.{part-front, part_min, length-hidden, hidden_behind, length-with_status}
-use Rattle.ghes_ack.proofs.MemoryLemmas.{number_read, number_small, clear_bits, status_write_is, length-window, window-with_ack, window-with_address, ack-with_window, ack-with_address, HasWindows-with_window, HasWindows-with_ack, HasWindows-with_address}
+use Rattle.ghes_window.proofs.PieceLemmas.{part-front}
+use Rattle.ghes_window.proofs.WindowLemmas.{status_write_is, length-status as length-status_in}
+use Rattle.ghes_ack.proofs.MemoryLemmas.{has_block, number_read, number_small, clear_bits, window-with_ack, window-with_address, ack-with_window, ack-with_address, HasWindows-with_window, HasWindows-with_ack, HasWindows-with_address}
 
 pub windows_address : (map : HandoverMap) (ram new : RamState) → new ≡ with_address map ram → HasWindows map ram → HasWindows map new
 windows_address map ram new is w = subst (HasWindows map) (sym is) (HasWindows-with_address map ram w)
@@ -23,10 +24,7 @@ pub windows_window : (map : HandoverMap) (ram new : RamState) (bytes : List ℕ)
 windows_window map ram new bytes is n w = subst (HasWindows map) (sym is) (HasWindows-with_window map ram bytes w n)
 
 pub length-status : (map : HandoverMap) (ram : RamState) (word : List ℕ) → length word ≡ 4 → HasWindows map ram → length (with_status (window map ram) word) ≡ map.len
-length-status map ram word four w =
-    let n = length-window map ram w in
-    let head = w.head in
-    length-with_status (window map ram) word four (omega (arith, n, head)) ∙ n
+length-status map ram word four w = length-status_in (window_of map) ram word four (has_block map ram w)
 
 -- a start
 pub started_memory : (map : HandoverMap) (ram a b new : RamState) → HasWindows map ram → a ≡ with_address map ram → b ≡ with_ack map a (with_set map (ack_read map a)) →
@@ -82,14 +80,4 @@ published_in_order map ram new block w head bytes p =
     let small = number_small place ram.bytes (ack_bytes map) (bits map.ack.access) (subst (λ (r : Result ℕ SpaceFault). IfOk r (λ (v : ℕ). v < 2 ^ bits map.ack.access)) first.0 p.small) in
     let windows : HasWindows map p.clear = windows_ack map ram p.clear (with_clear map (ack_read map ram)) clear w in
     published_memory map ram p.clear new block (number_at block 0 4) w head bytes refl clear (subst (IsClear map) (sym clear) (clear_bits map ram w small))
-    (third.1 ∙ status_write_is map p.clear (spelled 4 (number_at block 0 4)) windows (length-spelled 4 (number_at block 0 4)))
-
--- a piece
-pub filled_behind : (map : HandoverMap) (ram new : RamState) (block bytes : List ℕ) (piece : ℕ) → 0 < piece → 64 * piece < length block → bytes ≡ part block (64 * piece) (min (length block) (64 * piece + 64) - 64 * piece) →
-    new ≡ with_window map ram (put_at (window map ram) (64 * piece) bytes) → new ≡ with_window map ram (with_piece (window map ram) block piece)
-filled_behind map ram new block bytes piece some more e is =
-    let n = length-hidden block in
-    let whole : bytes ≡ part (hidden block) (64 * piece) 64 =
-    e ∙ sym (hidden_behind block (64 * piece) (min (length block) (64 * piece + 64) - 64 * piece) (omega (arith, some)) (omega (arith, more)))
-    ∙ part_min (hidden block) (64 * piece) (min (length block) (64 * piece + 64) - 64 * piece) 64 (omega (arith, n, more)) in
-    is ∙ ap (λ (x : List ℕ). with_window map ram (put_at (window map ram) (64 * piece) x)) whole
+    (third.1 ∙ status_write_is (window_of map) p.clear (spelled 4 (number_at block 0 4)) (has_block map p.clear windows) (length-spelled 4 (number_at block 0 4)))

@@ -15,7 +15,8 @@ use Rattle.ghes_ack.specs.declared.events.Event.TheVariants.{Idle, Fill, Publish
 use Rattle.ghes_ack.specs.Machine.{with_status}
 use Rattle.ghes_ack.specs.Maps.{HasWindows, ack_bytes, bytes_in, bytes_at, window, ack_read, with_window, with_ack, with_address, with_set, with_clear, acknowledged, memory_started, memory_after}
 use Rattle.ghes_ack.specs.Elsewhere.{IsOffBlock, IsOffMap, SameWhere}
-use Rattle.ghes_ack.proofs.MemoryLemmas.{ack_some, block_some, block_placed, ack_placed, status_placed, fits_in, stored_placed, bytes-stored_apart, disjoint_sym, length-window, HasWindows-with_ack, HasWindows-with_address}
+use Rattle.ghes_window.proofs.PlacedLemmas.{fits_in, stored_placed, bytes-stored_apart, disjoint_sym}
+use Rattle.ghes_ack.proofs.MemoryLemmas.{ack_some, block_some, block_placed, ack_placed, status_placed, length-window, HasWindows-with_ack, HasWindows-with_address}
 use Rattle.ghes_ack.proofs.EffectLemmas.{length-status}
 
 pub SameWhere-refl : (is_far : Place → ℕ → Type 0) (ram : RamState) → SameWhere is_far ram ram
@@ -51,7 +52,7 @@ far_stored ram at n s bytes other m fills p is some apart = go (cases_lt 0 m) (l
       let zero : m ≡ 0 = omega (arith, none) in
       moved ∙ subst (λ (k : ℕ). bytes_in (located ram.windows other m) (put_at ram.bytes s bytes) k ≡ bytes_in (located ram.windows other m) ram.bytes k) (sym zero) (no_bytes (located ram.windows other m) (put_at ram.bytes s bytes) ram.bytes)
 
-SameWhere-stored : (is_far : Place → ℕ → Type 0) (ram : RamState) (at : Place) (n s : ℕ) (bytes : List ℕ) → FillsWindows ram → IsPlaced ram.windows at n s → length bytes ≡ n → 0 < n →
+pub SameWhere-stored : (is_far : Place → ℕ → Type 0) (ram : RamState) (at : Place) (n s : ℕ) (bytes : List ℕ) → FillsWindows ram → IsPlaced ram.windows at n s → length bytes ≡ n → 0 < n →
     ((other : Place) (m : ℕ) → is_far other m → AreDisjoint other m at n) → SameWhere is_far ram (stored (located ram.windows at n) ram bytes)
 SameWhere-stored is_far ram at n s bytes fills p is some apart =
     let e = stored_placed ram at n s bytes p in

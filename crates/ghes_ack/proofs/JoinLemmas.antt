@@ -14,11 +14,11 @@ use Rattle.ghes_ack.specs.declared.ends.FirmwareEnd.{FirmwareEnd}
 use Rattle.ghes_ack.specs.declared.ends.FirmwareEnd.TheVariants.{Writes, Waits}
 use Rattle.ghes_ack.specs.declared.ends.ReaderEnd.{ReaderEnd}
 use Rattle.ghes_ack.specs.declared.ends.ReaderEnd.TheVariants.{Looks, Reads, Acknowledges}
-use Rattle.ghes_ack.specs.declared.blocks.Blocks.{Blocks}
+use Rattle.ghes_ack.specs.Queues.{Blocks, HasRoom}
 use Rattle.ghes_ack.specs.Machine.{Machine, Situation, Filling, Published, Reading, Cleared, Acknowledged, Fits}
 use Rattle.ghes_ack.specs.Maps.{HasAckBits, status_word, ack_read, with_ack, acknowledged, IsSet}
 use Rattle.ghes_ack.specs.Handovers.{HandoverState, StandsFor, AreTurned}
-use Rattle.ghes_ack.specs.Sides.{Turns, Runs, Stands, looking_at, waiting_at, situation_of, state_of, handover_of, in_work, HasRoom, IsCopiedSoFar, IsFar, AreApart, IsConsistent}
+use Rattle.ghes_ack.specs.Sides.{Turns, Runs, Stands, looking_at, waiting_at, situation_of, state_of, handover_of, in_work, IsCopiedSoFar, IsFar, AreApart, IsConsistent}
 use Rattle.ghes_ack.specs.OwnTurns.{IsAble, FirmwareMakes, Idles, Fills, Publishes, FirmwareRuns, read_over, ReaderMakes, Copies, Takes, Clears, GoesOn, ReaderRuns}
 use Rattle.ghes_ack.proofs.TurnLemmas.{idles, publishes, waits, frees, finds, finds_nothing, some_status, no_status, acks_in, set_and_clear, work_fits, copies_over, clears, acknowledges}
 use Rattle.ghes_ack.proofs.RunLemmas.{run_one, fills_run, copies_run, takes_run, copied_memory, copied_left, taken_memory, taken_left}

@@ -1,15 +1,13 @@
-pub mod PieceLemmas
 pub mod MemoryLemmas
 pub mod StepLemmas
 pub mod TakenLemmas
 pub mod ScheduleLemmas
 pub mod CallLemmas
 pub mod EffectLemmas
-pub mod RoomLemmas
+pub mod MachineTurns
 pub mod TurnLemmas
 pub mod RunLemmas
 pub mod SideLemmas
 pub mod JoinLemmas
 pub mod ElsewhereLemmas
 pub mod StartLemmas
-pub mod WriteLemmas

@@ -8,14 +8,14 @@ use Rattle.ghes_ack.specs.declared.events.Side.TheVariants.{Firmware, Reader}
 use Rattle.ghes_ack.specs.declared.events.Event.{Event}
 use Rattle.ghes_ack.specs.declared.events.Event.TheVariants.{Idle, Fill, Copied, Took}
 use Rattle.ghes_ack.specs.Machine.{Machine, Filling, Reading, with_piece, with_pieces, turned, turned_times, events_of_times}
-use Rattle.ghes_ack.specs.Maps.{HasWindows, window, with_window, memory_after, AreLeft}
+use Rattle.ghes_ack.specs.Maps.{HasWindows, window, window_of, with_window, memory_after, AreLeft}
 use Rattle.ghes_ack.specs.Elsewhere.{SameWhere, IsOffBlock}
 use Rattle.ghes_ack.specs.Handovers.{HandoverState, kept, StandsFor, AreTurned}
 use Rattle.ghes_ack.specs.Sides.{Turns, Runs, MakesTurns}
-use Rattle.ghes_ack.proofs.MemoryLemmas.{length-window, window-with_window}
-use Rattle.ghes_ack.proofs.PieceLemmas.{length-with_piece}
-use Rattle.ghes_ack.proofs.WriteLemmas.{window_twice, length-with_pieces, pieces_next}
-use Rattle.ghes_ack.proofs.TurnLemmas.{next_is, written_only, fills, copies_more, copies_last}
+use Rattle.ghes_ack.proofs.MemoryLemmas.{has_block, length-window, window-with_window}
+use Rattle.ghes_window.proofs.PieceLemmas.{length-with_piece}
+use Rattle.ghes_window.proofs.WriteLemmas.{block_twice, length-with_pieces, pieces_next}
+use Rattle.ghes_ack.proofs.TurnLemmas.{next_fits, written_only, fills, copies_more, copies_last}
 use Rattle.ghes_ack.proofs.ElsewhereLemmas.{SameWhere-refl, SameWhere-then, elsewhere_left}
 
 -- one turn is a run
@@ -46,8 +46,7 @@ fills_run zero h ram new m block rest now held more memory st =
     run_one Firmware Fill h (record h { waiting = rest; at_work = Some block; filled = h.filled + 1 }) ram new m (fills h ram new m block rest now held (omega (arith, more)) memory st)
 fills_run (suc n) h ram new m block rest now held more memory st =
     let w = st.windows in
-    let x = next_is h ram m block rest now held st in
-    let fits = x.good.fits in
+    let fits = (next_fits h ram m block rest held st).fits in
     let l = length-window h.map ram w in
     let first : List ℕ = with_piece (window h.map ram) block h.filled in
     let all : List ℕ = with_pieces (window h.map ram) block h.filled (suc (suc n)) in
@@ -60,7 +59,7 @@ fills_run (suc n) h ram new m block rest now held more memory st =
     let joined : with_pieces (window h.map (with_window h.map ram (with_piece (window h.map ram) block h.filled))) block (h.filled + 1) (suc n) ≡ with_pieces (window h.map ram) block h.filled (suc (suc n)) =
     ap (λ (v : List ℕ). with_pieces v block (h.filled + 1) (suc n)) seen ∙ pieces_next (window h.map ram) block h.filled (suc n) (omega (arith, fits, l)) (omega (arith, more)) in
     let later : new ≡ with_window h.map ram1 (with_pieces (window h.map ram1) block (h.filled + 1) (suc n)) =
-    memory ∙ sym (window_twice h.map ram (with_piece (window h.map ram) block h.filled) (with_pieces (window h.map ram) block h.filled (suc (suc n))) w wide long)
+    memory ∙ sym (block_twice (window_of h.map) ram (with_piece (window h.map ram) block h.filled) (with_pieces (window h.map ram) block h.filled (suc (suc n))) (has_block h.map ram w) wide long)
     ∙ ap (with_window h.map (with_window h.map ram (with_piece (window h.map ram) block h.filled))) (sym joined) in
     let r = fills_run n mid ram1 new (turned Firmware m).1 block rest now refl (omega (arith, more)) later t.turned.stands in
     let sum : h.filled + 1 + suc n ≡ h.filled + suc (suc n) = omega arith in

@@ -1,38 +1,22 @@
 -- Turns of each side by its own end, its blocks and the memory alone.
-use Rattle.std.proofs.Common.{◌≡◌, ◌∙◌, ℕ, zero, suc, ◌+◌, ◌-◌, ◌*◌, ◌<◌, ◌≤◌, min, List, [], replicate, ◌∷◌, ◌++◌, length, take, drop, map, get_or, All, Vec, Option, Some, None, option_to_list, refl, sym, ap, subst, arith, append_assoc}
+use Rattle.std.proofs.Common.{◌≡◌, ◌∙◌, ℕ, zero, suc, ◌+◌, ◌-◌, ◌*◌, ◌<◌, ◌≤◌, min, List, [], replicate, ◌∷◌, ◌++◌, length, take, drop, map, get_or, All, Vec, Option, Some, None, option_to_list, refl, sym, ap, subst, arith}
 use Rattle.std.specs.declared.alloc.Global.{Global}
 use Rattle.std.specs.Vec.{with_items}
-use Rattle.std.proofs.lemmas.List.{drop-drop, with_items_is, length-take, length-drop}
+use Rattle.std.proofs.lemmas.List.{with_items_is}
 use Rattle.std.proofs.lemmas.List.Elements.{All-get_or}
 use Rattle.base_model.specs.Bytes.{part, spelled, put_at}
 use Rattle.apei_space.specs.RamState.{RamState}
 use Rattle.ghes_ack.specs.declared.maps.HandoverMap.{HandoverMap}
 use Rattle.ghes_ack.specs.declared.events.Event.{Event}
 use Rattle.ghes_ack.specs.declared.events.Event.TheVariants.{Idle, Fill, Publish, Copied, Took, Clear}
-use Rattle.ghes_ack.specs.declared.blocks.Blocks.{Blocks}
+use Rattle.ghes_window.specs.Queues.{held_of}
+use Rattle.ghes_ack.specs.Queues.{Blocks, HoldsNone, TakesOut}
 use Rattle.ghes_ack.specs.Machine.{Situation, Filling, Published, Reading, Cleared, Fits, with_piece, with_pieces, with_status}
 use Rattle.ghes_ack.specs.Maps.{window, ack_read, with_window, with_ack, with_clear, IsClear}
 use Rattle.ghes_ack.specs.Handovers.{HandoverState, kept}
-use Rattle.ghes_ack.specs.Sides.{state_of, in_work, held_of, HoldsNone, TakesOut, IsCopiedSoFar}
+use Rattle.ghes_ack.specs.Sides.{state_of, in_work, IsCopiedSoFar}
 use Rattle.ghes_ack.specs.OwnTurns.{FirmwareMakes, Idles, Fills, Publishes, read_over, ReaderMakes, Copies, Takes, Clears}
 use Rattle.ghes_ack.proofs.RunLemmas.{noted, taken_noted}
-
--- a write in the middle of a list
-pub mid_is : (old others : List ℕ) (at n : ℕ) → length others ≡ n → take at old ++ (others ++ drop n (drop at old)) ≡ put_at old at others
-unfolding put_at
-mid_is old others at n is =
-    ap (λ (i : ℕ). take at old ++ (others ++ drop i (drop at old))) (sym is)
-    ∙ ap (λ (zs : List ℕ). take at old ++ (others ++ zs)) (drop-drop (length others) at old)
-    ∙ sym (append_assoc (take at old) others (drop (at + length others) old))
-
--- bytes of the window in the middle of others
-pub piece_is : (bytes out w : List ℕ) (at p end len : ℕ) → end ≡ min (length bytes) (at + p) → at < length bytes → len ≡ length (take (end - at) (drop at bytes)) → length out ≡ len → out ≡ part w at len →
-    take at bytes ++ (out ++ drop (end - at) (drop at bytes)) ≡ put_at bytes at (part w at (min p (length bytes - at)))
-piece_is bytes out w at p end len is_end more is_len is_out is =
-    let l = is_len ∙ length-take (end - at) (drop at bytes) in
-    let d = length-drop at bytes in
-    let n : len ≡ min p (length bytes - at) = omega (arith, l, d, is_end, more) in
-    mid_is bytes out at (end - at) (omega (arith, is_out, l, d, is_end, more)) ∙ ap (put_at bytes at) (is ∙ ap (part w at) n)
 
 -- the block in hand is one that the window takes
 first_fits : (len : ℕ) (block : List ℕ) (blocks rest : List (List ℕ)) → blocks ≡ block ∷ rest → All (Fits len) blocks → Fits len block

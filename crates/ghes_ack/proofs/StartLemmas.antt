@@ -10,18 +10,21 @@ use Rattle.apei_space.specs.RamState.{RamState}
 use Rattle.ghes_block.specs.declared.error.BlockError.{BlockError}
 use Rattle.ghes_block.specs.Reading.{checked, head_verdict, status_at}
 use Rattle.ghes_ack.specs.declared.maps.HandoverMap.{HandoverMap}
-use Rattle.ghes_ack.specs.declared.blocks.Blocks.{Blocks}
+use Rattle.ghes_window.specs.Queues.{IsEmpty}
+use Rattle.ghes_ack.specs.Queues.{Blocks, Adds}
 use Rattle.ghes_ack.specs.Machine.{Machine, Situation, Filling, Published, Reading, Cleared, Acknowledged, Fits, with_status, started, submitted, waiting_in, InSituation, IsState}
 use Rattle.ghes_ack.specs.Maps.{HasAckBits, HasWindows, address_in, ack_read, window, with_ack, with_address, with_set, memory_started, IsSet}
 use Rattle.ghes_ack.specs.Handovers.{HandoverState, fresh, StandsFor, reason, refusal}
 use Rattle.ghes_ack.specs.declared.submission.SubmitError.TheVariants.{Long, Trailing, Full}
 use Rattle.std.specs.VecDeque.{deque_len}
 use Rattle.ghes_ack.specs.declared.ends.Ends.{Ends}
-use Rattle.ghes_ack.specs.Sides.{IsEmpty, Adds, AreConsistent, situation_in, state_of, view_of, in_work}
+use Rattle.ghes_ack.specs.Sides.{AreConsistent, situation_in, state_of, view_of, in_work}
 use Rattle.ghes_ack.proofs.StepLemmas.{start_is, submit_keeps}
 use Rattle.ghes_ack.proofs.ScheduleLemmas.{state_in_order}
 use Rattle.ghes_ack.proofs.MemoryLemmas.{length-window, window-with_window, address-with_window, address-with_ack, address-with_address, HasWindows-with_ack, HasWindows-with_address}
 use Rattle.ghes_ack.proofs.EffectLemmas.{windows_window, length-status}
+use Rattle.ghes_ack.proofs.MachineTurns.{Kept, Agrees}
+use Rattle.ghes_ack.proofs.TurnLemmas.{kept_with, agrees, stands_by}
 
 -- the two sides of a start, with no block
 pub fresh_is : (b : Blocks) → IsEmpty b → state_of Filling b ≡ fresh b.map
@@ -103,25 +106,30 @@ waits_more m block few begun = go (cases_lt 0 m.filled) where
       let k = n in
       rw e (omega (arith, few, k))
 
-pub submits : (h : HandoverState) (ram : RamState) (m : Machine) (block : List ℕ) → Fits h.map.len block → StandsFor h ram m → StandsFor (record h { waiting = h.waiting ++ block ∷ [] }) ram (submitted m block)
-submits h ram m block good st =
-    let o = state_in_order h.map.len m st.state in
-    let a = o.acknowledged in
+-- a block that fits is one more of those that it agrees with
+pub submits_more : (k : Kept) (m : Machine) (block : List ℕ) (held : List (List ℕ)) (waiting : ℕ) → held ≡ k.held ++ block ∷ [] → waiting ≡ k.waiting + 1 → Fits k.len block → Agrees k m →
+    Agrees (record k { held = held; waiting = waiting }) (submitted m block)
+submits_more k m block held waiting is_held is_waiting good a =
+    let o = state_in_order k.len m a.state in
+    let n = o.acknowledged in
     let t = o.taken in
     let s = o.submitted in
     record {
-      state = submit_keeps h.map.len m block good st.state;
-      windows = st.windows;
-      address = st.address;
-      acks = st.acks;
-      window_is = st.window_is;
-      situation = st.situation;
-      blocks = sym (append_assoc (option_to_list h.at_work) h.waiting (block ∷ [])) ∙ ap (λ (xs : List (List ℕ)). xs ++ block ∷ []) st.blocks ∙ sym (drop-append-le m.acknowledged m.blocks (block ∷ []) (omega (arith, a, t, s)));
-      wait = length-append h.waiting (block ∷ []) ∙ ap (λ (n : ℕ). n + 1) st.wait ∙ waits_more m block s (filled_in m m.situation st.state.holds);
-      filled = st.filled;
-      copied = st.copied;
-      last = st.last ∙ sym (get_or_append_left ([] ∷ m.blocks) (block ∷ []) [] m.taken (omega (arith, t, s)));
+      state = submit_keeps k.len m block good a.state;
+      bytes_are = a.bytes_are;
+      situation_is = a.situation_is;
+      blocks = is_held ∙ ap (λ (xs : List (List ℕ)). xs ++ block ∷ []) a.blocks ∙ sym (drop-append-le m.acknowledged m.blocks (block ∷ []) (omega (arith, n, t, s)));
+      wait = is_waiting ∙ ap (λ (i : ℕ). i + 1) a.wait ∙ waits_more m block s (filled_in m m.situation a.state.holds);
+      filled_is = a.filled_is;
+      copied_is = a.copied_is;
+      last_is = a.last_is ∙ sym (get_or_append_left ([] ∷ m.blocks) (block ∷ []) [] m.taken (omega (arith, t, s)));
     }
+
+pub submits : (h : HandoverState) (ram : RamState) (m : Machine) (block : List ℕ) → Fits h.map.len block → StandsFor h ram m → StandsFor (record h { waiting = h.waiting ++ block ∷ [] }) ram (submitted m block)
+submits h ram m block good st =
+    let more = submits_more (kept_with h (window h.map ram)) m block (option_to_list h.at_work ++ (h.waiting ++ block ∷ [])) (length (h.waiting ++ block ∷ []))
+    (sym (append_assoc (option_to_list h.at_work) h.waiting (block ∷ []))) (length-append h.waiting (block ∷ [])) good (agrees h ram m st) in
+    stands_by (record h { waiting = h.waiting ++ block ∷ [] }) ram (window h.map ram) (submitted m block) more refl st.windows st.address st.acks
 
 -- the acknowledge bits
 pub bits_of : (ends : Option Ends) (b : Blocks) → AreConsistent ends b → HasAckBits b.map

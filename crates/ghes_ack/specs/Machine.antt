@@ -1,6 +1,7 @@
 -- The handover as a machine: blocks, pieces of 64 bytes and five situations.
 use Rattle.std.specs.Prelude.{◌≡◌, ℕ, zero, suc, ◌+◌, ◌-◌, ◌*◌, ◌/◌, ◌<◌, ◌≤◌, ◌⊎◌, Bool, true, false, min, nat_lt, ◌==◌, if◌then◌else◌, List, [], ◌∷◌, ◌++◌, length, take, drop, replicate, get_or, All}
-use Rattle.base_model.specs.Bytes.{part, spelled, number_at, put_at}
+use Rattle.base_model.specs.Bytes.{spelled, number_at}
+pub use Rattle.ghes_window.specs.Pieces.{pieces, zeros, hidden, with_piece, with_pieces, with_status}
 use Rattle.ghes_ack.specs.declared.events.Side.{Side}
 use Rattle.ghes_ack.specs.declared.events.Side.TheVariants.{Firmware, Reader}
 use Rattle.ghes_ack.specs.declared.events.Event.{Event}
@@ -51,27 +52,6 @@ is_idle Published = true
 is_idle Reading = false
 is_idle Cleared = false
 is_idle Acknowledged = true
-
--- a block's pieces have 64 bytes, the last one the rest
-abbrev pub pieces : List ℕ → ℕ
-pieces block = (length block + 63) / 64
-
-abbrev pub zeros : ℕ → List ℕ
-zeros n = replicate n 0
-
--- a block as it is filled: its status word is 0 until it is published
-abbrev pub hidden : List ℕ → List ℕ
-hidden block = zeros (min 4 (length block)) ++ drop 4 block
-
-abbrev pub with_piece : List ℕ → List ℕ → ℕ → List ℕ
-with_piece window block k = put_at window (64 * k) (part (hidden block) (64 * k) 64)
-
--- n pieces, one behind the other
-abbrev pub with_pieces : List ℕ → List ℕ → ℕ → ℕ → List ℕ
-with_pieces window block k n = put_at window (64 * k) (part (hidden block) (64 * k) (64 * n))
-
-abbrev pub with_status : List ℕ → List ℕ → List ℕ
-with_status window word = put_at window 0 word
 
 -- one turn: the event, and the state afterwards
 abbrev pub Turned : Type 0

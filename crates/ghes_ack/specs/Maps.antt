@@ -1,24 +1,21 @@
 -- The three windows of a handover in memory: the block's address, the acknowledge register and the block.
-use Rattle.std.specs.Prelude.{◌≡◌, ℕ, ◌-◌, ◌*◌, ◌/◌, ◌%◌, ◌^◌, ◌<◌, ◌≤◌, List, [], ◌∷◌, Result, Ok, Err, bit_and, bit_or}
-use Rattle.base_model.specs.Bytes.{part, little, number_at, spelled}
+use Rattle.std.specs.Prelude.{◌≡◌, ℕ, ◌-◌, ◌*◌, ◌/◌, ◌%◌, ◌^◌, ◌<◌, ◌≤◌, List, [], ◌∷◌, bit_and, bit_or}
+use Rattle.base_model.specs.Bytes.{little, number_at, spelled}
 use Rattle.apei_gas.specs.declared.registers.Place.{Place}
 use Rattle.apei_gas.specs.declared.registers.Place.TheVariants.{Memory}
 use Rattle.apei_gas.specs.Access.{bits}
-use Rattle.apei_space.specs.declared.faults.SpaceFault.{SpaceFault}
 use Rattle.apei_space.specs.RamState.{RamState, FillsWindows, located, stored}
 use Rattle.apei_space.specs.Mapped.{AreMapped, AreDisjoint}
+use Rattle.ghes_window.specs.declared.window.BlockWindow.{BlockWindow}
+pub use Rattle.ghes_window.specs.Places.{bytes_in, bytes_at}
 use Rattle.ghes_ack.specs.declared.maps.HandoverMap.{HandoverMap}
 use Rattle.ghes_ack.specs.declared.events.Event.{Event}
 use Rattle.ghes_ack.specs.declared.events.Event.TheVariants.{Idle, Fill, Publish, Free, Wait, Nothing, Found, Copied, Took, Clear, Ack}
 use Rattle.ghes_ack.specs.Machine.{with_status}
 
--- the n bytes at a place, none where they are not mapped
-abbrev pub bytes_in : Result ℕ SpaceFault → List ℕ → ℕ → List ℕ
-bytes_in (Ok start) bytes n = part bytes start n
-bytes_in (Err fault) bytes n = []
-
-abbrev pub bytes_at : RamState → Place → ℕ → List ℕ
-bytes_at ram at n = bytes_in (located ram.windows at n) ram.bytes n
+-- where the block's window lies
+abbrev pub window_of : HandoverMap → BlockWindow
+window_of map = record { block = map.block; len = map.len }
 
 -- the bytes of an access of the acknowledge register
 abbrev pub ack_bytes : HandoverMap → ℕ

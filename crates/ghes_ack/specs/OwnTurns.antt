@@ -1,6 +1,7 @@
 -- The turns of one side, by its own end of the handover, the blocks and the memory alone: nothing here knows the other side.
-use Rattle.std.specs.Prelude.{◌≡◌, ℕ, suc, ◌+◌, ◌-◌, ◌*◌, ◌<◌, ◌≤◌, ◌^◌, min, List, [], ◌∷◌, ◌++◌, length, take, replicate, All, Some}
-use Rattle.base_model.specs.Bytes.{part, spelled, put_at}
+use Rattle.std.specs.Prelude.{◌≡◌, ℕ, suc, ◌+◌, ◌*◌, ◌<◌, ◌≤◌, ◌^◌, List, [], ◌∷◌, ◌++◌, length, take, replicate, All, Some}
+use Rattle.base_model.specs.Bytes.{spelled}
+use Rattle.ghes_window.specs.Pieces.{read_over as pieces_over}
 use Rattle.apei_space.specs.RamState.{RamState}
 use Rattle.ghes_ack.specs.declared.maps.HandoverMap.{HandoverMap}
 use Rattle.ghes_ack.specs.declared.events.Event.{Event}
@@ -9,11 +10,12 @@ use Rattle.ghes_ack.specs.declared.ends.FirmwareEnd.{FirmwareEnd}
 use Rattle.ghes_ack.specs.declared.ends.FirmwareEnd.TheVariants.{Writes, Waits}
 use Rattle.ghes_ack.specs.declared.ends.ReaderEnd.{ReaderEnd}
 use Rattle.ghes_ack.specs.declared.ends.ReaderEnd.TheVariants.{Looks, Reads, Acknowledges}
-use Rattle.ghes_ack.specs.declared.blocks.Blocks.{Blocks}
+use Rattle.ghes_window.specs.Queues.{held_of}
+use Rattle.ghes_ack.specs.Queues.{Blocks, HasRoom}
 use Rattle.ghes_ack.specs.Machine.{Situation, Filling, Published, Reading, Cleared, Acknowledged, Fits, with_pieces, with_status}
 use Rattle.ghes_ack.specs.Maps.{HasAckBits, HasWindows, IsSet, IsClear, ack_read, window, status_word, with_window, with_ack, with_clear, acknowledged}
 use Rattle.ghes_ack.specs.Handovers.{HandoverState, kept}
-use Rattle.ghes_ack.specs.Sides.{HasRoom, IsFar, held_of, state_of}
+use Rattle.ghes_ack.specs.Sides.{IsFar, state_of}
 
 -- a side can make turns: the memory has the windows, and each block at work or waiting fits into the block's
 pub record IsAble (b : Blocks) (ram : RamState) : Type 0 where
@@ -60,7 +62,7 @@ reader_at (Acknowledges end) = Cleared
 
 -- a block over whose next pieces those of the window are written
 abbrev pub read_over : HandoverMap → RamState → List ℕ → ℕ → ℕ → List ℕ
-read_over map ram block copied n = put_at block (64 * copied) (part (window map ram) (64 * copied) (min (64 * n) (length block - 64 * copied)))
+read_over map ram block copied n = pieces_over (window map ram) block copied n
 
 -- turns of a reader that may read the block: it copies the next pieces, the last of them too, or it clears the block status once it has them all
 pub data ReaderMakes (old : HandoverState) (ram : RamState) (events : List Event) (new : HandoverState) (memory : RamState) : Type 0 where

@@ -1,6 +1,5 @@
 -- The two sides and the blocks of a handover, and what they are together.
-use Rattle.std.specs.Prelude.{◌≡◌, ℕ, ◌+◌, ◌*◌, ◌<◌, ◌≤◌, List, Vec, Option, Some, None, option_to_list, [], ◌∷◌, ◌++◌, ◌^◌, length, get_or, map, All, vec_len, vec_capacity}
-use Rattle.std.specs.VecDeque.{deque_len, deque_capacity}
+use Rattle.std.specs.Prelude.{◌≡◌, ℕ, ◌*◌, ◌<◌, ◌≤◌, List, Vec, Option, Some, None, ◌^◌, length, get_or, map}
 use Rattle.std.specs.declared.alloc.Global.{Global}
 use Rattle.apei_space.specs.RamState.{RamState}
 use Rattle.ghes_ack.specs.declared.events.Side.{Side}
@@ -12,7 +11,8 @@ use Rattle.ghes_ack.specs.declared.ends.FirmwareEnd.{FirmwareEnd}
 use Rattle.ghes_ack.specs.declared.ends.FirmwareEnd.TheVariants.{Writes, Waits}
 use Rattle.ghes_ack.specs.declared.ends.ReaderEnd.{ReaderEnd}
 use Rattle.ghes_ack.specs.declared.ends.ReaderEnd.TheVariants.{Looks, Reads, Acknowledges}
-use Rattle.ghes_ack.specs.declared.blocks.Blocks.{Blocks}
+use Rattle.ghes_window.specs.Queues.{bytes_of}
+use Rattle.ghes_ack.specs.Queues.{Blocks, HasRoom}
 use Rattle.ghes_ack.specs.Machine.{Machine, Situation, Filling, Published, Reading, Cleared, Acknowledged}
 use Rattle.ghes_ack.specs.Maps.{HasAckBits, window, memory_after, AreLeft}
 use Rattle.ghes_ack.specs.Handovers.{HandoverState, StandsFor, IsTurned, AreTurned}
@@ -34,12 +34,13 @@ situation_of (Waits wait) reader work = waiting_at reader work
 
 -- the block at work: once it is copied whole it is the one taken last
 abbrev pub in_work : Situation → Option (Vec ℕ Global) → Vec ℕ Global → Option (List ℕ)
-in_work Filling None last = None
-in_work Published None last = None
+in_work Filling work last = bytes_of work
+in_work Published work last = bytes_of work
 in_work Reading None last = Some last.items
+in_work Reading (Some block) last = Some block.items
 in_work Cleared None last = Some last.items
-in_work Acknowledged None last = None
-in_work situation (Some block) last = Some block.items
+in_work Cleared (Some block) last = Some block.items
+in_work Acknowledged work last = bytes_of work
 
 -- what the blocks are in a situation
 abbrev pub state_of : Situation → Blocks → HandoverState
@@ -55,32 +56,6 @@ state_of situation b = record {
 
 abbrev pub handover_of : Ends → Blocks → HandoverState
 handover_of ends b = state_of (situation_of ends.firmware ends.reader b.at_work) b
-
--- how many blocks are at work apart from the one taken last
-abbrev pub count_of : Option (Vec ℕ Global) → ℕ
-count_of None = 0
-count_of (Some block) = 1
-
--- a buffer takes the longest block
-abbrev pub IsWide : ℕ → Vec ℕ Global → Type 0
-IsWide len v = len ≤ vec_capacity v
-
-abbrev pub IsWideIfSome : ℕ → Option (Vec ℕ Global) → Type 0
-IsWideIfSome len None = Unit {0}
-IsWideIfSome len (Some v) = IsWide len v
-
--- 66 places, so many of them in hand: for blocks that wait, of which there are at most 64, for the one at work and for the
--- one taken last, each with room for the longest block
-pub record HasRoom (in_hand : ℕ) (b : Blocks) : Type 0 where
-  pub places : deque_len b.waiting + count_of b.at_work + vec_len b.spare + in_hand ≡ 65
-  pub few : deque_len b.waiting ≤ 64
-  pub counted : length b.waiting.items ≡ deque_len b.waiting
-  pub queue : 64 ≤ deque_capacity b.waiting
-  pub stack : 65 ≤ vec_capacity b.spare
-  pub waiting_room : All (IsWide b.map.len) b.waiting.items
-  pub work_room : IsWideIfSome b.map.len b.at_work
-  pub spare_room : All (IsWide b.map.len) b.spare.items
-  pub last_room : IsWide b.map.len b.last
 
 -- a published block is at work until its last piece is copied
 abbrev pub IsCopiedSoFar : ℕ → Option (Vec ℕ Global) → Vec ℕ Global → Type 0
@@ -143,45 +118,3 @@ pub record MakesTurns (side : Side) (events : List Event) (old : HandoverState) 
 -- it stands for some state: this is its memory, which only it wrote
 abbrev pub Stands : HandoverState → RamState → Type 0
 Stands h ram = (m : Machine) × StandsFor h ram m
-
--- right after a start
-pub record IsEmpty (b : Blocks) : Type 0 where
-  pub waiting : b.waiting.items ≡ []
-  pub at_work : b.at_work ≡ None
-  pub filled : b.filled ≡ 0
-  pub copied : b.copied ≡ 0
-  pub last : b.last.items ≡ []
-
--- the block at work, if any, and those that wait, while the firmware holds the block
-abbrev pub held_of : Blocks → List (List ℕ)
-held_of b = option_to_list (in_work Filling b.at_work b.last) ++ map (λ v. v.items) b.waiting.items
-
--- all but the blocks that are not published is as before
-pub record SameButHeld (old new : Blocks) : Type 0 where
-  pub map : new.map ≡ old.map
-  pub filled : new.filled ≡ old.filled
-  pub copied : new.copied ≡ old.copied
-  pub last : new.last ≡ old.last
-
--- there was no block
-pub record HoldsNone (old new : Blocks) : Type 0 where
-  pub held : held_of old ≡ []
-  pub at_work : new.at_work ≡ None
-  pub waiting : new.waiting.items ≡ []
-  pub same : SameButHeld old new
-  pub room : HasRoom 0 new
-
--- the oldest block is in hand
-pub record TakesOut (old new : Blocks) (block : Vec ℕ Global) : Type 0 where
-  pub held : held_of old ≡ block.items ∷ map (λ v. v.items) new.waiting.items
-  pub at_work : new.at_work ≡ None
-  pub same : SameButHeld old new
-  pub wide : IsWide old.map.len block
-  pub room : HasRoom 1 new
-
--- one block more waits
-pub record Adds (old new : Blocks) (block : List ℕ) : Type 0 where
-  pub waiting : map (λ v. v.items) new.waiting.items ≡ map (λ v. v.items) old.waiting.items ++ block ∷ []
-  pub at_work : new.at_work ≡ old.at_work
-  pub same : SameButHeld old new
-  pub room : HasRoom 0 new

@@ -7,6 +7,7 @@ ghost use Rattle.ghes_ack.specs.Maps.{HasAckBits, HasWindows, IsSet, IsClear, ac
 
 use crate::maps::HandoverMap;
 use apei_space::Ram;
+use ghes_window::HasWindow;
 
 /// The firmware may write the block.
 pub struct MayWrite {
@@ -60,7 +61,7 @@ pub fn begin(map: &HandoverMap, ram: &mut Ram) -> (MayWrite, MustLook)
 {
     map.write_address(ram);
     map.set_ack(ram);
-    map.hide(ram);
+    map.window().show(ram, 0);
     (MayWrite { made: () }, MustLook { made: () })
 }
 
@@ -73,7 +74,7 @@ impl MayWrite {
         requires begins { 64 * piece < length block.now }
         ensures { ram.new ≡ with_window map.now ram.old (with_piece (window map.now ram.old) block.now piece) }
     {
-        map.fill(ram, block, piece);
+        map.window().fill(ram, block, piece);
     }
 
     /// Writes so many pieces from this one on, with a block status of 0.
@@ -94,7 +95,7 @@ impl MayWrite {
         requires few { 64 * count < length block.now - 64 * piece + 64 }
         ensures { ram.new ≡ with_window map.now ram.old (with_pieces (window map.now ram.old) block.now piece count) }
     {
-        map.fill_more(ram, block, piece, count);
+        map.window().fill_more(ram, block, piece, count);
     }
 
     /// Clears the acknowledge bits, and then shows the block by its block status.
@@ -141,7 +142,7 @@ impl MustLook {
         ensures { MatchResult result (λ _. 0 < status_word map.now ram.now) (λ _. status_word map.now ram.now ≡ 0) }
     {
         let MustLook { made } = self;
-        if map.status_word(ram) == 0 {
+        if map.window().status_word(ram) == 0 {
             Err(MustLook { made })
         } else {
             Ok(MayRead { made })
@@ -161,7 +162,7 @@ impl MayRead {
         requires inside { at + length out.old ≤ map.now.len }
         ensures { out.new ≡ part (window map.now ram.now) at (length out.old) }
     {
-        map.read_part(ram, at, out);
+        map.window().read_part(ram, at, out);
     }
 
     /// Sets the block status to 0.
@@ -170,7 +171,7 @@ impl MayRead {
         ensures { ram.new ≡ with_window map.now ram.old (with_status (window map.now ram.old) (spelled 4 0)) }
     {
         let MayRead { made } = self;
-        map.hide(ram);
+        map.window().show(ram, 0);
         MustAcknowledge { made }
     }
 

@@ -7,7 +7,7 @@ ghost use Rattle.ghes_ack.specs.Elsewhere.{SameWhere, IsOffMap, IsOffBlock};
 ghost use Rattle.ghes_ack.specs.Sides.{Stands, Turns, MakesTurns};
 ghost use Rattle.ghes_ack.specs.Handovers.{StandsFor, IsTurned, AreTurned, fresh, refusal};
 
-use crate::blocks::{Blocks, WAITING};
+use crate::blocks::Blocks;
 use crate::ends::{Ends, FirmwareEnd, ReaderEnd, begin};
 use crate::events::{Event, Side};
 use crate::maps::HandoverMap;
@@ -16,6 +16,7 @@ use crate::turns::{all_turns, piece_turn};
 use apei_bytes::Memory;
 use apei_space::Ram;
 use ghes_block::Block;
+use ghes_window::WAITING;
 use std::alloc::Global;
 use std::marker::Model;
 

@@ -7,7 +7,6 @@ mod events;
 mod handover;
 mod laws;
 mod maps;
-mod pieces;
 mod states;
 mod station;
 mod submission;

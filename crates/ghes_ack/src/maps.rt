@@ -1,15 +1,14 @@
 // The windows of a handover in memory.
-ghost use Rattle.std.specs.Prelude.{◌≡◌, ◌+◌, ◌-◌, ◌*◌, ◌%◌, ◌^◌, ◌<◌, ◌≤◌, length, min, IsTrue, ◌↔◌, bit_and, bit_or};
-ghost use Rattle.base_model.specs.Bytes.{part, number_at, put_at, spelled};
+ghost use Rattle.std.specs.Prelude.{◌≡◌, ◌*◌, ◌%◌, ◌^◌, ◌<◌, ◌≤◌, length, IsTrue, ◌↔◌, bit_and, bit_or};
+ghost use Rattle.base_model.specs.Bytes.{number_at};
 ghost use Rattle.apei_gas.specs.Access.{bits};
-ghost use Rattle.ghes_ack.specs.Machine.{with_piece, with_pieces};
-ghost use Rattle.ghes_ack.specs.Maps.{HasAckBits, HasWindows, IsSet, ack_mask, kept_mask, ack_read, window, status_word, with_window, with_ack, with_address, with_set, acknowledged};
+ghost use Rattle.ghes_ack.specs.Maps.{HasAckBits, HasWindows, IsSet, ack_mask, kept_mask, ack_read, with_ack, with_address, with_set, acknowledged};
 ghost use Rattle.ghes_ack.specs.Publications.{ClearsThenShows};
 
-use crate::pieces::{PIECE, copy_hidden};
 use apei_bytes::get_u32;
 use apei_gas::{Place, Register, Width};
 use apei_space::{Ram, Space};
+use ghes_window::{BlockWindow, HasWindow};
 
 /// Where the two sides meet (ACPI 6.4, 18.3.2.8): the 8 bytes at `status` hold the block's address, the register `ack`
 /// acknowledges a block by its bits `write` and keeps its bits `preserve`, and the block's window has `len` bytes at `block`.
@@ -29,6 +28,18 @@ fn moved_up(mask: u64, offset: u8) -> u64
     ensures { result ≡ mask * 2 ^ offset % 2 ^ 64 }
 {
     if offset < 64 { mask << offset } else { 0 }
+}
+
+impl HasWindow for HandoverMap {
+    ghost window_of = { λ map. record { block = map.block; len = map.len } };
+
+    #[inline(always)]
+    fn window(&self) -> BlockWindow {
+        BlockWindow {
+            block: self.block,
+            len: self.len,
+        }
+    }
 }
 
 impl HandoverMap {
@@ -101,70 +112,6 @@ impl HandoverMap {
         self.change_ack(ram, self.kept_mask(), self.ack_mask());
     }
 
-    /// The block status.
-    pub(crate) fn status_word(&self, ram: &Ram) -> u64
-        requires { HasWindows self.now ram.now }
-        ensures { result ≡ status_word self.now ram.now }
-    {
-        ram.look(Place::Memory(self.block), Width::B32).unwrap_or(0)
-    }
-
-    /// Sets the block status to 0.
-    pub(crate) fn hide(&self, ram: &mut Ram)
-        requires { HasWindows self.now ram.old }
-        ensures { ram.new ≡ with_window self.now ram.old (put_at (window self.now ram.old) 0 (spelled 4 0)) }
-    {
-        let _ = ram.write(Place::Memory(self.block), Width::B32, 0);
-    }
-
-    /// Writes bytes into the window.
-    pub(crate) fn write_part(&self, ram: &mut Ram, at: u64, bytes: &[u8])
-        requires windows { HasWindows self.now ram.old }
-        requires some { 0 < length bytes.now }
-        requires inside { at + length bytes.now ≤ self.now.len }
-        ensures { ram.new ≡ with_window self.now ram.old (put_at (window self.now ram.old) at bytes.now) }
-    {
-        let _ = ram.write_bytes(self.block + at, bytes);
-    }
-
-    /// Writes the piece of 64 bytes with this number, the last one shorter, with a block status of 0.
-    #[inline(always)]
-    pub(crate) fn fill(&self, ram: &mut Ram, block: &[u8], piece: u32)
-        requires windows { HasWindows self.now ram.old }
-        requires fits { length block.now ≤ self.now.len }
-        requires begins { 64 * piece < length block.now }
-        ensures { ram.new ≡ with_window self.now ram.old (with_piece (window self.now ram.old) block.now piece) }
-    {
-        let at = PIECE * piece as usize;
-        let end = block.len().min(at + PIECE);
-        if piece == 0 {
-            self.write_first(ram, block, &mut [0; PIECE][..end]);
-        } else {
-            self.write_part(ram, at as u64, &block[at..end]);
-        }
-    }
-
-    /// Writes so many pieces from this one on, with a block status of 0.
-    #[inline(always)]
-    pub(crate) fn fill_more(&self, ram: &mut Ram, block: &[u8], piece: u32, count: usize)
-        requires windows { HasWindows self.now ram.old }
-        requires head { 20 ≤ length block.now }
-        requires fits { length block.now ≤ self.now.len }
-        requires begins { 64 * piece < length block.now }
-        requires some { 0 < count }
-        requires few { 64 * count < length block.now - 64 * piece + 64 }
-        ensures { ram.new ≡ with_window self.now ram.old (with_pieces (window self.now ram.old) block.now piece count) }
-    {
-        let at = PIECE * piece as usize;
-        let end = block.len().min(at + PIECE * count);
-        if piece == 0 {
-            self.hide(ram);
-            self.write_part(ram, 4, &block[4..end]);
-        } else {
-            self.write_part(ram, at as u64, &block[at..end]);
-        }
-    }
-
     /// Clears the acknowledge bits, and only then writes the block status of a block, in any space: so a reader that sees the
     /// block never finds the acknowledgement of the one before it.
     pub(crate) fn publish<S: Space>(&self, space: &mut S, block: &[u8])
@@ -175,26 +122,5 @@ impl HandoverMap {
         let value = space.read(self.ack.place, self.ack.access).unwrap_or(0);
         let _ = space.write(self.ack.place, self.ack.access, value & !self.ack_mask());
         let _ = space.write(Place::Memory(self.block), Width::B32, u64::from(word));
-    }
-
-    /// Writes the first piece of a block, its status word as 0. The buffer is as long as the piece.
-    pub(crate) fn write_first(&self, ram: &mut Ram, block: &[u8], buffer: &mut [u8])
-        requires windows { HasWindows self.now ram.old }
-        requires fits { length block.now ≤ self.now.len }
-        requires some { 0 < length block.now }
-        requires piece { length buffer.old ≡ min (length block.now) 64 }
-        ensures { ram.new ≡ with_window self.now ram.old (with_piece (window self.now ram.old) block.now 0) }
-    {
-        copy_hidden(block, buffer);
-        self.write_part(ram, 0, buffer);
-    }
-
-    /// Reads bytes of the window.
-    pub(crate) fn read_part(&self, ram: &Ram, at: u64, out: &mut [u8])
-        requires windows { HasWindows self.now ram.now }
-        requires inside { at + length out.old ≤ self.now.len }
-        ensures { out.new ≡ part (window self.now ram.now) at (length out.old) }
-    {
-        let _ = ram.look_bytes(self.block + at, out);
     }
 }

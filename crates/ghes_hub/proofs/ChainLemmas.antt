@@ -4,11 +4,11 @@ use Rattle.std.specs.List.{AllZip}
 use Rattle.std.specs.Option.{option_map}
 use Rattle.std.proofs.lemmas.Option.{slice_get-map, slice_get_read}
 use Rattle.base_model.specs.Bytes.{number_at}
-use Rattle.apei_notify.specs.Telling.{Hearing, IsTold}
+use Rattle.apei_notify.specs.Telling.{Told, Hearing, IsTold}
 use Rattle.ghes_hub.specs.Chains.{in_order}
-use Rattle.ghes_hub.specs.Hubs.{Told, TellsAt, RemovesAt}
+use Rattle.ghes_hub.specs.Hubs.{TellsAt, RemovesAt}
 use Rattle.ghes_hub.proofs.SourceLemmas.{slice_get-same, slice_get-other}
-use Rattle.ghes_hub.proofs.ToldLemmas.{Told-none}
+use Rattle.apei_notify.proofs.ToldLemmas.{told_none}
 
 -- a list of no more items in one place
 pub no_longer : {C L : Type 0} (f : C → List L) (xs : List C) (i : ℕ) (y d : C) → i < length xs → length (f y) ≤ length (f (get_or xs i d)) → length (in_order (map f (set xs i y))) ≤ length (in_order (map f xs))
@@ -61,7 +61,7 @@ pub tells_none : {L : Type 0} (hearing : L → Hearing) (lists : List (List L)) 
 tells_none {L} hearing lists i last takes none =
     let blocks : cond {A = List (List ℕ)} takes (last ∷ []) [] ≡ [] = ap (λ (b : Bool). cond {A = List (List ℕ)} b (last ∷ []) []) none in
     record {
-      told = λ members at. (members, at, subst (λ (bs : List (List ℕ)). Told hearing bs members members) (sym blocks) (Told-none hearing members));
+      told = λ members at. (members, at, subst (λ (bs : List (List ℕ)). Told hearing bs members members) (sym blocks) (told_none hearing members));
       others = λ j other. refl;
     }
 

@@ -3,7 +3,7 @@ use Rattle.std.proofs.Common.{◌≡◌, ◌≢◌, ◌∙◌, ℕ, ◌+◌, ◌
 use Rattle.std.proofs.lemmas.Bool.{cases_eq, eq-eqb, ne_eqb}
 use Rattle.std.proofs.lemmas.List.{get_or_at}
 use Rattle.apei_space.specs.RamState.{RamState}
-use Rattle.apei_notify.specs.Telling.{Hearing}
+use Rattle.apei_notify.specs.Telling.{Told, Hearing}
 use Rattle.ghes_ack.specs.declared.events.Side.{Side}
 use Rattle.ghes_ack.specs.declared.events.Event.{Event}
 use Rattle.ghes_ack.specs.Machine.{Machine, Fits, submitted, started, last_taken, IsState, with_status}
@@ -17,10 +17,11 @@ use Rattle.ghes_hub.specs.Kinds.{Kind, turned_by}
 use Rattle.ghes_hub.specs.Runs.{after_by, run_by, events_by, takes, told_at, told_by}
 use Rattle.ghes_hub.specs.OneSource.{SourceStands, last_of}
 use Rattle.ghes_hub.specs.SourcesState.{SourcesState, layouts_in, StandsAt, TurnsAt}
-use Rattle.ghes_hub.specs.Hubs.{HubState, last_if, last_in, Told, Call, Submits, Turns, Removes, DoAll, steps_at, events_at, removals_at, left_of, Serves}
+use Rattle.ghes_hub.specs.Hubs.{HubState, last_if, last_in, Call, Submits, Turns, Removes, DoAll, steps_at, events_at, removals_at, left_of, Serves}
 use Rattle.ghes_hub.proofs.KindLemmas.{turned_keeps}
 use Rattle.ghes_hub.proofs.RunLemmas.{blocks_by, taken_by, order_by, told_is, took_fits}
-use Rattle.ghes_hub.proofs.ToldLemmas.{Told-then, Told-none, Told-left}
+use Rattle.apei_notify.proofs.ToldLemmas.{told_then, told_none}
+use Rattle.ghes_hub.proofs.ToldLemmas.{Told-left}
 
 last_fits : (len : ℕ) (blocks : List (List ℕ)) (block : List ℕ) → All (Fits len) (blocks ++ block ∷ []) → Fits len block
 last_fits len blocks block all =
@@ -76,7 +77,7 @@ goes {L} hearing kind j len [] first last members w n st is same = record {
   fitting = tt;
   now = members;
   members_are = ap (λ (h : HubState L). slice_get h.chains j) same ∙ is;
-  told = Told-none hearing members;
+  told = told_none hearing members;
 }
 goes {L} hearing kind j len (Submits i block ∷ calls) first last members w n st is (between, does, later) =
     let chain : slice_get between.chains j ≡ Some members = ap (λ (cs : List (List L)). slice_get cs j) does.chains ∙ is in
@@ -117,7 +118,7 @@ goes {L} hearing kind j len (Turns i side event ∷ calls) first last members w 
         fitting = rest.fitting;
         now = rest.now;
         members_are = rest.members_are;
-        told = Told-then hearing told_blocks (told_by kind v (steps_at j calls)) (left_of (removals_at j calls) members) (left_of (removals_at j calls) tell.0) rest.now
+        told = told_then hearing told_blocks (told_by kind v (steps_at j calls)) (left_of (removals_at j calls) members) (left_of (removals_at j calls) tell.0) rest.now
             (Told-left hearing told_blocks (removals_at j calls) members tell.0 told_here) rest.told;
       })
   | inr apart ↦

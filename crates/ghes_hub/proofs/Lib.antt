@@ -1,4 +1,3 @@
-pub mod RoomLemmas
 pub mod KindLemmas
 pub mod RunLemmas
 pub mod SourceLemmas

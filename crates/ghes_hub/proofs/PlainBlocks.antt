@@ -1,44 +1,28 @@
 -- The turns of the two sides of a plain handover with their blocks.
-use Rattle.std.proofs.Common.{◌≡◌, ◌∙◌, ℕ, ◌+◌, ◌-◌, ◌*◌, ◌<◌, ◌≤◌, min, List, [], ◌++◌, length, take, drop, map, Vec, Option, Some, None, option_to_list, refl, sym, ap, subst, arith, append_assoc}
+use Rattle.std.proofs.Common.{◌≡◌, ◌∙◌, ℕ, ◌+◌, ◌-◌, ◌*◌, ◌<◌, ◌≤◌, min, List, [], ◌++◌, length, take, drop, map, Vec, Option, Some, None, option_to_list, refl, sym, ap, subst, arith}
 use Rattle.std.specs.declared.alloc.Global.{Global}
 use Rattle.std.specs.Vec.{with_items}
-use Rattle.std.proofs.lemmas.List.{drop-drop, with_items_is, length-take, length-drop}
-use Rattle.base_model.specs.Bytes.{part, spelled, put_at, number_at}
+use Rattle.std.proofs.lemmas.List.{with_items_is}
+use Rattle.base_model.specs.Bytes.{part, spelled, put_at}
 use Rattle.apei_space.specs.RamState.{RamState}
 use Rattle.ghes_ack.specs.declared.events.Side.TheVariants.{Firmware, Reader}
 use Rattle.ghes_ack.specs.declared.events.Event.TheVariants.{Idle, Fill, Publish, Free, Found, Copied, Took, Clear}
 use Rattle.ghes_ack.specs.Machine.{Machine, Situation, Filling, Published, Reading, Acknowledged, Fits, with_piece, with_status}
 use Rattle.ghes_hub.specs.declared.plain.map.PlainMap.{PlainMap}
-use Rattle.ghes_hub.specs.declared.plain.blocks.Blocks.{Blocks}
-use Rattle.ghes_hub.specs.Plain.{HasPlainWindows, plain_window, with_plain_window, PlainState, PlainStands}
-use Rattle.ghes_hub.specs.PlainSides.{Turns, Stands, state_of, TakesOut, HoldsNone}
-use Rattle.ghes_ack.specs.Sides.{in_work, count_of, IsCopiedSoFar}
-use Rattle.ghes_hub.proofs.PlainTurns.{next_is, fills, publishes, frees, some_status, idles, finds, work_fits, copies_over, copies_more, copies_last, clears}
+use Rattle.ghes_window.specs.declared.blocks.Blocks.{Blocks}
+use Rattle.ghes_window.specs.Queues.{TakesOut, HoldsNone, count_of}
+use Rattle.ghes_hub.specs.Plain.{HasPlainWindows, plain_window, plain_window_of, with_plain_window, PlainState, PlainStands}
+use Rattle.ghes_hub.specs.PlainSides.{Turns, Stands, state_of}
+use Rattle.ghes_ack.specs.Sides.{in_work, IsCopiedSoFar}
+use Rattle.ghes_hub.proofs.PlainTurns.{next_fits, fills, publishes, frees, idles, finds, copies_over, copies_more, copies_last, clears}
 
--- a write in the middle of a list
-pub mid_is : (old others : List ℕ) (at n : ℕ) → length others ≡ n → take at old ++ (others ++ drop n (drop at old)) ≡ put_at old at others
-unfolding put_at
-mid_is old others at n is =
-    ap (λ (i : ℕ). take at old ++ (others ++ drop i (drop at old))) (sym is)
-    ∙ ap (λ (zs : List ℕ). take at old ++ (others ++ zs)) (drop-drop (length others) at old)
-    ∙ sym (append_assoc (take at old) others (drop (at + length others) old))
-
--- bytes of the plain_window in the middle of others
-pub piece_is : (bytes out w : List ℕ) (at p end len : ℕ) → end ≡ min (length bytes) (at + p) → at < length bytes → len ≡ length (take (end - at) (drop at bytes)) → length out ≡ len → out ≡ part w at len →
-    take at bytes ++ (out ++ drop (end - at) (drop at bytes)) ≡ put_at bytes at (part w at (min p (length bytes - at)))
-piece_is bytes out w at p end len is_end more is_len is_out is =
-    let l = is_len ∙ length-take (end - at) (drop at bytes) in
-    let d = length-drop at bytes in
-    let n : len ≡ min p (length bytes - at) = omega (arith, l, d, is_end, more) in
-    mid_is bytes out at (end - at) (omega (arith, is_out, l, d, is_end, more)) ∙ ap (put_at bytes at) (is ∙ ap (part w at) n)
-
--- the block in hand is one that the plain_window takes
-pub fits_in_hand : (b t : Blocks) (block : Vec ℕ Global) (ram : RamState) → TakesOut b t block → Stands (state_of Filling b) ram → HasPlainWindows b.map ram × Fits b.map.len block.items
+-- the block in hand is one that the window takes
+pub fits_in_hand : (b t : Blocks PlainMap) (block : Vec ℕ Global) (ram : RamState) → TakesOut plain_window_of b t block → Stands (state_of Filling b) ram → HasPlainWindows b.map ram × Fits b.map.len block.items
 fits_in_hand b t block ram out (m, st) =
-    (st.windows, (next_is (state_of Filling b) ram m block.items (map (λ v. v.items) t.waiting.items) refl out.held st).good)
+    (st.windows, next_fits (state_of Filling b) ram m block.items (map (λ v. v.items) t.waiting.items) out.held st)
 
 -- what the handover is after a turn that took out a block
-in_hand : (b t : Blocks) (block : Vec ℕ Global) (s : Situation) (filled other : ℕ) → TakesOut b t block → filled ≡ other →
+in_hand : (b t : Blocks PlainMap) (block : Vec ℕ Global) (s : Situation) (filled other : ℕ) → TakesOut plain_window_of b t block → filled ≡ other →
     ◌≡◌ {A = PlainState} (record { map = b.map; situation = s; waiting = map (λ v. v.items) t.waiting.items; at_work = Some block.items; filled = filled; copied = b.copied; last = b.last.items })
     (record { map = t.map; situation = s; waiting = map (λ v. v.items) t.waiting.items; at_work = Some block.items; filled = other; copied = t.copied; last = t.last.items })
 in_hand b t block s filled other out same =
@@ -47,7 +31,7 @@ in_hand b t block s filled other out same =
     let last : t.last.items ≡ b.last.items = ap (λ v. v.items) out.same.last in
     cc
 
-pub fills_hand : (b t : Blocks) (block : Vec ℕ Global) (bytes : List ℕ) (ram new : RamState) → TakesOut b t block → bytes ≡ block.items → 64 * t.filled < length block.items →
+pub fills_hand : (b t : Blocks PlainMap) (block : Vec ℕ Global) (bytes : List ℕ) (ram new : RamState) → TakesOut plain_window_of b t block → bytes ≡ block.items → 64 * t.filled < length block.items →
     new ≡ with_plain_window t.map ram (with_piece (plain_window t.map ram) bytes t.filled) → (m : Machine) → PlainStands (state_of Filling b) ram m →
     Turns Firmware Fill (state_of Filling b) ram (state_of Filling (record t { at_work = Some block; filled = t.filled + 1 })) new m
 fills_hand b t block bytes ram new out is more memory m st =
@@ -60,7 +44,7 @@ fills_hand b t block bytes ram new out is more memory m st =
     subst (λ (after : PlainState). Turns Firmware Fill h ram after new m) (in_hand b t block Filling (b.filled + 1) (t.filled + 1) out (ap (λ (k : ℕ). k + 1) (sym f)))
     (fills h ram new m block.items (map (λ v. v.items) t.waiting.items) refl out.held (omega (arith, more, f)) memory_b st)
 
-pub publishes_hand : (b t : Blocks) (block : Vec ℕ Global) (bytes : List ℕ) (ram new : RamState) → TakesOut b t block → bytes ≡ block.items → length block.items ≤ 64 * t.filled →
+pub publishes_hand : (b t : Blocks PlainMap) (block : Vec ℕ Global) (bytes : List ℕ) (ram new : RamState) → TakesOut plain_window_of b t block → bytes ≡ block.items → length block.items ≤ 64 * t.filled →
     new ≡ with_plain_window t.map ram (with_status (plain_window t.map ram) (take 4 bytes)) → (m : Machine) → PlainStands (state_of Filling b) ram m →
     Turns Firmware Publish (state_of Filling b) ram (state_of Published (record t { at_work = Some block; filled = 0 })) new m
 publishes_hand b t block bytes ram new out is none memory m st =
@@ -73,21 +57,15 @@ publishes_hand b t block bytes ram new out is none memory m st =
     (publishes h ram new m block.items (map (λ v. v.items) t.waiting.items) refl out.held (omega (arith, none, f)) memory_b st)
 
 -- the block at work is free
-pub frees_at : (b : Blocks) (ram : RamState) → b.at_work ≡ None → (m : Machine) → PlainStands (state_of Acknowledged b) ram m → Turns Firmware Free (state_of Acknowledged b) ram (state_of Filling b) ram m
+pub frees_at : (b : Blocks PlainMap) (ram : RamState) → b.at_work ≡ None → (m : Machine) → PlainStands (state_of Acknowledged b) ram m → Turns Firmware Free (state_of Acknowledged b) ram (state_of Filling b) ram m
 frees_at b ram none m st =
     let h = state_of Acknowledged b in
     let same : in_work Acknowledged b.at_work b.last ≡ in_work Filling b.at_work b.last =
     ap (λ (o : Option (Vec ℕ Global)). in_work Acknowledged o b.last) none ∙ sym (ap (λ (o : Option (Vec ℕ Global)). in_work Filling o b.last) none) in
     subst (λ (o : Option (List ℕ)). Turns Firmware Free h ram (record h { situation = Filling; at_work = o }) ram m) same (frees h ram m refl st)
 
--- the status of a published block
-pub status_at : (b : Blocks) (ram : RamState) → Stands (state_of Published b) ram → number_at (plain_window b.map ram) 0 4 ≡ 0 → ⊥
-status_at b ram (m, st) none =
-    let some = some_status (state_of Published b) ram m refl st in
-    omega (arith, some, none)
-
 -- the reader copies
-pub clears_at : (b : Blocks) (rest : Option (Vec ℕ Global)) (ram new : RamState) → b.at_work ≡ None → rest ≡ None → IsCopiedSoFar b.copied b.at_work b.last →
+pub clears_at : (b : Blocks PlainMap) (rest : Option (Vec ℕ Global)) (ram new : RamState) → b.at_work ≡ None → rest ≡ None → IsCopiedSoFar b.copied b.at_work b.last →
     new ≡ with_plain_window b.map ram (with_status (plain_window b.map ram) (spelled 4 0)) → (m : Machine) → PlainStands (state_of Reading b) ram m →
     Turns Reader Clear (state_of Reading b) ram (state_of Acknowledged (record b { at_work = rest })) new m
 clears_at b rest ram new none gone far memory m st =
@@ -97,17 +75,11 @@ clears_at b rest ram new none gone far memory m st =
     let all : length b.last.items ≤ 64 * b.copied = subst (λ (o : Option (Vec ℕ Global)). IsCopiedSoFar b.copied o b.last) none far in
     subst (λ (o : Option (List ℕ)). Turns Reader Clear h ram (record h { situation = Acknowledged; at_work = o }) new m) after (clears h ram new m b.last.items refl last all memory st)
 
-pub work_at : (b : Blocks) (block : Vec ℕ Global) (ram : RamState) → b.at_work ≡ Some block → Stands (state_of Reading b) ram → HasPlainWindows b.map ram × Fits b.map.len block.items
-work_at b block ram some (m, st) =
-    let h = state_of Reading b in
-    let is : h.at_work ≡ Some block.items = ap (λ (o : Option (Vec ℕ Global)). in_work Reading o b.last) some in
-    (st.windows, work_fits h ram m block.items is st)
-
-pub begins_at : (b : Blocks) (block : Vec ℕ Global) → b.at_work ≡ Some block → IsCopiedSoFar b.copied b.at_work b.last → 64 * b.copied < length block.items
+pub begins_at : (b : Blocks PlainMap) (block : Vec ℕ Global) → b.at_work ≡ Some block → IsCopiedSoFar b.copied b.at_work b.last → 64 * b.copied < length block.items
 begins_at b block some far = subst (λ (o : Option (Vec ℕ Global)). IsCopiedSoFar b.copied o b.last) some far
 
 -- a copy leaves the block at work as it is
-pub same_items : (p : ℕ) (b : Blocks) (block : Vec ℕ Global) (bytes copied : List ℕ) (ram : RamState) → b.at_work ≡ Some block → bytes ≡ block.items → IsCopiedSoFar b.copied b.at_work b.last →
+pub same_items : (p : ℕ) (b : Blocks PlainMap) (block : Vec ℕ Global) (bytes copied : List ℕ) (ram : RamState) → b.at_work ≡ Some block → bytes ≡ block.items → IsCopiedSoFar b.copied b.at_work b.last →
     copied ≡ put_at bytes (64 * b.copied) (part (plain_window b.map ram) (64 * b.copied) (min p (length bytes - 64 * b.copied))) → Stands (state_of Reading b) ram → length copied ≡ block.len → (with_items block copied).items ≡ block.items
 same_items p b block bytes copied ram some is far memory stands long =
     let h = state_of Reading b in
@@ -118,7 +90,7 @@ same_items p b block bytes copied ram some is far memory stands long =
     ∙ ap (λ (x : List ℕ). put_at x (64 * b.copied) (part (plain_window b.map ram) (64 * b.copied) (min p (length x - 64 * b.copied)))) is
     ∙ copies_over h ram block.items (64 * b.copied) (min p (length block.items - 64 * b.copied)) refl work begins (omega (arith, begins)) stands
 
-pub copies_at : (b : Blocks) (block after : Vec ℕ Global) (ram : RamState) → b.at_work ≡ Some block → after.items ≡ block.items → 64 * (b.copied + 1) < length block.items →
+pub copies_at : (b : Blocks PlainMap) (block after : Vec ℕ Global) (ram : RamState) → b.at_work ≡ Some block → after.items ≡ block.items → 64 * (b.copied + 1) < length block.items →
     (m : Machine) → PlainStands (state_of Reading b) ram m →
     Turns Reader Copied (state_of Reading b) ram (state_of Reading (record b { at_work = Some after; copied = b.copied + 1 })) ram m
 copies_at b block after ram some same more m st =
@@ -127,14 +99,14 @@ copies_at b block after ram some same more m st =
     let kept_same : h.at_work ≡ Some after.items = work ∙ ap (λ (x : List ℕ). Some x) (sym same) in
     subst (λ (o : Option (List ℕ)). Turns Reader Copied h ram (record h { copied = b.copied + 1; at_work = o }) ram m) kept_same (copies_more h ram m block.items refl work more st)
 
-pub takes_at : (b after : Blocks) (block last : Vec ℕ Global) (ram : RamState) → b.at_work ≡ Some block → last.items ≡ block.items → 64 * b.copied < length block.items → length block.items ≤ 64 * (b.copied + 1) →
+pub takes_at : (b after : Blocks PlainMap) (block last : Vec ℕ Global) (ram : RamState) → b.at_work ≡ Some block → last.items ≡ block.items → 64 * b.copied < length block.items → length block.items ≤ 64 * (b.copied + 1) →
     after ≡ record b { at_work = None; copied = b.copied + 1; last = last; spare = after.spare } → (m : Machine) → PlainStands (state_of Reading b) ram m →
     Turns Reader Took (state_of Reading b) ram (state_of Reading after) ram m
 takes_at b after block last ram some same more all is m st =
     let h = state_of Reading b in
     let work : h.at_work ≡ Some block.items = ap (λ (o : Option (Vec ℕ Global)). in_work Reading o b.last) some in
     let kept_same : h.at_work ≡ Some last.items = work ∙ ap (λ (x : List ℕ). Some x) (sym same) in
-    subst (λ (s : Blocks). Turns Reader Took h ram (state_of Reading s) ram m) (sym is)
+    subst (λ (s : Blocks PlainMap). Turns Reader Took h ram (state_of Reading s) ram m) (sym is)
     (subst (λ (o : Option (List ℕ)). Turns Reader Took h ram (record h { copied = b.copied + 1; last = last.items; at_work = o }) ram m) kept_same
     (subst (λ (x : List ℕ). Turns Reader Took h ram (record h { copied = b.copied + 1; last = x }) ram m) (sym same) (copies_last h ram m block.items refl work more all st)))
 
@@ -142,7 +114,7 @@ nil_parts : (o : Option (List ℕ)) (xs : List (List ℕ)) → option_to_list o 
 nil_parts None xs e = (refl, e)
 nil_parts (Some x) xs e = absurd cc
 
-pub idles_at : (b new : Blocks) (ram : RamState) → HoldsNone b new → (m : Machine) → PlainStands (state_of Filling b) ram m → Turns Firmware Idle (state_of Filling b) ram (state_of Filling new) ram m
+pub idles_at : (b new : Blocks PlainMap) (ram : RamState) → HoldsNone plain_window_of b new → (m : Machine) → PlainStands (state_of Filling b) ram m → Turns Firmware Idle (state_of Filling b) ram (state_of Filling new) ram m
 idles_at b new ram none m st =
     let map_is = none.same.map in
     let filled = none.same.filled in
@@ -157,7 +129,7 @@ idles_at b new ram none m st =
     let same : state_of Filling b ≡ state_of Filling new = cc in
     subst (λ (after : PlainState). Turns Firmware Idle (state_of Filling b) ram after ram m) same t
 
-pub finds_at : (b : Blocks) (ram : RamState) → count_of b.at_work ≡ 1 → (m : Machine) → PlainStands (state_of Published b) ram m → Turns Reader Found (state_of Published b) ram (state_of Reading (record b { copied = 0 })) ram m
+pub finds_at : (b : Blocks PlainMap) (ram : RamState) → count_of b.at_work ≡ 1 → (m : Machine) → PlainStands (state_of Published b) ram m → Turns Reader Found (state_of Published b) ram (state_of Reading (record b { copied = 0 })) ram m
 finds_at b ram one m st = subst (λ (o : Option (List ℕ)). Turns Reader Found (state_of Published b) ram (record (state_of Published b) { situation = Reading; copied = 0; at_work = o }) ram m) (same b.at_work one) (finds (state_of Published b) ram m refl st) where
   same : (o : Option (Vec ℕ Global)) → count_of o ≡ 1 → in_work Published o b.last ≡ in_work Reading o b.last
   same (Some block) e = refl

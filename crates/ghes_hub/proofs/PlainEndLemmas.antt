@@ -6,43 +6,45 @@ use Rattle.ghes_ack.specs.declared.events.Side.TheVariants.{Firmware, Reader}
 use Rattle.ghes_ack.specs.declared.events.Event.{Event}
 use Rattle.ghes_ack.specs.declared.events.Event.TheVariants.{Free, Wait, Nothing, Found}
 use Rattle.ghes_ack.specs.Machine.{Machine, Situation, Filling, Published, Reading, Cleared, Acknowledged}
-use Rattle.ghes_ack.specs.Sides.{looking_at, in_work, count_of, IsCopiedSoFar}
+use Rattle.ghes_ack.specs.Sides.{looking_at, in_work, IsCopiedSoFar}
 use Rattle.ghes_hub.specs.declared.plain.ends.FirmwareEnd.{FirmwareEnd}
 use Rattle.ghes_hub.specs.declared.plain.ends.FirmwareEnd.TheVariants.{Writes, Waits}
 use Rattle.ghes_hub.specs.declared.plain.ends.ReaderEnd.{ReaderEnd}
 use Rattle.ghes_hub.specs.declared.plain.ends.ReaderEnd.TheVariants.{Looks, Reads}
-use Rattle.ghes_hub.specs.declared.plain.blocks.Blocks.{Blocks}
+use Rattle.ghes_window.specs.declared.blocks.Blocks.{Blocks}
+use Rattle.ghes_window.specs.Queues.{count_of}
+use Rattle.ghes_hub.specs.declared.plain.map.PlainMap.{PlainMap}
 use Rattle.ghes_hub.specs.Plain.{plain_status, PlainState, PlainStands}
 use Rattle.ghes_hub.specs.PlainSides.{waiting_at, state_of, handover_of, IsSound, AreApart, IsConsistent, Stands, Turns, SideDone, FirmwareIsAble, FirmwareTurns, ReaderIsAble, ReaderTurns}
-use Rattle.ghes_hub.proofs.PlainTurns.{waits, held_status, some_status, no_status, finds_nothing, work_fits}
+use Rattle.ghes_hub.proofs.PlainTurns.{waits, held_status, no_status, finds_nothing, work_fits}
 use Rattle.ghes_hub.proofs.PlainBlocks.{frees_at, finds_at}
 
 -- each side can make a turn
-pub firmware_able : (firmware : FirmwareEnd) (reader : ReaderEnd) (b : Blocks) (ram : RamState) → IsConsistent (record { firmware = firmware; reader = reader }) b → Stands (handover_of (record { firmware = firmware; reader = reader }) b) ram → FirmwareIsAble firmware b ram
+pub firmware_able : (firmware : FirmwareEnd) (reader : ReaderEnd) (b : Blocks PlainMap) (ram : RamState) → IsConsistent (record { firmware = firmware; reader = reader }) b → Stands (handover_of (record { firmware = firmware; reader = reader }) b) ram → FirmwareIsAble firmware b ram
 firmware_able (Writes write) reader b ram all stands = (all.sound, stands)
 firmware_able (Waits wait) reader b ram all (m, st) = st.windows
 
-pub reader_able : (firmware : FirmwareEnd) (reader : ReaderEnd) (b : Blocks) (ram : RamState) → IsConsistent (record { firmware = firmware; reader = reader }) b → Stands (handover_of (record { firmware = firmware; reader = reader }) b) ram → ReaderIsAble reader b ram
+pub reader_able : (firmware : FirmwareEnd) (reader : ReaderEnd) (b : Blocks PlainMap) (ram : RamState) → IsConsistent (record { firmware = firmware; reader = reader }) b → Stands (handover_of (record { firmware = firmware; reader = reader }) b) ram → ReaderIsAble reader b ram
 reader_able (Writes write) (Looks look) b ram all (m, st) = st.windows
 reader_able (Waits wait) (Looks look) b ram all (m, st) = st.windows
 reader_able (Writes write) (Reads read) b ram all stands = absurd all.apart
 reader_able (Waits wait) (Reads read) b ram all stands = (all.sound, stands)
 
 -- it has the same blocks and memory
-firmware_as : (event other : Event) (firmware end : FirmwareEnd) (reader : ReaderEnd) (old new after : Blocks) (ram memory left : RamState) → event ≡ other → new ≡ after → memory ≡ left →
+firmware_as : (event other : Event) (firmware end : FirmwareEnd) (reader : ReaderEnd) (old new after : Blocks PlainMap) (ram memory left : RamState) → event ≡ other → new ≡ after → memory ≡ left →
     SideDone Firmware other (record { firmware = firmware; reader = reader }) (record { firmware = end; reader = reader }) old after ram left →
     SideDone Firmware event (record { firmware = firmware; reader = reader }) (record { firmware = end; reader = reader }) old new ram memory
 firmware_as event other firmware end reader old new after ram memory left is_event is_new is_memory done =
     subst (λ (e : Event). SideDone Firmware e (record { firmware = firmware; reader = reader }) (record { firmware = end; reader = reader }) old new ram memory) (sym is_event)
-    (subst (λ (n : Blocks). SideDone Firmware other (record { firmware = firmware; reader = reader }) (record { firmware = end; reader = reader }) old n ram memory) (sym is_new)
+    (subst (λ (n : Blocks PlainMap). SideDone Firmware other (record { firmware = firmware; reader = reader }) (record { firmware = end; reader = reader }) old n ram memory) (sym is_new)
     (subst (λ (r : RamState). SideDone Firmware other (record { firmware = firmware; reader = reader }) (record { firmware = end; reader = reader }) old after ram r) (sym is_memory) done))
 
-reader_as : (event other : Event) (firmware : FirmwareEnd) (reader end : ReaderEnd) (old new after : Blocks) (ram memory left : RamState) → event ≡ other → new ≡ after → memory ≡ left →
+reader_as : (event other : Event) (firmware : FirmwareEnd) (reader end : ReaderEnd) (old new after : Blocks PlainMap) (ram memory left : RamState) → event ≡ other → new ≡ after → memory ≡ left →
     SideDone Reader other (record { firmware = firmware; reader = reader }) (record { firmware = firmware; reader = end }) old after ram left →
     SideDone Reader event (record { firmware = firmware; reader = reader }) (record { firmware = firmware; reader = end }) old new ram memory
 reader_as event other firmware reader end old new after ram memory left is_event is_new is_memory done =
     subst (λ (e : Event). SideDone Reader e (record { firmware = firmware; reader = reader }) (record { firmware = firmware; reader = end }) old new ram memory) (sym is_event)
-    (subst (λ (n : Blocks). SideDone Reader other (record { firmware = firmware; reader = reader }) (record { firmware = firmware; reader = end }) old n ram memory) (sym is_new)
+    (subst (λ (n : Blocks PlainMap). SideDone Reader other (record { firmware = firmware; reader = reader }) (record { firmware = firmware; reader = end }) old n ram memory) (sym is_new)
     (subst (λ (r : RamState). SideDone Reader other (record { firmware = firmware; reader = reader }) (record { firmware = firmware; reader = end }) old after ram r) (sym is_memory) done))
 
 -- the firmware waits while the block status is not 0
@@ -54,11 +56,11 @@ waits_by h ram m Cleared is some st = waits h ram m (inr (inr is)) st
 waits_by h ram m Acknowledged is some st = absurd (let none = no_status h ram m (inr is) st in omega (arith, some, none))
 
 -- where the block status is 0 while the firmware waits, the reader looks, and no block is at work
-record IsReturned (write : FirmwareEnd) (reader : ReaderEnd) (b : Blocks) (ram : RamState) (m : Machine) (s : Situation) : Type 0 where
+record IsReturned (write : FirmwareEnd) (reader : ReaderEnd) (b : Blocks PlainMap) (ram : RamState) (m : Machine) (s : Situation) : Type 0 where
   apart : AreApart write reader
   turns : Turns Firmware Free (state_of s b) ram (state_of Filling b) ram m
 
-returned : (write : FirmwareEnd) (reader : ReaderEnd) (b : Blocks) (ram : RamState) (work : Option (Vec ℕ Global)) → b.at_work ≡ work → plain_status b.map ram ≡ 0 → (m : Machine) → PlainStands (state_of (waiting_at reader work) b) ram m →
+returned : (write : FirmwareEnd) (reader : ReaderEnd) (b : Blocks PlainMap) (ram : RamState) (work : Option (Vec ℕ Global)) → b.at_work ≡ work → plain_status b.map ram ≡ 0 → (m : Machine) → PlainStands (state_of (waiting_at reader work) b) ram m →
     IsReturned write reader b ram m (waiting_at reader work)
 returned (Writes write) (Looks look) b ram None is none m st = record { apart = tt; turns = frees_at b ram is m st }
 returned (Waits wait) (Looks look) b ram None is none m st = record { apart = tt; turns = frees_at b ram is m st }
@@ -70,7 +72,7 @@ shown : (work : Option (Vec ℕ Global)) → count_of work ≡ 1 → Published �
 shown None is = absurd (omega (arith, is))
 shown (Some block) is = refl
 
-pub firmware_done : (firmware end : FirmwareEnd) (reader : ReaderEnd) (b new : Blocks) (ram memory : RamState) (event : Event) → IsConsistent (record { firmware = firmware; reader = reader }) b →
+pub firmware_done : (firmware end : FirmwareEnd) (reader : ReaderEnd) (b new : Blocks PlainMap) (ram memory : RamState) (event : Event) → IsConsistent (record { firmware = firmware; reader = reader }) b →
     Stands (handover_of (record { firmware = firmware; reader = reader }) b) ram → FirmwareTurns firmware b ram event end new memory →
     SideDone Firmware event (record { firmware = firmware; reader = reader }) (record { firmware = end; reader = reader }) b new ram memory
 firmware_done (Writes write) (Writes later) (Looks look) b new ram memory event all stands makes = record {
@@ -105,19 +107,19 @@ abbrev situation_at : FirmwareEnd → Option (Vec ℕ Global) → Situation
 situation_at (Writes write) work = Filling
 situation_at (Waits wait) work = looking_at work
 
-nothing_by : (firmware : FirmwareEnd) (b : Blocks) (ram : RamState) (work : Option (Vec ℕ Global)) → plain_status b.map ram ≡ 0 → (m : Machine) → PlainStands (state_of (situation_at firmware work) b) ram m →
+nothing_by : (firmware : FirmwareEnd) (b : Blocks PlainMap) (ram : RamState) (work : Option (Vec ℕ Global)) → plain_status b.map ram ≡ 0 → (m : Machine) → PlainStands (state_of (situation_at firmware work) b) ram m →
     Turns Reader Nothing (state_of (situation_at firmware work) b) ram (state_of (situation_at firmware work) b) ram m
 nothing_by (Writes write) b ram work none m st = finds_nothing (state_of Filling b) ram m (inl refl) st
 nothing_by (Waits wait) b ram None none m st = finds_nothing (state_of Acknowledged b) ram m (inr refl) st
-nothing_by (Waits wait) b ram (Some block) none m st = absurd (let some = some_status (state_of Published b) ram m refl st in omega (arith, some, none))
+nothing_by (Waits wait) b ram (Some block) none m st = absurd (let some = held_status (state_of Published b) ram m (inl refl) st in omega (arith, some, none))
 
 -- a block that is found
-record IsFound (firmware : FirmwareEnd) (read : ReaderEnd) (b : Blocks) (ram : RamState) (m : Machine) (s : Situation) : Type 0 where
+record IsFound (firmware : FirmwareEnd) (read : ReaderEnd) (b : Blocks PlainMap) (ram : RamState) (m : Machine) (s : Situation) : Type 0 where
   apart : AreApart firmware read
   far : IsCopiedSoFar 0 b.at_work b.last
   turns : Turns Reader Found (state_of s b) ram (state_of Reading (record b { copied = 0 })) ram m
 
-found_by : (firmware : FirmwareEnd) (read : ReaderEnd) (b : Blocks) (ram : RamState) (work : Option (Vec ℕ Global)) → b.at_work ≡ work → 0 < plain_status b.map ram → (m : Machine) → PlainStands (state_of (situation_at firmware work) b) ram m →
+found_by : (firmware : FirmwareEnd) (read : ReaderEnd) (b : Blocks PlainMap) (ram : RamState) (work : Option (Vec ℕ Global)) → b.at_work ≡ work → 0 < plain_status b.map ram → (m : Machine) → PlainStands (state_of (situation_at firmware work) b) ram m →
     IsFound firmware read b ram m (situation_at firmware work)
 found_by (Writes write) read b ram work is some m st = absurd (let none = no_status (state_of Filling b) ram m (inl refl) st in omega (arith, some, none))
 found_by (Waits wait) read b ram None is some m st = absurd (let none = no_status (state_of Acknowledged b) ram m (inr refl) st in omega (arith, some, none))
@@ -133,7 +135,7 @@ found_by (Waits wait) read b ram (Some block) is some m st =
     }
 
 -- with a block that no piece is copied of
-at_first : (s : Situation) (b : Blocks) → IsSound s b → IsCopiedSoFar 0 b.at_work b.last → IsSound Reading (record b { copied = 0 })
+at_first : (s : Situation) (b : Blocks PlainMap) → IsSound s b → IsCopiedSoFar 0 b.at_work b.last → IsSound Reading (record b { copied = 0 })
 at_first s b all far = record {
   short = all.short;
   room = record {
@@ -155,7 +157,7 @@ returned_at : (work : Option (Vec ℕ Global)) → work ≡ None → Acknowledge
 returned_at None is = refl
 returned_at (Some block) is = absurd cc
 
-pub reader_done : (firmware : FirmwareEnd) (reader end : ReaderEnd) (b new : Blocks) (ram memory : RamState) (event : Event) → IsConsistent (record { firmware = firmware; reader = reader }) b →
+pub reader_done : (firmware : FirmwareEnd) (reader end : ReaderEnd) (b new : Blocks PlainMap) (ram memory : RamState) (event : Event) → IsConsistent (record { firmware = firmware; reader = reader }) b →
     Stands (handover_of (record { firmware = firmware; reader = reader }) b) ram → ReaderTurns reader b ram event end new memory →
     SideDone Reader event (record { firmware = firmware; reader = reader }) (record { firmware = firmware; reader = end }) b new ram memory
 reader_done (Writes write) (Looks look) (Looks later) b new ram memory event all stands (found, is_memory) =

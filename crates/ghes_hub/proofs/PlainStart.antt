@@ -1,65 +1,32 @@
 -- A start and a submission of a plain handover, and what it leaves elsewhere.
-use Rattle.std.proofs.Common.{◌≡◌, ◌∙◌, ℕ, ◌+◌, ◌<◌, ◌≤◌, ◌⊎◌, inl, inr, ◌==◌, nat_lt, Bool, true, false, List, [], ◌∷◌, ◌++◌, length, length-append, map, Vec, Option, Some, None, option_to_list, Result, Ok, Err, refl, sym, ap, subst, arith, append_assoc}
+use Rattle.std.proofs.Common.{◌≡◌, ◌∙◌, ℕ, ◌+◌, ◌≤◌, List, [], ◌∷◌, ◌++◌, length, length-append, map, Vec, Option, Some, None, option_to_list, refl, sym, ap, subst, arith, append_assoc}
 use Rattle.std.specs.declared.alloc.Global.{Global}
 use Rattle.std.specs.VecDeque.{deque_len}
-use Rattle.std.proofs.lemmas.List.{drop-append-le, get_or_append_left, length-map}
-use Rattle.std.proofs.lemmas.Bool.{cases_lt}
-use Rattle.std.proofs.lemmas.Bool.Decides.{nat_tests}
-use Rattle.base_model.specs.Bytes.{little, spelled, put_at}
-use Rattle.base_model.proofs.BytesLemmas.{length-spelled, little-spelled, length-put_at}
-use Rattle.apei_gas.specs.declared.registers.Place.{Place}
+use Rattle.std.proofs.lemmas.List.{length-map}
+use Rattle.base_model.specs.Bytes.{spelled, put_at}
+use Rattle.base_model.proofs.BytesLemmas.{length-spelled}
 use Rattle.apei_gas.specs.declared.registers.Place.TheVariants.{Memory}
-use Rattle.apei_space.specs.declared.faults.SpaceFault.{SpaceFault}
-use Rattle.apei_space.specs.RamState.{RamState, FillsWindows, located, stored}
-use Rattle.apei_space.specs.Mapped.{AreDisjoint}
-use Rattle.apei_space.proofs.Placed.{IsPlaced, found_placed}
-use Rattle.base_model.specs.Bytes.{part}
-use Rattle.ghes_block.specs.Reading.{checked, head_verdict, status_at}
+use Rattle.apei_space.specs.RamState.{RamState}
+use Rattle.ghes_window.specs.declared.blocks.Blocks.{Blocks}
+use Rattle.ghes_window.specs.Queues.{IsEmpty, Adds}
 use Rattle.ghes_ack.specs.declared.events.Side.{Side}
 use Rattle.ghes_ack.specs.declared.events.Event.{Event}
-use Rattle.ghes_ack.specs.Machine.{Machine, Situation, Filling, Published, Reading, Cleared, Acknowledged, Fits, with_status, started, submitted, waiting_in, InSituation, IsState}
-use Rattle.ghes_ack.specs.Maps.{bytes_in, bytes_at}
+use Rattle.ghes_ack.specs.Machine.{Machine, Situation, Filling, Fits, with_status, started, submitted, IsState}
 use Rattle.ghes_ack.specs.Elsewhere.{SameWhere}
-use Rattle.ghes_ack.proofs.StepLemmas.{start_is, submit_keeps}
-use Rattle.ghes_ack.proofs.ScheduleLemmas.{state_in_order}
-use Rattle.ghes_ack.proofs.MemoryLemmas.{stored_placed, fits_in, bytes-stored, bytes-stored_apart, disjoint_sym}
-use Rattle.ghes_ack.proofs.ElsewhereLemmas.{SameWhere-then}
-use Rattle.ghes_hub.specs.declared.plain.map.PlainMap.{PlainMap}
-use Rattle.ghes_hub.specs.declared.plain.blocks.Blocks.{Blocks}
-use Rattle.ghes_hub.specs.Places.{IsOff, plain_places_of}
-use Rattle.ghes_hub.specs.Plain.{HasPlainWindows, plain_window, plain_address, with_plain_window, with_plain_address, plain_started, PlainState, plain_fresh, PlainStands}
-use Rattle.ghes_hub.specs.PlainSides.{Turns, IsEmpty, Adds, AreConsistent, situation_in, state_of, view_of}
 use Rattle.ghes_ack.specs.Sides.{in_work}
+use Rattle.ghes_ack.proofs.StepLemmas.{start_is}
+use Rattle.ghes_ack.proofs.StartLemmas.{submits_more}
+use Rattle.ghes_ack.proofs.ElsewhereLemmas.{SameWhere-then, SameWhere-stored}
+use Rattle.ghes_hub.specs.declared.plain.map.PlainMap.{PlainMap}
 use Rattle.ghes_hub.specs.declared.plain.ends.PlainEnds.{PlainEnds}
-use Rattle.ghes_hub.proofs.PlainMemory.{length-window, block_some, block_placed, status_placed, block_ends, window-with_window, address-with_window, windows_window, length-plain_status}
-
-pub window-with_address : (map : PlainMap) (ram : RamState) → HasPlainWindows map ram → plain_window map (with_plain_address map ram) ≡ plain_window map ram
-window-with_address map ram w =
-    let b = block_placed map ram w in
-    let a = status_placed map ram w in
-    bytes-stored_apart ram (Memory map.status) 8 a.0 (spelled 8 map.block) (Memory map.block) map.len b.0 w.fills a.1 (length-spelled 8 map.block) b.1 (omega arith) (block_some map ram w) w.status_block
-
-pub address-with_address : (map : PlainMap) (ram : RamState) → HasPlainWindows map ram → plain_address map (with_plain_address map ram) ≡ map.block
-address-with_address map ram w =
-    let a = status_placed map ram w in
-    let ends = block_ends map ram w in
-    ap little (bytes-stored ram (Memory map.status) 8 a.0 (spelled 8 map.block) w.fills a.1 (length-spelled 8 map.block)) ∙ little-spelled 8 map.block (omega (arith, ends))
-
-pub HasPlain-with_address : (map : PlainMap) (ram : RamState) → HasPlainWindows map ram → HasPlainWindows map (with_plain_address map ram)
-HasPlain-with_address map ram w =
-    let a = status_placed map ram w in
-    let fits = fits_in ram (Memory map.status) 8 a.0 w.fills a.1 in
-    let n = length-spelled 8 map.block in
-    subst (HasPlainWindows map) (sym (stored_placed ram (Memory map.status) 8 a.0 (spelled 8 map.block) a.1)) (record {
-      head = w.head;
-      fills = record { apart = w.fills.apart; as_long = w.fills.as_long ∙ sym (length-put_at ram.bytes a.0 (spelled 8 map.block) (omega (arith, n, fits))) };
-      status = w.status;
-      block = w.block;
-      status_block = w.status_block;
-    })
+use Rattle.ghes_hub.specs.Places.{IsOff, plain_places_of}
+use Rattle.ghes_hub.specs.Plain.{HasPlainWindows, plain_window, plain_window_of, plain_address, with_plain_window, with_plain_address, plain_started, PlainState, plain_fresh, PlainStands}
+use Rattle.ghes_hub.specs.PlainSides.{Turns, AreConsistent, situation_in, state_of, view_of}
+use Rattle.ghes_hub.proofs.PlainMemory.{length-window, block_some, block_placed, status_placed, window-with_window, address-with_window, window-with_address, address-with_address, windows_window, HasPlain-with_address, length-plain_status}
+use Rattle.ghes_hub.proofs.PlainTurns.{kept_now, agrees, stands_by}
 
 -- the two sides of a start, with no block
-pub fresh_is : (b : Blocks) → IsEmpty b → state_of Filling b ≡ plain_fresh b.map
+pub fresh_is : (b : Blocks PlainMap) → IsEmpty b → state_of Filling b ≡ plain_fresh b.map
 fresh_is b e =
     let waiting : map (λ v. v.items) b.waiting.items ≡ [] = ap (map (λ v. v.items)) e.waiting in
     let work : in_work Filling b.at_work b.last ≡ None = ap (λ (o : Option (Vec ℕ Global)). in_work Filling o b.last) e.at_work in
@@ -94,71 +61,22 @@ fresh_stands at ram new w is =
       last = refl;
     }
 
-pub begun_stands : (at : PlainMap) (b : Blocks) (ram new : RamState) → b.map ≡ at → IsEmpty b → HasPlainWindows at ram → new ≡ plain_started at ram → PlainStands (state_of Filling b) new (started (plain_window at ram))
+pub begun_stands : (at : PlainMap) (b : Blocks PlainMap) (ram new : RamState) → b.map ≡ at → IsEmpty b → HasPlainWindows at ram → new ≡ plain_started at ram → PlainStands (state_of Filling b) new (started (plain_window at ram))
 begun_stands at b ram new same e w is = subst (λ (h : PlainState). PlainStands h new (started (plain_window at ram))) (sym (fresh_is b e ∙ ap plain_fresh same)) (fresh_stands at ram new w is)
-
--- a block that was read whole has a head and is published
-pub checked_fits : (bytes : List ℕ) (n len : ℕ) → checked bytes ≡ Ok n → length bytes ≤ len → Fits len bytes
-unfolding checked head_verdict
-checked_fits bytes n len is room = go (nat_lt (length bytes) 20) (status_at bytes == 0) refl refl where
-  go : (a b : Bool) → nat_lt (length bytes) 20 ≡ a → (status_at bytes == 0) ≡ b → Fits len bytes
-  go true b e f = absurd (let x = rw e at is in cc)
-  go false true e f = absurd (let x = rw (e, f) at is in cc)
-  go false false e f = record { head = grind (arith, nat_tests); fits = room; published = grind (arith, nat_tests) }
-
--- a block whose pieces are filled is one of those submitted
-filled_in : (m : Machine) (s : Situation) → InSituation m s → 0 < m.filled → m.published < length m.blocks
-filled_in m Filling h some = let b = h.begun some in let p = h.published in omega (arith, b, p)
-filled_in m Published h some = let z = h.none_filled in absurd (omega (arith, z, some))
-filled_in m Reading (inl h) some = let z = h.1.none_filled in absurd (omega (arith, z, some))
-filled_in m Reading (inr h) some = let z = h.1.none_filled in absurd (omega (arith, z, some))
-filled_in m Cleared h some = let z = h.none_filled in absurd (omega (arith, z, some))
-filled_in m Acknowledged h some = let z = h.none_filled in absurd (omega (arith, z, some))
-
--- one more waits
-waits_more : (m : Machine) (block : List ℕ) → m.published ≤ length m.blocks → (0 < m.filled → m.published < length m.blocks) → waiting_in m + 1 ≡ waiting_in (submitted m block)
-waits_more m block few begun = go (cases_lt 0 m.filled) where
-  n : length (m.blocks ++ block ∷ []) ≡ length m.blocks + 1
-  n = length-append m.blocks (block ∷ [])
-
-  go : (0 < m.filled) ⊎ (m.filled ≤ 0) → waiting_in m + 1 ≡ waiting_in (submitted m block)
-  go (inl some) =
-      let e : (m.filled == 0) ≡ false = grind (arith, nat_tests) in
-      let b = begun some in
-      let k = n in
-      rw e (omega (arith, b, k))
-  go (inr none) =
-      let e : (m.filled == 0) ≡ true = grind (arith, nat_tests) in
-      let k = n in
-      rw e (omega (arith, few, k))
 
 pub submits : (h : PlainState) (ram : RamState) (m : Machine) (block : List ℕ) → Fits h.map.len block → PlainStands h ram m → PlainStands (record h { waiting = h.waiting ++ block ∷ [] }) ram (submitted m block)
 submits h ram m block good st =
-    let o = state_in_order h.map.len m st.state in
-    let a = o.acknowledged in
-    let t = o.taken in
-    let s = o.submitted in
-    record {
-      state = submit_keeps h.map.len m block good st.state;
-      windows = st.windows;
-      address = st.address;
-      occurs = st.occurs;
-      window_is = st.window_is;
-      situation = st.situation;
-      blocks = sym (append_assoc (option_to_list h.at_work) h.waiting (block ∷ [])) ∙ ap (λ (xs : List (List ℕ)). xs ++ block ∷ []) st.blocks ∙ sym (drop-append-le m.acknowledged m.blocks (block ∷ []) (omega (arith, a, t, s)));
-      wait = length-append h.waiting (block ∷ []) ∙ ap (λ (n : ℕ). n + 1) st.wait ∙ waits_more m block s (filled_in m m.situation st.state.holds);
-      filled = st.filled;
-      copied = st.copied;
-      last = st.last ∙ sym (get_or_append_left ([] ∷ m.blocks) (block ∷ []) [] m.taken (omega (arith, t, s)));
-    }
+    let more = submits_more (kept_now h ram) m block (option_to_list h.at_work ++ (h.waiting ++ block ∷ [])) (length (h.waiting ++ block ∷ []))
+    (sym (append_assoc (option_to_list h.at_work) h.waiting (block ∷ []))) (length-append h.waiting (block ∷ [])) good (agrees h ram m st) in
+    stands_by (record h { waiting = h.waiting ++ block ∷ [] }) ram (plain_window h.map ram) (submitted m block) more refl st.windows st.address st.occurs
 
 -- the blocks that wait
-pub waiting_of : (ends : Option PlainEnds) (b : Blocks) → AreConsistent ends b → length (view_of ends b).waiting ≡ deque_len b.waiting
+pub waiting_of : (ends : Option PlainEnds) (b : Blocks PlainMap) → AreConsistent ends b → length (view_of ends b).waiting ≡ deque_len b.waiting
 waiting_of None b all = absurd all
 waiting_of (Some ends) b all = length-map b.waiting.items (λ v. v.items) ∙ all.sound.room.counted
 
 -- a block more
-added_in : (s : Situation) (b after : Blocks) (block : List ℕ) → Adds b after block → state_of s after ≡ record (state_of s b) { waiting = (state_of s b).waiting ++ block ∷ [] }
+added_in : (s : Situation) (b after : Blocks PlainMap) (block : List ℕ) → Adds plain_window_of b after block → state_of s after ≡ record (state_of s b) { waiting = (state_of s b).waiting ++ block ∷ [] }
 added_in s b after block a =
     let waiting = a.waiting in
     let map_is = a.same.map in
@@ -170,43 +88,9 @@ added_in s b after block a =
     ap (λ (x : Option (Vec ℕ Global)). in_work s x after.last) a.at_work ∙ ap (λ (x : Vec ℕ Global). in_work s b.at_work x) a.same.last in
     cc
 
-pub added : (ends : Option PlainEnds) (b after : Blocks) (block : List ℕ) → Adds b after block → view_of ends after ≡ record (view_of ends b) { waiting = (view_of ends b).waiting ++ block ∷ [] }
+pub added : (ends : Option PlainEnds) (b after : Blocks PlainMap) (block : List ℕ) → Adds plain_window_of b after block → view_of ends after ≡ record (view_of ends b) { waiting = (view_of ends b).waiting ++ block ∷ [] }
 added ends b after block a =
     ap (λ (o : Option (Vec ℕ Global)). state_of (situation_in ends o) after) a.at_work ∙ added_in (situation_in ends b.at_work) b after block a
-
--- no bytes are the same anywhere
-no_bytes : (r : Result ℕ SpaceFault) (one other : List ℕ) → bytes_in r one 0 ≡ bytes_in r other 0
-unfolding part
-no_bytes (Ok start) one other = refl
-no_bytes (Err fault) one other = refl
-
-far_stored : (ram : RamState) (at : Place) (n s : ℕ) (bytes : List ℕ) (other : Place) (m : ℕ) → FillsWindows ram → IsPlaced ram.windows at n s → length bytes ≡ n → 0 < n → AreDisjoint other m at n →
-    bytes_at (stored (located ram.windows at n) ram bytes) other m ≡ bytes_at ram other m
-far_stored ram at n s bytes other m fills p is some apart = go (cases_lt 0 m) (located ram.windows other m) refl where
-  moved : bytes_at (stored (located ram.windows at n) ram bytes) other m ≡ bytes_in (located ram.windows other m) (put_at ram.bytes s bytes) m
-  moved = ap (λ (r : RamState). bytes_at r other m) (stored_placed ram at n s bytes p)
-
-  go : (0 < m) ⊎ (m ≤ 0) → (r : Result ℕ SpaceFault) → located ram.windows other m ≡ r → bytes_at (stored (located ram.windows at n) ram bytes) other m ≡ bytes_at ram other m
-  go (inl more) (Ok t) e =
-      let q = found_placed ram.windows other m t more e in
-      bytes-stored_apart ram at n s bytes other m t fills p is q some more (disjoint_sym other m at n apart)
-  go (inl more) (Err fault) e =
-      moved ∙ ap (λ (r : Result ℕ SpaceFault). bytes_in r (put_at ram.bytes s bytes) m) e ∙ sym (ap (λ (r : Result ℕ SpaceFault). bytes_in r ram.bytes m) e)
-  go (inr none) r e =
-      let zero : m ≡ 0 = omega (arith, none) in
-      moved ∙ subst (λ (k : ℕ). bytes_in (located ram.windows other m) (put_at ram.bytes s bytes) k ≡ bytes_in (located ram.windows other m) ram.bytes k) (sym zero) (no_bytes (located ram.windows other m) (put_at ram.bytes s bytes) ram.bytes)
-
-SameWhere-stored : (is_far : Place → ℕ → Type 0) (ram : RamState) (at : Place) (n s : ℕ) (bytes : List ℕ) → FillsWindows ram → IsPlaced ram.windows at n s → length bytes ≡ n → 0 < n →
-    ((other : Place) (m : ℕ) → is_far other m → AreDisjoint other m at n) → SameWhere is_far ram (stored (located ram.windows at n) ram bytes)
-SameWhere-stored is_far ram at n s bytes fills p is some apart =
-    let e = stored_placed ram at n s bytes p in
-    let fits = fits_in ram at n s fills p in
-    record {
-      windows = ap (λ (r : RamState). r.windows) e;
-      size = ap (λ (r : RamState). length r.bytes) e ∙ length-put_at ram.bytes s bytes (omega (arith, is, fits));
-      waited = ap (λ (r : RamState). r.waited) e;
-      bytes = λ other m far. far_stored ram at n s bytes other m fills p is some (apart other m far);
-    }
 
 pub plain_elsewhere : (map : PlainMap) (ram : RamState) (bytes : List ℕ) → HasPlainWindows map ram → length bytes ≡ map.len → SameWhere (IsOff (plain_places_of map)) ram (with_plain_window map ram bytes)
 plain_elsewhere map ram bytes w n = let b = block_placed map ram w in SameWhere-stored (IsOff (plain_places_of map)) ram (Memory map.block) map.len b.0 bytes w.fills b.1 n (block_some map ram w) (λ at k off. off.1.0)

@@ -8,7 +8,7 @@ use Rattle.apei_space.specs.RamState.{RamState, FillsWindows}
 use Rattle.apei_space.specs.Mapped.{Holds, IsMapped, further}
 use Rattle.ghes_ack.specs.declared.maps.HandoverMap.{HandoverMap}
 use Rattle.ghes_ack.specs.Maps.{HasWindows, ack_bytes}
-use Rattle.ghes_ack.proofs.MemoryLemmas.{disjoint_sym}
+use Rattle.ghes_window.proofs.PlacedLemmas.{disjoint_sym}
 use Rattle.ghes_hub.specs.declared.layouts.Layout.{Layout}
 use Rattle.ghes_hub.specs.declared.layouts.Layout.TheVariants.{Acknowledged, Plain}
 use Rattle.ghes_hub.specs.declared.plain.map.PlainMap.{PlainMap}

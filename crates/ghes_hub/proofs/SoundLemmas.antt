@@ -26,7 +26,7 @@ use Rattle.hest_sources.specs.declared.sources.Ack.{Ack}
 use Rattle.hest_sources.specs.declared.sources.HestSource.{HestSource}
 use Rattle.ghes_ack.specs.Machine.{zeros, started}
 use Rattle.ghes_ack.specs.Maps.{bytes_at}
-use Rattle.ghes_ack.proofs.MemoryLemmas.{bytes_placed}
+use Rattle.ghes_window.proofs.PlacedLemmas.{bytes_placed}
 use Rattle.ghes_hub.specs.declared.errors.HubError.{HubError}
 use Rattle.ghes_hub.specs.declared.errors.HubError.TheVariants.{BlockLen, Status, Ack as BadAck, Clash}
 use Rattle.ghes_hub.specs.declared.layouts.Layout.{Layout}

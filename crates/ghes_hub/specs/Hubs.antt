@@ -1,7 +1,6 @@
 -- A hub: its sources, the listeners of each, and lists of calls.
 use Rattle.std.specs.Prelude.{◌≡◌, ◌≢◌, ℕ, ◌==◌, if◌then◌else◌, List, [], ◌∷◌, length, Option, Some, None, slice_get, remove, take}
-use Rattle.std.specs.List.{AllZip}
-use Rattle.apei_notify.specs.Telling.{Hearing, IsToldOfAll}
+use Rattle.apei_notify.specs.Telling.{Hearing, Told}
 use Rattle.ghes_ack.specs.declared.events.Side.{Side}
 use Rattle.ghes_ack.specs.declared.events.Event.{Event}
 use Rattle.ghes_ack.specs.Machine.{Machine, submitted}
@@ -27,10 +26,6 @@ last_if (Some handover) = last_of handover
 -- the block that a source took last
 abbrev pub last_in : SourcesState → ℕ → List ℕ
 last_in s i = last_if (slice_get s.list i)
-
--- the listeners of one chain, before and after they were told of some blocks, each in its place
-abbrev pub Told : {L : Type 0} → (L → Hearing) → List (List ℕ) → List L → List L → Type 0
-Told hearing blocks old new = AllZip (IsToldOfAll hearing blocks) old new
 
 -- the listeners of source i, and no others, were told of some blocks
 pub record TellsAt {L : Type 0} (hearing : L → Hearing) (i : ℕ) (blocks : List (List ℕ)) (old new : List (List L)) : Type 0 where

@@ -9,6 +9,7 @@ use Rattle.ghes_ack.specs.declared.submission.SubmitError.{SubmitError}
 use Rattle.ghes_ack.specs.declared.submission.SubmitError.TheVariants.{Long}
 use Rattle.ghes_ack.specs.Machine.{Machine, Situation, Filling, with_status, IsState, waiting_in, last_taken}
 use Rattle.ghes_ack.specs.Maps.{bytes_at}
+use Rattle.ghes_window.specs.declared.window.BlockWindow.{BlockWindow}
 use Rattle.ghes_ack.specs.Handovers.{reason}
 use Rattle.ghes_hub.specs.declared.plain.map.PlainMap.{PlainMap}
 use Rattle.ghes_hub.specs.Kinds.{ByStatus, Occurs}
@@ -20,6 +21,10 @@ pub record HasPlainWindows (map : PlainMap) (ram : RamState) : Type 0 where
   pub status : AreMapped ram.windows (Memory map.status) 8
   pub block : AreMapped ram.windows (Memory map.block) map.len
   pub status_block : AreDisjoint (Memory map.status) 8 (Memory map.block) map.len
+
+-- where the block's window lies
+abbrev pub plain_window_of : PlainMap → BlockWindow
+plain_window_of map = record { block = map.block; len = map.len }
 
 abbrev pub plain_window : PlainMap → RamState → List ℕ
 plain_window map ram = bytes_at ram (Memory map.block) map.len

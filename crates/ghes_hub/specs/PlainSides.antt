@@ -1,6 +1,5 @@
 -- The two sides and the blocks of a plain handover, and what they are together.
-use Rattle.std.specs.Prelude.{◌≡◌, ℕ, ◌+◌, ◌<◌, ◌≤◌, List, Vec, Option, Some, None, option_to_list, [], ◌∷◌, ◌++◌, ◌^◌, length, map, All, vec_len, vec_capacity}
-use Rattle.std.specs.VecDeque.{deque_len, deque_capacity}
+use Rattle.std.specs.Prelude.{◌≡◌, ℕ, ◌<◌, Vec, Option, Some, None, ◌^◌, map}
 use Rattle.std.specs.declared.alloc.Global.{Global}
 use Rattle.apei_space.specs.RamState.{RamState}
 use Rattle.ghes_ack.specs.declared.events.Side.{Side}
@@ -8,16 +7,17 @@ use Rattle.ghes_ack.specs.declared.events.Side.TheVariants.{Firmware, Reader}
 use Rattle.ghes_ack.specs.declared.events.Event.{Event}
 use Rattle.ghes_ack.specs.declared.events.Event.TheVariants.{Free, Wait, Nothing, Found}
 use Rattle.ghes_ack.specs.Machine.{Machine, Situation, Filling, Published, Reading, Cleared, Acknowledged}
-use Rattle.ghes_ack.specs.Sides.{looking_at, in_work, count_of, IsWide, IsWideIfSome, IsCopiedSoFar}
+use Rattle.ghes_ack.specs.Sides.{looking_at, in_work, IsCopiedSoFar}
+use Rattle.ghes_window.specs.declared.blocks.Blocks.{Blocks}
+use Rattle.ghes_window.specs.Queues.{HasRoom, count_of}
 use Rattle.ghes_hub.specs.declared.plain.map.PlainMap.{PlainMap}
 use Rattle.ghes_hub.specs.declared.plain.ends.PlainEnds.{PlainEnds}
 use Rattle.ghes_hub.specs.declared.plain.ends.FirmwareEnd.{FirmwareEnd}
 use Rattle.ghes_hub.specs.declared.plain.ends.FirmwareEnd.TheVariants.{Writes, Waits}
 use Rattle.ghes_hub.specs.declared.plain.ends.ReaderEnd.{ReaderEnd}
 use Rattle.ghes_hub.specs.declared.plain.ends.ReaderEnd.TheVariants.{Looks, Reads}
-use Rattle.ghes_hub.specs.declared.plain.blocks.Blocks.{Blocks}
 use Rattle.ghes_hub.specs.Kinds.{ByStatus, turned_by}
-use Rattle.ghes_hub.specs.Plain.{HasPlainWindows, PlainState, PlainStands, plain_status, plain_window, with_plain_window}
+use Rattle.ghes_hub.specs.Plain.{HasPlainWindows, PlainState, PlainStands, plain_status, plain_window, plain_window_of, with_plain_window}
 
 -- while the firmware waits and the reader looks, there is a block at work until its block status is cleared
 abbrev pub waiting_at : ReaderEnd → Option (Vec ℕ Global) → Situation
@@ -29,63 +29,8 @@ abbrev pub situation_of : FirmwareEnd → ReaderEnd → Option (Vec ℕ Global) 
 situation_of (Writes write) reader work = Filling
 situation_of (Waits wait) reader work = waiting_at reader work
 
--- 66 places, so many of them in hand: for blocks that wait, of which there are at most 64, for the one at work and for the
--- one taken last, each with room for the longest block
-pub record HasRoom (in_hand : ℕ) (b : Blocks) : Type 0 where
-  pub places : deque_len b.waiting + count_of b.at_work + vec_len b.spare + in_hand ≡ 65
-  pub few : deque_len b.waiting ≤ 64
-  pub counted : length b.waiting.items ≡ deque_len b.waiting
-  pub queue : 64 ≤ deque_capacity b.waiting
-  pub stack : 65 ≤ vec_capacity b.spare
-  pub waiting_room : All (IsWide b.map.len) b.waiting.items
-  pub work_room : IsWideIfSome b.map.len b.at_work
-  pub spare_room : All (IsWide b.map.len) b.spare.items
-  pub last_room : IsWide b.map.len b.last
-
--- right after a start
-pub record IsEmpty (b : Blocks) : Type 0 where
-  pub waiting : b.waiting.items ≡ []
-  pub at_work : b.at_work ≡ None
-  pub filled : b.filled ≡ 0
-  pub copied : b.copied ≡ 0
-  pub last : b.last.items ≡ []
-
--- the block at work, if any, and those that wait, while the firmware holds the block
-abbrev pub held_of : Blocks → List (List ℕ)
-held_of b = option_to_list (in_work Filling b.at_work b.last) ++ map (λ v. v.items) b.waiting.items
-
--- all but the blocks that are not published is as before
-pub record SameButHeld (old new : Blocks) : Type 0 where
-  pub map : new.map ≡ old.map
-  pub filled : new.filled ≡ old.filled
-  pub copied : new.copied ≡ old.copied
-  pub last : new.last ≡ old.last
-
--- there was no block
-pub record HoldsNone (old new : Blocks) : Type 0 where
-  pub held : held_of old ≡ []
-  pub at_work : new.at_work ≡ None
-  pub waiting : new.waiting.items ≡ []
-  pub same : SameButHeld old new
-  pub room : HasRoom 0 new
-
--- the oldest block is in hand
-pub record TakesOut (old new : Blocks) (block : Vec ℕ Global) : Type 0 where
-  pub held : held_of old ≡ block.items ∷ map (λ v. v.items) new.waiting.items
-  pub at_work : new.at_work ≡ None
-  pub same : SameButHeld old new
-  pub wide : IsWide old.map.len block
-  pub room : HasRoom 1 new
-
--- one block more waits
-pub record Adds (old new : Blocks) (block : List ℕ) : Type 0 where
-  pub waiting : map (λ v. v.items) new.waiting.items ≡ map (λ v. v.items) old.waiting.items ++ block ∷ []
-  pub at_work : new.at_work ≡ old.at_work
-  pub same : SameButHeld old new
-  pub room : HasRoom 0 new
-
 -- what the blocks are in a situation
-abbrev pub state_of : Situation → Blocks → PlainState
+abbrev pub state_of : Situation → Blocks PlainMap → PlainState
 state_of situation b = record {
   map = b.map;
   situation = situation;
@@ -96,11 +41,11 @@ state_of situation b = record {
   last = b.last.items;
 }
 
-abbrev pub handover_of : PlainEnds → Blocks → PlainState
+abbrev pub handover_of : PlainEnds → Blocks PlainMap → PlainState
 handover_of ends b = state_of (situation_of ends.firmware ends.reader b.at_work) b
 
 -- the block at work in each situation
-abbrev pub IsUnderWay : Situation → Blocks → Type 0
+abbrev pub IsUnderWay : Situation → Blocks PlainMap → Type 0
 IsUnderWay Filling b = Unit {0}
 IsUnderWay Published b = count_of b.at_work ≡ 1
 IsUnderWay Reading b = IsCopiedSoFar b.copied b.at_work b.last
@@ -108,9 +53,9 @@ IsUnderWay Cleared b = ⊥
 IsUnderWay Acknowledged b = b.at_work ≡ None
 
 -- the blocks are as they must be in a situation
-pub record IsSound (situation : Situation) (b : Blocks) : Type 0 where
+pub record IsSound (situation : Situation) (b : Blocks PlainMap) : Type 0 where
   pub short : b.map.len < 2 ^ 32
-  pub room : HasRoom 0 b
+  pub room : HasRoom plain_window_of 0 b
   pub under_way : IsUnderWay situation b
 
 -- while the firmware may write the block, the reader looks for one: never are both at the block
@@ -120,7 +65,7 @@ AreApart (Writes write) (Reads read) = ⊥
 AreApart (Waits wait) reader = Unit {0}
 
 -- the sides and the blocks belong together
-pub record IsConsistent (ends : PlainEnds) (b : Blocks) : Type 0 where
+pub record IsConsistent (ends : PlainEnds) (b : Blocks PlainMap) : Type 0 where
   pub apart : AreApart ends.firmware ends.reader
   pub sound : IsSound (situation_of ends.firmware ends.reader b.at_work) b
 
@@ -129,10 +74,10 @@ abbrev pub situation_in : Option PlainEnds → Option (Vec ℕ Global) → Situa
 situation_in None work = Filling
 situation_in (Some ends) work = situation_of ends.firmware ends.reader work
 
-abbrev pub view_of : Option PlainEnds → Blocks → PlainState
+abbrev pub view_of : Option PlainEnds → Blocks PlainMap → PlainState
 view_of ends b = state_of (situation_in ends b.at_work) b
 
-abbrev pub AreConsistent : Option PlainEnds → Blocks → Type 0
+abbrev pub AreConsistent : Option PlainEnds → Blocks PlainMap → Type 0
 AreConsistent None b = ⊥
 AreConsistent (Some ends) b = IsConsistent ends b
 
@@ -149,7 +94,7 @@ pub record Turns (side : Side) (event : Event) (old : PlainState) (ram : RamStat
   pub memory_is : memory ≡ with_plain_window old.map ram (plain_window old.map memory)
 
 -- both sides after a turn of one of them
-pub record SideDone (side : Side) (event : Event) (ends next : PlainEnds) (old new : Blocks) (ram memory : RamState) : Type 0 where
+pub record SideDone (side : Side) (event : Event) (ends next : PlainEnds) (old new : Blocks PlainMap) (ram memory : RamState) : Type 0 where
   pub consistent : IsConsistent next new
   pub turns : (m : Machine) → PlainStands (handover_of ends old) ram m → Turns side event (handover_of ends old) ram (handover_of next new) memory m
 
@@ -159,7 +104,7 @@ firmware_at (Writes write) = Filling
 firmware_at (Waits wait) = Published
 
 -- the firmware can make a turn
-abbrev pub FirmwareIsAble : FirmwareEnd → Blocks → RamState → Type 0
+abbrev pub FirmwareIsAble : FirmwareEnd → Blocks PlainMap → RamState → Type 0
 FirmwareIsAble (Writes write) b ram = IsSound Filling b × Stands (state_of Filling b) ram
 FirmwareIsAble (Waits wait) b ram = HasPlainWindows b.map ram
 
@@ -169,7 +114,7 @@ FindsClear map ram event (Writes write) = (plain_status map ram ≡ 0) × (event
 FindsClear map ram event (Waits wait) = (0 < plain_status map ram) × (event ≡ Wait)
 
 -- a turn of the firmware, whatever the reader does
-abbrev pub FirmwareTurns : FirmwareEnd → Blocks → RamState → Event → FirmwareEnd → Blocks → RamState → Type 0
+abbrev pub FirmwareTurns : FirmwareEnd → Blocks PlainMap → RamState → Event → FirmwareEnd → Blocks PlainMap → RamState → Type 0
 FirmwareTurns (Writes write) old ram event end new memory =
     IsSound (firmware_at end) new × ((m : Machine) → PlainStands (state_of Filling old) ram m → Turns Firmware event (state_of Filling old) ram (state_of (firmware_at end) new) memory m)
 FirmwareTurns (Waits wait) old ram event end new memory = FindsClear old.map ram event end × (new ≡ old) × (memory ≡ ram)
@@ -180,17 +125,17 @@ reader_at (Looks look) = Acknowledged
 reader_at (Reads read) = Reading
 
 -- the reader can make a turn
-abbrev pub ReaderIsAble : ReaderEnd → Blocks → RamState → Type 0
+abbrev pub ReaderIsAble : ReaderEnd → Blocks PlainMap → RamState → Type 0
 ReaderIsAble (Looks look) b ram = HasPlainWindows b.map ram
 ReaderIsAble (Reads read) b ram = IsSound Reading b × Stands (state_of Reading b) ram
 
 -- a turn of a reader that looks for a block: there is one exactly where the block status isn't 0, and none of its pieces is copied
-abbrev pub FindsBlock : Blocks → RamState → Event → ReaderEnd → Blocks → Type 0
+abbrev pub FindsBlock : Blocks PlainMap → RamState → Event → ReaderEnd → Blocks PlainMap → Type 0
 FindsBlock old ram event (Looks look) new = (plain_status old.map ram ≡ 0) × (event ≡ Nothing) × (new ≡ old)
 FindsBlock old ram event (Reads read) new = (0 < plain_status old.map ram) × (event ≡ Found) × (new ≡ record old { copied = 0 })
 
 -- a turn of the reader, whatever the firmware does
-abbrev pub ReaderTurns : ReaderEnd → Blocks → RamState → Event → ReaderEnd → Blocks → RamState → Type 0
+abbrev pub ReaderTurns : ReaderEnd → Blocks PlainMap → RamState → Event → ReaderEnd → Blocks PlainMap → RamState → Type 0
 ReaderTurns (Looks look) old ram event end new memory = FindsBlock old ram event end new × (memory ≡ ram)
 ReaderTurns (Reads read) old ram event end new memory =
     IsSound (reader_at end) new × ((m : Machine) → PlainStands (state_of Reading old) ram m → Turns Reader event (state_of Reading old) ram (state_of (reader_at end) new) memory m)

@@ -1,5 +1,4 @@
 // A handover without a read acknowledgement.
-mod blocks;
 mod ends;
 mod firmware;
 mod handover;

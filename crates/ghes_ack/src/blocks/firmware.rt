@@ -3,14 +3,15 @@ ghost use Rattle.std.specs.Prelude.{◌≡◌, ◌∷◌, [], ◌<◌, length, t
 ghost use Rattle.ghes_ack.specs.declared.events.Event.TheVariants.{Fill as OfFill};
 ghost use Rattle.ghes_ack.specs.declared.ends.FirmwareEnd.TheVariants.{Writes as OfWrites, Waits as OfWaits};
 ghost use Rattle.ghes_ack.specs.Machine.{Filling};
-ghost use Rattle.ghes_ack.specs.Sides.{HasRoom, state_of};
+ghost use Rattle.ghes_ack.specs.Queues.{HasRoom};
+ghost use Rattle.ghes_ack.specs.Sides.{state_of};
 ghost use Rattle.ghes_ack.specs.OwnTurns.{IsAble, IsCount, FirmwareMakes, FirmwareRuns};
 
 use crate::blocks::Blocks;
 use crate::ends::{FirmwareEnd, MayWrite, MustWait};
 use crate::events::{Event, note};
-use crate::pieces::PIECE;
 use apei_space::Ram;
+use ghes_window::PIECE;
 
 /// The next turns of the firmware: all that fill pieces, or else one. It answers how many, and writes their events.
 pub fn firmware_run(

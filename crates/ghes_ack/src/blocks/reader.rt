@@ -5,15 +5,16 @@ ghost use Rattle.ghes_ack.specs.declared.events.Event.TheVariants.{Copied as OfC
 ghost use Rattle.ghes_ack.specs.declared.ends.ReaderEnd.TheVariants.{Looks as OfLooks, Reads as OfReads};
 ghost use Rattle.ghes_ack.specs.Machine.{Reading};
 ghost use Rattle.ghes_ack.specs.Maps.{HasWindows, window};
-ghost use Rattle.ghes_ack.specs.Sides.{HasRoom, IsFar, state_of};
+ghost use Rattle.ghes_ack.specs.Queues.{HasRoom};
+ghost use Rattle.ghes_ack.specs.Sides.{IsFar, state_of};
 ghost use Rattle.ghes_ack.specs.OwnTurns.{IsAble, IsCount, GoesOn, ReaderMakes, ReaderRuns};
 
 use crate::blocks::Blocks;
 use crate::ends::{MayRead, MustLook, ReaderEnd};
 use crate::events::{Event, note};
 use crate::maps::HandoverMap;
-use crate::pieces::PIECE;
 use apei_space::Ram;
+use ghes_window::PIECE;
 
 /// The next turns of the reader: all that copy pieces, or else one. It answers how many, and writes their events.
 pub fn reader_run(

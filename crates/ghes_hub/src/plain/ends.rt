@@ -6,7 +6,9 @@ ghost use Rattle.ghes_ack.specs.Machine.{with_piece, with_status};
 ghost use Rattle.ghes_hub.specs.Plain.{HasPlainWindows, plain_window, plain_status, with_plain_window, plain_started};
 
 use crate::plain::map::PlainMap;
+use apei_bytes::get_u32;
 use apei_space::Ram;
+use ghes_window::HasWindow;
 
 /// The firmware may write the block.
 pub struct PlainFirm {
@@ -52,7 +54,7 @@ pub fn begin(map: &PlainMap, ram: &mut Ram) -> (PlainFirm, PlainIdle)
     ensures { ram.new ≡ plain_started map.now ram.old }
 {
     map.write_address(ram);
-    map.show(ram, 0);
+    map.window().show(ram, 0);
     (PlainFirm { made: () }, PlainIdle { made: () })
 }
 
@@ -64,7 +66,7 @@ impl PlainFirm {
         requires begins { 64 * piece < length block.now }
         ensures { ram.new ≡ with_plain_window map.now ram.old (with_piece (plain_window map.now ram.old) block.now piece) }
     {
-        map.fill(ram, block, piece);
+        map.window().fill(ram, block, piece);
     }
 
     /// Shows the block by its block status, and writes nothing else.
@@ -74,7 +76,7 @@ impl PlainFirm {
         ensures { ram.new ≡ with_plain_window map.now ram.old (with_status (plain_window map.now ram.old) (take 4 block.now)) }
     {
         let PlainFirm { made } = self;
-        map.publish(ram, block);
+        map.window().show(ram, get_u32(block, 0));
         PlainWait { made }
     }
 
@@ -91,7 +93,7 @@ impl PlainWait {
         ensures { MatchResult result (λ _. plain_status map.now ram.now ≡ 0) (λ _. 0 < plain_status map.now ram.now) }
     {
         let PlainWait { made } = self;
-        if map.status_word(ram) == 0 {
+        if map.window().status_word(ram) == 0 {
             Ok(PlainFirm { made })
         } else {
             Err(PlainWait { made })
@@ -111,7 +113,7 @@ impl PlainIdle {
         ensures { MatchResult result (λ _. 0 < plain_status map.now ram.now) (λ _. plain_status map.now ram.now ≡ 0) }
     {
         let PlainIdle { made } = self;
-        if map.status_word(ram) == 0 {
+        if map.window().status_word(ram) == 0 {
             Err(PlainIdle { made })
         } else {
             Ok(PlainBlock { made })
@@ -131,7 +133,7 @@ impl PlainBlock {
         requires inside { at + length out.old ≤ map.now.len }
         ensures { out.new ≡ part (plain_window map.now ram.now) at (length out.old) }
     {
-        map.read_part(ram, at, out);
+        map.window().read_part(ram, at, out);
     }
 
     /// Sets the block status to 0. That is the acknowledgement.
@@ -140,7 +142,7 @@ impl PlainBlock {
         ensures { ram.new ≡ with_plain_window map.now ram.old (with_status (plain_window map.now ram.old) (spelled 4 0)) }
     {
         let PlainBlock { made } = self;
-        map.show(ram, 0);
+        map.window().show(ram, 0);
         PlainIdle { made }
     }
 

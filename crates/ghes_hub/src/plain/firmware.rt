@@ -5,14 +5,18 @@ ghost use Rattle.ghes_ack.specs.Machine.{Machine, Filling};
 ghost use Rattle.ghes_hub.specs.Plain.{HasPlainWindows, PlainStands};
 ghost use Rattle.ghes_hub.specs.PlainSides.{IsSound, Stands, Turns, FindsClear, FirmwareIsAble, FirmwareTurns, firmware_at, state_of};
 
-use crate::plain::blocks::Blocks;
 use crate::plain::ends::{FirmwareEnd, PlainFirm, PlainWait};
-use crate::plain::map::{PIECE, PlainMap};
+use crate::plain::map::PlainMap;
 use apei_space::Ram;
 use ghes_ack::Event;
+use ghes_window::{Blocks, PIECE};
 
 /// One turn of the firmware.
-pub fn firmware_turn(end: FirmwareEnd, blocks: &mut Blocks, ram: &mut Ram) -> (FirmwareEnd, Event)
+pub fn firmware_turn(
+    end: FirmwareEnd,
+    blocks: &mut Blocks<PlainMap>,
+    ram: &mut Ram,
+) -> (FirmwareEnd, Event)
     requires { FirmwareIsAble end blocks.old ram.old }
     ensures { FirmwareTurns end blocks.old ram.old result.1 result.0 blocks.new ram.new }
 {
@@ -34,7 +38,11 @@ fn look_for_clear(wait: PlainWait, map: &PlainMap, ram: &Ram) -> (FirmwareEnd, E
 }
 
 /// Writes the next piece, or publishes a block all of whose pieces are written.
-fn fill_or_publish(firm: PlainFirm, blocks: &mut Blocks, ram: &mut Ram) -> (FirmwareEnd, Event)
+fn fill_or_publish(
+    firm: PlainFirm,
+    blocks: &mut Blocks<PlainMap>,
+    ram: &mut Ram,
+) -> (FirmwareEnd, Event)
     requires sound { IsSound Filling blocks.old }
     requires stands { Stands (state_of Filling blocks.old) ram.old }
     ensures sound { IsSound (firmware_at result.0) blocks.new }

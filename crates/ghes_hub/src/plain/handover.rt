@@ -5,7 +5,6 @@ ghost use Rattle.ghes_ack.specs.Machine.{Machine, started, submitted};
 ghost use Rattle.ghes_hub.specs.Plain.{HasPlainWindows, PlainStands, plain_window, plain_started, plain_fresh, plain_refusal};
 ghost use Rattle.ghes_hub.specs.PlainSides.{Turns};
 
-use crate::plain::blocks::{Blocks, WAITING};
 use crate::plain::ends::{FirmwareEnd, PlainEnds, ReaderEnd, begin};
 use crate::plain::map::PlainMap;
 use crate::plain::turns::one_turn;
@@ -13,6 +12,7 @@ use apei_bytes::Memory;
 use apei_space::Ram;
 use ghes_ack::{Event, Side, SubmitError};
 use ghes_block::Block;
+use ghes_window::{Blocks, WAITING};
 use std::alloc::Global;
 use std::marker::Model;
 
@@ -20,7 +20,7 @@ use std::marker::Model;
 pub struct PlainHandover {
     /// Always there between two calls.
     ends: Option<PlainEnds>,
-    blocks: Blocks,
+    blocks: Blocks<PlainMap>,
 }
 
 impl Model for PlainHandover {

@@ -6,14 +6,18 @@ ghost use Rattle.ghes_ack.specs.Machine.{Machine, Reading};
 ghost use Rattle.ghes_hub.specs.Plain.{HasPlainWindows, PlainStands, plain_window};
 ghost use Rattle.ghes_hub.specs.PlainSides.{IsSound, Stands, Turns, FindsBlock, ReaderIsAble, ReaderTurns, reader_at, state_of};
 
-use crate::plain::blocks::Blocks;
 use crate::plain::ends::{PlainBlock, PlainIdle, ReaderEnd};
-use crate::plain::map::{PIECE, PlainMap};
+use crate::plain::map::PlainMap;
 use apei_space::Ram;
 use ghes_ack::Event;
+use ghes_window::{Blocks, PIECE};
 
 /// One turn of the reader.
-pub fn reader_turn(end: ReaderEnd, blocks: &mut Blocks, ram: &mut Ram) -> (ReaderEnd, Event)
+pub fn reader_turn(
+    end: ReaderEnd,
+    blocks: &mut Blocks<PlainMap>,
+    ram: &mut Ram,
+) -> (ReaderEnd, Event)
     requires { ReaderIsAble end blocks.old ram.old }
     ensures { ReaderTurns end blocks.old ram.old result.1 result.0 blocks.new ram.new }
 {
@@ -24,7 +28,7 @@ pub fn reader_turn(end: ReaderEnd, blocks: &mut Blocks, ram: &mut Ram) -> (Reade
 }
 
 /// Looks for a block, none of which is copied yet.
-fn look_for_block(idle: PlainIdle, blocks: &mut Blocks, ram: &Ram) -> (ReaderEnd, Event)
+fn look_for_block(idle: PlainIdle, blocks: &mut Blocks<PlainMap>, ram: &Ram) -> (ReaderEnd, Event)
     requires { HasPlainWindows blocks.old.map ram.now }
     ensures { FindsBlock blocks.old ram.now result.1 result.0 blocks.new }
 {
@@ -39,7 +43,11 @@ fn look_for_block(idle: PlainIdle, blocks: &mut Blocks, ram: &Ram) -> (ReaderEnd
 
 /// Copies the next piece, or clears the block status once all are copied. The block at work holds the same bytes already, so its
 /// own buffer takes them.
-fn copy_or_clear(read: PlainBlock, blocks: &mut Blocks, ram: &mut Ram) -> (ReaderEnd, Event)
+fn copy_or_clear(
+    read: PlainBlock,
+    blocks: &mut Blocks<PlainMap>,
+    ram: &mut Ram,
+) -> (ReaderEnd, Event)
     requires sound { IsSound Reading blocks.old }
     requires stands { Stands (state_of Reading blocks.old) ram.old }
     ensures sound { IsSound (reader_at result.0) blocks.new }

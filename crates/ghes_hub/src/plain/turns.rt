@@ -1,18 +1,19 @@
 // One turn of either side of a plain handover.
 ghost use Rattle.ghes_hub.specs.PlainSides.{IsConsistent, Stands, SideDone, handover_of};
 
-use crate::plain::blocks::Blocks;
 use crate::plain::ends::PlainEnds;
 use crate::plain::firmware::firmware_turn;
+use crate::plain::map::PlainMap;
 use crate::plain::reader::reader_turn;
 use apei_space::Ram;
 use ghes_ack::{Event, Side};
+use ghes_window::Blocks;
 
 /// One turn of a side. The other one stays where it is.
 pub fn one_turn(
     side: Side,
     ends: PlainEnds,
-    blocks: &mut Blocks,
+    blocks: &mut Blocks<PlainMap>,
     ram: &mut Ram,
 ) -> (PlainEnds, Event)
     requires consistent { IsConsistent ends blocks.old }

@@ -1,4 +1,4 @@
-use Rattle.ghes_hub.proofs.ToldLemmas.{all_heard}
+use Rattle.apei_notify.proofs.ToldLemmas.{all_heard}
 use Rattle.ghes_hub.proofs.laws.each_has_heard.Goals as goal
 
 pub returns : goal.returns

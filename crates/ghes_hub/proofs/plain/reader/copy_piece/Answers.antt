@@ -1,5 +1,5 @@
 use Rattle.std.proofs.Common.{◌*◌, refl}
-use Rattle.ghes_hub.proofs.PlainBlocks.{piece_is}
+use Rattle.ghes_window.proofs.WriteLemmas.{piece_is}
 use Rattle.ghes_hub.specs.Plain.{plain_window}
 use Rattle.ghes_hub.proofs.plain.reader.copy_piece.Goals as goal
 

@@ -3,7 +3,8 @@ use Rattle.ghes_ack.specs.Machine.{Fits, submitted}
 use Rattle.ghes_hub.specs.declared.plain.map.PlainMap.{PlainMap}
 use Rattle.ghes_hub.specs.Plain.{PlainState, PlainStands}
 use Rattle.ghes_hub.specs.PlainSides.{view_of}
-use Rattle.ghes_hub.proofs.PlainStart.{added, checked_fits, submits}
+use Rattle.ghes_ack.proofs.StartLemmas.{checked_fits}
+use Rattle.ghes_hub.proofs.PlainStart.{added, submits}
 use Rattle.ghes_hub.proofs.plain.handover.PlainHandover.submit.Goals as goal
 
 pub returns-clause-stands : goal.returns-clause-stands

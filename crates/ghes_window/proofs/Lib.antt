@@ -1,0 +1,5 @@
+pub mod PieceLemmas
+pub mod PlacedLemmas
+pub mod WindowLemmas
+pub mod WriteLemmas
+pub mod RoomLemmas
