@@ -8,17 +8,20 @@ use Rattle.apei_notify.specs.Telling.{wanted}
 use Rattle.erst_client.specs.Timings.{enough_steps}
 use Rattle.erst_machine.specs.MachineState.{records_of, told_of}
 use Rattle.erst_machine.specs.Shown.{shown_by, changes_of}
+use Rattle.bridge_durability.specs.Turns.{Step}
+use Rattle.bridge_durability.specs.Shown.{ShowsTurns}
 use Rattle.script_text.specs.ScriptGrammar.{Line}
 use Rattle.apei_script.specs.Players.{PlayerState, client_of, budget_of, UsesOwn}
 use Rattle.apei_script.specs.Words.{Reply, said_at, text_of_replies}
 use Rattle.apei_script.specs.Mapped.{Mapped, after_line}
 use Rattle.apei_script.specs.Plays.{LinePlayed, step_of, names_command, IsOwnLine, SaysHardware, SaysStopped, SaysLate}
 
--- a line that was played: its replies, the blocks of which the listeners were told, and the player afterwards
+-- a line that was played: its replies, the blocks of which the listeners were told, the turns of the bridge, and the player afterwards
 pub record Played : Type 0 where
   pub line : Line
   pub said : List Reply
   pub blocks : List (List ℕ)
+  pub steps : List Step
   pub left : PlayerState
 
 -- how often a listener has heard of an error once it was told of so many more that it wants
@@ -34,7 +37,7 @@ heard_after wants blocks counts = counts
 abbrev pub Follows : Type 0 → List (ℕ → Bool) → List ℕ → PlayerState → List Played → PlayerState → Type 0
 Follows tells wants counts first [] last = last ≡ first
 Follows tells wants counts first (played ∷ rest) last =
-    LinePlayed tells counts first played.line played.said played.blocks played.left
+    LinePlayed tells counts first played.line played.said played.blocks played.steps played.left
     × Follows tells wants (heard_after wants played.blocks counts) played.left rest last
 
 -- the blocks of which the listeners were told
@@ -58,13 +61,19 @@ abbrev pub AreCounted : List Played → Type 0
 AreCounted [] = Unit {0}
 AreCounted (played ∷ rest) = (changes_of played.left.machine ≡ step_of played.left) × AreCounted rest
 
--- what power lost at step s may show: the records after the lines that had ended by s, or as the next one leaves them where nothing fails
+-- what power lost at step s in a line may show: the records from before it, or as it leaves them where nothing fails; in turns of the bridge
+-- those after the turns that had ended by s, or as the next one leaves them
+abbrev pub ShowsLine : ℕ → PlayerState → Line → List Step → Stored → Type 0
+ShowsLine s state line [] shown = (shown ≡ records_of state.machine) ⊎ (shown ≡ after_line (client_of state).range state.machine line)
+ShowsLine s state line (step ∷ rest) shown = ShowsTurns s state.bridge state.machine (step ∷ rest) shown
+
+-- what power lost at step s may show: the records after the lines that had ended by s, or what the next one shows
 abbrev pub ShowsLines : ℕ → PlayerState → List Played → Stored → Type 0
 ShowsLines s state [] shown = shown ≡ records_of state.machine
 ShowsLines s state (played ∷ rest) shown =
     MatchBool (nat_le (changes_of played.left.machine) s)
     (ShowsLines s played.left rest shown)
-    ((shown ≡ records_of state.machine) ⊎ (shown ≡ after_line (client_of state).range state.machine played.line))
+    (ShowsLine s state played.line played.steps shown)
 
 -- at the step at which each line ended, the image showed the records that it leaves
 abbrev pub ShowsEachLine : PlayerState → PlayerState → List Played → Type 0

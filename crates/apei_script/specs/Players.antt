@@ -5,14 +5,16 @@ use Rattle.erst_client.specs.Timings.{enough_steps}
 use Rattle.erst_machine.specs.MachineState.{MachineState}
 use Rattle.erst_machine.specs.OwnTables.{own_erst}
 use Rattle.erst_commands.specs.Attached.{own_client}
+use Rattle.erst_bridge.specs.Bridges.{BridgeState, Off}
 
--- the machine; the client that was attached first; the client of a table that a line gave, which is in use in its place; and the steps
--- that each line is given, none where that is as many as are enough by the client's timings
+-- the machine; the client that was attached first; the client of a table that a line gave, which is in use in its place; the steps
+-- that each line is given, none where that is as many as are enough by the client's timings; and the bridge
 pub record PlayerState : Type 0 where
   pub machine : MachineState
   pub own : ClientState
   pub other : Option ClientState
   pub steps : Option ℕ
+  pub bridge : BridgeState
 
 -- the one of two clients that is in use
 abbrev pub in_use : ClientState → Option ClientState → ClientState
@@ -43,4 +45,4 @@ FitsMachine machine client = client.table ≡ own_erst → client ≡ own_client
 
 -- a player right after it was made
 abbrev pub player_of : MachineState → ClientState → Option ℕ → PlayerState
-player_of machine own steps = record { machine = machine; own = own; other = None; steps = steps }
+player_of machine own steps = record { machine = machine; own = own; other = None; steps = steps; bridge = Off }

@@ -2,6 +2,7 @@
 #![tactic(auto)]
 
 mod blocks;
+mod bridged;
 mod buffers;
 mod commands;
 mod desk;

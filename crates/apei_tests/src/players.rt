@@ -90,7 +90,7 @@ fn player(alloc: Global) -> Result<Player<SimFlash>, Fail> {
 fn is_built(line: &ScriptLine<'_>) -> bool
     ensures { IsTrue result ↔ IsBuilt (line_of line.now) }
 {
-    !matches!(line, ScriptLine::TableShadow | ScriptLine::Bridge { .. })
+    !matches!(line, ScriptLine::TableShadow)
 }
 
 /// Plays a line, and answers whether it could.
