@@ -6,6 +6,7 @@ use Rattle.std.specs.Prelude.{MatchBool, ◌↔◌}
 use Rattle.base_model.specs.Faults.{Rose}
 use Rattle.line_grammar.specs.Columns.{BreaksAt}
 use Rattle.erst_machine.specs.MachineState.{MachineState}
+use Rattle.bridge_durability.specs.Turns.{Step}
 use Rattle.script_text.specs.ScriptGrammar.{Line as ScriptLine, IsLine, table}
 use Rattle.script_text.specs.ScriptText.{Means}
 use Rattle.apei_notify.specs.Telling.{Hearing, counts_of, wants_of}
@@ -72,12 +73,12 @@ counts_after-push wants [] played counts = refl
 counts_after-push wants (first ∷ some) played counts = counts_after-push wants some played (heard_after wants first.blocks counts)
 
 Follows-push : (tells : Type 0) (wants : List (ℕ → Bool)) (counts : List ℕ) (first : PlayerState) (some : List Played) (mid : PlayerState) (played : Played) → Follows tells wants counts first some mid
-    → LinePlayed tells (counts_after wants some counts) mid played.line played.said played.blocks played.left → Follows tells wants counts first (some ++ played ∷ []) played.left
-Follows-push tells wants counts first [] mid played is line = (subst (λ (p : PlayerState). LinePlayed tells counts p played.line played.said played.blocks played.left) is line, refl)
+    → LinePlayed tells (counts_after wants some counts) mid played.line played.said played.blocks played.steps played.left → Follows tells wants counts first (some ++ played ∷ []) played.left
+Follows-push tells wants counts first [] mid played is line = (subst (λ (p : PlayerState). LinePlayed tells counts p played.line played.said played.blocks played.steps played.left) is line, refl)
 Follows-push tells wants counts first (one ∷ some) mid played is line = (is.0, Follows-push tells wants (heard_after wants one.blocks counts) one.left some mid played is.1 line)
 
-abbrev played_as : ScriptLine → List Reply → List (List ℕ) → PlayerState → Played
-played_as line said blocks left = record { line = line; said = said; blocks = blocks; left = left }
+abbrev played_as : ScriptLine → List Reply → List (List ℕ) → List Step → PlayerState → Played
+played_as line said blocks steps left = record { line = line; said = said; blocks = blocks; steps = steps; left = left }
 
 module _ {L : Type 0} (hearing : L → Hearing) (told_source told_sink tells : Type 0) where
   -- a run so far: the lines that were read, all of them played, and the listeners told
@@ -123,23 +124,23 @@ module _ {L : Type 0} (hearing : L → Hearing) (told_source told_sink tells : T
 
   -- a line that was played, behind some
   module _ (script rest written middle : List ℕ) (first members : List L) (old mid : PlayerState) (a : Reading) (so_far : SoFar hearing told_source told_sink tells script rest written middle first members old mid a)
-      (line : ScriptLine) (said : List Reply) (blocks : List (List ℕ)) (new : PlayerState) (members_now : List L)
-      (played : LinePlayed tells (counts_of hearing members) mid line said blocks new) (told : Told hearing blocks members members_now) where
-    history_then : Follows tells (wants_of hearing first) (counts_of hearing first) old (so_far.played ++ played_as line said blocks new ∷ []) new
+      (line : ScriptLine) (said : List Reply) (blocks : List (List ℕ)) (steps : List Step) (new : PlayerState) (members_now : List L)
+      (played : LinePlayed tells (counts_of hearing members) mid line said blocks steps new) (told : Told hearing blocks members members_now) where
+    history_then : Follows tells (wants_of hearing first) (counts_of hearing first) old (so_far.played ++ played_as line said blocks steps new ∷ []) new
     history_then =
-        Follows-push tells (wants_of hearing first) (counts_of hearing first) old so_far.played mid (played_as line said blocks new) so_far.history
-        (subst (λ (counts : List ℕ). LinePlayed tells counts mid line said blocks new) so_far.counts played)
+        Follows-push tells (wants_of hearing first) (counts_of hearing first) old so_far.played mid (played_as line said blocks steps new) so_far.history
+        (subst (λ (counts : List ℕ). LinePlayed tells counts mid line said blocks steps new) so_far.counts played)
 
-    told_now : Told hearing (blocks_of (so_far.played ++ played_as line said blocks new ∷ [])) first members_now
+    told_now : Told hearing (blocks_of (so_far.played ++ played_as line said blocks steps new ∷ [])) first members_now
     told_now =
-        subst (λ (bs : List (List ℕ)). Told hearing bs first members_now) (sym (blocks_of-push so_far.played (played_as line said blocks new)))
+        subst (λ (bs : List (List ℕ)). Told hearing bs first members_now) (sym (blocks_of-push so_far.played (played_as line said blocks steps new)))
         (all_told_then hearing (blocks_of so_far.played) blocks first members members_now so_far.told told)
 
-    counts_now : counts_of hearing members_now ≡ counts_after (wants_of hearing first) (so_far.played ++ played_as line said blocks new ∷ []) (counts_of hearing first)
+    counts_now : counts_of hearing members_now ≡ counts_after (wants_of hearing first) (so_far.played ++ played_as line said blocks steps new ∷ []) (counts_of hearing first)
     counts_now =
         heard_all hearing (wants_of hearing first) blocks members members_now so_far.wants told
         ∙ ap (heard_after (wants_of hearing first) blocks) so_far.counts
-        ∙ sym (counts_after-push (wants_of hearing first) so_far.played (played_as line said blocks new) (counts_of hearing first))
+        ∙ sym (counts_after-push (wants_of hearing first) so_far.played (played_as line said blocks steps new) (counts_of hearing first))
 
   -- one more line was read and played
   pub SoFar-played : (script rest rest_now written middle now : List ℕ) (first members members_now : List L) (old mid new : PlayerState) (a b : Reading) (line : ScriptLine)
@@ -148,19 +149,19 @@ module _ {L : Type 0} (hearing : L → Hearing) (told_source told_sink tells : T
       → SoFar hearing told_source told_sink tells script rest_now written now first members_now old new b
   SoFar-played script rest rest_now written middle now first members members_now old mid new a b line so_far next is plays counts = record {
     lines = so_far.lines ++ last_line b ∷ [];
-    played = so_far.played ++ played_as line plays.said plays.blocks new ∷ [];
+    played = so_far.played ++ played_as line plays.said plays.blocks plays.steps new ∷ [];
     read = order.next script rest rest_now so_far.lines a b so_far.read next;
-    are = ArePlayed-push so_far.lines (last_line b) so_far.played (played_as line plays.said plays.blocks new) so_far.are is;
-    history = history_then script rest written middle first members old mid a so_far line plays.said plays.blocks new members_now plays.played plays.told;
-    counts = counts_now script rest written middle first members old mid a so_far line plays.said plays.blocks new members_now plays.played plays.told;
+    are = ArePlayed-push so_far.lines (last_line b) so_far.played (played_as line plays.said plays.blocks plays.steps new) so_far.are is;
+    history = history_then script rest written middle first members old mid a so_far line plays.said plays.blocks plays.steps new members_now plays.played plays.told;
+    counts = counts_now script rest written middle first members old mid a so_far line plays.said plays.blocks plays.steps new members_now plays.played plays.told;
     wants = wants_stay hearing (wants_of hearing first) plays.blocks members members_now so_far.wants plays.told;
-    told = told_now script rest written middle first members old mid a so_far line plays.said plays.blocks new members_now plays.played plays.told;
+    told = told_now script rest written middle first members old mid a so_far line plays.said plays.blocks plays.steps new members_now plays.played plays.told;
     text = λ told.
         plays.text told
         ∙ ap (λ (bs : List ℕ). bs ++ text_of_replies plays.said) (so_far.text told)
         ∙ append_assoc written (text_of so_far.played) (text_of_replies plays.said)
-        ∙ ap (λ (bs : List ℕ). written ++ bs) (sym (text_of-push so_far.played (played_as line plays.said plays.blocks new)));
-    counted = λ told. AreCounted-push so_far.played (played_as line plays.said plays.blocks new) (so_far.counted told) (counts told);
+        ∙ ap (λ (bs : List ℕ). written ++ bs) (sym (text_of-push so_far.played (played_as line plays.said plays.blocks plays.steps new)));
+    counted = λ told. AreCounted-push so_far.played (played_as line plays.said plays.blocks plays.steps new) (so_far.counted told) (counts told);
   }
 
   -- a run whose last line was played whole, and whose machine is as that left it
@@ -262,12 +263,12 @@ module _ {L : Type 0} (hearing : L → Hearing) (told_source told_sink tells : T
       → PlaysUnheard hearing tells told_sink mid new members members_now line middle now → (tells → changes_of new.machine ≡ step_of new)
       → PlaysScript hearing told_source told_sink tells script rest_now written now first members_now old new SinkFault
   ends_unheard script rest rest_now written middle now first members members_now old mid new a b line so_far next is plays counts = record {
-    played = so_far.played ++ played_as plays.made plays.said plays.blocks new ∷ [];
+    played = so_far.played ++ played_as plays.made plays.said plays.blocks plays.steps new ∷ [];
     last = new;
-    history = history_then script rest written middle first members old mid a so_far plays.made plays.said plays.blocks new members_now plays.played plays.told;
+    history = history_then script rest written middle first members old mid a so_far plays.made plays.said plays.blocks plays.steps new members_now plays.played plays.told;
     lines = record {
       first = so_far.played;
-      last = played_as plays.made plays.said plays.blocks new;
+      last = played_as plays.made plays.said plays.blocks plays.steps new;
       played_is = refl;
       line = line;
       before = plays.before;
@@ -284,8 +285,8 @@ module _ {L : Type 0} (hearing : L → Hearing) (told_source told_sink tells : T
       text = λ told. subst (λ (bs : List ℕ). PartlyWritten plays.before plays.last bs now) (so_far.text told) (plays.text told);
     };
     behind = refl;
-    told = told_now script rest written middle first members old mid a so_far plays.made plays.said plays.blocks new members_now plays.played plays.told;
-    counted = λ told. AreCounted-push so_far.played (played_as plays.made plays.said plays.blocks new) (so_far.counted told) (counts told);
+    told = told_now script rest written middle first members old mid a so_far plays.made plays.said plays.blocks plays.steps new members_now plays.played plays.told;
+    counted = λ told. AreCounted-push so_far.played (played_as plays.made plays.said plays.blocks plays.steps new) (so_far.counted told) (counts told);
     fault = λ e. absurd (cc e);
   }
 

@@ -16,11 +16,13 @@ use Rattle.erst_machine.proofs.EventLemmas.{events_keep}
 use Rattle.erst_commands.specs.Attached.{own_client}
 use Rattle.erst_twins.specs.Alike.{FailedNothing}
 use Rattle.erst_twins.proofs.Dialogues.{quiet_first, quiet_second}
+use Rattle.bridge_durability.specs.Turns.{Step}
+use Rattle.bridge_durability.specs.Shown.{ShowsTurns}
 use Rattle.script_text.specs.ScriptGrammar.{Line}
 use Rattle.apei_script.specs.Words.{Reply}
 use Rattle.apei_script.specs.Players.{PlayerState, in_use, UsesOwn}
-use Rattle.apei_script.specs.Plays.{Plays, Blank, ByClient, GivenTable, OwnTable, OnMachine, Heard, Reset, Power, HasHappened, LinePlayed, names_command, IsOwnLine}
-use Rattle.apei_script.specs.History.{Played, heard_after, Follows, EndInOrder, ShowsLines, ShowsEachLine, AreOwnLines, IsMapped, AreMapped, NoneSaysHardware, AllGoThrough, AlwaysUsesOwn}
+use Rattle.apei_script.specs.Plays.{Plays, Blank, ByClient, GivenTable, OwnTable, OnMachine, ByTheBridge, Heard, Reset, Power, HasHappened, LinePlayed, names_command, IsOwnLine}
+use Rattle.apei_script.specs.History.{Played, heard_after, Follows, EndInOrder, ShowsLine, ShowsLines, ShowsEachLine, AreOwnLines, IsMapped, AreMapped, NoneSaysHardware, AllGoThrough, AlwaysUsesOwn}
 use Rattle.apei_script.proofs.EventChanges.{along}
 use Rattle.apei_script.proofs.LineLemmas.{line_divides, line_own}
 
@@ -43,14 +45,15 @@ on_false false P Q e q = q
 
 module _ (tells : Type 0) where
   -- only a table gives another client
-  pub no_other : (counts : List ℕ) (old : PlayerState) (line : Line) (said : List Reply) (blocks : List (List ℕ)) (new : PlayerState) → Plays tells counts old line said blocks new
+  pub no_other : (counts : List ℕ) (old : PlayerState) (line : Line) (said : List Reply) (blocks : List (List ℕ)) (steps : List Step) (new : PlayerState) → Plays tells counts old line said blocks steps new
       → IsOwnLine line → old.other ≡ None → new.other ≡ None
-  no_other counts old line said blocks new plays = elim plays as (λ line said blocks new plays. IsOwnLine line → old.other ≡ None → new.other ≡ None) [
+  no_other counts old line said blocks steps new plays = elim plays as (λ line said blocks steps new plays. IsOwnLine line → old.other ≡ None → new.other ≡ None) [
     | Blank ↦ λ own none. none
     | ByClient line words machine commanded ↦ λ own none. none
     | GivenTable hex bytes words machine other decoded gives ↦ λ own none. absurd own
     | OwnTable ↦ λ own none. refl
-    | OnMachine line said blocks machine happened ↦ λ own none. none
+    | OnMachine line said blocks machine alone happened ↦ λ own none. none
+    | ByTheBridge line said blocks steps next machine by ↦ λ own none. none
     | Heard ↦ λ own none. none
     | Reset n machine warms ↦ λ own none. refl
     | Power n machine powers ↦ λ own none. refl
@@ -78,7 +81,7 @@ module _ (tells : Type 0) where
       → (last.own ≡ first.own) × (last.steps ≡ first.steps)
   history_own wants counts first [] last is = (ap (λ (p : PlayerState). p.own) is, ap (λ (p : PlayerState). p.steps) is)
   history_own wants counts first (line ∷ rest) last is =
-      let one = line_own tells counts first line.line line.said line.blocks line.left is.0.plays in
+      let one = line_own tells counts first line.line line.said line.blocks line.steps line.left is.0.plays in
       let more = history_own wants (heard_after wants line.blocks counts) line.left rest last is.1 in
       (more.0 ∙ one.0, more.1 ∙ one.1)
 
@@ -92,7 +95,7 @@ module _ (tells : Type 0) where
   -- each line
 
   -- an own client depends on the layout alone
-  own_client-kept : (old new : MachineState) → new.device.store.layout ≡ old.device.store.layout → own_client new ≡ own_client old
+  pub own_client-kept : (old new : MachineState) → new.device.store.layout ≡ old.device.store.layout → own_client new ≡ own_client old
   own_client-kept old new same = ap (λ (l : Layout). own_client (record old { device = record old.device { store = record old.device.store { layout = l } } })) same
 
   pub history_uses_own : (wants : List (ℕ → Bool)) (counts : List ℕ) (first : PlayerState) (played : List Played) (last : PlayerState)
@@ -100,12 +103,12 @@ module _ (tells : Type 0) where
   history_uses_own wants counts first [] last own none lines is = ap (in_use first.own) none ∙ own
   history_uses_own wants counts first (line ∷ rest) last own none lines is =
       let plays = is.0.plays in
-      let stay = line_own tells counts first line.line line.said line.blocks line.left plays in
-      let divides = line_divides tells counts first line.line line.said line.blocks line.left plays in (
+      let stay = line_own tells counts first line.line line.said line.blocks line.steps line.left plays in
+      let divides = line_divides tells counts first line.line line.said line.blocks line.steps line.left plays in (
         ap (in_use first.own) none ∙ own,
         history_uses_own wants (heard_after wants line.blocks counts) line.left rest last
             (stay.0 ∙ own ∙ sym (own_client-kept first.machine line.left.machine divides))
-            (no_other counts first line.line line.said line.blocks line.left plays lines.0 none) lines.1 is.1,
+            (no_other counts first line.line line.said line.blocks line.steps line.left plays lines.0 none) lines.1 is.1,
       )
 
   pub history_says_no_hardware : (wants : List (ℕ → Bool)) (counts : List ℕ) (first : PlayerState) (played : List Played) (last : PlayerState)
@@ -126,7 +129,7 @@ module _ (tells : Type 0) where
       (is.0.enough, history_goes_through wants (heard_after wants line.blocks counts) line.left rest last is.1)
 
   module _ (told : tells) where
-    is_mapped : (counts : List ℕ) (old : PlayerState) (played : Played) → LinePlayed tells counts old played.line played.said played.blocks played.left → UsesOwn old → names_command played.line ≡ true
+    is_mapped : (counts : List ℕ) (old : PlayerState) (played : Played) → LinePlayed tells counts old played.line played.said played.blocks played.steps played.left → UsesOwn old → names_command played.line ≡ true
         → IsMapped old played
     is_mapped counts old played line uses names =
         let by_map = line.by_map told uses names in
@@ -148,9 +151,9 @@ module _ (tells : Type 0) where
     history_goes_on wants counts first played last is =
         let all = one_list wants counts first played last is in (length all.0, (events_are_shown tells told first.machine last.machine all.0 all.1).goes_on)
 
-    line_goes_on : (counts : List ℕ) (old : PlayerState) (line : Line) (said : List Reply) (blocks : List (List ℕ)) (new : PlayerState) → LinePlayed tells counts old line said blocks new
+    line_goes_on : (counts : List ℕ) (old : PlayerState) (line : Line) (said : List Reply) (blocks : List (List ℕ)) (steps : List Step) (new : PlayerState) → LinePlayed tells counts old line said blocks steps new
         → (n : ℕ) × GoesOn n old.machine new.machine
-    line_goes_on counts old line said blocks new played =
+    line_goes_on counts old line said blocks steps new played =
         let happened = played.happened in (length happened.trail, (events_are_shown tells told old.machine new.machine happened.trail happened.happens).goes_on)
 
     pub history_ends : (wants : List (ℕ → Bool)) (counts : List ℕ) (first : PlayerState) (played : List Played) (last : PlayerState) → Follows tells wants counts first played last
@@ -158,7 +161,7 @@ module _ (tells : Type 0) where
     history_ends wants counts first [] last is = tt
     history_ends wants counts first (line ∷ rest) last is =
         let left = line.left.machine in
-        let one = (line_goes_on counts first line.line line.said line.blocks line.left is.0).1 in
+        let one = (line_goes_on counts first line.line line.said line.blocks line.steps line.left is.0).1 in
         let more = (history_goes_on wants (heard_after wants line.blocks counts) line.left rest last is.1).1 in
         let image : image_at (told_of last.machine) (changes_of left) ≡ (told_of left).image =
         image_at-later (told_of left) (told_of last.machine) (changes_of left) more.later (omega arith) ∙ image_at-now (told_of left) (changes_of left) (omega arith) in
@@ -168,13 +171,22 @@ module _ (tells : Type 0) where
         → EndInOrder (changes_of first.machine) played (changes_of last.machine)
     history_in_order wants counts first [] last is = let same = ap (λ (p : PlayerState). changes_of p.machine) is in omega arith
     history_in_order wants counts first (line ∷ rest) last is =
-        let one = (line_goes_on counts first line.line line.said line.blocks line.left is.0).1 in
+        let one = (line_goes_on counts first line.line line.said line.blocks line.steps line.left is.0).1 in
         (past_grows (told_of first.machine) (told_of line.left.machine) one.later, history_in_order wants (heard_after wants line.blocks counts) line.left rest last is.1)
 
     pub history_ends_later : (wants : List (ℕ → Bool)) (counts : List ℕ) (first : PlayerState) (played : List Played) (last : PlayerState) → Follows tells wants counts first played last
         → ShowsEachLine last first played × IsLater (told_of first.machine) (told_of last.machine)
     history_ends_later wants counts first played last is =
         (history_ends wants counts first played last is, (history_goes_on wants counts first played last is).1.later)
+
+    -- one line
+    line_shows : (counts : List ℕ) (old : PlayerState) (played : Played) → old.own ≡ own_client old.machine → old.other ≡ None → IsOwnLine played.line
+        → LinePlayed tells counts old played.line played.said played.blocks played.steps played.left → (steps : List Step) → played.steps ≡ steps
+        → (s : ℕ) (image : List ℕ) → changes_of old.machine ≤ s → CrashImage (told_of played.left.machine) s image → ShowsLine s old played.line steps (shown_by old.machine image)
+    line_shows counts old played own none is line [] unmade s image from crash = (line.leaves told (λ _. ap (in_use old.own) none ∙ own) is unmade).each s image from crash
+    line_shows counts old played own none is line (step ∷ rest) some s image from crash =
+        subst (λ (steps : List Step). ShowsTurns s old.bridge old.machine steps (shown_by old.machine image)) some
+        ((line.turned told own).each (λ unmade. absurd (let e : ◌≡◌ {A = List Step} (step ∷ rest) [] = sym some ∙ unmade in cc e)) s image from crash)
 
     pub history_shows : (wants : List (ℕ → Bool)) (counts : List ℕ) (first : PlayerState) (played : List Played) (last : PlayerState)
         → first.own ≡ own_client first.machine → first.other ≡ None → AreOwnLines played → Follows tells wants counts first played last
@@ -183,18 +195,18 @@ module _ (tells : Type 0) where
         ap (shown_by first.machine) (CrashImage-now (told_of first.machine) s image from (subst (λ (p : PlayerState). CrashImage (told_of p.machine) s image) is crash))
     history_shows wants counts first (line ∷ rest) last own none lines is s image from crash =
         let left = line.left.machine in
-        let one = (line_goes_on counts first line.line line.said line.blocks line.left is.0).1 in
+        let one = (line_goes_on counts first line.line line.said line.blocks line.steps line.left is.0).1 in
         let more = (history_goes_on wants (heard_after wants line.blocks counts) line.left rest last is.1).1 in
-        let leaves = is.0.leaves told (λ _. ap (in_use first.own) none ∙ own) lines.0 in
-        let stay = line_own tells counts first line.line line.said line.blocks line.left is.0.plays in
+        let shows = line_shows counts first line own none lines.0 is.0 in
+        let stay = line_own tells counts first line.line line.said line.blocks line.steps line.left is.0.plays in
         elim (cases_lt s (changes_of left)) [
           | inl before ↦
               on_false (nat_le (changes_of left) s) _ _ (lt-leb (changes_of left) s before)
-              (leaves.each s image from (CrashImage-earlier (told_of left) (told_of last.machine) s image more.later before crash))
+              (shows line.steps refl s image from (CrashImage-earlier (told_of left) (told_of last.machine) s image more.later before crash))
           | inr after ↦
               on_true (nat_le (changes_of left) s) _ _ (le-leb (changes_of left) s after)
               (subst (λ (m : Stored). ShowsLines s line.left rest m) (shown_alike first.machine left image one.alike)
               (history_shows wants (heard_after wants line.blocks counts) line.left rest last
               (stay.0 ∙ own ∙ sym (own_client-kept first.machine left one.alike.layout))
-              (no_other counts first line.line line.said line.blocks line.left is.0.plays lines.0 none) lines.1 is.1 s image after crash))
+              (no_other counts first line.line line.said line.blocks line.steps line.left is.0.plays lines.0 none) lines.1 is.1 s image after crash))
         ]

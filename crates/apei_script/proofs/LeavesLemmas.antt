@@ -1,5 +1,5 @@
 -- What power lost in a line leaves of the records.
-use Rattle.std.proofs.Common.{◌≡◌, ◌⊎◌, ℕ, true, List, Option, None, Result, Ok, Err, refl, sym, ap, subst, ◌∙◌, inl}
+use Rattle.std.proofs.Common.{◌≡◌, ◌⊎◌, ℕ, true, List, [], Option, None, Result, Ok, Err, refl, sym, ap, subst, ◌∙◌, inl}
 use Rattle.std.specs.Prelude.{is_none, if◌then◌else◌}
 use Rattle.flash_words.specs.Flash.{Told, Leaves}
 use Rattle.flash_words.proofs.CrashLemmas.{Leaves-none, Leaves-weaker}
@@ -21,13 +21,16 @@ use Rattle.erst_commands.specs.Changes.{ChangeCommand, IsTaken, IsRefused, IsFai
 use Rattle.erst_commands.specs.Looks.{AsksOnce, Answers, StopsBehind, StopsAtOnce, CountMade, IsCounted, IsNotCounted, NextMade, IsFound, IsAtEnd, IsNotFound}
 use Rattle.erst_commands.specs.Reads.{ReadMade, IsRead as read_made, IsRefused as read_refused, IsFailed as read_failed, ReadCommand, Answers as read_answers, StopsBehind as read_behind, StopsBefore as read_before, ReadAnswered, IsNotRead, IsNotCopied, IsCopied}
 use Rattle.erst_commands.specs.Writes.{WriteAnswered, IsNoRecord, IsWritten, marked, id_of}
+use Rattle.erst_bridge.specs.Bridges.{BridgeState}
+use Rattle.bridge_durability.specs.Turns.{Step, AreTurns}
 use Rattle.script_text.specs.ScriptGrammar.{Line, blank, write, read, clear, count, next, dummy, own_table, heard, reset, power}
 use Rattle.apei_script.specs.Words.{Reply}
 use Rattle.apei_script.specs.Players.{PlayerState, budget_of, client_of, UsesOwn}
 use Rattle.apei_script.specs.Asked.{Asked, WritesRecord, ReadsRecord, ClearsRecord, CountsRecords, FindsNext, WritesDummy, RunsAction}
 use Rattle.apei_script.specs.Happened.{Turned, NoTurn, OneMore, Happened, IsGiven, Turn, IsPeeked, IsLaid, IsListed}
 use Rattle.apei_script.specs.Mapped.{Mapped, IsWrite, IsRead, IsClear, IsCount, IsNext, IsDummy, after_write, after_line, LineLeaves}
-use Rattle.apei_script.specs.Plays.{Plays, Blank, ByClient, GivenTable, OwnTable, OnMachine, Heard, Reset, Power, names_command, IsOwnLine}
+use Rattle.apei_script.specs.Bridged.{ByBridge, Enters, StaysAs, BridgesTurns}
+use Rattle.apei_script.specs.Plays.{Plays, Blank, ByClient, GivenTable, OwnTable, OnMachine, ByTheBridge, Heard, Reset, Power, names_command, IsOwnLine}
 
 -- by the machine's own table
 abbrev LeavesOwn : MachineState → Line → MachineState → Type 0
@@ -177,20 +180,31 @@ asks_command tells client steps old line words new asked = elim asked as (λ lin
 abbrev pub MapsTo : PlayerState → Line → PlayerState → Type 0
 MapsTo old line new = (words : List ℕ) × Mapped (budget_of old) old.machine line words new.machine
 
-plays_leaves : (tells : Type 0) → tells → (counts : List ℕ) (old : PlayerState) (line : Line) (said : List Reply) (blocks : List (List ℕ)) (new : PlayerState) → Plays tells counts old line said blocks new →
-    (names_command line ≡ true → MapsTo old line new) → IsOwnLine line → LeavesOwn old.machine line new.machine
-plays_leaves tells told counts old line said blocks new plays =
-    elim plays as (λ line said blocks new plays. (names_command line ≡ true → MapsTo old line new) → IsOwnLine line → LeavesOwn old.machine line new.machine) [
-      | Blank ↦ λ maps own. stays old.machine blank old.machine refl
-      | ByClient line words machine commanded ↦ λ maps own.
+-- the line that turns the bridge on leaves the flash alone; other lines of the bridge made turns
+bridge_told : (tells : Type 0) (old : PlayerState) (line : Line) (said : List Reply) (blocks : List (List ℕ)) (steps : List Step) (bridge_now : BridgeState) (machine : MachineState)
+    → ByBridge tells old line said blocks steps bridge_now machine → steps ≡ [] → told_of machine ≡ told_of old.machine
+bridge_told tells old line said blocks steps bridge_now machine by = elim by as (λ line said blocks steps bridge_now machine by. steps ≡ [] → told_of machine ≡ told_of old.machine) [
+  | Enters id none ↦ λ unmade. refl
+  | StaysAs id why refuses ↦ λ unmade. refl
+  | BridgesTurns letters steps bridge_now machine on are sides counted ↦ λ unmade.
+      ap told_of (subst (λ (xs : List Step). AreTurns tells old.own (budget_of old) old.bridge old.machine xs bridge_now machine) unmade are).1
+]
+
+plays_leaves : (tells : Type 0) → tells → (counts : List ℕ) (old : PlayerState) (line : Line) (said : List Reply) (blocks : List (List ℕ)) (steps : List Step) (new : PlayerState) → Plays tells counts old line said blocks steps new →
+    steps ≡ [] → (names_command line ≡ true → MapsTo old line new) → IsOwnLine line → LeavesOwn old.machine line new.machine
+plays_leaves tells told counts old line said blocks steps new plays =
+    elim plays as (λ line said blocks steps new plays. steps ≡ [] → (names_command line ≡ true → MapsTo old line new) → IsOwnLine line → LeavesOwn old.machine line new.machine) [
+      | Blank ↦ λ unmade maps own. stays old.machine blank old.machine refl
+      | ByClient line words machine commanded ↦ λ unmade maps own.
           let mapped = maps (asks_command tells (client_of old) (budget_of old) old.machine line words machine commanded.asked own) in
           mapped_leaves (budget_of old) old.machine line mapped.0 machine mapped.1
-      | GivenTable hex bytes words machine other decoded gives ↦ λ maps own. absurd own
-      | OwnTable ↦ λ maps own. stays old.machine own_table old.machine refl
-      | OnMachine line said blocks machine happened ↦ λ maps own. stays old.machine line machine (happened_told tells old.machine line said blocks machine happened)
-      | Heard ↦ λ maps own. stays old.machine heard old.machine refl
-      | Reset n machine warms ↦ λ maps own. keeps old.machine reset machine (warms.leaves.kept told)
-      | Power n machine powers ↦ λ maps own. keeps old.machine power machine (powers.restarts.leaves.kept told)
+      | GivenTable hex bytes words machine other decoded gives ↦ λ unmade maps own. absurd own
+      | OwnTable ↦ λ unmade maps own. stays old.machine own_table old.machine refl
+      | OnMachine line said blocks machine alone happened ↦ λ unmade maps own. stays old.machine line machine (happened_told tells old.machine line said blocks machine happened)
+      | ByTheBridge line said blocks steps bridge_now machine by ↦ λ unmade maps own. stays old.machine line machine (bridge_told tells old line said blocks steps bridge_now machine by unmade)
+      | Heard ↦ λ unmade maps own. stays old.machine heard old.machine refl
+      | Reset n machine warms ↦ λ unmade maps own. keeps old.machine reset machine (warms.leaves.kept told)
+      | Power n machine powers ↦ λ unmade maps own. keeps old.machine power machine (powers.restarts.leaves.kept told)
     ]
 
 -- only a write has a part in the range
@@ -199,10 +213,10 @@ by_range (write hex) own range state same = ap (λ (n : ℕ). after_line n state
 by_range line own range state same = refl
 
 -- every line
-pub line_leaves : (tells : Type 0) → tells → (counts : List ℕ) (old : PlayerState) (line : Line) (said : List Reply) (blocks : List (List ℕ)) (new : PlayerState)
-    → Plays tells counts old line said blocks new → (names_command line ≡ true → UsesOwn old) → (names_command line ≡ true → MapsTo old line new) → IsOwnLine line
+pub line_leaves : (tells : Type 0) → tells → (counts : List ℕ) (old : PlayerState) (line : Line) (said : List Reply) (blocks : List (List ℕ)) (steps : List Step) (new : PlayerState)
+    → Plays tells counts old line said blocks steps new → steps ≡ [] → (names_command line ≡ true → UsesOwn old) → (names_command line ≡ true → MapsTo old line new) → IsOwnLine line
     → LineLeaves (client_of old).range old.machine line new.machine
-line_leaves tells told counts old line said blocks new plays uses maps own =
+line_leaves tells told counts old line said blocks steps new plays unmade uses maps own =
     subst (λ (made : Stored). Leaves (told_of old.machine) (told_of new.machine) (λ image. (shown_by old.machine image ≡ records_of old.machine) ⊎ (shown_by old.machine image ≡ made)))
     (by_range line (reach_in old.machine.device) (client_of old).range old.machine (λ names. ap (λ (client : ClientState). client.range) (uses names)))
-    (plays_leaves tells told counts old line said blocks new plays maps own)
+    (plays_leaves tells told counts old line said blocks steps new plays unmade maps own)

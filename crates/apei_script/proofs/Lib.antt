@@ -22,3 +22,7 @@ pub mod Giving
 pub mod Owning
 pub mod DeskLines
 pub mod PlayLemmas
+pub mod KeptTurns
+pub mod BridgeLemmas
+pub mod KeptLines
+pub mod OrderLemmas

@@ -2,7 +2,7 @@
 use Rattle.std.specs.Prelude.{◌≡◌, ℕ, ◌+◌, ◌≤◌, not, if◌then◌else◌, Bool, true, false, List, [], ◌∷◌, ◌++◌, codes, decimal, map, Option, Some, None}
 use Rattle.std.specs.List.{flat_map}
 use Rattle.flash_words.specs.Flash.{CrashImage}
-use Rattle.record_model.specs.Records.{is_reserved}
+use Rattle.record_model.specs.Records.{is_reserved, Stored as Records}
 use Rattle.ghes_ack.specs.declared.events.Event.TheVariants.{Took}
 use Rattle.ghes_ack.specs.Machine.{Machine as HandoverMachine, is_idle}
 use Rattle.erst_machine.specs.MachineState.{MachineState, records_of, told_of}
@@ -63,17 +63,17 @@ abbrev pub HasTaken : Turn → Type 0
 HasTaken (OfBridge (ByReader Took)) = Unit {0}
 HasTaken turn = ⊥
 
--- the block of a turn, where it took one
-abbrev pub block_of : Turn → MachineState → List (List ℕ)
-block_of (OfBridge (ByReader Took)) machine = last_of machine ∷ []
-block_of turn machine = []
+-- the block of a turn that took one, which is the one taken last
+abbrev pub block_of : Turn → List ℕ → List (List ℕ)
+block_of (OfBridge (ByReader Took)) last = last ∷ []
+block_of turn last = []
 
 abbrev pub blocks_in : List Step → List (List ℕ)
-blocks_in steps = flat_map (λ (step : Step). block_of step.turn step.machine) steps
+blocks_in steps = flat_map (λ (step : Step). block_of step.turn (last_of step.machine)) steps
 
 -- a block's line is written when it is taken
 abbrev pub block_replies : List Step → List Reply
-block_replies steps = flat_map (λ (step : Step). said_at (changes_in step.machine) (map words_of_block (block_of step.turn step.machine))) steps
+block_replies steps = flat_map (λ (step : Step). said_at (changes_in step.machine) (map words_of_block (block_of step.turn (last_of step.machine)))) steps
 
 -- and the line of all turns behind the last of them
 abbrev pub replies_of : ℕ → List Step → List Reply
@@ -95,17 +95,16 @@ abbrev pub NeedsNoBridge : BridgeState → Line → Type 0
 NeedsNoBridge state (turns letters) = state ≡ Off
 NeedsNoBridge state line = Unit {0}
 
--- the record of a block that a turn stored stands at whatever power lost from the end of the turn on leaves, as long as the identifier is
--- spared
-abbrev pub StaysStored : (ℕ → Type 0) → BridgeState → Turn → MachineState → MachineState → Type 0
-StaysStored spared state (OfBridge (Stored id)) mid last =
-    (block : List ℕ) × (state ≡ Holds id block)
-    × (spared id → (s : ℕ) (image : List ℕ) → changes_of mid ≤ s → CrashImage (told_of last) s image → IsStoredAs id (stored_record block id) (shown_by mid image))
-StaysStored spared state turn mid last = Unit {0}
+-- the record of a block that a turn stored is among these, where power was lost at a step from the end of the turn on, as long as the
+-- block's identifier is spared
+abbrev pub KeepsBlock : (ℕ → Type 0) → ℕ → BridgeState → Turn → MachineState → Records → Type 0
+KeepsBlock spared s state (OfBridge (Stored id)) mid shown =
+    (block : List ℕ) × (state ≡ Holds id block) × (spared id → changes_of mid ≤ s → IsStoredAs id (stored_record block id) shown)
+KeepsBlock spared s state turn mid shown = Unit {0}
 
-abbrev pub AllStayStored : (ℕ → Type 0) → BridgeState → List Step → MachineState → Type 0
-AllStayStored spared state [] last = Unit {0}
-AllStayStored spared state (step ∷ rest) last = StaysStored spared state step.turn step.machine last × AllStayStored spared step.bridge rest last
+abbrev pub KeepsBlocks : (ℕ → Type 0) → ℕ → BridgeState → List Step → Records → Type 0
+KeepsBlocks spared s state [] shown = Unit {0}
+KeepsBlocks spared s state (step ∷ rest) shown = KeepsBlock spared s state step.turn step.machine shown × KeepsBlocks spared s step.bridge rest shown
 
 -- What power lost in the turns of a line shows. A line that made no turn of the bridge is none of these
 pub record TurnsShown (state : BridgeState) (old : MachineState) (steps : List Step) (new : MachineState) : Type 0 where
@@ -114,4 +113,5 @@ pub record TurnsShown (state : BridgeState) (old : MachineState) (steps : List S
   -- so also the records from before them, with those of the first blocks that were held, or submitted and not yet taken
   pub first : (steps ≡ [] → ⊥) → (m : HandoverMachine) → StandsInStep state old m → (s : ℕ) (image : List ℕ) → changes_of old ≤ s → CrashImage (told_of new) s image
       → HasPrefix state m (bytes_in (records_of old)) (shown_by old image)
-  pub stored : AllStayStored (λ id. Unit {0}) state steps new
+  -- and the record of each block that they had stored by then
+  pub stored : (s : ℕ) (image : List ℕ) → changes_of old ≤ s → CrashImage (told_of new) s image → KeepsBlocks (λ id. Unit {0}) s state steps (shown_by old image)

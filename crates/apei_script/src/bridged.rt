@@ -84,14 +84,16 @@ pub fn bridged_turns<F: Flash, O: Sink>(
     desk.buffers.made.clear();
     'turning: for letter in letters {
         let turn = bridged_turn(&mut desk.bridge, &mut desk.own, steps, &mut desk.machine, *letter);
+        let taken = took(&turn);
         let step = desk.machine.steps();
         desk.buffers.made.push(MadeTurn { turn, step }).unwrap();
-        if took(&turn) {
+        if taken {
             hear_of_block(desk, chain, out)?;
         }
     }
     let step = desk.machine.steps();
-    say_made(&desk.buffers.made, step, &mut desk.buffers.reply, out)
+    let reply = &mut desk.buffers.reply;
+    say_made(&desk.buffers.made, step, reply, out)
 }
 
 /// A turn of the side of a letter. A block that it took is one that the handover's window takes.

@@ -1,6 +1,7 @@
 // The player.
-ghost use Rattle.std.specs.Prelude.{◌≡◌, ◌≢◌, true, Ok, Err, OnOk, IfOk, IfErr};
-ghost use Rattle.base_model.specs.Faults.{Rose};
+ghost use Rattle.std.specs.Prelude.{◌≡◌, ◌≢◌, ◌≤◌, length, true, Ok, Err, OnOk, OnErr, IfOk, IfErr};
+ghost use Rattle.base_model.specs.Faults.{Rose, HasCause};
+ghost use Rattle.script_text.specs.ScriptGrammar.{turns as turns_of};
 ghost use Rattle.script_text.specs.ScriptText.{line_of};
 ghost use Rattle.apei_notify.specs.Chains.{members_of};
 ghost use Rattle.apei_script.specs.declared.player.PlayStop.TheVariants.{SinkFault as TheSinkFault, Memory as TheMemory};
@@ -112,8 +113,7 @@ impl<F: Flash> Player<F> {
     {
         match line {
             ScriptLine::Blank => {}
-            ScriptLine::Turns { letters } if self.desk.bridge.is_on() => bridged_turns(&mut self.desk, &mut self.chain, letters, out)?,
-            ScriptLine::Turns { letters } => turns(&mut self.desk, &mut self.chain, letters, out)?,
+            ScriptLine::Turns { letters } => self.make_turns(letters, out)?,
             ScriptLine::Bert => list_blocks(&mut self.desk, out)?,
             ScriptLine::Heard => say_heard(&mut self.desk, &self.chain, out)?,
             line => {
@@ -122,6 +122,20 @@ impl<F: Flash> Player<F> {
             }
         }
         Ok(())
+    }
+
+    /// Makes the turns of a line: while the bridge is on, those of the reader are the bridge's.
+    fn make_turns<O: Sink>(&mut self, letters: &[u8], out: &mut O) -> Result<(), SinkFault>
+        requires { length letters.now ≤ 4096 }
+        ensures played { OnOk result (IsPlayed hearing F.tells O.tells self.old (turns_of letters.now) self.new (O.written out.old) (O.written out.new)) }
+        ensures unheard { OnErr result (IsUnheard hearing F.tells O.tells self.old (turns_of letters.now) self.new (O.written out.old) (O.written out.new)) }
+        ensures cause { HasCause (O.faults out.old) (O.faults out.new) result }
+    {
+        if self.desk.bridge.is_on() {
+            bridged_turns(&mut self.desk, &mut self.chain, letters, out)
+        } else {
+            turns(&mut self.desk, &mut self.chain, letters, out)
+        }
     }
 
     /// Plays a line of one reply that the listeners have no part in, and keeps the reply, which `reply` shows.
