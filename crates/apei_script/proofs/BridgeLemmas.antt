@@ -4,7 +4,7 @@ use Rattle.std.proofs.lemmas.Bool.{lt-leb, false≢true}
 use Rattle.std.proofs.Common.{◌≡◌, ◌∙◌, ◌⊎◌, inl, arith, ℕ, ◌+◌, ◌<◌, ◌≤◌, ◌↔◌, Bool, true, false, IsTrue, List, [], ◌∷◌, ◌++◌, length, take, drop, get_or, map, refl, sym, ap, subst, append_assoc}
 use Rattle.std.specs.Prelude.{codes}
 use Rattle.std.specs.List.{flat_map}
-use Rattle.std.proofs.lemmas.List.{append-nil, map-append, take-append-drop, take_more, take_all}
+use Rattle.std.proofs.lemmas.List.{append-nil, map-append, take-append-drop, take_more, take_all, flat_map_more}
 use Rattle.std.proofs.lemmas.List.Concat.{flat_map-append}
 use Rattle.ghes_ack.specs.declared.events.Side.{Side}
 use Rattle.ghes_ack.specs.declared.events.Side.TheVariants.{Reader}
@@ -154,6 +154,23 @@ words_made steps = ap (λ (xs : List ℕ). codes "turns" ++ xs) (each steps)
     each (step ∷ steps) =
         ap (λ (turn : Turn). (codes " " ++ words_of_turn turn (changes_in step.machine)) ++ flat_map (λ (one : MadeTurn). codes " " ++ words_of_turn (turn_of one.turn) one.step) (made_by steps)) (again_told step.turn)
         ∙ ap (λ (xs : List ℕ). (codes " " ++ words_of_step step) ++ xs) (each steps)
+
+-- the words of turns behind others
+abbrev pub turns_behind : List MadeTurn → List ℕ
+turns_behind made = flat_map (λ (one : MadeTurn). codes " " ++ words_of_turn (turn_of one.turn) one.step) made
+
+pub words_more : (made : List MadeTurn) (i : ℕ) (turn : MadeTurn) → i < length made → turn ≡ get_or made i turn
+    → words_of_made (take (i + 1) made) ≡ words_of_made (take i made) ++ (codes " " ++ words_of_turn (turn_of turn.turn) turn.step)
+words_more made i turn more is =
+    ap words_of_made (take_more made i turn more)
+    ∙ sym (flat_map_more (λ (one : MadeTurn). codes " " ++ words_of_turn (turn_of one.turn) one.step) (codes "turns") (take i made) (get_or made i turn))
+    ∙ ap (λ (one : MadeTurn). words_of_made (take i made) ++ (codes " " ++ words_of_turn (turn_of one.turn) one.step)) (sym is)
+
+pub words_rest : (made : List MadeTurn) (i : ℕ) → words_of_made made ≡ words_of_made (take i made) ++ turns_behind (drop i made)
+words_rest made i =
+    ap words_of_made (sym (take-append-drop i made))
+    ∙ ap (λ (xs : List ℕ). codes "turns" ++ xs) (flat_map-append (λ (one : MadeTurn). codes " " ++ words_of_turn (turn_of one.turn) one.step) (take i made) (drop i made))
+    ∙ sym (append_assoc (codes "turns") (turns_behind (take i made)) (turns_behind (drop i made)))
 
 -- the replies to one turn's block
 abbrev shown_block : Turn → MachineState → List Reply

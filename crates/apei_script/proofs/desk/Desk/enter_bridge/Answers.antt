@@ -1,8 +1,8 @@
-use Rattle.std.proofs.Common.{◌∙◌, ap, sym, arith}
+use Rattle.std.proofs.Common.{◌∙◌, ℕ, ap, sym, arith}
 use Rattle.std.specs.Prelude.{codes}
 use Rattle.apei_script.specs.Words.{refused}
 use Rattle.apei_script.specs.Bridged.{is_on}
-use Rattle.erst_bridge.specs.Bridges.{BridgeState}
+use Rattle.erst_bridge.specs.Bridges.{BridgeState, Awaits}
 use Rattle.apei_script.proofs.Made.{made_word, made_number}
 use Rattle.apei_script.proofs.DeskLines.{by_bridge, no_id, no_off, no_idle, is_off, tested_on, idle_by}
 use Rattle.apei_script.proofs.desk.Desk.enter_bridge.Goals as goal
@@ -31,5 +31,5 @@ returns g c =
     by_bridge g.F.Flash.tells c.args.self.now.machine c.args.self.now.own c.args.self.now.steps c.args.self.now.bridge c.args.self.now.other c.args.id _ _ c.in-Some.ensures.1
     (ap is_on (is_off c.args.self.now.bridge c.is_on.result c.is_on.ensures c.if-is_on.false))
     (idle_by c.reader_idle.result c.args.self.now.machine stood.0 stood.1 (c.reader_idle.ensures.idle stood.0 stood.1) ∙ c.if-not-reader_idle.false)
-    ?
+    (c.enter.ensures ∙ ap (λ (n : ℕ). Awaits n) c.in-Some.ensures.0)
     (made_number _ _ _ _ (omega arith) c.begin-2.ensures c.add_number.ensures.text c.add_number.ensures.short)
