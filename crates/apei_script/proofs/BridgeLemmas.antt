@@ -37,7 +37,7 @@ use Rattle.apei_script.specs.Players.{PlayerState, budget_of}
 use Rattle.apei_script.specs.Words.{Reply, at_step, said_at, words_of_block, text_of_reply, text_of_replies, reply_at}
 use Rattle.apei_script.specs.Happened.{side_of}
 use Rattle.apei_script.specs.Bridged.{words_of_turn, words_of_step, words_of_steps, words_of_made, HasTaken, block_of, blocks_in, block_replies, replies_of, ByBridge, Enters, StaysAs, BridgesTurns, TurnsShown}
-use Rattle.apei_script.specs.Plays.{Plays, Blank, ByClient, GivenTable, OwnTable, OnMachine, ByTheBridge, Heard, Reset, Power, Told, changes_in, step_of, LinePlayed, PlaysLine, PlaysUnheard, LeftIn, AtLast, InBridged}
+use Rattle.apei_script.specs.Plays.{Plays, Blank, ByClient, GivenTable, OwnTable, GivenShadow, OnMachine, ByTheBridge, Heard, Reset, Power, Told, changes_in, step_of, LinePlayed, PlaysLine, PlaysUnheard, LeftIn, AtLast, InBridged}
 use Rattle.apei_script.specs.History.{ShowsLine}
 use Rattle.apei_script.specs.declared.desk.Desk.{Desk}
 use Rattle.apei_script.specs.Desks.{state_of, SameClients}
@@ -65,6 +65,7 @@ line_turned tells programs told counts old line said blocks steps new plays mach
       | ByClient line words machine commanded ↦ shows_none old.bridge old.machine machine
       | GivenTable hex bytes words machine other decoded gives ↦ shows_none old.bridge old.machine machine
       | OwnTable ↦ shows_none old.bridge old.machine old.machine
+      | GivenShadow machine gives ↦ shows_none old.bridge old.machine machine
       | OnMachine line said blocks machine alone happened ↦ shows_none old.bridge old.machine machine
       | ByTheBridge line said blocks steps next machine by ↦ of_bridge line said blocks steps next machine by
       | Heard ↦ shows_none old.bridge old.machine old.machine
@@ -389,6 +390,7 @@ shows_at_first tells told counts old line said blocks steps now plays s shown be
   | ByClient line words machine commanded ↦ inl same
   | GivenTable hex bytes words machine other decoded gives ↦ inl same
   | OwnTable ↦ inl same
+  | GivenShadow machine gives ↦ inl same
   | OnMachine line said blocks machine alone happened ↦ inl same
   | ByTheBridge line said blocks steps next machine by ↦ elim by as (λ line said blocks steps next machine by. ShowsLine s old line steps shown) [
     | Enters id none ↦ inl same

@@ -23,7 +23,7 @@ pub record SaysNeither (words : List ℕ) : Type 0 where
   pub not_stopped : (stop : RunStop) → words ≡ refused (codes "stopped " ++ words_of_stop stop) → ⊥
   pub in_time : (time : ℕ) → words ≡ refused (codes "late " ++ decimal time) → ⊥
 
-says_neither : {T : Type 0} (words : List ℕ) (result : Result T ClientError) → GoesThrough result
+pub says_neither : {T : Type 0} (words : List ℕ) (result : Result T ClientError) → GoesThrough result
     → ((refusal : List ℕ) → words ≡ refused refusal → Refuses refusal result) → SaysNeither words
 says_neither words result through of = record {
   not_stopped = λ stop says.

@@ -27,16 +27,16 @@ use Rattle.bridge_durability.specs.Shown.{ShowsTurns, IsStoredAs}
 use Rattle.bridge_durability.proofs.RecordLemmas.{stored_after}
 use Rattle.bridge_durability.proofs.ShownLemmas.{one_of}
 use Rattle.script_text.specs.ScriptGrammar.{Line, blank, comment, write, read, clear, count, next as next_line, dummy, action, table, own_table, shadow_table, error as error_line, turns, peek, fatal, bert, heard, reset, power, bridge}
-use Rattle.apei_script.specs.Players.{PlayerState, client_of, budget_of, in_use}
+use Rattle.apei_script.specs.Players.{PlayerState, client_of, budget_of, GivenNoOther}
 use Rattle.apei_script.specs.Words.{Reply}
 use Rattle.apei_script.specs.Mapped.{after_write, after_line}
 use Rattle.apei_script.specs.Bridged.{ByBridge, Enters, StaysAs, BridgesTurns, KeepsBlocks}
-use Rattle.apei_script.specs.Plays.{Plays, Blank, ByClient, GivenTable, OwnTable, OnMachine, ByTheBridge, Heard, Reset, Power, LinePlayed, IsOwnLine}
+use Rattle.apei_script.specs.Plays.{Plays, Blank, ByClient, GivenTable, OwnTable, GivenShadow, OnMachine, ByTheBridge, Heard, Reset, Power, LinePlayed, IsOwnLine}
 use Rattle.apei_script.specs.History.{Played, heard_after, Follows, ShowsLine, ShowsLines, AreOwnLines}
 use Rattle.apei_script.specs.Spares.{Spares, SpareTurns, SpareLines, KeepsAll}
 use Rattle.apei_script.proofs.KeptTurns.{kept_turns, ShowsOrKeeps, blocks_kept}
 use Rattle.apei_script.proofs.LineLemmas.{line_divides, line_own}
-use Rattle.apei_script.proofs.HistoryLemmas.{no_other, own_client-kept}
+use Rattle.apei_script.proofs.HistoryLemmas.{no_other, own_client-kept, uses_either}
 
 -- Commands of others
 
@@ -104,6 +104,7 @@ module _ (tells : Type 0) (programs : OwnProgramsRun tells) (told : tells) where
         | ByClient line words machine commanded ↦ inl refl
         | GivenTable hex bytes words machine other decoded gives ↦ inl refl
         | OwnTable ↦ inl refl
+        | GivenShadow machine gives ↦ inl refl
         | OnMachine line said blocks machine alone happened ↦ inl refl
         | ByTheBridge line said blocks steps state machine by ↦ of_bridge line said blocks steps state machine by
         | Heard ↦ inl refl
@@ -121,11 +122,11 @@ module _ (tells : Type 0) (programs : OwnProgramsRun tells) (told : tells) where
 
   -- behind a line, and at whatever power lost in it shows
   keeps_line : (counts : List ℕ) (old : PlayerState) (line : Line) (said : List Reply) (blocks : List (List ℕ)) (steps : List Step) (new : PlayerState) (id : ℕ) (bytes : List ℕ) → IsMachine old.machine
-      → old.own ≡ own_client old.machine → old.other ≡ None → IsOwnLine line → LinePlayed tells counts old line said blocks steps new → Spares id line → SpareTurns id old.bridge steps
+      → old.own ≡ own_client old.machine → GivenNoOther old → IsOwnLine line → LinePlayed tells counts old line said blocks steps new → Spares id line → SpareTurns id old.bridge steps
       → IsStoredAs id bytes (records_of old.machine)
       → IsStoredAs id bytes (records_of new.machine) × ((s : ℕ) (shown : Records) → ShowsLine s old line steps shown → IsStoredAs id bytes shown)
   keeps_line counts old line said blocks [] new id bytes machine own none is played spares spared there =
-      let leaves = played.leaves told (λ _. ap (in_use old.own) none ∙ own) is refl in
+      let leaves = played.leaves told (λ _. uses_either old own none) is refl in
       let made = kept_line (client_of old).range old.machine line id bytes spares there in
       let same : records_of new.machine ≡ shown_by old.machine (told_of new.machine).image =
       ap (λ (l : Layout). records_in l (told_of new.machine).image) (line_divides tells counts old line said blocks [] new played.plays) in (
@@ -153,11 +154,11 @@ module _ (tells : Type 0) (programs : OwnProgramsRun tells) (told : tells) where
       (line_own tells counts old played.line played.said played.blocks played.steps played.left line.plays).0 ∙ own
       ∙ sym (own_client-kept tells old.machine played.left.machine (line_divides tells counts old played.line played.said played.blocks played.steps played.left line.plays))
 
-  other_then : (counts : List ℕ) (old : PlayerState) (played : Played) → LinePlayed tells counts old played.line played.said played.blocks played.steps played.left → IsOwnLine played.line → old.other ≡ None
-      → played.left.other ≡ None
+  other_then : (counts : List ℕ) (old : PlayerState) (played : Played) → LinePlayed tells counts old played.line played.said played.blocks played.steps played.left → IsOwnLine played.line → GivenNoOther old
+      → GivenNoOther played.left
   other_then counts old played line is none = no_other tells counts old played.line played.said played.blocks played.steps played.left line.plays is none
 
-  pub kept_lines : (wants : List (ℕ → Bool)) (counts : List ℕ) (first : PlayerState) (played : List Played) (last : PlayerState) → IsMachine first.machine → first.own ≡ own_client first.machine → first.other ≡ None
+  pub kept_lines : (wants : List (ℕ → Bool)) (counts : List ℕ) (first : PlayerState) (played : List Played) (last : PlayerState) → IsMachine first.machine → first.own ≡ own_client first.machine → GivenNoOther first
       → AreOwnLines played → Follows tells wants counts first played last → (id : ℕ) (bytes : List ℕ) → SpareLines id first played → IsStoredAs id bytes (records_of first.machine)
       → (s : ℕ) (shown : Records) → ShowsLines s first played shown → IsStoredAs id bytes shown
   kept_lines wants counts first [] last machine own none lines follows id bytes spares there s shown shows = subst (IsStoredAs id bytes) (sym shows) there
@@ -186,7 +187,7 @@ module _ (tells : Type 0) (programs : OwnProgramsRun tells) (told : tells) where
             ])
       ]
 
-  pub all_kept : (wants : List (ℕ → Bool)) (counts : List ℕ) (first : PlayerState) (played : List Played) (last : PlayerState) → IsMachine first.machine → first.own ≡ own_client first.machine → first.other ≡ None
+  pub all_kept : (wants : List (ℕ → Bool)) (counts : List ℕ) (first : PlayerState) (played : List Played) (last : PlayerState) → IsMachine first.machine → first.own ≡ own_client first.machine → GivenNoOther first
       → AreOwnLines played → Follows tells wants counts first played last → (s : ℕ) (shown : Records) → (changes_of first.machine ≤ s → ShowsLines s first played shown) → KeepsAll s first played shown
   all_kept wants counts first [] last machine own none lines follows s shown shows = tt
   all_kept wants counts first (line ∷ rest) last machine own none lines follows s shown shows =

@@ -7,6 +7,8 @@ pub mod LineLemmas
 pub mod WordLemmas
 pub mod OwnClientLemmas
 pub mod EnoughSteps
+pub mod ShadowClientLemmas
+pub mod ShadowGiving
 pub mod PlayedLemmas
 pub mod LeavesLemmas
 pub mod ToldLemmas

@@ -24,14 +24,15 @@ use Rattle.erst_machine.specs.Events.{Submits, LaysFatal, Warms, Powers}
 use Rattle.erst_bridge.specs.Bridges.{BridgeState, Off, Awaits}
 use Rattle.bridge_durability.specs.Turns.{Step, AreTurns}
 use Rattle.bridge_turns.specs.Made.{sides_in}
-use Rattle.script_text.specs.ScriptGrammar.{Line, blank, write, read, clear, count, next, dummy, action, table, own_table, error, turns, peek, fatal, bert, heard, reset, power, bridge}
+use Rattle.script_text.specs.ScriptGrammar.{Line, blank, write, read, clear, count, next, dummy, action, table, own_table, shadow_table, error, turns, peek, fatal, bert, heard, reset, power, bridge}
+use Rattle.erst_shadow.specs.ShadowCommands.{shadow_client}
 use Rattle.apei_script.specs.Players.{PlayerState, client_of, budget_of, with_machine}
 use Rattle.apei_script.specs.Words.{Reply, said_at, refused, words_of_write, words_of_read, words_of_clear, words_of_count, words_of_next, words_of_dummy, words_of_action, words_of_table, words_of_no_table, words_of_no_client, words_of_submission, words_of_turns, words_of_block, words_of_peek, words_of_laid, words_of_bert, words_of_heard, words_of_reset, words_of_power}
 use Rattle.apei_script.specs.Asked.{READ_BUFFER, Asked, WritesRecord, ReadsRecord, ClearsRecord, CountsRecords, FindsNext, WritesDummy, RunsAction}
-use Rattle.apei_script.specs.Tables.{ATTACH_STEPS, BeginsWith, GivesTable, IsNoTable, IsNotAttached, IsAttached}
+use Rattle.apei_script.specs.Tables.{ATTACH_STEPS, BeginsWith, GivesTable, IsNoTable, IsNotAttached, IsAttached, GivesShadow}
 use Rattle.apei_script.specs.Happened.{side_of, Happened, IsGiven, Turn, IsPeeked, IsLaid, IsListed}
 use Rattle.apei_script.specs.Bridged.{bridge_refusal, words_of_bridge, replies_of, blocks_in, NeedsNoBridge, ByBridge, Enters, StaysAs, BridgesTurns}
-use Rattle.apei_script.specs.Plays.{Plays, Blank, ByClient, GivenTable, OwnTable, OnMachine, ByTheBridge, Heard, Reset, Power, restarted, changes_in, step_of}
+use Rattle.apei_script.specs.Plays.{Plays, Blank, ByClient, GivenTable, OwnTable, GivenShadow, OnMachine, ByTheBridge, Heard, Reset, Power, restarted, changes_in, step_of}
 use Rattle.apei_script.proofs.TurnsAlike.{TurnsBy, turns_by}
 
 -- what a line left
@@ -134,6 +135,8 @@ module _ (tells : Type 0) where
       (bytes : List ℕ) × (words : List ℕ) × (machine : MachineState) × (other : Option ClientState) × (decode_of hex ≡ Ok bytes) × Given old.machine old.other bytes words machine other
       × Left said blocks new (said_at (changes_in machine) (words ∷ [])) [] (record old { machine = machine; other = other })
   PlaysBy counts old own_table said blocks new = Left said blocks new (said_at (step_of old) (words_of_table (length old.own.table.entries) ∷ [])) [] (record old { other = None })
+  PlaysBy counts old shadow_table said blocks new = (machine : MachineState) × GivesShadow tells old.machine machine
+      × Left said blocks new (said_at (changes_in machine) (words_of_table 52 ∷ [])) [] (record old { machine = machine; other = Some (shadow_client old.machine) })
   PlaysBy counts old (error hex) said blocks new = ByItself old (error hex) said blocks new
   PlaysBy counts old (turns letters) said blocks new = ((old.bridge ≡ Off) × ByItself old (turns letters) said blocks new) ⊎ ByBridgeTurns old letters said blocks new
   PlaysBy counts old (peek at len) said blocks new = ByItself old (peek at len) said blocks new
@@ -188,6 +191,7 @@ module _ (tells : Type 0) where
     | ByClient line words machine commanded ↦ by_its_client counts old line words machine commanded.asked
     | GivenTable hex bytes words machine other decoded gives ↦ (bytes, words, machine, other, decoded, given_by old.machine old.other bytes words machine other gives, as_it_is _ _ _)
     | OwnTable ↦ as_it_is _ _ _
+    | GivenShadow machine gives ↦ (machine, gives, as_it_is _ _ _)
     | OnMachine line said blocks machine alone happened ↦ by_itself counts old line said blocks machine alone happened
     | ByTheBridge line said blocks steps bridge_now machine by ↦ by_bridge counts old line said blocks steps bridge_now machine by
     | Heard ↦ as_it_is _ _ _

@@ -18,7 +18,7 @@ use Rattle.apei_script.specs.Players.{PlayerState, budget_of}
 use Rattle.apei_script.specs.Tables.{GivesTable, IsNoTable, IsNotAttached, IsAttached}
 use Rattle.apei_script.specs.Happened.{side_of, Turned, NoTurn, OneMore, Happened, IsGiven, Turn, IsPeeked, IsLaid, IsListed}
 use Rattle.apei_script.specs.Bridged.{ByBridge, Enters, StaysAs, BridgesTurns}
-use Rattle.apei_script.specs.Plays.{Plays, Blank, ByClient, GivenTable, OwnTable, OnMachine, ByTheBridge, Heard, Reset, Power, FailsRestart, ResetFails, PowerFails, HasHappened}
+use Rattle.apei_script.specs.Plays.{Plays, Blank, ByClient, GivenTable, OwnTable, GivenShadow, OnMachine, ByTheBridge, Heard, Reset, Power, FailsRestart, ResetFails, PowerFails, HasHappened}
 use Rattle.apei_script.proofs.EventChanges.{along}
 
 abbrev Trails : Type 0 → MachineState → MachineState → Type 0
@@ -72,6 +72,7 @@ module _ (tells : Type 0) where
     | ByClient line words machine commanded ↦ reached_happens tells old.machine machine commanded.reaches
     | GivenTable hex bytes words machine other decoded gives ↦ of_table old.machine old.other bytes words machine other gives
     | OwnTable ↦ none old.machine
+    | GivenShadow machine gives ↦ reached_happens tells old.machine machine gives.reaches
     | OnMachine line said blocks machine alone happened ↦ of_happened old.machine line said blocks machine happened
     | ByTheBridge line said blocks steps next machine by ↦ of_bridge old line said blocks steps next machine by
     | Heard ↦ none old.machine
@@ -116,6 +117,7 @@ module _ (tells : Type 0) where
     | ByClient line words machine commanded ↦ (refl, refl)
     | GivenTable hex bytes words machine other decoded gives ↦ (refl, refl)
     | OwnTable ↦ (refl, refl)
+    | GivenShadow machine gives ↦ (refl, refl)
     | OnMachine line said blocks machine alone happened ↦ (refl, refl)
     | ByTheBridge line said blocks steps next machine by ↦ (refl, refl)
     | Heard ↦ (refl, refl)

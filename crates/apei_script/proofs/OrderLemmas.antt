@@ -26,7 +26,7 @@ use Rattle.apei_script.specs.Words.{Reply}
 use Rattle.apei_script.specs.Tables.{GivesTable, IsNoTable, IsNotAttached, IsAttached}
 use Rattle.apei_script.specs.Happened.{Happened, IsGiven, Turn as TurnLine, IsPeeked, IsLaid, IsListed}
 use Rattle.apei_script.specs.Bridged.{is_on, bridge_refusal, NeedsNoBridge, ByBridge, Enters, StaysAs, BridgesTurns}
-use Rattle.apei_script.specs.Plays.{Plays, Blank, ByClient, GivenTable, OwnTable, OnMachine, ByTheBridge, Heard, Reset, Power}
+use Rattle.apei_script.specs.Plays.{Plays, Blank, ByClient, GivenTable, OwnTable, GivenShadow, OnMachine, ByTheBridge, Heard, Reset, Power}
 use Rattle.apei_script.specs.History.{Played, heard_after, Follows}
 use Rattle.apei_script.specs.Orders.{IsInStep, AlwaysInStep}
 
@@ -132,6 +132,7 @@ module _ (tells : Type 0) where
     | ByClient line words now commanded ↦ (tt, reached old.bridge old.machine now commanded.reaches step)
     | GivenTable hex bytes words now other decoded gives ↦ (tt, table_step old.bridge old.machine old.other bytes words now other gives step)
     | OwnTable ↦ (tt, step)
+    | GivenShadow now gives ↦ (tt, reached old.bridge old.machine now gives.reaches step)
     | OnMachine line words blocks now alone happened ↦ (tt, happened_step old.bridge old.machine line words blocks now happened alone step)
     | ByTheBridge line said blocks steps next now by ↦ bridge_step old line said blocks steps next now machine by step
     | Heard ↦ (tt, step)

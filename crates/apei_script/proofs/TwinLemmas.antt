@@ -50,10 +50,12 @@ use Rattle.erst_bridge.specs.Bridges.{BridgeState, Awaits}
 use Rattle.bridge_durability.specs.Turns.{last_of, Turn, Step, AreTurns}
 use Rattle.bridge_turns.specs.Made.{sides_in}
 use Rattle.bridge_twins.specs.AlikeSteps.{StepOutline, step_outline, AlikeSteps}
-use Rattle.script_text.specs.ScriptGrammar.{Line, blank, write, read, clear, count, next, dummy, action, table, own_table, error, turns, peek, fatal, bert, heard, reset, power, bridge}
+use Rattle.script_text.specs.ScriptGrammar.{Line, blank, write, read, clear, count, next, dummy, action, table, own_table, shadow_table, error, turns, peek, fatal, bert, heard, reset, power, bridge}
+use Rattle.erst_shadow.specs.ShadowTables.{scratch_at, pieces_of, shadow_erst}
+use Rattle.erst_shadow.specs.ShadowCommands.{pieces_in, shadow_client}
 use Rattle.apei_script.specs.Players.{PlayerState, client_of, budget_of, with_machine}
 use Rattle.apei_script.specs.Words.{Reply, at_step, said_at, text_of_replies, refused, words_of_write, words_of_read, words_of_clear, words_of_count, words_of_next, words_of_dummy, words_of_action, words_of_table, words_of_no_table, words_of_record, words_of_submission, words_of_turns, words_of_block, words_of_peek, words_of_laid, words_of_bert, words_of_heard, words_of_reset, words_of_power, replies_at}
-use Rattle.apei_script.specs.Tables.{ATTACH_STEPS, BeginsWith}
+use Rattle.apei_script.specs.Tables.{ATTACH_STEPS, BeginsWith, GivesShadow}
 use Rattle.apei_script.specs.Bridged.{is_on, bridge_refusal, words_of_bridge, words_of_turn, words_of_steps, block_of, blocks_in, block_replies, replies_of}
 use Rattle.apei_script.specs.Plays.{Plays, restarted, changes_in, step_of}
 use Rattle.apei_script.specs.History.{Played, heard_of, heard_after, Follows, text_of, reply_of}
@@ -96,6 +98,15 @@ client_by layout = record {
   address = LOG_RANGE;
   range = reach_of (room_of layout);
   timings = Some (10 * most_changes layout, 10 * (layout.per_slot + 4));
+}
+
+-- and the client of the machine's second table
+abbrev shadow_by : Layout → ClientState
+shadow_by layout = record {
+  table = shadow_erst (pieces_of (reach_of (room_of layout)));
+  address = scratch_at;
+  range = 128 * pieces_of (reach_of (room_of layout));
+  timings = (client_by layout).timings;
 }
 
 record Ends (words also_words : List ℕ) (new also_new : MachineState) : Type 0 where
@@ -241,6 +252,15 @@ module _ (tells : Type 0) (told : tells) where
         others = other_is ∙ ap (other_after tells other) both.same_answer ∙ sym kept;
       }
 
+  -- the machine's second table is the same over both
+  shadow_alike : (one also : MachineState) → AlikeMachines one also → (new also_new : MachineState) → GivesShadow tells one new → FailedNothing one new → GivesShadow tells also also_new → FailedNothing also also_new
+      → AlikeMachines new also_new
+  shadow_alike one also alike new also_new gives quiet gives_too also_quiet =
+      let pieces_are : pieces_in also ≡ pieces_in one = sym (ap (λ (o : MachineOutline). pieces_of (reach_of (room_of o.device.store.layout))) alike) in
+      (done_alike tells told _ (dialogues.attach (shadow_erst (pieces_in one)) ATTACH_STEPS) (dialogues.attaches_held (Allows tells) (shadow_erst (pieces_in one)) ATTACH_STEPS)
+      one also (Ok (shadow_client one)) (Ok (shadow_client also)) gives.left gives_too.left new also_new alike gives.attaches quiet
+      (subst (λ (pieces : ℕ). Attaches (Allows tells) (shadow_erst pieces) ATTACH_STEPS also (Ok (shadow_client also)) gives_too.left also_new) pieces_are gives_too.attaches) also_quiet).alike
+
   quiet_at : (old : MachineState) (machine : MachineState) (new player : PlayerState) → player.machine ≡ machine → new ≡ player → FailedNothing old new.machine → FailedNothing old machine
   quiet_at old machine new player is new_is quiet rose =
       quiet (subst (λ (p : PlayerState). Rose (faults_of old) (faults_of p.machine)) (sym new_is) (subst (λ (m : MachineState). Rose (faults_of old) (faults_of m)) (sym is) rose))
@@ -359,6 +379,15 @@ module _ (tells : Type 0) (told : tells) where
         close said also_said blocks also_blocks (said_at (step_of old) (words_of_table (length old.own.table.entries) ∷ [])) (said_at (changes_in machine_too) (words_of_table (length old.own.table.entries) ∷ [])) [] []
         new also_new (record old { other = None }) (record twin { other = None }) first second
         (same_said old.machine machine_too (words_of_table (length old.own.table.entries) ∷ []) (words_of_table (length old.own.table.entries) ∷ []) alike refl) refl (players_with None None old.machine machine_too alike refl)
+    line_alike shadow_table said also_said blocks also_blocks new also_new first quiet second also_quiet =
+        let client_is : shadow_client old.machine ≡ shadow_client machine_too = ap (λ (o : MachineOutline). shadow_by o.device.store.layout) alike in
+        let now = shadow_alike old.machine machine_too alike first.0 second.0
+        first.1 (quiet_at old.machine first.0 new (record old { machine = first.0; other = Some (shadow_client old.machine) }) refl first.2.new_is quiet)
+        second.1 (quiet_at machine_too second.0 also_new (record twin { machine = second.0; other = Some (shadow_client machine_too) }) refl second.2.new_is also_quiet) in
+        close said also_said blocks also_blocks (said_at (changes_in first.0) (words_of_table 52 ∷ [])) (said_at (changes_in second.0) (words_of_table 52 ∷ [])) [] [] new also_new
+        (record old { machine = first.0; other = Some (shadow_client old.machine) }) (record twin { machine = second.0; other = Some (shadow_client machine_too) }) first.2 second.2
+        (same_said first.0 second.0 (words_of_table 52 ∷ []) (words_of_table 52 ∷ []) now refl) refl
+        (players_with (Some (shadow_client old.machine)) (Some (shadow_client machine_too)) first.0 second.0 now (ap (λ (client : ClientState). Some client) client_is))
     line_alike (error hex) said also_said blocks also_blocks new also_new first quiet second also_quiet = by_itself_alike (error hex) said also_said blocks also_blocks new also_new first second
     line_alike (turns letters) said also_said blocks also_blocks new also_new (inl first) quiet (inl second) also_quiet = by_itself_alike (turns letters) said also_said blocks also_blocks new also_new first.1 second.1
     line_alike (turns letters) said also_said blocks also_blocks new also_new (inl first) quiet (inr second) also_quiet = absurd (second.on first.0)

@@ -11,9 +11,10 @@ use Rattle.erst_machine.specs.Shown.{shown_by, changes_of}
 use Rattle.bridge_durability.specs.Turns.{Step}
 use Rattle.bridge_durability.specs.Shown.{ShowsTurns}
 use Rattle.script_text.specs.ScriptGrammar.{Line}
-use Rattle.apei_script.specs.Players.{PlayerState, client_of, budget_of, UsesOwn}
+use Rattle.apei_script.specs.Players.{PlayerState, client_of, budget_of, UsesOwn, UsesShadow, UsesEither}
 use Rattle.apei_script.specs.Words.{Reply, said_at, text_of_replies}
 use Rattle.apei_script.specs.Mapped.{Mapped, after_line}
+use Rattle.apei_script.specs.ShadowMapped.{ShadowMapped}
 use Rattle.apei_script.specs.Plays.{LinePlayed, step_of, names_command, IsOwnLine, SaysHardware, SaysStopped, SaysLate}
 
 -- a line that was played: its replies, the blocks of which the listeners were told, the turns of the bridge, and the player afterwards
@@ -95,15 +96,24 @@ pub record IsMapped (state : PlayerState) (played : Played) : Type 0 where
   pub cause : SaysHardware played.said → Rose state.machine.device.store.flash.faults played.left.machine.device.store.flash.faults
   pub enough : enough_steps (client_of state).timings ≤ budget_of state → (SaysStopped played.said → ⊥) × (SaysLate played.said → ⊥)
 
--- so is each line that asks the machine's own client for a command on records
+-- the same by the machine's table whose own programs move the record
+pub record IsShadowMapped (state : PlayerState) (played : Played) : Type 0 where
+  pub words : List ℕ
+  pub said : played.said ≡ said_at (step_of played.left) (words ∷ [])
+  pub mapped : ShadowMapped (budget_of state) state.machine played.line words played.left.machine
+  pub cause : SaysHardware played.said → Rose state.machine.device.store.flash.faults played.left.machine.device.store.flash.faults
+  pub enough : enough_steps (client_of state).timings ≤ budget_of state → (SaysStopped played.said → ⊥) × (SaysLate played.said → ⊥)
+
+-- so is each line that asks the client of one of the machine's two tables for a command on records
 abbrev pub AreMapped : PlayerState → List Played → Type 0
 AreMapped state [] = Unit {0}
-AreMapped state (played ∷ rest) = (UsesOwn state → names_command played.line ≡ true → IsMapped state played) × AreMapped played.left rest
+AreMapped state (played ∷ rest) = (UsesOwn state → names_command played.line ≡ true → IsMapped state played)
+    × (UsesShadow state → names_command played.line ≡ true → IsShadowMapped state played) × AreMapped played.left rest
 
 -- none of these lines says that the flash failed
 abbrev pub NoneSaysHardware : PlayerState → List Played → Type 0
 NoneSaysHardware state [] = Unit {0}
-NoneSaysHardware state (played ∷ rest) = (UsesOwn state → names_command played.line ≡ true → SaysHardware played.said → ⊥) × NoneSaysHardware played.left rest
+NoneSaysHardware state (played ∷ rest) = (UsesEither state → names_command played.line ≡ true → SaysHardware played.said → ⊥) × NoneSaysHardware played.left rest
 
 -- none of these lines that has enough steps is stopped or late
 abbrev pub AllGoThrough : PlayerState → List Played → Type 0
@@ -112,7 +122,7 @@ AllGoThrough state (played ∷ rest) =
     (UsesOwn state → names_command played.line ≡ true → enough_steps (client_of state).timings ≤ budget_of state → (SaysStopped played.said → ⊥) × (SaysLate played.said → ⊥))
     × AllGoThrough played.left rest
 
--- before each line, and at the end, the machine's own client is in use
-abbrev pub AlwaysUsesOwn : PlayerState → List Played → Type 0
-AlwaysUsesOwn state [] = UsesOwn state
-AlwaysUsesOwn state (played ∷ rest) = UsesOwn state × AlwaysUsesOwn played.left rest
+-- before each line, and at the end, the client of one of the machine's two tables is in use
+abbrev pub AlwaysUsesEither : PlayerState → List Played → Type 0
+AlwaysUsesEither state [] = UsesEither state
+AlwaysUsesEither state (played ∷ rest) = UsesEither state × AlwaysUsesEither played.left rest

@@ -1,10 +1,11 @@
 -- What is seen of a player, beside its listeners.
-use Rattle.std.specs.Prelude.{◌≡◌, ℕ, Option, Some, None}
+use Rattle.std.specs.Prelude.{◌≡◌, ◌⊎◌, ℕ, Option, Some, None}
 use Rattle.erst_client.specs.Commands.{ClientState}
 use Rattle.erst_client.specs.Timings.{enough_steps}
 use Rattle.erst_machine.specs.MachineState.{MachineState}
 use Rattle.erst_machine.specs.OwnTables.{own_erst}
 use Rattle.erst_commands.specs.Attached.{own_client}
+use Rattle.erst_shadow.specs.ShadowCommands.{shadow_client}
 use Rattle.erst_bridge.specs.Bridges.{BridgeState, Off}
 
 -- the machine; the client that was attached first; the client of a table that a line gave, which is in use in its place; the steps
@@ -38,6 +39,18 @@ with_machine machine state = record state { machine = machine }
 -- the client in use is that of the machine's own table
 abbrev pub UsesOwn : PlayerState → Type 0
 UsesOwn state = client_of state ≡ own_client state.machine
+
+-- or that of the machine's table whose own programs move the record
+abbrev pub UsesShadow : PlayerState → Type 0
+UsesShadow state = client_of state ≡ shadow_client state.machine
+
+-- it is one of these two
+abbrev pub UsesEither : PlayerState → Type 0
+UsesEither state = UsesOwn state ⊎ UsesShadow state
+
+-- no line gave a table but the machine's own two
+abbrev pub GivenNoOther : PlayerState → Type 0
+GivenNoOther state = (state.other ≡ None) ⊎ (state.other ≡ Some (shadow_client state.machine))
 
 -- a client of the machine's own table has the machine's log range and timings
 abbrev pub FitsMachine : MachineState → ClientState → Type 0

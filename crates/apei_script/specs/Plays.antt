@@ -1,5 +1,5 @@
 -- The playing of one line. `tells` says whether the flash tells its content.
-use Rattle.std.specs.Prelude.{◌≡◌, ℕ, ◌+◌, ◌≤◌, Bool, true, false, List, [], ◌∷◌, ◌++◌, codes, decimal, length, take, map, Option, None, Ok, Err}
+use Rattle.std.specs.Prelude.{◌≡◌, ◌⊎◌, ℕ, ◌+◌, ◌≤◌, Bool, true, false, List, [], ◌∷◌, ◌++◌, codes, decimal, length, take, map, Option, Some, None, Ok, Err}
 use Rattle.std.specs.List.{AllZip}
 use Rattle.hex.specs.Hex.{decode_of}
 use Rattle.base_model.specs.Faults.{Rose}
@@ -23,11 +23,13 @@ use Rattle.script_text.specs.RunWords.{words_of_stop}
 use Rattle.script_text.specs.ScriptGrammar.{Line, IsValid, blank, comment, write, read, clear, count, next, dummy, action, table, own_table, shadow_table, error, turns, fatal, bert, heard, reset, power}
 use Rattle.apei_script.specs.declared.player.PlayStop.{PlayStop}
 use Rattle.apei_script.specs.declared.player.PlayStop.TheVariants.{SinkFault, FlashFault, Memory}
-use Rattle.apei_script.specs.Players.{PlayerState, client_of, budget_of, with_machine, UsesOwn}
+use Rattle.erst_shadow.specs.ShadowCommands.{shadow_client}
+use Rattle.apei_script.specs.Players.{PlayerState, client_of, budget_of, with_machine, UsesOwn, UsesShadow, UsesEither}
 use Rattle.apei_script.specs.Words.{Reply, at_step, said_at, words_in, text_of_reply, text_of_replies, replies_at, refused, words_of_table, words_of_turns, words_of_heard, words_of_reset, words_of_power}
 use Rattle.apei_script.specs.Asked.{Commanded}
-use Rattle.apei_script.specs.Tables.{GivesTable}
+use Rattle.apei_script.specs.Tables.{GivesTable, GivesShadow}
 use Rattle.apei_script.specs.Mapped.{Mapped, LineLeaves}
+use Rattle.apei_script.specs.ShadowMapped.{ShadowMapped}
 use Rattle.apei_script.specs.Happened.{Happened}
 use Rattle.apei_script.specs.Changes.{changes_along}
 pub use Rattle.apei_script.specs.Bridged.{changes_in}
@@ -50,6 +52,8 @@ pub data Plays (tells : Type 0) (counts : List ℕ) (old : PlayerState) : Line �
       → GivesTable tells old.machine old.other bytes words machine other
       → Plays tells counts old (table hex) (said_at (changes_in machine) (words ∷ [])) [] [] (record old { machine = machine; other = other })
   OwnTable : Plays tells counts old own_table (said_at (step_of old) (words_of_table (length old.own.table.entries) ∷ [])) [] [] (record old { other = None })
+  GivenShadow : (machine : MachineState) → GivesShadow tells old.machine machine
+      → Plays tells counts old shadow_table (said_at (changes_in machine) (words_of_table 52 ∷ [])) [] [] (record old { machine = machine; other = Some (shadow_client old.machine) })
   OnMachine : (line : Line) (words blocks : List (List ℕ)) (machine : MachineState) → NeedsNoBridge old.bridge line → Happened tells old.machine line words blocks machine
       → Plays tells counts old line (said_at (changes_in machine) words) blocks [] (with_machine machine old)
   ByTheBridge : (line : Line) (said : List Reply) (blocks : List (List ℕ)) (steps : List Step) (next : BridgeState) (machine : MachineState) → ByBridge tells old line said blocks steps next machine
@@ -76,11 +80,6 @@ pub record HasHappened (tells : Type 0) (old new : MachineState) : Type 0 where
   pub exact : tells → (Rose old.device.store.flash.faults new.device.store.flash.faults → ⊥)
       → new.device.store.flash.steps ≡ old.device.store.flash.steps + changes_along old trail
 
--- a line that this program knows how to play
-abbrev pub IsBuilt : Line → Type 0
-IsBuilt shadow_table = ⊥
-IsBuilt line = Unit {0}
-
 -- the hexadecimal digits of a line that has some
 abbrev pub digits_of : Line → List ℕ
 digits_of (write hex) = hex
@@ -92,7 +91,6 @@ digits_of line = []
 -- a line that can be played
 pub record IsPlayable (line : Line) : Type 0 where
   pub valid : IsValid line
-  pub built : IsBuilt line
   pub fits : length (digits_of line) ≤ LONGEST_LINE
 
 -- a line has exactly one reply, and the listeners have no part in it
@@ -102,7 +100,6 @@ has_one_reply (comment rest) = false
 has_one_reply (turns letters) = false
 has_one_reply bert = false
 has_one_reply heard = false
-has_one_reply shadow_table = false
 has_one_reply line = true
 
 -- a line asks the client in use
@@ -142,17 +139,20 @@ SaysStopped said = (why : RunStop) × (words_in said ≡ refused (codes "stopped
 abbrev pub SaysLate : List Reply → Type 0
 SaysLate said = (waited : ℕ) × (words_in said ≡ refused (codes "late " ++ decimal waited) ∷ [])
 
--- One line that was played. By the machine's own table a command on records is the record map's; it says that the flash failed only where
--- the flash's count of faults rose in this very line, and where its steps are enough it is never stopped, and never late
+-- One line that was played. By one of the machine's own two tables a command on records is the record map's; it says that the flash failed
+-- only where the flash's count of faults rose in this very line, and where its steps are enough it is never stopped, and never late
 pub record LinePlayed (tells : Type 0) (counts : List ℕ) (old : PlayerState) (line : Line) (said : List Reply) (blocks : List (List ℕ)) (steps : List Step) (new : PlayerState) : Type 0 where
   pub plays : Plays tells counts old line said blocks steps new
   pub happened : HasHappened tells old.machine new.machine
   pub by_map : tells → UsesOwn old → names_command line ≡ true
       → (words : List ℕ) × (said ≡ said_at (step_of new) (words ∷ [])) × Mapped (budget_of old) old.machine line words new.machine
-  pub cause : UsesOwn old → names_command line ≡ true → SaysHardware said → Rose old.machine.device.store.flash.faults new.machine.device.store.flash.faults
+  pub by_shadow : tells → UsesShadow old → names_command line ≡ true
+      → (words : List ℕ) × (said ≡ said_at (step_of new) (words ∷ [])) × ShadowMapped (budget_of old) old.machine line words new.machine
+  pub cause : UsesEither old → names_command line ≡ true → SaysHardware said → Rose old.machine.device.store.flash.faults new.machine.device.store.flash.faults
   pub enough : UsesOwn old → names_command line ≡ true → enough_steps (client_of old).timings ≤ budget_of old → (SaysStopped said → ⊥) × (SaysLate said → ⊥)
+  pub enough_by_shadow : tells → UsesShadow old → names_command line ≡ true → enough_steps (client_of old).timings ≤ budget_of old → (SaysStopped said → ⊥) × (SaysLate said → ⊥)
   -- and power lost in it leaves the records from before it, or as it leaves them where nothing fails
-  pub leaves : tells → (names_command line ≡ true → UsesOwn old) → IsOwnLine line → steps ≡ [] → LineLeaves (client_of old).range old.machine line new.machine
+  pub leaves : tells → (names_command line ≡ true → UsesEither old) → IsOwnLine line → steps ≡ [] → LineLeaves (client_of old).range old.machine line new.machine
   -- but where it made turns of the bridge, each of these is shown, and each block that they stored stays stored
   pub turned : tells → old.own ≡ own_client old.machine → TurnsShown old.bridge old.machine steps new.machine
 
@@ -161,7 +161,7 @@ abbrev pub Stops : Type 0 → PlayerState → Line → PlayerState → PlayStop 
 Stops tells old line new SinkFault = ⊥
 Stops tells old line new FlashFault = (machine : MachineState) × FailsRestart tells old.machine line machine × HasHappened tells old.machine machine
     × Rose old.machine.device.store.flash.faults machine.device.store.flash.faults × (new ≡ with_machine machine old)
-Stops tells old line new Memory = (new ≡ old) × ((hex : List ℕ) × (line ≡ table hex))
+Stops tells old line new Memory = (new ≡ old) × (((hex : List ℕ) × (line ≡ table hex)) ⊎ (line ≡ shadow_table))
 
 -- the listeners, before and after they were told of some blocks, each in its place
 abbrev pub Told : {L : Type 0} → (L → Hearing) → List (List ℕ) → List L → List L → Type 0

@@ -41,6 +41,7 @@ impl<F: Flash> Desk<F> {
                 self.use_own_table();
                 Ok(())
             }
+            ScriptLine::TableShadow => self.use_shadow_table(),
             ScriptLine::Error { hex } => {
                 self.give_block(hex);
                 Ok(())

@@ -1,5 +1,5 @@
 // Laws on whole histories: the functions do nothing, and their clauses are the laws.
-ghost use Rattle.std.specs.Prelude.{◌≡◌, ℕ, ◌≤◌, Bool, List, Option, None};
+ghost use Rattle.std.specs.Prelude.{◌≡◌, ℕ, ◌≤◌, Bool, List, Option};
 ghost use Rattle.flash_words.specs.Flash.{CrashImage, IsLater, FlashState};
 ghost use Rattle.flash_model.specs.declared.geometry.Geometry.{Geometry as AnyGeometry};
 ghost use Rattle.flash_model.specs.Layouts.{layout_of};
@@ -11,7 +11,7 @@ ghost use Rattle.erst_machine.specs.Events.{Event, Happens};
 ghost use Rattle.erst_machine.specs.Shown.{IsShown, made_by_event, changes_of, shown_by};
 ghost use Rattle.erst_commands.specs.Attached.{own_client};
 ghost use Rattle.erst_twins.specs.Alike.{AlikeMachines, FailedNothing, BootsFrom};
-ghost use Rattle.apei_script.specs.Players.{PlayerState};
+ghost use Rattle.apei_script.specs.Players.{PlayerState, GivenNoOther};
 ghost use Rattle.script_text.specs.ScriptGrammar.{Line};
 ghost use Rattle.bridge_durability.specs.Turns.{Step};
 ghost use Rattle.bridge_durability.specs.InStep.{KeepOrder};
@@ -21,7 +21,7 @@ ghost use Rattle.apei_script.specs.Orders.{IsInStep, AlwaysInStep};
 ghost use Rattle.bridge_durability.specs.Shown.{IsStoredAs};
 ghost use Rattle.apei_script.specs.Spares.{SpareLines, KeepsAll};
 ghost use Rattle.apei_script.specs.Alike.{AlikePlayers, own_player, WantAlike, lines_in, PlayedAlike};
-ghost use Rattle.apei_script.specs.History.{Played, Follows, EndInOrder, ShowsLines, ShowsEachLine, AreOwnLines, AreMapped, NoneSaysHardware, AllGoThrough, AlwaysUsesOwn};
+ghost use Rattle.apei_script.specs.History.{Played, Follows, EndInOrder, ShowsLines, ShowsEachLine, AreOwnLines, AreMapped, NoneSaysHardware, AllGoThrough, AlwaysUsesEither};
 
 use bridge_twins::alike_machines_make_turns_alike;
 use erst_commands::own_programs_run_through;
@@ -51,7 +51,7 @@ pub fn lines_keep_a_machine<F: Flash>()
 {}
 
 /// Lines end one after another. At the step at which each one ended the flash's image showed the records that it leaves, and past images
-/// stay. In a script of the machine's own client, power lost at any flash step shows the records after the lines that had ended by then, or
+/// stay. In a script of the clients of the machine's two tables, power lost at any flash step shows the records after the lines that had ended by then, or
 /// as the next one leaves them where nothing fails.
 pub fn lines_are_shown<F: Flash>()
     ensures ends { F.tells → (wants : List (ℕ → Bool)) (counts : List ℕ) (first : PlayerState) (played : List Played) (last : PlayerState)
@@ -60,7 +60,7 @@ pub fn lines_are_shown<F: Flash>()
     ensures in_order { F.tells → (wants : List (ℕ → Bool)) (counts : List ℕ) (first : PlayerState) (played : List Played) (last : PlayerState)
         → Follows F.tells wants counts first played last → EndInOrder (changes_of first.machine) played (changes_of last.machine) }
     ensures crash { F.tells → (wants : List (ℕ → Bool)) (counts : List ℕ) (first : PlayerState) (played : List Played) (last : PlayerState)
-        → first.own ≡ own_client first.machine → first.other ≡ None → AreOwnLines played
+        → first.own ≡ own_client first.machine → GivenNoOther first → AreOwnLines played
         → Follows F.tells wants counts first played last
         → (s : ℕ) (image : List ℕ) → changes_of first.machine ≤ s → CrashImage (told_of last.machine) s image
         → ShowsLines s first played (shown_by first.machine image) }
@@ -70,11 +70,11 @@ pub fn lines_are_shown<F: Flash>()
 /// its identifier; so is the record of each block that the bridge stored, from the end of the turn that stored it on.
 pub fn stored_blocks_stay<F: Flash>()
     ensures records { F.tells → (wants : List (ℕ → Bool)) (counts : List ℕ) (first : PlayerState) (played : List Played) (last : PlayerState)
-        → IsMachine first.machine → first.own ≡ own_client first.machine → first.other ≡ None → AreOwnLines played
+        → IsMachine first.machine → first.own ≡ own_client first.machine → GivenNoOther first → AreOwnLines played
         → Follows F.tells wants counts first played last → (id : ℕ) (bytes : List ℕ) → SpareLines id first played → IsStoredAs id bytes (records_of first.machine)
         → (s : ℕ) (shown : Stored) → ShowsLines s first played shown → IsStoredAs id bytes shown }
     ensures blocks { F.tells → (wants : List (ℕ → Bool)) (counts : List ℕ) (first : PlayerState) (played : List Played) (last : PlayerState)
-        → IsMachine first.machine → first.own ≡ own_client first.machine → first.other ≡ None → AreOwnLines played
+        → IsMachine first.machine → first.own ≡ own_client first.machine → GivenNoOther first → AreOwnLines played
         → Follows F.tells wants counts first played last
         → (s : ℕ) (shown : Stored) → (changes_of first.machine ≤ s → ShowsLines s first played shown) → KeepsAll s first played shown }
 {
@@ -90,9 +90,9 @@ pub fn lines_keep_in_step<F: Flash>()
         → IsMachine first.machine → Follows F.tells wants counts first played last → IsInStep first → AlwaysInStep first played }
 {}
 
-/// Each line that asks the machine's own client for a command on records is the record map's; where no fault was counted none says that
-/// the flash failed; where its steps are enough none is stopped or late; and a script that neither runs an action nor gives a table never
-/// leaves the machine's own client.
+/// Each line that asks the client of one of the machine's two tables for a command on records is the record map's; where no fault was counted
+/// none says that the flash failed; where its steps are enough none is stopped or late; and a script that neither runs an action nor gives a
+/// table of its own never leaves these two clients.
 pub fn each_line_is_the_maps<F: Flash>()
     ensures mapped { F.tells → (wants : List (ℕ → Bool)) (counts : List ℕ) (first : PlayerState) (played : List Played) (last : PlayerState)
         → Follows F.tells wants counts first played last → AreMapped first played }
@@ -100,9 +100,9 @@ pub fn each_line_is_the_maps<F: Flash>()
         → Follows F.tells wants counts first played last → FailedNothing first.machine last.machine → NoneSaysHardware first played }
     ensures enough { (wants : List (ℕ → Bool)) (counts : List ℕ) (first : PlayerState) (played : List Played) (last : PlayerState)
         → Follows F.tells wants counts first played last → AllGoThrough first played }
-    ensures own { (wants : List (ℕ → Bool)) (counts : List ℕ) (first : PlayerState) (played : List Played) (last : PlayerState)
-        → first.own ≡ own_client first.machine → first.other ≡ None → AreOwnLines played
-        → Follows F.tells wants counts first played last → AlwaysUsesOwn first played }
+    ensures either { (wants : List (ℕ → Bool)) (counts : List ℕ) (first : PlayerState) (played : List Played) (last : PlayerState)
+        → first.own ≡ own_client first.machine → GivenNoOther first → AreOwnLines played
+        → Follows F.tells wants counts first played last → AlwaysUsesEither first played }
 {}
 
 /// Players of the machines' own clients are alike where the machines are.
