@@ -15,8 +15,6 @@ use Rattle.erst_machine.specs.MachineState.{MachineState}
 use Rattle.ghes_ack.specs.declared.submission.SubmitError.{SubmitError}
 use Rattle.erst_machine.specs.declared.errors.FatalError.{FatalError}
 use Rattle.erst_machine.specs.Events.{Event, Warmed, Powered, Submits, LaysFatal, Warms, Powers, Happens}
-use Rattle.erst_shadow.specs.ShadowTables.{shadow_entries}
-use Rattle.erst_shadow.specs.ShadowCommands.{pieces_in}
 use Rattle.script_text.specs.ScriptGrammar.{Line, table, own_table, shadow_table, error, fatal, reset, power, bridge}
 use Rattle.apei_script.specs.declared.player.PlayStop.TheVariants.{FlashFault}
 use Rattle.apei_script.specs.Replies.{IsMade}
@@ -28,7 +26,7 @@ use Rattle.apei_script.specs.Tables.{GivesTable}
 use Rattle.apei_script.specs.Bridged.{is_on, bridge_refusal, words_of_bridge, NeedsNoBridge, Enters, StaysAs}
 use Rattle.apei_script.specs.Plays.{ByTheBridge, step_of, ByClient, GivenTable, OwnTable, GivenShadow, OnMachine, Reset, Power, ResetFails, PowerFails, HasHappened, Stops}
 use Rattle.apei_script.specs.Desks.{MakesReply}
-use Rattle.apei_script.proofs.ShadowGiving.{shadow_count, IsGiven}
+use Rattle.apei_script.proofs.ShadowGiving.{IsGiven}
 
 -- what a player is made of
 abbrev player : MachineState → ClientState → Option ClientState → Option ℕ → BridgeState → PlayerState
@@ -94,14 +92,14 @@ module _ (tells : Type 0) (old : MachineState) (own : ClientState) (steps : Opti
     made = subst (λ (k : ℕ). IsMade reply (words_of_table k)) many made;
   }
 
-  pub by_shadow_table : (other : Option ClientState) (n : ℕ) (client : ClientState) (new : MachineState) (reply : List ℕ) → n ≡ length (shadow_entries (pieces_in old)) → IsGiven tells old new client
+  pub by_shadow_table : (other : Option ClientState) (n : ℕ) (client : ClientState) (new : MachineState) (reply : List ℕ) → n ≡ 52 → IsGiven tells old new client
       → IsMade reply (words_of_table n) → MakesReply tells (player old own other steps state) shadow_table (player new own (Some client) steps state) reply
   by_shadow_table other n client new reply many given made =
       subst (λ (c : ClientState). MakesReply tells (player old own other steps state) shadow_table (player new own (Some c) steps state) reply) (sym given.client_is)
       (record {
         words = words_of_table 52;
         plays = λ counts. GivenShadow new given.gives;
-        made = subst (λ (k : ℕ). IsMade reply (words_of_table k)) (many ∙ shadow_count (pieces_in old)) made;
+        made = subst (λ (k : ℕ). IsMade reply (words_of_table k)) many made;
       })
 
   pub by_reset : (other : Option ClientState) (n : ℕ) (new : MachineState) (reply : List ℕ) (next : BridgeState) → next ≡ Off → Warms tells old (Ok n) new → IsMade reply (words_of_reset n)

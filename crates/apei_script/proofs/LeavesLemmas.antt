@@ -159,9 +159,9 @@ shadow_write_leaves old hex bytes steps result left new decoded answered = elim 
 shadow_read_keeps : (old : MachineState) (id : ℕ) (out : List ℕ) (budget : ℕ) (result : Result ℕ ClientError) (after : List ℕ) (left : ℕ) (new : MachineState) →
     ShadowReadAnswered id out budget old result after left new → KeepsMap old.device.store new.device.store
 shadow_read_keeps old id out budget result after left new answered = elim answered as (λ result after left new answered. KeepsMap old.device.store new.device.store) [
-  | IsNotShadowRead error left last read ↦ read_crash (pieces_in old) old last id budget (Err error) left read
-  | IsNotShadowCopied error left last read refused ↦ read_crash (pieces_in old) old last id budget (Ok tt) left read
-  | IsShadowCopied left last read fits ↦ read_crash (pieces_in old) old last id budget (Ok tt) left read
+  | IsNotShadowRead error left last command ↦ read_crash (pieces_in old) old last id budget (Err error) left command
+  | IsNotShadowCopied error left last command refused ↦ read_crash (pieces_in old) old last id budget (Ok tt) left command
+  | IsShadowCopied left last command fits ↦ read_crash (pieces_in old) old last id budget (Ok tt) left command
 ]
 
 pub shadow_mapped_leaves : (steps : ℕ) (old : MachineState) (line : Line) (words : List ℕ) (new : MachineState) → ShadowMapped steps old line words new → LineLeaves (128 * pieces_in old) old line new

@@ -10,7 +10,7 @@ use Rattle.bridge_durability.specs.Turns.{Step}
 use Rattle.script_text.specs.ScriptGrammar.{Line, blank, bert, heard}
 use Rattle.apei_notify.specs.Telling.{Hearing, counts_of}
 use Rattle.apei_script.specs.declared.desk.Desk.{Desk}
-use Rattle.apei_script.specs.Players.{PlayerState, with_machine}
+use Rattle.apei_script.specs.Players.{PlayerState, client_of, with_machine}
 use Rattle.apei_script.specs.Words.{Reply, at_step, said_at, words_of_heard, reply_at, replies_at}
 use Rattle.apei_script.specs.Bridged.{NeedsNoBridge, TurnsShown}
 use Rattle.apei_script.specs.Plays.{Plays, Blank, OnMachine, Heard, LinePlayed, PlaysLine, PlaysUnheard, Occurred, OccurredUnheard, LeftIn, AtLast, InList, InTurns, InBridged, names_command, step_of}
@@ -26,9 +26,11 @@ quiet_with tells counts old line said blocks steps new none plays turned = recor
   plays = plays;
   happened = line_happened tells counts old line said blocks steps new plays;
   by_map = λ told uses names. absurd (false≢true (sym none ∙ names));
+  by_shadow = λ told uses names. absurd (false≢true (sym none ∙ names));
   cause = λ uses names says. absurd (false≢true (sym none ∙ names));
   enough = λ uses names many. absurd (false≢true (sym none ∙ names));
-  leaves = λ told uses own unmade. line_leaves tells told counts old line said blocks steps new plays unmade uses (λ names. absurd (false≢true (sym none ∙ names))) own;
+  enough_by_shadow = λ told uses names many. absurd (false≢true (sym none ∙ names));
+  leaves = λ told uses own unmade. line_leaves tells told (client_of old).range counts old line said blocks steps new plays unmade (λ names. absurd (false≢true (sym none ∙ names))) own;
   turned = turned;
 }
 

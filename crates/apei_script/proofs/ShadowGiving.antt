@@ -1,5 +1,5 @@
 -- What attaching to the machine's second table answers.
-use Rattle.std.proofs.Common.{◌≡◌, ℕ, ◌≤◌, ◌*◌, List, length, Result, Ok, Err, refl, subst, arith}
+use Rattle.std.proofs.Common.{◌≡◌, ℕ, ◌≤◌, Result, Ok, Err, subst, arith}
 use Rattle.apei_space.specs.Accesses.{Reaches}
 use Rattle.erst_entries.specs.Layout.{Erst}
 use Rattle.erst_client.specs.declared.errors.AttachError.{AttachError}
@@ -7,14 +7,9 @@ use Rattle.erst_client.specs.Attaching.{Attaches}
 use Rattle.erst_client.specs.Commands.{ClientState}
 use Rattle.erst_machine.specs.MachineState.{MachineState, IsMachine}
 use Rattle.erst_machine.specs.Allowed.{Allows}
-use Rattle.erst_moves.specs.MoveEntries.{move_entries}
-use Rattle.erst_shadow.specs.ShadowTables.{shadow_entries, shadow_erst}
+use Rattle.erst_shadow.specs.ShadowTables.{shadow_erst}
 use Rattle.erst_shadow.specs.ShadowCommands.{pieces_in, shadow_client, AttachesShadow}
 use Rattle.apei_script.specs.Tables.{ATTACH_STEPS, GivesShadow}
-
-pub shadow_count : (pieces : ℕ) → length (shadow_entries pieces) ≡ 52
-unfolding shadow_entries move_entries
-shadow_count pieces = refl
 
 -- the client, and what attaching it left
 pub record IsGiven (tells : Type 0) (old new : MachineState) (client : ClientState) : Type 0 where
