@@ -26,7 +26,7 @@ use Rattle.apei_script.specs.Tables.{GivesTable}
 use Rattle.apei_script.specs.Bridged.{is_on, bridge_refusal, words_of_bridge, NeedsNoBridge, Enters, StaysAs}
 use Rattle.apei_script.specs.Plays.{ByTheBridge, step_of, ByClient, GivenTable, OwnTable, GivenShadow, OnMachine, Reset, Power, ResetFails, PowerFails, HasHappened, Stops}
 use Rattle.apei_script.specs.Desks.{MakesReply}
-use Rattle.apei_script.proofs.ShadowGiving.{IsGiven}
+use Rattle.apei_script.proofs.ShadowGiving.{IsShadowGiven}
 
 -- what a player is made of
 abbrev player : MachineState → ClientState → Option ClientState → Option ℕ → BridgeState → PlayerState
@@ -92,7 +92,7 @@ module _ (tells : Type 0) (old : MachineState) (own : ClientState) (steps : Opti
     made = subst (λ (k : ℕ). IsMade reply (words_of_table k)) many made;
   }
 
-  pub by_shadow_table : (other : Option ClientState) (n : ℕ) (client : ClientState) (new : MachineState) (reply : List ℕ) → n ≡ 52 → IsGiven tells old new client
+  pub by_shadow_table : (other : Option ClientState) (n : ℕ) (client : ClientState) (new : MachineState) (reply : List ℕ) → n ≡ 52 → IsShadowGiven tells old new client
       → IsMade reply (words_of_table n) → MakesReply tells (player old own other steps state) shadow_table (player new own (Some client) steps state) reply
   by_shadow_table other n client new reply many given made =
       subst (λ (c : ClientState). MakesReply tells (player old own other steps state) shadow_table (player new own (Some c) steps state) reply) (sym given.client_is)

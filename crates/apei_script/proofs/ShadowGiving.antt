@@ -12,7 +12,7 @@ use Rattle.erst_shadow.specs.ShadowCommands.{pieces_in, shadow_client, AttachesS
 use Rattle.apei_script.specs.Tables.{ATTACH_STEPS, GivesShadow}
 
 -- the client, and what attaching it left
-pub record IsGiven (tells : Type 0) (old new : MachineState) (client : ClientState) : Type 0 where
+pub record IsShadowGiven (tells : Type 0) (old new : MachineState) (client : ClientState) : Type 0 where
   pub client_is : client ≡ shadow_client old
   pub gives : GivesShadow tells old new
 
@@ -31,7 +31,7 @@ module _ (tells : Type 0) (law : (budget : ℕ) (first : MachineState) (result :
       let never = (attaches_it erst budget first (Err why) left last machine is given attaches).1.result_is in cc never
 
   pub is_given : (erst : Erst) (budget : ℕ) (first : MachineState) (client : ClientState) (left : ℕ) (last : MachineState) → IsMachine first → erst ≡ shadow_erst (pieces_in first) → budget ≡ ATTACH_STEPS
-      → Attaches (Allows tells) erst budget first (Ok client) left last → Reaches (Allows tells) first last → IsGiven tells first last client
+      → Attaches (Allows tells) erst budget first (Ok client) left last → Reaches (Allows tells) first last → IsShadowGiven tells first last client
   is_given erst budget first client left last machine is given attaches reaches =
       let both = attaches_it erst budget first (Ok client) left last machine is given attaches in
       let same = both.1.result_is in
