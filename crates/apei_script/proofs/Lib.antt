@@ -25,4 +25,5 @@ pub mod PlayLemmas
 pub mod KeptTurns
 pub mod BridgeLemmas
 pub mod KeptLines
+pub mod KeptCauses
 pub mod OrderLemmas
