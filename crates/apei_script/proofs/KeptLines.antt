@@ -94,9 +94,9 @@ not_behind : (b : Bool) (P Q : Type 0) → b ≡ false → MatchBool b P Q → Q
 not_behind true P Q e h = absurd (cc e)
 not_behind false P Q e h = h
 
-module _ (tells : Type 0) (programs : OwnProgramsRun tells) (told : tells) where
+module _ (tells : Type 0) where
   -- a line made no turn of the bridge, or all of them are its steps
-  line_turns : (counts : List ℕ) (old : PlayerState) (line : Line) (said : List Reply) (blocks : List (List ℕ)) (steps : List Step) (new : PlayerState) → Plays tells counts old line said blocks steps new
+  pub line_turns : (counts : List ℕ) (old : PlayerState) (line : Line) (said : List Reply) (blocks : List (List ℕ)) (steps : List Step) (new : PlayerState) → Plays tells counts old line said blocks steps new
       → (steps ≡ []) ⊎ AreTurns tells old.own (budget_of old) old.bridge old.machine steps new.bridge new.machine
   line_turns counts old line said blocks steps new plays =
       elim plays as (λ line said blocks steps new plays. (steps ≡ []) ⊎ AreTurns tells old.own (budget_of old) old.bridge old.machine steps new.bridge new.machine) [
@@ -120,6 +120,20 @@ module _ (tells : Type 0) (programs : OwnProgramsRun tells) (told : tells) where
         | BridgesTurns letters steps state machine on are sides counted ↦ inr are
       ]
 
+  pub machine_then : (counts : List ℕ) (old : PlayerState) (played : Played) → LinePlayed tells counts old played.line played.said played.blocks played.steps played.left → IsMachine old.machine → IsMachine played.left.machine
+  machine_then counts old played line machine = events_keep tells old.machine played.left.machine line.happened.trail line.happened.happens machine
+
+  pub own_then : (counts : List ℕ) (old : PlayerState) (played : Played) → LinePlayed tells counts old played.line played.said played.blocks played.steps played.left → old.own ≡ own_client old.machine
+      → played.left.own ≡ own_client played.left.machine
+  own_then counts old played line own =
+      (line_own tells counts old played.line played.said played.blocks played.steps played.left line.plays).0 ∙ own
+      ∙ sym (own_client-kept tells old.machine played.left.machine (line_divides tells counts old played.line played.said played.blocks played.steps played.left line.plays))
+
+  other_then : (counts : List ℕ) (old : PlayerState) (played : Played) → LinePlayed tells counts old played.line played.said played.blocks played.steps played.left → IsOwnLine played.line → GivenNoOther old
+      → GivenNoOther played.left
+  other_then counts old played line is none = no_other tells counts old played.line played.said played.blocks played.steps played.left line.plays is none
+
+module _ (tells : Type 0) (programs : OwnProgramsRun tells) (told : tells) where
   -- behind a line, and at whatever power lost in it shows
   keeps_line : (counts : List ℕ) (old : PlayerState) (line : Line) (said : List Reply) (blocks : List (List ℕ)) (steps : List Step) (new : PlayerState) (id : ℕ) (bytes : List ℕ) → IsMachine old.machine
       → old.own ≡ own_client old.machine → GivenNoOther old → IsOwnLine line → LinePlayed tells counts old line said blocks steps new → Spares id line → SpareTurns id old.bridge steps
@@ -140,23 +154,10 @@ module _ (tells : Type 0) (programs : OwnProgramsRun tells) (told : tells) where
         ],
       )
   keeps_line counts old line said blocks (step ∷ rest) new id bytes machine own none is played spares spared there =
-      elim (line_turns counts old line said blocks (step ∷ rest) new played.plays) [
+      elim (line_turns tells counts old line said blocks (step ∷ rest) new played.plays) [
         | inl e ↦ absurd (cc e)
         | inr are ↦ kept_turns tells programs told old.own (budget_of old) old.bridge old.machine (step ∷ rest) new.bridge new.machine id bytes own machine are spared there
       ]
-
-  machine_then : (counts : List ℕ) (old : PlayerState) (played : Played) → LinePlayed tells counts old played.line played.said played.blocks played.steps played.left → IsMachine old.machine → IsMachine played.left.machine
-  machine_then counts old played line machine = events_keep tells old.machine played.left.machine line.happened.trail line.happened.happens machine
-
-  own_then : (counts : List ℕ) (old : PlayerState) (played : Played) → LinePlayed tells counts old played.line played.said played.blocks played.steps played.left → old.own ≡ own_client old.machine
-      → played.left.own ≡ own_client played.left.machine
-  own_then counts old played line own =
-      (line_own tells counts old played.line played.said played.blocks played.steps played.left line.plays).0 ∙ own
-      ∙ sym (own_client-kept tells old.machine played.left.machine (line_divides tells counts old played.line played.said played.blocks played.steps played.left line.plays))
-
-  other_then : (counts : List ℕ) (old : PlayerState) (played : Played) → LinePlayed tells counts old played.line played.said played.blocks played.steps played.left → IsOwnLine played.line → GivenNoOther old
-      → GivenNoOther played.left
-  other_then counts old played line is none = no_other tells counts old played.line played.said played.blocks played.steps played.left line.plays is none
 
   pub kept_lines : (wants : List (ℕ → Bool)) (counts : List ℕ) (first : PlayerState) (played : List Played) (last : PlayerState) → IsMachine first.machine → first.own ≡ own_client first.machine → GivenNoOther first
       → AreOwnLines played → Follows tells wants counts first played last → (id : ℕ) (bytes : List ℕ) → SpareLines id first played → IsStoredAs id bytes (records_of first.machine)
@@ -165,8 +166,8 @@ module _ (tells : Type 0) (programs : OwnProgramsRun tells) (told : tells) where
   kept_lines wants counts first (line ∷ rest) last machine own none lines follows id bytes spares there s shown shows =
       let keeps = keeps_line counts first line.line line.said line.blocks line.steps line.left id bytes machine own none lines.0 follows.0 spares.0 spares.1 there in
       elim (one_of (nat_le (changes_of line.left.machine) s) _ _ shows) [
-        | inl behind ↦ kept_lines wants (heard_after wants line.blocks counts) line.left rest last (machine_then counts first line follows.0 machine) (own_then counts first line follows.0 own)
-            (other_then counts first line follows.0 lines.0 none) lines.1 follows.1 id bytes spares.2 keeps.0 s shown behind
+        | inl behind ↦ kept_lines wants (heard_after wants line.blocks counts) line.left rest last (machine_then tells counts first line follows.0 machine) (own_then tells counts first line follows.0 own)
+            (other_then tells counts first line follows.0 lines.0 none) lines.1 follows.1 id bytes spares.2 keeps.0 s shown behind
         | inr under_way ↦ keeps.1 s shown under_way
       ]
 
@@ -177,7 +178,7 @@ module _ (tells : Type 0) (programs : OwnProgramsRun tells) (told : tells) where
       → (steps : List Step) → line.steps ≡ steps → KeepsBlocks spared s old.bridge steps shown
   blocks_of_line counts old line s shown spared machine own played either [] is = tt
   blocks_of_line counts old line s shown spared machine own played either (step ∷ rest) is =
-      elim (line_turns counts old line.line line.said line.blocks line.steps line.left played.plays) [
+      elim (line_turns tells counts old line.line line.said line.blocks line.steps line.left played.plays) [
         | inl none ↦ absurd (let e : ◌≡◌ {A = List Step} (step ∷ rest) [] = sym is ∙ none in cc e)
         | inr are ↦ blocks_kept tells programs told old.own (budget_of old) spared s shown old.bridge old.machine (step ∷ rest) line.left.bridge line.left.machine own machine
             (subst (λ (steps : List Step). AreTurns tells old.own (budget_of old) old.bridge old.machine steps line.left.bridge line.left.machine) is are)
@@ -194,9 +195,9 @@ module _ (tells : Type 0) (programs : OwnProgramsRun tells) (told : tells) where
       let left = line.left in
       let on = (events_are_shown tells told first.machine left.machine follows.0.happened.trail follows.0.happened.happens).goes_on in
       let grows = past_grows (told_of first.machine) (told_of left.machine) on.later in
-      let machine_now = machine_then counts first line follows.0 machine in
-      let own_now = own_then counts first line follows.0 own in
-      let none_now = other_then counts first line follows.0 lines.0 none in
+      let machine_now = machine_then tells counts first line follows.0 machine in
+      let own_now = own_then tells counts first line follows.0 own in
+      let none_now = other_then tells counts first line follows.0 lines.0 none in
       let behind : changes_of left.machine ≤ s → ShowsLines s left rest shown =
       λ from. on_behind (nat_le (changes_of left.machine) s) _ _ (le-leb (changes_of left.machine) s from) (shows (omega (arith, from))) in (
         blocks_of_line counts first line s shown (λ id. SpareLines id left rest) machine own follows.0

@@ -27,4 +27,5 @@ pub mod PlayLemmas
 pub mod KeptTurns
 pub mod BridgeLemmas
 pub mod KeptLines
+pub mod KeptCauses
 pub mod OrderLemmas

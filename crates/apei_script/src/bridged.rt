@@ -83,7 +83,13 @@ pub fn bridged_turns<F: Flash, O: Sink>(
     let steps = desk.budget();
     desk.buffers.made.clear();
     'turning: for letter in letters {
-        let turn = bridged_turn(&mut desk.bridge, &mut desk.own, steps, &mut desk.machine, *letter);
+        let turn = bridged_turn(
+            &mut desk.bridge,
+            &mut desk.own,
+            steps,
+            &mut desk.machine,
+            *letter,
+        );
         let taken = took(&turn);
         let step = desk.machine.steps();
         desk.buffers.made.push(MadeTurn { turn, step }).unwrap();

@@ -17,6 +17,7 @@ ghost use Rattle.bridge_durability.specs.Turns.{Step};
 ghost use Rattle.bridge_durability.specs.InStep.{KeepOrder};
 ghost use Rattle.apei_script.specs.Words.{Reply};
 ghost use Rattle.apei_script.specs.Plays.{Plays, HasHappened};
+ghost use Rattle.apei_script.specs.KeptCauses.{AllHaveCauses};
 ghost use Rattle.apei_script.specs.Orders.{IsInStep, AlwaysInStep};
 ghost use Rattle.bridge_durability.specs.Shown.{IsStoredAs};
 ghost use Rattle.apei_script.specs.Spares.{SpareLines, KeepsAll};
@@ -89,6 +90,16 @@ pub fn lines_keep_in_step<F: Flash>()
     ensures lines { (wants : List (ℕ → Bool)) (counts : List ℕ) (first : PlayerState) (played : List Played) (last : PlayerState)
         → IsMachine first.machine → Follows F.tells wants counts first played last → IsInStep first → AlwaysInStep first played }
 {}
+
+/// A turn of the bridge keeps a block for a failure of the flash only where the flash's count of faults rose in that very turn, and where
+/// its steps are enough, never for want of steps or of time.
+pub fn kept_blocks_have_causes<F: Flash>()
+    ensures { (wants : List (ℕ → Bool)) (counts : List ℕ) (first : PlayerState) (played : List Played) (last : PlayerState)
+        → IsMachine first.machine → first.own ≡ own_client first.machine
+        → Follows F.tells wants counts first played last → AllHaveCauses first played }
+{
+    own_programs_run_through::<F>();
+}
 
 /// Each line that asks the client of one of the machine's two tables for a command on records is the record map's; where no fault was counted
 /// none says that the flash failed; where its steps are enough none is stopped or late; and a script that neither runs an action nor gives a

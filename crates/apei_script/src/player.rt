@@ -13,9 +13,9 @@ ghost use Rattle.apei_script.specs.Plays.{IsPlayable, Stops, step_of, has_one_re
 ghost use Rattle.apei_script.specs.Desks.{state_of, LineAnswered};
 ghost use Rattle.apei_script.specs.Played.{IsPlayed, IsUnheard, IsStopped};
 
+use crate::bridged::bridged_turns;
 use crate::buffers::Buffers;
 use crate::desk::Desk;
-use crate::bridged::bridged_turns;
 use crate::events::{list_blocks, say_heard, turns};
 use crate::laws::a_line_is_the_maps;
 use apei_bytes::{Memory, Sink, SinkFault, write_all};
