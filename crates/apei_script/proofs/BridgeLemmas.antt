@@ -10,7 +10,6 @@ use Rattle.ghes_ack.specs.declared.events.Side.{Side}
 use Rattle.ghes_ack.specs.declared.events.Side.TheVariants.{Reader}
 use Rattle.ghes_ack.specs.declared.events.Event.{Event}
 use Rattle.ghes_ack.specs.declared.events.Event.TheVariants.{Idle, Fill, Publish, Free, Wait, Nothing, Found, Copied, Took, Clear, Ack}
-use Rattle.ghes_ack.specs.Machine.{Fits}
 use Rattle.apei_notify.specs.Telling.{Hearing, counts_of}
 use Rattle.erst_client.specs.Commands.{ClientState}
 use Rattle.flash_words.proofs.CrashLemmas.{past_grows}
@@ -22,7 +21,7 @@ use Rattle.erst_commands.specs.Attached.{own_client}
 use Rattle.erst_commands.specs.OwnPrograms.{OwnProgramsRun}
 use Rattle.erst_bridge.specs.declared.events.BridgeEvent.{BridgeEvent}
 use Rattle.erst_bridge.specs.declared.events.BridgeEvent.TheVariants.{Line as ByReader, Stored as IsStored, Kept, Out}
-use Rattle.erst_bridge.specs.Bridges.{BridgeState, Off, Awaits, Holds, Releases, TurnsReader, Stores, Keeps, RunsOut}
+use Rattle.erst_bridge.specs.Bridges.{BridgeState, Off, TurnsReader, Stores, Keeps, RunsOut}
 use Rattle.bridge_durability.specs.Turns.{last_of, BridgesMachine, Turn, OfFirmware, OfBridge, Step, IsTurn, AreTurns}
 use Rattle.bridge_durability.specs.Shown.{ShowsTurns, after_turn}
 use Rattle.bridge_durability.proofs.TrailLemmas.{turn_goes_on}

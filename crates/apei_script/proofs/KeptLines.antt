@@ -1,5 +1,5 @@
 -- A record that is stored stays over lines that spare its identifier.
-use Rattle.std.proofs.Common.{◌≡◌, ◌≢◌, ◌∙◌, ◌⊎◌, inl, inr, ℕ, ◌≤◌, ◌<◌, nat_le, nat_eq, cond, Bool, true, false, List, [], ◌∷◌, Option, None, Result, Ok, Err, refl, sym, ap, subst, arith}
+use Rattle.std.proofs.Common.{◌≡◌, ◌≢◌, ◌∙◌, ◌⊎◌, inl, inr, ℕ, ◌≤◌, nat_le, nat_eq, cond, Bool, true, false, List, [], ◌∷◌, Option, None, Result, Ok, Err, refl, sym, ap, subst, arith}
 use Rattle.std.specs.Prelude.{is_none, if◌then◌else◌, MatchBool}
 use Rattle.std.specs.Ordering.{nat_cmp, eq_by_cmp}
 use Rattle.std.specs.FinMap.{get, remove, get-remove}
@@ -23,7 +23,7 @@ use Rattle.erst_commands.specs.OwnPrograms.{OwnProgramsRun}
 use Rattle.erst_commands.specs.Writes.{marked, id_of}
 use Rattle.erst_bridge.specs.Bridges.{BridgeState}
 use Rattle.bridge_durability.specs.Turns.{Step, AreTurns}
-use Rattle.bridge_durability.specs.Shown.{ShowsTurns, IsStoredAs}
+use Rattle.bridge_durability.specs.Shown.{IsStoredAs}
 use Rattle.bridge_durability.proofs.RecordLemmas.{stored_after}
 use Rattle.bridge_durability.proofs.ShownLemmas.{one_of}
 use Rattle.script_text.specs.ScriptGrammar.{Line, blank, comment, write, read, clear, count, next as next_line, dummy, action, table, own_table, shadow_table, error as error_line, turns, peek, fatal, bert, heard, reset, power, bridge}
@@ -34,7 +34,7 @@ use Rattle.apei_script.specs.Bridged.{ByBridge, Enters, StaysAs, BridgesTurns, K
 use Rattle.apei_script.specs.Plays.{Plays, Blank, ByClient, GivenTable, OwnTable, GivenShadow, OnMachine, ByTheBridge, Heard, Reset, Power, LinePlayed, IsOwnLine}
 use Rattle.apei_script.specs.History.{Played, heard_after, Follows, ShowsLine, ShowsLines, AreOwnLines}
 use Rattle.apei_script.specs.Spares.{Spares, SpareTurns, SpareLines, KeepsAll}
-use Rattle.apei_script.proofs.KeptTurns.{kept_turns, ShowsOrKeeps, blocks_kept}
+use Rattle.apei_script.proofs.KeptTurns.{kept_turns, blocks_kept}
 use Rattle.apei_script.proofs.LineLemmas.{line_divides, line_own}
 use Rattle.apei_script.proofs.HistoryLemmas.{no_other, own_client-kept, uses_either}
 

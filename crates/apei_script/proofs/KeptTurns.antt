@@ -1,5 +1,5 @@
 -- A record that is stored stays over turns that spare its identifier.
-use Rattle.std.proofs.Common.{◌≡◌, ◌≢◌, ◌⊎◌, inl, inr, ℕ, ◌+◌, ◌≤◌, ◌<◌, nat_le, Bool, true, false, List, [], ◌∷◌, refl, sym, subst, arith}
+use Rattle.std.proofs.Common.{◌≡◌, ◌⊎◌, inl, inr, ℕ, ◌≤◌, nat_le, Bool, true, false, List, [], ◌∷◌, refl, sym, subst, arith}
 use Rattle.std.specs.Prelude.{MatchBool}
 use Rattle.std.proofs.lemmas.Bool.{le-leb}
 use Rattle.flash_words.proofs.CrashLemmas.{past_grows}
@@ -9,9 +9,8 @@ use Rattle.erst_machine.specs.MachineState.{MachineState, IsMachine, records_of,
 use Rattle.erst_machine.specs.Shown.{changes_of}
 use Rattle.erst_commands.specs.Attached.{own_client}
 use Rattle.erst_commands.specs.OwnPrograms.{OwnProgramsRun}
-use Rattle.erst_bridge.specs.declared.events.BridgeEvent.{BridgeEvent}
 use Rattle.erst_bridge.specs.declared.events.BridgeEvent.TheVariants.{Line as ByReader, Stored as IsStored, Kept, Out}
-use Rattle.erst_bridge.specs.Bridges.{BridgeState, Holds, TurnsReader, Stores, Keeps, RunsOut}
+use Rattle.erst_bridge.specs.Bridges.{BridgeState, TurnsReader, Stores, Keeps, RunsOut}
 use Rattle.bridge_durability.specs.Turns.{Turn, OfFirmware, OfBridge, Step, IsTurn, AreTurns}
 use Rattle.bridge_durability.specs.Shown.{stored_record, ShowsTurns, IsStoredAs, after_turn}
 use Rattle.bridge_durability.proofs.TrailLemmas.{turn_keeps, turn_goes_on, own_on}

@@ -1,5 +1,5 @@
 -- Lines of the bridge: the one that turns it on, and turns while it is on.
-use Rattle.std.specs.Prelude.{◌≡◌, ℕ, ◌+◌, ◌≤◌, not, if◌then◌else◌, Bool, true, false, List, [], ◌∷◌, ◌++◌, codes, decimal, map, Option, Some, None}
+use Rattle.std.specs.Prelude.{◌≡◌, ℕ, ◌≤◌, not, if◌then◌else◌, Bool, true, false, List, [], ◌∷◌, ◌++◌, codes, decimal, map, Option, Some, None}
 use Rattle.std.specs.List.{flat_map}
 use Rattle.flash_words.specs.Flash.{CrashImage}
 use Rattle.record_model.specs.Records.{is_reserved, Stored as Records}

@@ -74,7 +74,7 @@ pub fn stored_blocks_stay<F: Flash>()
         → IsMachine first.machine → first.own ≡ own_client first.machine → GivenNoOther first → AreOwnLines played
         → Follows F.tells wants counts first played last → (id : ℕ) (bytes : List ℕ) → SpareLines id first played → IsStoredAs id bytes (records_of first.machine)
         → (s : ℕ) (shown : Stored) → ShowsLines s first played shown → IsStoredAs id bytes shown }
-    ensures blocks { F.tells → (wants : List (ℕ → Bool)) (counts : List ℕ) (first : PlayerState) (played : List Played) (last : PlayerState)
+    ensures stored { F.tells → (wants : List (ℕ → Bool)) (counts : List ℕ) (first : PlayerState) (played : List Played) (last : PlayerState)
         → IsMachine first.machine → first.own ≡ own_client first.machine → GivenNoOther first → AreOwnLines played
         → Follows F.tells wants counts first played last
         → (s : ℕ) (shown : Stored) → (changes_of first.machine ≤ s → ShowsLines s first played shown) → KeepsAll s first played shown }

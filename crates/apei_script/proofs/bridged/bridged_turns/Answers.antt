@@ -1,11 +1,8 @@
-use Rattle.std.proofs.Common.{◌≡◌, ◌∙◌, ℕ, ◌+◌, List, [], ◌∷◌, ◌++◌, take, refl, sym, ap, subst, arith, Vec, Global, vec_len}
+use Rattle.std.proofs.Common.{◌≡◌, ◌∙◌, ℕ, ◌+◌, List, [], ◌∷◌, ◌++◌, take, refl, sym, ap, arith, Vec, Global, vec_len}
 use Rattle.std.proofs.lemmas.Result.{err_from_is_err_and, on_ok_weaker, on_err_weaker}
-use Rattle.erst_client.specs.Commands.{ClientState}
-use Rattle.bridge_durability.specs.Turns.{IsTurn}
 use Rattle.bridge_turns.specs.declared.made.MadeTurn.{MadeTurn}
 use Rattle.bridge_turns.specs.Made.{turn_of}
-use Rattle.apei_script.specs.Bridged.{HasTaken, words_of_made}
-use Rattle.apei_script.specs.Players.{budget_of}
+use Rattle.apei_script.specs.Bridged.{words_of_made}
 use Rattle.apei_script.specs.Words.{reply_at}
 use Rattle.apei_script.specs.Desks.{state_of, SameClients}
 use Rattle.apei_script.proofs.ResultLemmas.{on_err, has_cause, same_cause}

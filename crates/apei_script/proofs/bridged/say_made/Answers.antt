@@ -1,9 +1,7 @@
-use Rattle.std.proofs.Common.{◌≡◌, ◌∙◌, ℕ, ◌+◌, ◌≤◌, List, [], ◌∷◌, ◌++◌, length, take, drop, refl, sym, ap, arith, append_assoc}
+use Rattle.std.proofs.Common.{◌≡◌, ◌∙◌, ℕ, ◌+◌, ◌≤◌, List, [], ◌∷◌, ◌++◌, length, take, drop, sym, ap, arith, append_assoc}
 use Rattle.std.specs.Prelude.{codes, decimal}
-use Rattle.std.specs.List.{flat_map}
 use Rattle.std.proofs.lemmas.List.{append-nil, length-append, take_all}
 use Rattle.std.proofs.lemmas.Result.{on_err_weaker}
-use Rattle.bridge_turns.specs.declared.made.MadeTurn.{MadeTurn}
 use Rattle.bridge_turns.specs.Made.{turn_of}
 use Rattle.apei_script.specs.Bridged.{words_of_turn, words_of_made}
 use Rattle.apei_script.proofs.ResultLemmas.{on_err}

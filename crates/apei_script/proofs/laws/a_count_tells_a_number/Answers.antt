@@ -1,4 +1,4 @@
-use Rattle.std.proofs.Common.{◌≡◌, ◌∙◌, ℕ, List, [], ◌∷◌, ap}
+use Rattle.std.proofs.Common.{◌∙◌, ℕ, List, [], ◌∷◌, ap}
 use Rattle.script_text.specs.ScriptGrammar.{count}
 use Rattle.apei_script.specs.Words.{Reply, said_at}
 use Rattle.apei_script.specs.Plays.{step_of}

@@ -1,8 +1,8 @@
-use Rattle.std.proofs.Common.{◌∙◌, ℕ, ap, sym, arith}
+use Rattle.std.proofs.Common.{◌∙◌, ℕ, ap, arith}
 use Rattle.std.specs.Prelude.{codes}
 use Rattle.apei_script.specs.Words.{refused}
 use Rattle.apei_script.specs.Bridged.{is_on}
-use Rattle.erst_bridge.specs.Bridges.{BridgeState, Awaits}
+use Rattle.erst_bridge.specs.Bridges.{Awaits}
 use Rattle.apei_script.proofs.Made.{made_word, made_number}
 use Rattle.apei_script.proofs.DeskLines.{by_bridge, no_id, no_off, no_idle, is_off, tested_on, idle_by}
 use Rattle.apei_script.proofs.desk.Desk.enter_bridge.Goals as goal
