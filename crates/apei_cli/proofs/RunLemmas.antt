@@ -14,7 +14,7 @@ use Rattle.apei_script.specs.declared.player.PlayStop.{PlayStop}
 use Rattle.apei_script.specs.declared.player.PlayStop.TheVariants.{FlashFault as RestartFailed, Memory as NoMemory}
 use Rattle.apei_script.specs.Players.{PlayerState, with_machine}
 use Rattle.apei_script.specs.Words.{Reply, text_of_replies}
-use Rattle.apei_script.specs.Plays.{IsBuilt, LinePlayed, HasHappened, FailsRestart, PartlyWritten, PlaysLine, PlaysUnheard, Stops, Told, step_of}
+use Rattle.apei_script.specs.Plays.{LinePlayed, HasHappened, FailsRestart, PartlyWritten, PlaysLine, PlaysUnheard, Stops, Told, step_of}
 use Rattle.erst_machine.specs.Shown.{changes_of}
 use Rattle.apei_script.specs.History.{Played, Follows, AreCounted, blocks_of, reply_of, text_of, heard_after}
 use Rattle.script_lines.specs.Lines.{Line, Reading, lines_of, IsTooLong, IsNextLine, IsAtEnd, NextIsTooLong, HasNoLine}
@@ -23,7 +23,7 @@ use Rattle.apei_cli.specs.Played.{CanPlay, ArePlayed}
 use Rattle.apei_cli.specs.Statuses.{StopsAt, EndsLines, LeavesLast}
 use Rattle.apei_cli.specs.Runs.{PlaysScript}
 use Rattle.apei_cli.specs.declared.status.Status.{Status}
-use Rattle.apei_cli.specs.declared.status.Status.TheVariants.{Done, BadWords, BadLine, SourceFault, SinkFault, FlashFault, BadGeometry, TooLong, Memory, NotYet}
+use Rattle.apei_cli.specs.declared.status.Status.TheVariants.{Done, BadWords, BadLine, SourceFault, SinkFault, FlashFault, BadGeometry, TooLong, Memory}
 use Rattle.apei_cli.proofs.ToldLemmas.{WantsOf, wants_first, wants_stay, none_told, all_told_then, heard_all}
 
 -- which of two cases it is
@@ -35,13 +35,10 @@ pub on_false : (b : Bool) (P Q : Type 0) → b ≡ false → MatchBool b P Q →
 on_false true P Q e q = absurd (cc e)
 on_false false P Q e q = q
 
-pub is_not : (b : Bool) (P : Type 0) → (b ≡ true ↔ P) → b ≡ false → P → ⊥
-is_not b P tests e p = let clash : true ≡ false = sym (tests.1 p) ∙ e in absurd (cc clash)
-
 -- the line that was read can be played
-pub playable : (tells : Type 0) (a b : Reading) (rest rest_now text : List ℕ) (line : ScriptLine) → IsNextLine tells a b rest rest_now → text ≡ b.line → Means text line → IsBuilt line
+pub playable : (tells : Type 0) (a b : Reading) (rest rest_now text : List ℕ) (line : ScriptLine) → IsNextLine tells a b rest rest_now → text ≡ b.line → Means text line
     → CanPlay (last_line b) line
-playable tells a b rest rest_now text line next is read built = record { within = next.within; means = subst (λ (t : List ℕ). Means t line) is read; built = built }
+playable tells a b rest rest_now text line next is read = record { within = next.within; means = subst (λ (t : List ℕ). Means t line) is read }
 
 AreCounted-push : (some : List Played) (one : Played) → AreCounted some → changes_of one.left.machine ≡ step_of one.left → AreCounted (some ++ one ∷ [])
 AreCounted-push [] one before is = (is, tt)
@@ -239,24 +236,6 @@ module _ {L : Type 0} (hearing : L → Hearing) (told_source told_sink tells : T
       )
       refl (λ e. absurd (cc e))
 
-  -- it is not built
-  pub ends_not_built : (script rest rest_now written now : List ℕ) (first members : List L) (old new : PlayerState) (a b : Reading) (number : ℕ) (line : ScriptLine)
-      → IsNextLine told_source a b rest rest_now → number ≡ b.number → Means b.line line → (IsBuilt line → ⊥) → SoFar hearing told_source told_sink tells script rest written now first members old new a
-      → PlaysScript hearing told_source told_sink tells script rest_now written now first members old new (NotYet number)
-  ends_not_built script rest rest_now written now first members old new a b number line next is means_it other so_far =
-      as_so_far script rest rest_now written now now first members old new a (NotYet number) so_far (
-        (λ told. record {
-          line = last_line b;
-          stops = stops_at script rest rest_now written now first members old new a b number so_far next is told;
-          within = next.within;
-          asked = line;
-          means = means_it;
-          not_built = other;
-        }),
-        so_far.text,
-      )
-      refl (λ e. absurd (cc e))
-
   -- its reply was refused by the sink
   pub ends_unheard : (script rest rest_now written middle now : List ℕ) (first members members_now : List L) (old mid new : PlayerState) (a b : Reading) (line : ScriptLine)
       → SoFar hearing told_source told_sink tells script rest written middle first members old mid a → IsNextLine told_source a b rest rest_now → CanPlay (last_line b) line
@@ -338,8 +317,9 @@ module _ {L : Type 0} (hearing : L → Hearing) (told_source told_sink tells : T
             line = last_line b;
             number = b.number;
             stops = stops_at script rest rest_now written middle first members old mid a b b.number so_far next refl told;
-            hex = left.1.0;
-            is = subst (CanPlay (last_line b)) left.1.1 is;
+            asked = line;
+            is = is;
+            gives_table = left.1;
           }),
           λ told. said ∙ so_far.text told,
         );
