@@ -6,6 +6,7 @@ use Rattle.std.specs.Prelude.{MatchBool, ◌↔◌}
 use Rattle.base_model.specs.Faults.{Rose}
 use Rattle.line_grammar.specs.Columns.{BreaksAt}
 use Rattle.erst_machine.specs.MachineState.{MachineState}
+use Rattle.bridge_durability.specs.Turns.{Step}
 use Rattle.script_text.specs.ScriptGrammar.{Line as ScriptLine, IsLine, table}
 use Rattle.script_text.specs.ScriptText.{Means}
 use Rattle.apei_notify.specs.Telling.{Hearing, counts_of, wants_of}
@@ -13,7 +14,7 @@ use Rattle.apei_script.specs.declared.player.PlayStop.{PlayStop}
 use Rattle.apei_script.specs.declared.player.PlayStop.TheVariants.{FlashFault as RestartFailed, Memory as NoMemory}
 use Rattle.apei_script.specs.Players.{PlayerState, with_machine}
 use Rattle.apei_script.specs.Words.{Reply, text_of_replies}
-use Rattle.apei_script.specs.Plays.{IsBuilt, LinePlayed, HasHappened, FailsRestart, PartlyWritten, PlaysLine, PlaysUnheard, Stops, Told, step_of}
+use Rattle.apei_script.specs.Plays.{LinePlayed, HasHappened, FailsRestart, PartlyWritten, PlaysLine, PlaysUnheard, Stops, Told, step_of}
 use Rattle.erst_machine.specs.Shown.{changes_of}
 use Rattle.apei_script.specs.History.{Played, Follows, AreCounted, blocks_of, reply_of, text_of, heard_after}
 use Rattle.script_lines.specs.Lines.{Line, Reading, lines_of, IsTooLong, IsNextLine, IsAtEnd, NextIsTooLong, HasNoLine}
@@ -22,7 +23,7 @@ use Rattle.apei_cli.specs.Played.{CanPlay, ArePlayed}
 use Rattle.apei_cli.specs.Statuses.{StopsAt, EndsLines, LeavesLast}
 use Rattle.apei_cli.specs.Runs.{PlaysScript}
 use Rattle.apei_cli.specs.declared.status.Status.{Status}
-use Rattle.apei_cli.specs.declared.status.Status.TheVariants.{Done, BadWords, BadLine, SourceFault, SinkFault, FlashFault, BadGeometry, TooLong, Memory, NotYet}
+use Rattle.apei_cli.specs.declared.status.Status.TheVariants.{Done, BadWords, BadLine, SourceFault, SinkFault, FlashFault, BadGeometry, TooLong, Memory}
 use Rattle.apei_cli.proofs.ToldLemmas.{WantsOf, wants_first, wants_stay, none_told, all_told_then, heard_all}
 
 -- which of two cases it is
@@ -34,13 +35,10 @@ pub on_false : (b : Bool) (P Q : Type 0) → b ≡ false → MatchBool b P Q →
 on_false true P Q e q = absurd (cc e)
 on_false false P Q e q = q
 
-pub is_not : (b : Bool) (P : Type 0) → (b ≡ true ↔ P) → b ≡ false → P → ⊥
-is_not b P tests e p = let clash : true ≡ false = sym (tests.1 p) ∙ e in absurd (cc clash)
-
 -- the line that was read can be played
-pub playable : (tells : Type 0) (a b : Reading) (rest rest_now text : List ℕ) (line : ScriptLine) → IsNextLine tells a b rest rest_now → text ≡ b.line → Means text line → IsBuilt line
+pub playable : (tells : Type 0) (a b : Reading) (rest rest_now text : List ℕ) (line : ScriptLine) → IsNextLine tells a b rest rest_now → text ≡ b.line → Means text line
     → CanPlay (last_line b) line
-playable tells a b rest rest_now text line next is read built = record { within = next.within; means = subst (λ (t : List ℕ). Means t line) is read; built = built }
+playable tells a b rest rest_now text line next is read = record { within = next.within; means = subst (λ (t : List ℕ). Means t line) is read }
 
 AreCounted-push : (some : List Played) (one : Played) → AreCounted some → changes_of one.left.machine ≡ step_of one.left → AreCounted (some ++ one ∷ [])
 AreCounted-push [] one before is = (is, tt)
@@ -72,12 +70,12 @@ counts_after-push wants [] played counts = refl
 counts_after-push wants (first ∷ some) played counts = counts_after-push wants some played (heard_after wants first.blocks counts)
 
 Follows-push : (tells : Type 0) (wants : List (ℕ → Bool)) (counts : List ℕ) (first : PlayerState) (some : List Played) (mid : PlayerState) (played : Played) → Follows tells wants counts first some mid
-    → LinePlayed tells (counts_after wants some counts) mid played.line played.said played.blocks played.left → Follows tells wants counts first (some ++ played ∷ []) played.left
-Follows-push tells wants counts first [] mid played is line = (subst (λ (p : PlayerState). LinePlayed tells counts p played.line played.said played.blocks played.left) is line, refl)
+    → LinePlayed tells (counts_after wants some counts) mid played.line played.said played.blocks played.steps played.left → Follows tells wants counts first (some ++ played ∷ []) played.left
+Follows-push tells wants counts first [] mid played is line = (subst (λ (p : PlayerState). LinePlayed tells counts p played.line played.said played.blocks played.steps played.left) is line, refl)
 Follows-push tells wants counts first (one ∷ some) mid played is line = (is.0, Follows-push tells wants (heard_after wants one.blocks counts) one.left some mid played is.1 line)
 
-abbrev played_as : ScriptLine → List Reply → List (List ℕ) → PlayerState → Played
-played_as line said blocks left = record { line = line; said = said; blocks = blocks; left = left }
+abbrev played_as : ScriptLine → List Reply → List (List ℕ) → List Step → PlayerState → Played
+played_as line said blocks steps left = record { line = line; said = said; blocks = blocks; steps = steps; left = left }
 
 module _ {L : Type 0} (hearing : L → Hearing) (told_source told_sink tells : Type 0) where
   -- a run so far: the lines that were read, all of them played, and the listeners told
@@ -123,23 +121,23 @@ module _ {L : Type 0} (hearing : L → Hearing) (told_source told_sink tells : T
 
   -- a line that was played, behind some
   module _ (script rest written middle : List ℕ) (first members : List L) (old mid : PlayerState) (a : Reading) (so_far : SoFar hearing told_source told_sink tells script rest written middle first members old mid a)
-      (line : ScriptLine) (said : List Reply) (blocks : List (List ℕ)) (new : PlayerState) (members_now : List L)
-      (played : LinePlayed tells (counts_of hearing members) mid line said blocks new) (told : Told hearing blocks members members_now) where
-    history_then : Follows tells (wants_of hearing first) (counts_of hearing first) old (so_far.played ++ played_as line said blocks new ∷ []) new
+      (line : ScriptLine) (said : List Reply) (blocks : List (List ℕ)) (steps : List Step) (new : PlayerState) (members_now : List L)
+      (played : LinePlayed tells (counts_of hearing members) mid line said blocks steps new) (told : Told hearing blocks members members_now) where
+    history_then : Follows tells (wants_of hearing first) (counts_of hearing first) old (so_far.played ++ played_as line said blocks steps new ∷ []) new
     history_then =
-        Follows-push tells (wants_of hearing first) (counts_of hearing first) old so_far.played mid (played_as line said blocks new) so_far.history
-        (subst (λ (counts : List ℕ). LinePlayed tells counts mid line said blocks new) so_far.counts played)
+        Follows-push tells (wants_of hearing first) (counts_of hearing first) old so_far.played mid (played_as line said blocks steps new) so_far.history
+        (subst (λ (counts : List ℕ). LinePlayed tells counts mid line said blocks steps new) so_far.counts played)
 
-    told_now : Told hearing (blocks_of (so_far.played ++ played_as line said blocks new ∷ [])) first members_now
+    told_now : Told hearing (blocks_of (so_far.played ++ played_as line said blocks steps new ∷ [])) first members_now
     told_now =
-        subst (λ (bs : List (List ℕ)). Told hearing bs first members_now) (sym (blocks_of-push so_far.played (played_as line said blocks new)))
+        subst (λ (bs : List (List ℕ)). Told hearing bs first members_now) (sym (blocks_of-push so_far.played (played_as line said blocks steps new)))
         (all_told_then hearing (blocks_of so_far.played) blocks first members members_now so_far.told told)
 
-    counts_now : counts_of hearing members_now ≡ counts_after (wants_of hearing first) (so_far.played ++ played_as line said blocks new ∷ []) (counts_of hearing first)
+    counts_now : counts_of hearing members_now ≡ counts_after (wants_of hearing first) (so_far.played ++ played_as line said blocks steps new ∷ []) (counts_of hearing first)
     counts_now =
         heard_all hearing (wants_of hearing first) blocks members members_now so_far.wants told
         ∙ ap (heard_after (wants_of hearing first) blocks) so_far.counts
-        ∙ sym (counts_after-push (wants_of hearing first) so_far.played (played_as line said blocks new) (counts_of hearing first))
+        ∙ sym (counts_after-push (wants_of hearing first) so_far.played (played_as line said blocks steps new) (counts_of hearing first))
 
   -- one more line was read and played
   pub SoFar-played : (script rest rest_now written middle now : List ℕ) (first members members_now : List L) (old mid new : PlayerState) (a b : Reading) (line : ScriptLine)
@@ -148,19 +146,19 @@ module _ {L : Type 0} (hearing : L → Hearing) (told_source told_sink tells : T
       → SoFar hearing told_source told_sink tells script rest_now written now first members_now old new b
   SoFar-played script rest rest_now written middle now first members members_now old mid new a b line so_far next is plays counts = record {
     lines = so_far.lines ++ last_line b ∷ [];
-    played = so_far.played ++ played_as line plays.said plays.blocks new ∷ [];
+    played = so_far.played ++ played_as line plays.said plays.blocks plays.steps new ∷ [];
     read = order.next script rest rest_now so_far.lines a b so_far.read next;
-    are = ArePlayed-push so_far.lines (last_line b) so_far.played (played_as line plays.said plays.blocks new) so_far.are is;
-    history = history_then script rest written middle first members old mid a so_far line plays.said plays.blocks new members_now plays.played plays.told;
-    counts = counts_now script rest written middle first members old mid a so_far line plays.said plays.blocks new members_now plays.played plays.told;
+    are = ArePlayed-push so_far.lines (last_line b) so_far.played (played_as line plays.said plays.blocks plays.steps new) so_far.are is;
+    history = history_then script rest written middle first members old mid a so_far line plays.said plays.blocks plays.steps new members_now plays.played plays.told;
+    counts = counts_now script rest written middle first members old mid a so_far line plays.said plays.blocks plays.steps new members_now plays.played plays.told;
     wants = wants_stay hearing (wants_of hearing first) plays.blocks members members_now so_far.wants plays.told;
-    told = told_now script rest written middle first members old mid a so_far line plays.said plays.blocks new members_now plays.played plays.told;
+    told = told_now script rest written middle first members old mid a so_far line plays.said plays.blocks plays.steps new members_now plays.played plays.told;
     text = λ told.
         plays.text told
         ∙ ap (λ (bs : List ℕ). bs ++ text_of_replies plays.said) (so_far.text told)
         ∙ append_assoc written (text_of so_far.played) (text_of_replies plays.said)
-        ∙ ap (λ (bs : List ℕ). written ++ bs) (sym (text_of-push so_far.played (played_as line plays.said plays.blocks new)));
-    counted = λ told. AreCounted-push so_far.played (played_as line plays.said plays.blocks new) (so_far.counted told) (counts told);
+        ∙ ap (λ (bs : List ℕ). written ++ bs) (sym (text_of-push so_far.played (played_as line plays.said plays.blocks plays.steps new)));
+    counted = λ told. AreCounted-push so_far.played (played_as line plays.said plays.blocks plays.steps new) (so_far.counted told) (counts told);
   }
 
   -- a run whose last line was played whole, and whose machine is as that left it
@@ -238,36 +236,18 @@ module _ {L : Type 0} (hearing : L → Hearing) (told_source told_sink tells : T
       )
       refl (λ e. absurd (cc e))
 
-  -- it is not built
-  pub ends_not_built : (script rest rest_now written now : List ℕ) (first members : List L) (old new : PlayerState) (a b : Reading) (number : ℕ) (line : ScriptLine)
-      → IsNextLine told_source a b rest rest_now → number ≡ b.number → Means b.line line → (IsBuilt line → ⊥) → SoFar hearing told_source told_sink tells script rest written now first members old new a
-      → PlaysScript hearing told_source told_sink tells script rest_now written now first members old new (NotYet number)
-  ends_not_built script rest rest_now written now first members old new a b number line next is means_it other so_far =
-      as_so_far script rest rest_now written now now first members old new a (NotYet number) so_far (
-        (λ told. record {
-          line = last_line b;
-          stops = stops_at script rest rest_now written now first members old new a b number so_far next is told;
-          within = next.within;
-          asked = line;
-          means = means_it;
-          not_built = other;
-        }),
-        so_far.text,
-      )
-      refl (λ e. absurd (cc e))
-
   -- its reply was refused by the sink
   pub ends_unheard : (script rest rest_now written middle now : List ℕ) (first members members_now : List L) (old mid new : PlayerState) (a b : Reading) (line : ScriptLine)
       → SoFar hearing told_source told_sink tells script rest written middle first members old mid a → IsNextLine told_source a b rest rest_now → CanPlay (last_line b) line
       → PlaysUnheard hearing tells told_sink mid new members members_now line middle now → (tells → changes_of new.machine ≡ step_of new)
       → PlaysScript hearing told_source told_sink tells script rest_now written now first members_now old new SinkFault
   ends_unheard script rest rest_now written middle now first members members_now old mid new a b line so_far next is plays counts = record {
-    played = so_far.played ++ played_as plays.made plays.said plays.blocks new ∷ [];
+    played = so_far.played ++ played_as plays.made plays.said plays.blocks plays.steps new ∷ [];
     last = new;
-    history = history_then script rest written middle first members old mid a so_far plays.made plays.said plays.blocks new members_now plays.played plays.told;
+    history = history_then script rest written middle first members old mid a so_far plays.made plays.said plays.blocks plays.steps new members_now plays.played plays.told;
     lines = record {
       first = so_far.played;
-      last = played_as plays.made plays.said plays.blocks new;
+      last = played_as plays.made plays.said plays.blocks plays.steps new;
       played_is = refl;
       line = line;
       before = plays.before;
@@ -284,8 +264,8 @@ module _ {L : Type 0} (hearing : L → Hearing) (told_source told_sink tells : T
       text = λ told. subst (λ (bs : List ℕ). PartlyWritten plays.before plays.last bs now) (so_far.text told) (plays.text told);
     };
     behind = refl;
-    told = told_now script rest written middle first members old mid a so_far plays.made plays.said plays.blocks new members_now plays.played plays.told;
-    counted = λ told. AreCounted-push so_far.played (played_as plays.made plays.said plays.blocks new) (so_far.counted told) (counts told);
+    told = told_now script rest written middle first members old mid a so_far plays.made plays.said plays.blocks plays.steps new members_now plays.played plays.told;
+    counted = λ told. AreCounted-push so_far.played (played_as plays.made plays.said plays.blocks plays.steps new) (so_far.counted told) (counts told);
     fault = λ e. absurd (cc e);
   }
 
@@ -337,8 +317,9 @@ module _ {L : Type 0} (hearing : L → Hearing) (told_source told_sink tells : T
             line = last_line b;
             number = b.number;
             stops = stops_at script rest rest_now written middle first members old mid a b b.number so_far next refl told;
-            hex = left.1.0;
-            is = subst (CanPlay (last_line b)) left.1.1 is;
+            asked = line;
+            is = is;
+            gives_table = left.1;
           }),
           λ told. said ∙ so_far.text told,
         );

@@ -1,7 +1,7 @@
 -- What the program says of each status on standard error.
 use Rattle.std.specs.Prelude.{ℕ, List, [], ◌++◌, codes, decimal}
 use Rattle.apei_cli.specs.declared.status.Status.{Status}
-use Rattle.apei_cli.specs.declared.status.Status.TheVariants.{Done, BadWords, BadLine, SourceFault, SinkFault, FlashFault, BadGeometry, TooLong, Memory, NotYet}
+use Rattle.apei_cli.specs.declared.status.Status.TheVariants.{Done, BadWords, BadLine, SourceFault, SinkFault, FlashFault, BadGeometry, TooLong, Memory}
 
 abbrev pub words_of_status : Status → List ℕ
 words_of_status Done = []
@@ -14,4 +14,3 @@ words_of_status (BadGeometry sector per_slot slots size) =
     codes "apei: bad geometry " ++ decimal sector ++ codes " " ++ decimal per_slot ++ codes " " ++ decimal slots ++ codes " " ++ decimal size
 words_of_status (TooLong line) = codes "apei: line " ++ decimal line ++ codes " too long"
 words_of_status Memory = codes "apei: out of memory"
-words_of_status (NotYet line) = codes "apei: line " ++ decimal line ++ codes " not built"

@@ -1,7 +1,7 @@
 -- The exit number of each status.
 use Rattle.std.specs.Prelude.{ℕ}
 use Rattle.apei_cli.specs.declared.status.Status.{Status}
-use Rattle.apei_cli.specs.declared.status.Status.TheVariants.{Done, BadWords, BadLine, SourceFault, SinkFault, FlashFault, BadGeometry, TooLong, Memory, NotYet}
+use Rattle.apei_cli.specs.declared.status.Status.TheVariants.{Done, BadWords, BadLine, SourceFault, SinkFault, FlashFault, BadGeometry, TooLong, Memory}
 
 abbrev pub exit_number : Status → ℕ
 exit_number Done = 0
@@ -13,4 +13,3 @@ exit_number FlashFault = 5
 exit_number (BadGeometry sector per_slot slots size) = 6
 exit_number (TooLong line) = 7
 exit_number Memory = 8
-exit_number (NotYet line) = 9

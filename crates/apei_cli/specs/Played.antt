@@ -2,7 +2,6 @@
 use Rattle.std.specs.Prelude.{List, [], ◌∷◌}
 use Rattle.script_text.specs.ScriptGrammar.{Line as ScriptLine}
 use Rattle.script_text.specs.ScriptText.{Means}
-use Rattle.apei_script.specs.Plays.{IsBuilt}
 use Rattle.apei_script.specs.History.{Played}
 use Rattle.script_lines.specs.Lines.{Line, IsTooLong}
 
@@ -10,7 +9,6 @@ use Rattle.script_lines.specs.Lines.{Line, IsTooLong}
 pub record CanPlay (text : Line) (line : ScriptLine) : Type 0 where
   pub within : IsTooLong text → ⊥
   pub means : Means text.text line
-  pub built : IsBuilt line
 
 -- these lines were played, one after another
 abbrev pub ArePlayed : List Line → List Played → Type 0

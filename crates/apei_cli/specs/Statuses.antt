@@ -2,16 +2,15 @@
 use Rattle.std.specs.Prelude.{◌≡◌, ◌⊎◌, ℕ, ◌+◌, List, [], ◌∷◌, ◌++◌, length}
 use Rattle.line_grammar.specs.Columns.{BreaksAt}
 use Rattle.erst_machine.specs.MachineState.{MachineState}
-use Rattle.script_text.specs.ScriptGrammar.{Line as ScriptLine, IsLine, table}
-use Rattle.script_text.specs.ScriptText.{Means}
+use Rattle.script_text.specs.ScriptGrammar.{Line as ScriptLine, IsLine, table, shadow_table}
 use Rattle.apei_script.specs.Words.{Reply}
-use Rattle.apei_script.specs.Plays.{IsBuilt, LeftIn, FailsRestart, PartlyWritten}
+use Rattle.apei_script.specs.Plays.{LeftIn, FailsRestart, PartlyWritten}
 use Rattle.apei_script.specs.History.{Played, text_of}
 use Rattle.script_lines.specs.Lines.{Line, lines_of, IsTooLong}
 use Rattle.script_lines.specs.Reads.{StandsAt, AreTaken}
 use Rattle.apei_cli.specs.Played.{CanPlay, ArePlayed}
 use Rattle.apei_cli.specs.declared.status.Status.{Status}
-use Rattle.apei_cli.specs.declared.status.Status.TheVariants.{Done, BadWords, BadLine, SourceFault, SinkFault, FlashFault, BadGeometry, TooLong, Memory, NotYet}
+use Rattle.apei_cli.specs.declared.status.Status.TheVariants.{Done, BadWords, BadLine, SourceFault, SinkFault, FlashFault, BadGeometry, TooLong, Memory}
 
 -- the lines before one of the script were played, and what that line is
 pub record StopsAt (script : List ℕ) (played : List Played) (number : ℕ) (line : Line) : Type 0 where
@@ -52,15 +51,6 @@ pub record StopsBad (script : List ℕ) (played : List Played) (number column : 
   pub within : IsTooLong line → ⊥
   pub breaks : BreaksAt IsLine line.text column
 
--- a line is not built
-pub record StopsNotBuilt (script : List ℕ) (played : List Played) (number : ℕ) : Type 0 where
-  pub line : Line
-  pub stops : StopsAt script played number line
-  pub within : IsTooLong line → ⊥
-  pub asked : ScriptLine
-  pub means : Means line.text asked
-  pub not_built : IsBuilt asked → ⊥
-
 -- the flash failed in the restart of a line
 pub record StopsInRestart (tells : Type 0) (script : List ℕ) (played : List Played) (last final : MachineState) : Type 0 where
   pub line : Line
@@ -75,8 +65,9 @@ pub record StopsAtTable (script : List ℕ) (played : List Played) : Type 0 wher
   pub line : Line
   pub number : ℕ
   pub stops : StopsAt script played number line
-  pub hex : List ℕ
-  pub is : CanPlay line (table hex)
+  pub asked : ScriptLine
+  pub is : CanPlay line asked
+  pub gives_table : ((hex : List ℕ) × (asked ≡ table hex)) ⊎ (asked ≡ shadow_table)
 
 -- the lines of the script that were played once the machine was booted, by a status that the sink has no part in; `last` is the machine after
 -- them, and `final` the one that is left
@@ -90,7 +81,6 @@ EndsBy tells script rest played last final FlashFault = StopsInRestart tells scr
 EndsBy tells script rest played last final (BadGeometry sector per_slot slots size) = ⊥
 EndsBy tells script rest played last final (TooLong number) = StopsTooLong script played number
 EndsBy tells script rest played last final Memory = StopsAtTable script played
-EndsBy tells script rest played last final (NotYet number) = StopsNotBuilt script played number
 
 -- nothing happens to the machine behind the last line, but a restart that the flash failed
 abbrev pub LeavesLast : Type 0 → MachineState → MachineState → Status → Type 0

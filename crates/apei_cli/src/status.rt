@@ -34,10 +34,6 @@ pub enum Status {
     },
     /// There was no memory.
     Memory,
-    /// The line with this number asks for what is not built yet.
-    NotYet {
-        line: u64,
-    },
 }
 
 impl Status {
@@ -57,7 +53,6 @@ impl Status {
             Status::BadGeometry { .. } => 6,
             Status::TooLong { .. } => 7,
             Status::Memory => 8,
-            Status::NotYet { .. } => 9,
         }
     }
 }
@@ -85,7 +80,6 @@ impl fmt::Display for Status {
             } => write!(f, "apei: bad geometry {sector} {per_slot} {slots} {size}"),
             Status::TooLong { line } => write!(f, "apei: line {line} too long"),
             Status::Memory => write!(f, "apei: out of memory"),
-            Status::NotYet { line } => write!(f, "apei: line {line} not built"),
         }
     }
 }

@@ -37,12 +37,12 @@ lines-push seed n = ap (map line_at) (numbers-push seed n) ∙ map-append line_a
 
 -- one line more
 abbrev played_as : Line → List ℕ → PlayerState → Played
-played_as line words left = record { line = line; said = said_at (step_of left) (words ∷ []); blocks = []; left = left }
+played_as line words left = record { line = line; said = said_at (step_of left) (words ∷ []); blocks = []; steps = []; left = left }
 
 Follows-push : (tells : Type 0) (wants : List (ℕ → Bool)) (counts : List ℕ) (first : PlayerState) (some : List Played) (mid : PlayerState) (line : Line) (words : List ℕ) (new : PlayerState)
-    → Follows tells wants counts first some mid → ((counts : List ℕ) → LinePlayed tells counts mid line (said_at (step_of new) (words ∷ [])) [] new)
+    → Follows tells wants counts first some mid → ((counts : List ℕ) → LinePlayed tells counts mid line (said_at (step_of new) (words ∷ [])) [] [] new)
     → Follows tells wants counts first (some ++ played_as line words new ∷ []) new
-Follows-push tells wants counts first [] mid line words new is played = (subst (λ (p : PlayerState). LinePlayed tells counts p line (said_at (step_of new) (words ∷ [])) [] new) is (played counts), refl)
+Follows-push tells wants counts first [] mid line words new is played = (subst (λ (p : PlayerState). LinePlayed tells counts p line (said_at (step_of new) (words ∷ [])) [] [] new) is (played counts), refl)
 Follows-push tells wants counts first (one ∷ some) mid line words new is played = (is.0, Follows-push tells wants (heard_after wants one.blocks counts) one.left some mid line words new is.1 played)
 
 AreCounted-push : (some : List Played) (line : Line) (words : List ℕ) (new : PlayerState) → AreCounted some → changes_of new.machine ≡ step_of new → AreCounted (some ++ played_as line words new ∷ [])
@@ -197,7 +197,7 @@ told_by (Err error) = (0, Refused error)
 module _ (tells : Type 0) where
   -- the commands, and a count of the records behind them
   pub generated : {E : Type 0}
-      → ((counts : List ℕ) (old : PlayerState) (words : List ℕ) (new : PlayerState) → Plays tells counts old count (said_at (step_of new) (words ∷ [])) [] new
+      → ((counts : List ℕ) (old : PlayerState) (words : List ℕ) (new : PlayerState) → Plays tells counts old count (said_at (step_of new) (words ∷ [])) [] [] new
       → (answer : Result ℕ ClientError) × (words ≡ words_of_count answer))
       → (told_sink : Type 0) (old : PlayerState) (seed commands : ℕ) (mid new : PlayerState) (tally : Tally) (reply : List ℕ) (step : ℕ) (written written_now : List ℕ)
       (result : Result (Unit {0}) E) → ArePlayed tells old seed commands mid tally → IsAsked tells mid count new reply → step ≡ step_of new

@@ -44,7 +44,7 @@ tally_of lines = record {
 -- one line was played, whatever the listeners have heard, and this is its reply
 pub record IsAsked (tells : Type 0) (old : PlayerState) (line : Line) (new : PlayerState) (reply : List ℕ) : Type 0 where
   pub words : List ℕ
-  pub played : (counts : List ℕ) → LinePlayed tells counts old line (said_at (step_of new) (words ∷ [])) [] new
+  pub played : (counts : List ℕ) → LinePlayed tells counts old line (said_at (step_of new) (words ∷ [])) [] [] new
   pub text : reply ≡ reply_at (step_of new) words
   pub counted : tells → changes_of new.machine ≡ step_of new
 

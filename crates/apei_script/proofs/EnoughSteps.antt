@@ -1,5 +1,5 @@
 -- A command of the machine's own client that has enough steps is neither stopped nor late. Nothing is asked of the flash.
-use Rattle.std.proofs.Common.{◌≡◌, ℕ, ◌≤◌, true, List, [], ◌∷◌, ◌++◌, Result, Err, ap, ◌∙◌}
+use Rattle.std.proofs.Common.{◌≡◌, ℕ, ◌≤◌, true, List, ◌++◌, Result, Err, ap, ◌∙◌}
 use Rattle.std.specs.Prelude.{codes, decimal}
 use Rattle.erst_interp.specs.declared.stops.RunStop.{RunStop}
 use Rattle.erst_client.specs.declared.errors.ClientError.{ClientError}
@@ -23,7 +23,7 @@ pub record SaysNeither (words : List ℕ) : Type 0 where
   pub not_stopped : (stop : RunStop) → words ≡ refused (codes "stopped " ++ words_of_stop stop) → ⊥
   pub in_time : (time : ℕ) → words ≡ refused (codes "late " ++ decimal time) → ⊥
 
-says_neither : {T : Type 0} (words : List ℕ) (result : Result T ClientError) → GoesThrough result
+pub says_neither : {T : Type 0} (words : List ℕ) (result : Result T ClientError) → GoesThrough result
     → ((refusal : List ℕ) → words ≡ refused refusal → Refuses refusal result) → SaysNeither words
 says_neither words result through of = record {
   not_stopped = λ stop says.

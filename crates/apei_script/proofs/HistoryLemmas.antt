@@ -1,5 +1,5 @@
 -- Lines one after another.
-use Rattle.std.proofs.Common.{◌≡◌, ℕ, ◌≤◌, Bool, true, false, List, [], ◌∷◌, ◌++◌, length, None, refl, sym, ap, subst, ◌∙◌, arith, inl, inr}
+use Rattle.std.proofs.Common.{◌≡◌, ℕ, ◌≤◌, Bool, true, false, ◌⊎◌, List, [], ◌∷◌, ◌++◌, length, Option, Some, None, refl, sym, ap, subst, ◌∙◌, arith, inl, inr}
 use Rattle.std.specs.Prelude.{nat_le, MatchBool}
 use Rattle.std.proofs.lemmas.Bool.{cases_lt, le-leb, lt-leb}
 use Rattle.flash_words.specs.Flash.{CrashImage, IsLater, image_at}
@@ -16,11 +16,15 @@ use Rattle.erst_machine.proofs.EventLemmas.{events_keep}
 use Rattle.erst_commands.specs.Attached.{own_client}
 use Rattle.erst_twins.specs.Alike.{FailedNothing}
 use Rattle.erst_twins.proofs.Dialogues.{quiet_first, quiet_second}
+use Rattle.bridge_durability.specs.Turns.{Step}
+use Rattle.bridge_durability.specs.Shown.{ShowsTurns}
 use Rattle.script_text.specs.ScriptGrammar.{Line}
 use Rattle.apei_script.specs.Words.{Reply}
-use Rattle.apei_script.specs.Players.{PlayerState, in_use, UsesOwn}
-use Rattle.apei_script.specs.Plays.{Plays, Blank, ByClient, GivenTable, OwnTable, OnMachine, Heard, Reset, Power, HasHappened, LinePlayed, names_command, IsOwnLine}
-use Rattle.apei_script.specs.History.{Played, heard_after, Follows, EndInOrder, ShowsLines, ShowsEachLine, AreOwnLines, IsMapped, AreMapped, NoneSaysHardware, AllGoThrough, AlwaysUsesOwn}
+use Rattle.erst_client.specs.Commands.{ClientState}
+use Rattle.erst_shadow.specs.ShadowCommands.{shadow_client}
+use Rattle.apei_script.specs.Players.{PlayerState, in_use, UsesOwn, UsesShadow, UsesEither, GivenNoOther}
+use Rattle.apei_script.specs.Plays.{Plays, Blank, ByClient, GivenTable, OwnTable, GivenShadow, OnMachine, ByTheBridge, Heard, Reset, Power, HasHappened, LinePlayed, names_command, IsOwnLine}
+use Rattle.apei_script.specs.History.{Played, heard_after, Follows, EndInOrder, ShowsLine, ShowsLines, ShowsEachLine, AreOwnLines, IsMapped, IsShadowMapped, AreMapped, NoneSaysHardware, AllGoThrough, AlwaysUsesEither}
 use Rattle.apei_script.proofs.EventChanges.{along}
 use Rattle.apei_script.proofs.LineLemmas.{line_divides, line_own}
 
@@ -41,20 +45,37 @@ on_false : (b : Bool) (P Q : Type 0) → b ≡ false → Q → MatchBool b P Q
 on_false true P Q e q = absurd (cc)
 on_false false P Q e q = q
 
+-- the client of a machine's second table depends on how the flash is divided alone
+shadow_client-kept : (old new : MachineState) → new.device.store.layout ≡ old.device.store.layout → shadow_client new ≡ shadow_client old
+shadow_client-kept old new same = ap (λ (l : Layout). shadow_client (record old { device = record old.device { store = record old.device.store { layout = l } } })) same
+
+stays_given : (other : Option ClientState) (old new : MachineState) → new.device.store.layout ≡ old.device.store.layout → (other ≡ None) ⊎ (other ≡ Some (shadow_client old))
+    → (other ≡ None) ⊎ (other ≡ Some (shadow_client new))
+stays_given other old new same (inl none) = inl none
+stays_given other old new same (inr given) = inr (given ∙ ap (λ (client : ClientState). Some client) (sym (shadow_client-kept old new same)))
+
+-- the client in use is one of the machine's two
+pub uses_either : (state : PlayerState) → state.own ≡ own_client state.machine → GivenNoOther state → UsesEither state
+uses_either state own (inl none) = inl (ap (in_use state.own) none ∙ own)
+uses_either state own (inr given) = inr (ap (in_use state.own) given)
+
 module _ (tells : Type 0) where
-  -- only a table gives another client
-  pub no_other : (counts : List ℕ) (old : PlayerState) (line : Line) (said : List Reply) (blocks : List (List ℕ)) (new : PlayerState) → Plays tells counts old line said blocks new
-      → IsOwnLine line → old.other ≡ None → new.other ≡ None
-  no_other counts old line said blocks new plays = elim plays as (λ line said blocks new plays. IsOwnLine line → old.other ≡ None → new.other ≡ None) [
-    | Blank ↦ λ own none. none
-    | ByClient line words machine commanded ↦ λ own none. none
-    | GivenTable hex bytes words machine other decoded gives ↦ λ own none. absurd own
-    | OwnTable ↦ λ own none. refl
-    | OnMachine line said blocks machine happened ↦ λ own none. none
-    | Heard ↦ λ own none. none
-    | Reset n machine warms ↦ λ own none. refl
-    | Power n machine powers ↦ λ own none. refl
-  ]
+  -- only a table of a line gives another client
+  pub no_other : (counts : List ℕ) (old : PlayerState) (line : Line) (said : List Reply) (blocks : List (List ℕ)) (steps : List Step) (new : PlayerState) → Plays tells counts old line said blocks steps new
+      → IsOwnLine line → GivenNoOther old → GivenNoOther new
+  no_other counts old line said blocks steps new plays own given =
+      elim plays as (λ line said blocks steps new plays. new.machine.device.store.layout ≡ old.machine.device.store.layout → IsOwnLine line → GivenNoOther new) [
+        | Blank ↦ λ same own. given
+        | ByClient line words machine commanded ↦ λ same own. stays_given old.other old.machine machine same given
+        | GivenTable hex bytes words machine other decoded gives ↦ λ same own. absurd own
+        | OwnTable ↦ λ same own. inl refl
+        | GivenShadow machine gives ↦ λ same own. inr (ap (λ (client : ClientState). Some client) (sym (shadow_client-kept old.machine machine same)))
+        | OnMachine line said blocks machine alone happened ↦ λ same own. stays_given old.other old.machine machine same given
+        | ByTheBridge line said blocks steps next machine by ↦ λ same own. stays_given old.other old.machine machine same given
+        | Heard ↦ λ same own. given
+        | Reset n machine warms ↦ λ same own. inl refl
+        | Power n machine powers ↦ λ same own. inl refl
+      ] (line_divides tells counts old line said blocks steps new plays) own
 
   pub one_list : (wants : List (ℕ → Bool)) (counts : List ℕ) (first : PlayerState) (played : List Played) (last : PlayerState) → Follows tells wants counts first played last
       → (trail : Moves) × Trail (Happens tells) first.machine trail last.machine
@@ -78,7 +99,7 @@ module _ (tells : Type 0) where
       → (last.own ≡ first.own) × (last.steps ≡ first.steps)
   history_own wants counts first [] last is = (ap (λ (p : PlayerState). p.own) is, ap (λ (p : PlayerState). p.steps) is)
   history_own wants counts first (line ∷ rest) last is =
-      let one = line_own tells counts first line.line line.said line.blocks line.left is.0.plays in
+      let one = line_own tells counts first line.line line.said line.blocks line.steps line.left is.0.plays in
       let more = history_own wants (heard_after wants line.blocks counts) line.left rest last is.1 in
       (more.0 ∙ one.0, more.1 ∙ one.1)
 
@@ -92,20 +113,20 @@ module _ (tells : Type 0) where
   -- each line
 
   -- an own client depends on the layout alone
-  own_client-kept : (old new : MachineState) → new.device.store.layout ≡ old.device.store.layout → own_client new ≡ own_client old
+  pub own_client-kept : (old new : MachineState) → new.device.store.layout ≡ old.device.store.layout → own_client new ≡ own_client old
   own_client-kept old new same = ap (λ (l : Layout). own_client (record old { device = record old.device { store = record old.device.store { layout = l } } })) same
 
-  pub history_uses_own : (wants : List (ℕ → Bool)) (counts : List ℕ) (first : PlayerState) (played : List Played) (last : PlayerState)
-      → first.own ≡ own_client first.machine → first.other ≡ None → AreOwnLines played → Follows tells wants counts first played last → AlwaysUsesOwn first played
-  history_uses_own wants counts first [] last own none lines is = ap (in_use first.own) none ∙ own
-  history_uses_own wants counts first (line ∷ rest) last own none lines is =
+  pub history_uses_either : (wants : List (ℕ → Bool)) (counts : List ℕ) (first : PlayerState) (played : List Played) (last : PlayerState)
+      → first.own ≡ own_client first.machine → GivenNoOther first → AreOwnLines played → Follows tells wants counts first played last → AlwaysUsesEither first played
+  history_uses_either wants counts first [] last own given lines is = uses_either first own given
+  history_uses_either wants counts first (line ∷ rest) last own given lines is =
       let plays = is.0.plays in
-      let stay = line_own tells counts first line.line line.said line.blocks line.left plays in
-      let divides = line_divides tells counts first line.line line.said line.blocks line.left plays in (
-        ap (in_use first.own) none ∙ own,
-        history_uses_own wants (heard_after wants line.blocks counts) line.left rest last
+      let stay = line_own tells counts first line.line line.said line.blocks line.steps line.left plays in
+      let divides = line_divides tells counts first line.line line.said line.blocks line.steps line.left plays in (
+        uses_either first own given,
+        history_uses_either wants (heard_after wants line.blocks counts) line.left rest last
             (stay.0 ∙ own ∙ sym (own_client-kept first.machine line.left.machine divides))
-            (no_other counts first line.line line.said line.blocks line.left plays lines.0 none) lines.1 is.1,
+            (no_other counts first line.line line.said line.blocks line.steps line.left plays lines.0 given) lines.1 is.1,
       )
 
   pub history_says_no_hardware : (wants : List (ℕ → Bool)) (counts : List ℕ) (first : PlayerState) (played : List Played) (last : PlayerState)
@@ -126,17 +147,23 @@ module _ (tells : Type 0) where
       (is.0.enough, history_goes_through wants (heard_after wants line.blocks counts) line.left rest last is.1)
 
   module _ (told : tells) where
-    is_mapped : (counts : List ℕ) (old : PlayerState) (played : Played) → LinePlayed tells counts old played.line played.said played.blocks played.left → UsesOwn old → names_command played.line ≡ true
+    is_mapped : (counts : List ℕ) (old : PlayerState) (played : Played) → LinePlayed tells counts old played.line played.said played.blocks played.steps played.left → UsesOwn old → names_command played.line ≡ true
         → IsMapped old played
     is_mapped counts old played line uses names =
         let by_map = line.by_map told uses names in
-        record { words = by_map.0; said = by_map.1; mapped = by_map.2; cause = line.cause uses names; enough = line.enough uses names }
+        record { words = by_map.0; said = by_map.1; mapped = by_map.2; cause = line.cause (inl uses) names; enough = line.enough uses names }
+
+    is_shadow_mapped : (counts : List ℕ) (old : PlayerState) (played : Played) → LinePlayed tells counts old played.line played.said played.blocks played.steps played.left → UsesShadow old
+        → names_command played.line ≡ true → IsShadowMapped old played
+    is_shadow_mapped counts old played line uses names =
+        let mapped = line.by_shadow told uses names in
+        record { words = mapped.0; said = mapped.1; mapped = mapped.2; cause = line.cause (inr uses) names; enough = line.enough_by_shadow told uses names }
 
     pub history_is_mapped : (wants : List (ℕ → Bool)) (counts : List ℕ) (first : PlayerState) (played : List Played) (last : PlayerState) → Follows tells wants counts first played last
         → AreMapped first played
     history_is_mapped wants counts first [] last is = tt
     history_is_mapped wants counts first (line ∷ rest) last is =
-        (is_mapped counts first line is.0, history_is_mapped wants (heard_after wants line.blocks counts) line.left rest last is.1)
+        (is_mapped counts first line is.0, is_shadow_mapped counts first line is.0, history_is_mapped wants (heard_after wants line.blocks counts) line.left rest last is.1)
 
     pub history_is_shown : (wants : List (ℕ → Bool)) (counts : List ℕ) (first : PlayerState) (played : List Played) (last : PlayerState) → Follows tells wants counts first played last
         → (trail : Moves) × Trail (Happens tells) first.machine trail last.machine × IsShown made_by_event first.machine trail last.machine
@@ -148,9 +175,9 @@ module _ (tells : Type 0) where
     history_goes_on wants counts first played last is =
         let all = one_list wants counts first played last is in (length all.0, (events_are_shown tells told first.machine last.machine all.0 all.1).goes_on)
 
-    line_goes_on : (counts : List ℕ) (old : PlayerState) (line : Line) (said : List Reply) (blocks : List (List ℕ)) (new : PlayerState) → LinePlayed tells counts old line said blocks new
+    line_goes_on : (counts : List ℕ) (old : PlayerState) (line : Line) (said : List Reply) (blocks : List (List ℕ)) (steps : List Step) (new : PlayerState) → LinePlayed tells counts old line said blocks steps new
         → (n : ℕ) × GoesOn n old.machine new.machine
-    line_goes_on counts old line said blocks new played =
+    line_goes_on counts old line said blocks steps new played =
         let happened = played.happened in (length happened.trail, (events_are_shown tells told old.machine new.machine happened.trail happened.happens).goes_on)
 
     pub history_ends : (wants : List (ℕ → Bool)) (counts : List ℕ) (first : PlayerState) (played : List Played) (last : PlayerState) → Follows tells wants counts first played last
@@ -158,7 +185,7 @@ module _ (tells : Type 0) where
     history_ends wants counts first [] last is = tt
     history_ends wants counts first (line ∷ rest) last is =
         let left = line.left.machine in
-        let one = (line_goes_on counts first line.line line.said line.blocks line.left is.0).1 in
+        let one = (line_goes_on counts first line.line line.said line.blocks line.steps line.left is.0).1 in
         let more = (history_goes_on wants (heard_after wants line.blocks counts) line.left rest last is.1).1 in
         let image : image_at (told_of last.machine) (changes_of left) ≡ (told_of left).image =
         image_at-later (told_of left) (told_of last.machine) (changes_of left) more.later (omega arith) ∙ image_at-now (told_of left) (changes_of left) (omega arith) in
@@ -168,7 +195,7 @@ module _ (tells : Type 0) where
         → EndInOrder (changes_of first.machine) played (changes_of last.machine)
     history_in_order wants counts first [] last is = let same = ap (λ (p : PlayerState). changes_of p.machine) is in omega arith
     history_in_order wants counts first (line ∷ rest) last is =
-        let one = (line_goes_on counts first line.line line.said line.blocks line.left is.0).1 in
+        let one = (line_goes_on counts first line.line line.said line.blocks line.steps line.left is.0).1 in
         (past_grows (told_of first.machine) (told_of line.left.machine) one.later, history_in_order wants (heard_after wants line.blocks counts) line.left rest last is.1)
 
     pub history_ends_later : (wants : List (ℕ → Bool)) (counts : List ℕ) (first : PlayerState) (played : List Played) (last : PlayerState) → Follows tells wants counts first played last
@@ -176,25 +203,34 @@ module _ (tells : Type 0) where
     history_ends_later wants counts first played last is =
         (history_ends wants counts first played last is, (history_goes_on wants counts first played last is).1.later)
 
+    -- one line
+    line_shows : (counts : List ℕ) (old : PlayerState) (played : Played) → old.own ≡ own_client old.machine → GivenNoOther old → IsOwnLine played.line
+        → LinePlayed tells counts old played.line played.said played.blocks played.steps played.left → (steps : List Step) → played.steps ≡ steps
+        → (s : ℕ) (image : List ℕ) → changes_of old.machine ≤ s → CrashImage (told_of played.left.machine) s image → ShowsLine s old played.line steps (shown_by old.machine image)
+    line_shows counts old played own given is line [] unmade s image from crash = (line.leaves told (λ _. uses_either old own given) is unmade).each s image from crash
+    line_shows counts old played own given is line (step ∷ rest) some s image from crash =
+        subst (λ (steps : List Step). ShowsTurns s old.bridge old.machine steps (shown_by old.machine image)) some
+        ((line.turned told own).each (λ unmade. absurd (let e : ◌≡◌ {A = List Step} (step ∷ rest) [] = sym some ∙ unmade in cc e)) s image from crash)
+
     pub history_shows : (wants : List (ℕ → Bool)) (counts : List ℕ) (first : PlayerState) (played : List Played) (last : PlayerState)
-        → first.own ≡ own_client first.machine → first.other ≡ None → AreOwnLines played → Follows tells wants counts first played last
+        → first.own ≡ own_client first.machine → GivenNoOther first → AreOwnLines played → Follows tells wants counts first played last
         → (s : ℕ) (image : List ℕ) → changes_of first.machine ≤ s → CrashImage (told_of last.machine) s image → ShowsLines s first played (shown_by first.machine image)
-    history_shows wants counts first [] last own none lines is s image from crash =
+    history_shows wants counts first [] last own given lines is s image from crash =
         ap (shown_by first.machine) (CrashImage-now (told_of first.machine) s image from (subst (λ (p : PlayerState). CrashImage (told_of p.machine) s image) is crash))
-    history_shows wants counts first (line ∷ rest) last own none lines is s image from crash =
+    history_shows wants counts first (line ∷ rest) last own given lines is s image from crash =
         let left = line.left.machine in
-        let one = (line_goes_on counts first line.line line.said line.blocks line.left is.0).1 in
+        let one = (line_goes_on counts first line.line line.said line.blocks line.steps line.left is.0).1 in
         let more = (history_goes_on wants (heard_after wants line.blocks counts) line.left rest last is.1).1 in
-        let leaves = is.0.leaves told (λ _. ap (in_use first.own) none ∙ own) lines.0 in
-        let stay = line_own tells counts first line.line line.said line.blocks line.left is.0.plays in
+        let shows = line_shows counts first line own given lines.0 is.0 in
+        let stay = line_own tells counts first line.line line.said line.blocks line.steps line.left is.0.plays in
         elim (cases_lt s (changes_of left)) [
           | inl before ↦
               on_false (nat_le (changes_of left) s) _ _ (lt-leb (changes_of left) s before)
-              (leaves.each s image from (CrashImage-earlier (told_of left) (told_of last.machine) s image more.later before crash))
+              (shows line.steps refl s image from (CrashImage-earlier (told_of left) (told_of last.machine) s image more.later before crash))
           | inr after ↦
               on_true (nat_le (changes_of left) s) _ _ (le-leb (changes_of left) s after)
               (subst (λ (m : Stored). ShowsLines s line.left rest m) (shown_alike first.machine left image one.alike)
               (history_shows wants (heard_after wants line.blocks counts) line.left rest last
               (stay.0 ∙ own ∙ sym (own_client-kept first.machine left one.alike.layout))
-              (no_other counts first line.line line.said line.blocks line.left is.0.plays lines.0 none) lines.1 is.1 s image after crash))
+              (no_other counts first line.line line.said line.blocks line.steps line.left is.0.plays lines.0 given) lines.1 is.1 s image after crash))
         ]

@@ -1,5 +1,5 @@
 -- What power lost in a line leaves of the records.
-use Rattle.std.proofs.Common.{◌≡◌, ◌⊎◌, ℕ, true, List, Option, None, Result, Ok, Err, refl, sym, ap, subst, ◌∙◌, inl}
+use Rattle.std.proofs.Common.{◌≡◌, ◌⊎◌, ℕ, ◌*◌, true, List, [], Option, None, Result, Ok, Err, refl, sym, ap, subst, ◌∙◌, inl}
 use Rattle.std.specs.Prelude.{is_none, if◌then◌else◌}
 use Rattle.flash_words.specs.Flash.{Told, Leaves}
 use Rattle.flash_words.proofs.CrashLemmas.{Leaves-none, Leaves-weaker}
@@ -21,33 +21,39 @@ use Rattle.erst_commands.specs.Changes.{ChangeCommand, IsTaken, IsRefused, IsFai
 use Rattle.erst_commands.specs.Looks.{AsksOnce, Answers, StopsBehind, StopsAtOnce, CountMade, IsCounted, IsNotCounted, NextMade, IsFound, IsAtEnd, IsNotFound}
 use Rattle.erst_commands.specs.Reads.{ReadMade, IsRead as read_made, IsRefused as read_refused, IsFailed as read_failed, ReadCommand, Answers as read_answers, StopsBehind as read_behind, StopsBefore as read_before, ReadAnswered, IsNotRead, IsNotCopied, IsCopied}
 use Rattle.erst_commands.specs.Writes.{WriteAnswered, IsNoRecord, IsWritten, marked, id_of}
-use Rattle.script_text.specs.ScriptGrammar.{Line, blank, write, read, clear, count, next, dummy, own_table, heard, reset, power}
+use Rattle.erst_bridge.specs.Bridges.{BridgeState}
+use Rattle.bridge_durability.specs.Turns.{Step, AreTurns}
+use Rattle.erst_shadow.specs.ShadowCommands.{pieces_in, ShadowWriteAnswered, IsNoRecord as IsNoShadowRecord, IsWritten as IsShadowWritten, ShadowReadAnswered, IsNotRead as IsNotShadowRead, IsNotCopied as IsNotShadowCopied, IsCopied as IsShadowCopied}
+use Rattle.erst_shadow.proofs.CrashLemmas.{change_crash, read_crash, dummy_store}
+use Rattle.script_text.specs.ScriptGrammar.{Line, blank, write, read, clear, count, next, dummy, own_table, shadow_table, heard, reset, power}
 use Rattle.apei_script.specs.Words.{Reply}
-use Rattle.apei_script.specs.Players.{PlayerState, budget_of, client_of, UsesOwn}
+use Rattle.apei_script.specs.Players.{PlayerState, budget_of, client_of}
 use Rattle.apei_script.specs.Asked.{Asked, WritesRecord, ReadsRecord, ClearsRecord, CountsRecords, FindsNext, WritesDummy, RunsAction}
 use Rattle.apei_script.specs.Happened.{Turned, NoTurn, OneMore, Happened, IsGiven, Turn, IsPeeked, IsLaid, IsListed}
 use Rattle.apei_script.specs.Mapped.{Mapped, IsWrite, IsRead, IsClear, IsCount, IsNext, IsDummy, after_write, after_line, LineLeaves}
-use Rattle.apei_script.specs.Plays.{Plays, Blank, ByClient, GivenTable, OwnTable, OnMachine, Heard, Reset, Power, names_command, IsOwnLine}
+use Rattle.apei_script.specs.ShadowMapped.{ShadowMapped, ShadowWrite, ShadowRead, ShadowClear, ShadowCount, ShadowNext, ShadowPlayed}
+use Rattle.apei_script.specs.Bridged.{ByBridge, Enters, StaysAs, BridgesTurns}
+use Rattle.apei_script.specs.Plays.{Plays, Blank, ByClient, GivenTable, OwnTable, GivenShadow, OnMachine, ByTheBridge, Heard, Reset, Power, names_command, IsOwnLine}
+
+-- the flash tells what it told
+stays : (range : ℕ) (old : MachineState) (line : Line) (new : MachineState) → told_of new ≡ told_of old → LineLeaves range old line new
+stays range old line new same = subst
+    (λ (told : Told). Leaves (told_of old) told (λ image. (shown_by old image ≡ records_of old) ⊎ (shown_by old image ≡ after_line range old line))) (sym same)
+    (Leaves-none (told_of old) _ (inl refl))
+
+-- the records are kept
+keeps : (range : ℕ) (old : MachineState) (line : Line) (new : MachineState) → KeepsMap old.device.store new.device.store → LineLeaves range old line new
+keeps range old line new kept = Leaves-weaker (told_of old) (told_of new) _ _ kept (λ image same. inl same)
+
+-- the records are kept, or those of a command
+makes : (range : ℕ) (old : MachineState) (line : Line) (command : Command) (new : MachineState) → after_line range old line ≡ after old.device.store.layout command (records_of old) →
+    IsBeforeOrAfter old.device.store new.device.store command → LineLeaves range old line new
+makes range old line command new is crash =
+    subst (λ (made : Stored). Leaves (told_of old) (told_of new) (λ image. (shown_by old image ≡ records_of old) ⊎ (shown_by old image ≡ made))) (sym is) crash
 
 -- by the machine's own table
 abbrev LeavesOwn : MachineState → Line → MachineState → Type 0
 LeavesOwn old line new = LineLeaves (reach_in old.device) old line new
-
--- the flash tells what it told
-stays : (old : MachineState) (line : Line) (new : MachineState) → told_of new ≡ told_of old → LeavesOwn old line new
-stays old line new same = subst
-    (λ (told : Told). Leaves (told_of old) told (λ image. (shown_by old image ≡ records_of old) ⊎ (shown_by old image ≡ after_line (reach_in old.device) old line))) (sym same)
-    (Leaves-none (told_of old) _ (inl refl))
-
--- the records are kept
-keeps : (old : MachineState) (line : Line) (new : MachineState) → KeepsMap old.device.store new.device.store → LeavesOwn old line new
-keeps old line new kept = Leaves-weaker (told_of old) (told_of new) _ _ kept (λ image same. inl same)
-
--- the records are kept, or those of a command
-makes : (old : MachineState) (line : Line) (command : Command) (new : MachineState) → after_line (reach_in old.device) old line ≡ after old.device.store.layout command (records_of old) →
-    IsBeforeOrAfter old.device.store new.device.store command → LeavesOwn old line new
-makes old line command new is crash =
-    subst (λ (made : Stored). Leaves (told_of old) (told_of new) (λ image. (shown_by old image ≡ records_of old) ⊎ (shown_by old image ≡ made))) (sym is) crash
 
 changed : (first last : MachineState) (id : ℕ) (command : Command) (requests : List Request) (budget : ℕ) (result : Result (Unit {0}) ClientError) (left : ℕ) →
     ChangeCommand first last id command requests budget result left → IsBeforeOrAfter first.device.store last.device.store command
@@ -60,18 +66,18 @@ changed first last id command requests budget result left made = elim made as (�
 
 -- a write
 
-after_record : (old : MachineState) (hex bytes : List ℕ) → decode_of hex ≡ Ok bytes → write_refusal bytes (reach_in old.device) ≡ None →
-    after_line (reach_in old.device) old (write hex) ≡ after old.device.store.layout (Write (id_of bytes) (marked bytes)) (records_of old)
-after_record old hex bytes decoded fits =
-    ap (after_write (reach_in old.device) old) decoded
+after_record : (range : ℕ) (old : MachineState) (hex bytes : List ℕ) → decode_of hex ≡ Ok bytes → write_refusal bytes range ≡ None →
+    after_line range old (write hex) ≡ after old.device.store.layout (Write (id_of bytes) (marked bytes)) (records_of old)
+after_record range old hex bytes decoded fits =
+    ap (after_write range old) decoded
     ∙ ap (λ (refusal : Option ClientError). if is_none refusal then after old.device.store.layout (Write (id_of bytes) (marked bytes)) (records_of old) else records_of old) fits
 
 write_leaves : (old : MachineState) (hex bytes : List ℕ) (steps : ℕ) (result : Result (Unit {0}) ClientError) (left : ℕ) (new : MachineState) → decode_of hex ≡ Ok bytes →
     WriteAnswered bytes steps old result left new → LeavesOwn old (write hex) new
 write_leaves old hex bytes steps result left new decoded answered = elim answered as (λ result left new answered. LeavesOwn old (write hex) new) [
-  | IsNoRecord error refused ↦ stays old (write hex) old refl
+  | IsNoRecord error refused ↦ stays (reach_in old.device) old (write hex) old refl
   | IsWritten result left last fits made ↦
-      makes old (write hex) (Write (id_of bytes) (marked bytes)) last (after_record old hex bytes decoded fits) (changed _ last _ _ _ steps result left made)
+      makes (reach_in old.device) old (write hex) (Write (id_of bytes) (marked bytes)) last (after_record (reach_in old.device) old hex bytes decoded fits) (changed _ last _ _ _ steps result left made)
 ]
 
 -- a read
@@ -100,12 +106,12 @@ answer_keeps old id out budget result after left new answered = elim answered as
 
 -- count and next
 
-once_leaves : {T : Type 0} (Made : Result T ClientError → Type 0) (line : Line) (steps : ℕ) (old new : MachineState) (result : Result T ClientError) (left : ℕ) →
-    ((result : Result T ClientError) → Made result → KeepsMap old.device.store new.device.store) → AsksOnce Made steps old new result left → LeavesOwn old line new
-once_leaves {T} Made line steps old new result left kept asks = elim asks as (λ result left asks. LeavesOwn old line new) [
-  | Answers result left made spent ↦ keeps old line new (kept result made)
-  | StopsBehind result made short ↦ keeps old line new (kept result made)
-  | StopsAtOnce none same ↦ stays old line new (ap told_of same)
+once_leaves : {T : Type 0} (Made : Result T ClientError → Type 0) (range : ℕ) (line : Line) (steps : ℕ) (old new : MachineState) (result : Result T ClientError) (left : ℕ) →
+    ((result : Result T ClientError) → Made result → KeepsMap old.device.store new.device.store) → AsksOnce Made steps old new result left → LineLeaves range old line new
+once_leaves {T} Made range line steps old new result left kept asks = elim asks as (λ result left asks. LineLeaves range old line new) [
+  | Answers result left made spent ↦ keeps range old line new (kept result made)
+  | StopsBehind result made short ↦ keeps range old line new (kept result made)
+  | StopsAtOnce none same ↦ stays range old line new (ap told_of same)
 ]
 
 count_keeps : (old new : MachineState) (result : Result ℕ ClientError) → CountMade old new result → KeepsMap old.device.store new.device.store
@@ -129,14 +135,43 @@ dummy_told old new budget result left command = elim command as (λ result left 
   | IsCut leaves short ↦ ap (λ (store : StoreView). store.flash.told) leaves.store
 ]
 
-mapped_leaves : (steps : ℕ) (old : MachineState) (line : Line) (words : List ℕ) (new : MachineState) → Mapped steps old line words new → LeavesOwn old line new
+pub mapped_leaves : (steps : ℕ) (old : MachineState) (line : Line) (words : List ℕ) (new : MachineState) → Mapped steps old line words new → LeavesOwn old line new
 mapped_leaves steps old line words new mapped = elim mapped as (λ line words new mapped. LeavesOwn old line new) [
   | IsWrite hex bytes result left new decoded answered ↦ write_leaves old hex bytes steps result left new decoded answered
-  | IsRead id out after result left new long answered ↦ keeps old (read id) new (answer_keeps old id out steps result after left new answered)
-  | IsClear id result left new command ↦ makes old (clear id) (Clear id) new refl (changed old new id (Clear id) _ steps result left command)
-  | IsCount result left new asks ↦ once_leaves (CountMade old new) count steps old new result left (count_keeps old new) asks
-  | IsNext result left new asks ↦ once_leaves (NextMade old new) next steps old new result left (next_keeps old new) asks
-  | IsDummy result left new command ↦ stays old dummy new (dummy_told old new steps result left command)
+  | IsRead id out after result left new long answered ↦ keeps (reach_in old.device) old (read id) new (answer_keeps old id out steps result after left new answered)
+  | IsClear id result left new command ↦ makes (reach_in old.device) old (clear id) (Clear id) new refl (changed old new id (Clear id) _ steps result left command)
+  | IsCount result left new asks ↦ once_leaves (CountMade old new) (reach_in old.device) count steps old new result left (count_keeps old new) asks
+  | IsNext result left new asks ↦ once_leaves (NextMade old new) (reach_in old.device) next steps old new result left (next_keeps old new) asks
+  | IsDummy result left new command ↦ stays (reach_in old.device) old dummy new (dummy_told old new steps result left command)
+]
+
+-- by the table whose own programs move the record
+
+shadow_write_leaves : (old : MachineState) (hex bytes : List ℕ) (steps : ℕ) (result : Result (Unit {0}) ClientError) (left : ℕ) (new : MachineState) → decode_of hex ≡ Ok bytes →
+    ShadowWriteAnswered bytes steps old result left new → LineLeaves (128 * pieces_in old) old (write hex) new
+shadow_write_leaves old hex bytes steps result left new decoded answered = elim answered as (λ result left new answered. LineLeaves (128 * pieces_in old) old (write hex) new) [
+  | IsNoShadowRecord error refused ↦ stays (128 * pieces_in old) old (write hex) old refl
+  | IsShadowWritten result left last fits change begins ↦
+      makes (128 * pieces_in old) old (write hex) (Write (id_of bytes) (marked bytes)) last (after_record (128 * pieces_in old) old hex bytes decoded fits)
+      (change_crash (pieces_in old) old last _ _ _ steps result left change)
+]
+
+shadow_read_keeps : (old : MachineState) (id : ℕ) (out : List ℕ) (budget : ℕ) (result : Result ℕ ClientError) (after : List ℕ) (left : ℕ) (new : MachineState) →
+    ShadowReadAnswered id out budget old result after left new → KeepsMap old.device.store new.device.store
+shadow_read_keeps old id out budget result after left new answered = elim answered as (λ result after left new answered. KeepsMap old.device.store new.device.store) [
+  | IsNotShadowRead error left last command ↦ read_crash (pieces_in old) old last id budget (Err error) left command
+  | IsNotShadowCopied error left last command refused ↦ read_crash (pieces_in old) old last id budget (Ok tt) left command
+  | IsShadowCopied left last command fits ↦ read_crash (pieces_in old) old last id budget (Ok tt) left command
+]
+
+pub shadow_mapped_leaves : (steps : ℕ) (old : MachineState) (line : Line) (words : List ℕ) (new : MachineState) → ShadowMapped steps old line words new → LineLeaves (128 * pieces_in old) old line new
+shadow_mapped_leaves steps old line words new mapped = elim mapped as (λ line words new mapped. LineLeaves (128 * pieces_in old) old line new) [
+  | ShadowWrite hex bytes result left new decoded answered ↦ shadow_write_leaves old hex bytes steps result left new decoded answered
+  | ShadowRead id out after result left new long answered ↦ keeps (128 * pieces_in old) old (read id) new (shadow_read_keeps old id out steps result after left new answered)
+  | ShadowClear id result left new change ↦ makes (128 * pieces_in old) old (clear id) (Clear id) new refl (change_crash (pieces_in old) old new id (Clear id) _ steps result left change)
+  | ShadowCount result left new asks ↦ once_leaves (CountMade old new) (128 * pieces_in old) count steps old new result left (count_keeps old new) asks
+  | ShadowNext result left new asks ↦ once_leaves (NextMade old new) (128 * pieces_in old) next steps old new result left (next_keeps old new) asks
+  | ShadowPlayed result left new played ↦ stays (128 * pieces_in old) old dummy new (ap (λ (store : StoreView). store.flash.told) (dummy_store (pieces_in old) old new steps result left played))
 ]
 
 -- the machine's own lines leave the flash alone
@@ -173,36 +208,30 @@ asks_command tells client steps old line words new asked = elim asked as (λ lin
   | RunsAction code value answer left new run ↦ λ own. absurd own
 ]
 
--- a command's place in the record map, with some reply
-abbrev pub MapsTo : PlayerState → Line → PlayerState → Type 0
-MapsTo old line new = (words : List ℕ) × Mapped (budget_of old) old.machine line words new.machine
+-- the line that turns the bridge on leaves the flash alone; other lines of the bridge made turns
+bridge_told : (tells : Type 0) (old : PlayerState) (line : Line) (said : List Reply) (blocks : List (List ℕ)) (steps : List Step) (bridge_now : BridgeState) (machine : MachineState)
+    → ByBridge tells old line said blocks steps bridge_now machine → steps ≡ [] → told_of machine ≡ told_of old.machine
+bridge_told tells old line said blocks steps bridge_now machine by = elim by as (λ line said blocks steps bridge_now machine by. steps ≡ [] → told_of machine ≡ told_of old.machine) [
+  | Enters id none ↦ λ unmade. refl
+  | StaysAs id why refuses ↦ λ unmade. refl
+  | BridgesTurns letters steps bridge_now machine on are sides counted ↦ λ unmade.
+      ap told_of (subst (λ (xs : List Step). AreTurns tells old.own (budget_of old) old.bridge old.machine xs bridge_now machine) unmade are).1
+]
 
-plays_leaves : (tells : Type 0) → tells → (counts : List ℕ) (old : PlayerState) (line : Line) (said : List Reply) (blocks : List (List ℕ)) (new : PlayerState) → Plays tells counts old line said blocks new →
-    (names_command line ≡ true → MapsTo old line new) → IsOwnLine line → LeavesOwn old.machine line new.machine
-plays_leaves tells told counts old line said blocks new plays =
-    elim plays as (λ line said blocks new plays. (names_command line ≡ true → MapsTo old line new) → IsOwnLine line → LeavesOwn old.machine line new.machine) [
-      | Blank ↦ λ maps own. stays old.machine blank old.machine refl
-      | ByClient line words machine commanded ↦ λ maps own.
-          let mapped = maps (asks_command tells (client_of old) (budget_of old) old.machine line words machine commanded.asked own) in
-          mapped_leaves (budget_of old) old.machine line mapped.0 machine mapped.1
-      | GivenTable hex bytes words machine other decoded gives ↦ λ maps own. absurd own
-      | OwnTable ↦ λ maps own. stays old.machine own_table old.machine refl
-      | OnMachine line said blocks machine happened ↦ λ maps own. stays old.machine line machine (happened_told tells old.machine line said blocks machine happened)
-      | Heard ↦ λ maps own. stays old.machine heard old.machine refl
-      | Reset n machine warms ↦ λ maps own. keeps old.machine reset machine (warms.leaves.kept told)
-      | Power n machine powers ↦ λ maps own. keeps old.machine power machine (powers.restarts.leaves.kept told)
+-- every line; what a command on records leaves is given
+pub line_leaves : (tells : Type 0) → tells → (range : ℕ) (counts : List ℕ) (old : PlayerState) (line : Line) (said : List Reply) (blocks : List (List ℕ)) (steps : List Step) (new : PlayerState)
+    → Plays tells counts old line said blocks steps new → steps ≡ [] → (names_command line ≡ true → LineLeaves range old.machine line new.machine) → IsOwnLine line
+    → LineLeaves range old.machine line new.machine
+line_leaves tells told range counts old line said blocks steps new plays =
+    elim plays as (λ line said blocks steps new plays. steps ≡ [] → (names_command line ≡ true → LineLeaves range old.machine line new.machine) → IsOwnLine line → LineLeaves range old.machine line new.machine) [
+      | Blank ↦ λ unmade maps own. stays range old.machine blank old.machine refl
+      | ByClient line words machine commanded ↦ λ unmade maps own. maps (asks_command tells (client_of old) (budget_of old) old.machine line words machine commanded.asked own)
+      | GivenTable hex bytes words machine other decoded gives ↦ λ unmade maps own. absurd own
+      | OwnTable ↦ λ unmade maps own. stays range old.machine own_table old.machine refl
+      | GivenShadow machine gives ↦ λ unmade maps own. stays range old.machine shadow_table machine (ap told_of gives.attached.last_is)
+      | OnMachine line said blocks machine alone happened ↦ λ unmade maps own. stays range old.machine line machine (happened_told tells old.machine line said blocks machine happened)
+      | ByTheBridge line said blocks steps bridge_now machine by ↦ λ unmade maps own. stays range old.machine line machine (bridge_told tells old line said blocks steps bridge_now machine by unmade)
+      | Heard ↦ λ unmade maps own. stays range old.machine heard old.machine refl
+      | Reset n machine warms ↦ λ unmade maps own. keeps range old.machine reset machine (warms.leaves.kept told)
+      | Power n machine powers ↦ λ unmade maps own. keeps range old.machine power machine (powers.restarts.leaves.kept told)
     ]
-
--- only a write has a part in the range
-by_range : (line : Line) (own range : ℕ) (state : MachineState) → (names_command line ≡ true → range ≡ own) → after_line own state line ≡ after_line range state line
-by_range (write hex) own range state same = ap (λ (n : ℕ). after_line n state (write hex)) (sym (same refl))
-by_range line own range state same = refl
-
--- every line
-pub line_leaves : (tells : Type 0) → tells → (counts : List ℕ) (old : PlayerState) (line : Line) (said : List Reply) (blocks : List (List ℕ)) (new : PlayerState)
-    → Plays tells counts old line said blocks new → (names_command line ≡ true → UsesOwn old) → (names_command line ≡ true → MapsTo old line new) → IsOwnLine line
-    → LineLeaves (client_of old).range old.machine line new.machine
-line_leaves tells told counts old line said blocks new plays uses maps own =
-    subst (λ (made : Stored). Leaves (told_of old.machine) (told_of new.machine) (λ image. (shown_by old.machine image ≡ records_of old.machine) ⊎ (shown_by old.machine image ≡ made)))
-    (by_range line (reach_in old.machine.device) (client_of old).range old.machine (λ names. ap (λ (client : ClientState). client.range) (uses names)))
-    (plays_leaves tells told counts old line said blocks new plays maps own)

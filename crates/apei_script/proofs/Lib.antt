@@ -7,6 +7,8 @@ pub mod LineLemmas
 pub mod WordLemmas
 pub mod OwnClientLemmas
 pub mod EnoughSteps
+pub mod ShadowClientLemmas
+pub mod ShadowGiving
 pub mod PlayedLemmas
 pub mod LeavesLemmas
 pub mod ToldLemmas
@@ -22,3 +24,8 @@ pub mod Giving
 pub mod Owning
 pub mod DeskLines
 pub mod PlayLemmas
+pub mod KeptTurns
+pub mod BridgeLemmas
+pub mod KeptLines
+pub mod KeptCauses
+pub mod OrderLemmas

@@ -1,5 +1,5 @@
 -- What was played, by the line.
-use Rattle.std.proofs.Common.{◌≡◌, ℕ, List, [], ◌∷◌, ◌++◌, length, map, Option, Some, None, Result, Ok, Err, refl}
+use Rattle.std.proofs.Common.{◌≡◌, ◌⊎◌, inl, inr, ℕ, List, [], ◌∷◌, ◌++◌, length, map, Option, Some, None, Result, Ok, Err, refl}
 use Rattle.hex.specs.Hex.{decode_of}
 use Rattle.apei_space.specs.declared.faults.SpaceFault.{SpaceFault}
 use Rattle.apei_space.specs.Calls.{ReadBytes}
@@ -21,13 +21,18 @@ use Rattle.erst_machine.specs.declared.errors.FatalError.{FatalError}
 use Rattle.erst_machine.specs.MachineState.{MachineState}
 use Rattle.erst_machine.specs.Allowed.{Allows}
 use Rattle.erst_machine.specs.Events.{Submits, LaysFatal, Warms, Powers}
-use Rattle.script_text.specs.ScriptGrammar.{Line, blank, write, read, clear, count, next, dummy, action, table, own_table, error, turns, peek, fatal, bert, heard, reset, power}
+use Rattle.erst_bridge.specs.Bridges.{BridgeState, Off, Awaits}
+use Rattle.bridge_durability.specs.Turns.{Step, AreTurns}
+use Rattle.bridge_turns.specs.Made.{sides_in}
+use Rattle.script_text.specs.ScriptGrammar.{Line, blank, write, read, clear, count, next, dummy, action, table, own_table, shadow_table, error, turns, peek, fatal, bert, heard, reset, power, bridge}
+use Rattle.erst_shadow.specs.ShadowCommands.{shadow_client}
 use Rattle.apei_script.specs.Players.{PlayerState, client_of, budget_of, with_machine}
-use Rattle.apei_script.specs.Words.{Reply, said_at, words_of_write, words_of_read, words_of_clear, words_of_count, words_of_next, words_of_dummy, words_of_action, words_of_table, words_of_no_table, words_of_no_client, words_of_submission, words_of_turns, words_of_block, words_of_peek, words_of_laid, words_of_bert, words_of_heard, words_of_reset, words_of_power}
+use Rattle.apei_script.specs.Words.{Reply, said_at, refused, words_of_write, words_of_read, words_of_clear, words_of_count, words_of_next, words_of_dummy, words_of_action, words_of_table, words_of_no_table, words_of_no_client, words_of_submission, words_of_turns, words_of_block, words_of_peek, words_of_laid, words_of_bert, words_of_heard, words_of_reset, words_of_power}
 use Rattle.apei_script.specs.Asked.{READ_BUFFER, Asked, WritesRecord, ReadsRecord, ClearsRecord, CountsRecords, FindsNext, WritesDummy, RunsAction}
-use Rattle.apei_script.specs.Tables.{ATTACH_STEPS, BeginsWith, GivesTable, IsNoTable, IsNotAttached, IsAttached}
-use Rattle.apei_script.specs.Happened.{Happened, IsGiven, Turn, IsPeeked, IsLaid, IsListed}
-use Rattle.apei_script.specs.Plays.{Plays, Blank, ByClient, GivenTable, OwnTable, OnMachine, Heard, Reset, Power, restarted, changes_in, step_of}
+use Rattle.apei_script.specs.Tables.{ATTACH_STEPS, BeginsWith, GivesTable, IsNoTable, IsNotAttached, IsAttached, GivesShadow}
+use Rattle.apei_script.specs.Happened.{side_of, Happened, IsGiven, Turn, IsPeeked, IsLaid, IsListed}
+use Rattle.apei_script.specs.Bridged.{bridge_refusal, words_of_bridge, replies_of, blocks_in, NeedsNoBridge, ByBridge, Enters, StaysAs, BridgesTurns}
+use Rattle.apei_script.specs.Plays.{Plays, Blank, ByClient, GivenTable, OwnTable, GivenShadow, OnMachine, ByTheBridge, Heard, Reset, Power, restarted, changes_in, step_of}
 use Rattle.apei_script.proofs.TurnsAlike.{TurnsBy, turns_by}
 
 -- what a line left
@@ -102,6 +107,21 @@ module _ (tells : Type 0) where
       (words : List (List ℕ)) × (taken : List (List ℕ)) × (machine : MachineState) × HappenedBy old.machine line words taken machine
       × Left said blocks new (said_at (changes_in machine) words) taken (with_machine machine old)
 
+  -- turns while the bridge was on
+  pub record ByBridgeTurns (old : PlayerState) (letters : List ℕ) (said : List Reply) (blocks : List (List ℕ)) (new : PlayerState) : Type 0 where
+    pub steps : List Step
+    pub bridge_now : BridgeState
+    pub machine : MachineState
+    pub on : old.bridge ≡ Off → ⊥
+    pub are_turns : AreTurns tells old.own (budget_of old) old.bridge old.machine steps bridge_now machine
+    pub sides : sides_in steps ≡ map side_of letters
+    pub left : Left said blocks new (replies_of (changes_in machine) steps) (blocks_in steps) (record old { machine = machine; bridge = bridge_now })
+
+  -- the bridge was turned on, or not
+  pub data Entered (old : PlayerState) (id : ℕ) (said : List Reply) (blocks : List (List ℕ)) (new : PlayerState) : Type 0 where
+    TurnedOn : bridge_refusal old id ≡ None → Left said blocks new (said_at (changes_in old.machine) (words_of_bridge id ∷ [])) [] (record old { bridge = Awaits id }) → Entered old id said blocks new
+    NotOn : (why : List ℕ) → bridge_refusal old id ≡ Some why → Left said blocks new (said_at (changes_in old.machine) (refused why ∷ [])) [] old → Entered old id said blocks new
+
   abbrev pub PlaysBy : List ℕ → PlayerState → Line → List Reply → List (List ℕ) → PlayerState → Type 0
   PlaysBy counts old blank said blocks new = Left said blocks new [] [] old
   PlaysBy counts old (write hex) said blocks new = ByItsClient old (write hex) said blocks new
@@ -115,8 +135,10 @@ module _ (tells : Type 0) where
       (bytes : List ℕ) × (words : List ℕ) × (machine : MachineState) × (other : Option ClientState) × (decode_of hex ≡ Ok bytes) × Given old.machine old.other bytes words machine other
       × Left said blocks new (said_at (changes_in machine) (words ∷ [])) [] (record old { machine = machine; other = other })
   PlaysBy counts old own_table said blocks new = Left said blocks new (said_at (step_of old) (words_of_table (length old.own.table.entries) ∷ [])) [] (record old { other = None })
+  PlaysBy counts old shadow_table said blocks new = (machine : MachineState) × GivesShadow tells old.machine machine
+      × Left said blocks new (said_at (changes_in machine) (words_of_table 52 ∷ [])) [] (record old { machine = machine; other = Some (shadow_client old.machine) })
   PlaysBy counts old (error hex) said blocks new = ByItself old (error hex) said blocks new
-  PlaysBy counts old (turns letters) said blocks new = ByItself old (turns letters) said blocks new
+  PlaysBy counts old (turns letters) said blocks new = ((old.bridge ≡ Off) × ByItself old (turns letters) said blocks new) ⊎ ByBridgeTurns old letters said blocks new
   PlaysBy counts old (peek at len) said blocks new = ByItself old (peek at len) said blocks new
   PlaysBy counts old (fatal hex) said blocks new = ByItself old (fatal hex) said blocks new
   PlaysBy counts old bert said blocks new = ByItself old bert said blocks new
@@ -125,6 +147,7 @@ module _ (tells : Type 0) where
       × Left said blocks new (said_at (changes_in machine) (words_of_reset n ∷ [])) [] (restarted machine old)
   PlaysBy counts old power said blocks new = (n : ℕ) × (machine : MachineState) × Powers tells old.machine (Ok n) machine
       × Left said blocks new (said_at (changes_in machine) (words_of_power n ∷ [])) [] (restarted machine old)
+  PlaysBy counts old (bridge id) said blocks new = Entered old id said blocks new
   PlaysBy counts old line said blocks new = ⊥
 
   as_it_is : (said : List Reply) (blocks : List (List ℕ)) (new : PlayerState) → Left said blocks new said blocks new
@@ -142,24 +165,35 @@ module _ (tells : Type 0) where
     | RunsAction code value answer left new ran ↦ (words_of_action answer, new, (answer, left, refl, ran), as_it_is _ _ _)
   ]
 
-  by_itself : (counts : List ℕ) (old : PlayerState) (line : Line) (words blocks : List (List ℕ)) (machine : MachineState) → Happened tells old.machine line words blocks machine
+  by_itself : (counts : List ℕ) (old : PlayerState) (line : Line) (words blocks : List (List ℕ)) (machine : MachineState) → NeedsNoBridge old.bridge line → Happened tells old.machine line words blocks machine
       → PlaysBy counts old line (said_at (changes_in machine) words) blocks (with_machine machine old)
-  by_itself counts old line words blocks machine happened = elim happened as (λ line words blocks machine happened. PlaysBy counts old line (said_at (changes_in machine) words) blocks (with_machine machine old)) [
-    | IsGiven hex block result new decoded submits ↦ (words_of_submission result ∷ [], [], new, (block, result, decoded, refl, refl, submits), as_it_is _ _ _)
-    | Turn letters events blocks new turned ↦
-        (map words_of_block blocks ++ words_of_turns events ∷ [], blocks, new, (events, refl, turns_by old.machine letters events blocks new turned), as_it_is _ _ _)
-    | IsPeeked at len before after answer new long allowed ↦ (words_of_peek after answer ∷ [], [], new, (before, after, answer, long, refl, refl, allowed), as_it_is _ _ _)
-    | IsLaid hex block result new decoded lays ↦ (words_of_laid result ∷ [], [], new, (block, result, decoded, refl, refl, lays), as_it_is _ _ _)
-    | IsListed blocks left laid ↦ (map words_of_block blocks ++ words_of_bert (length blocks) ∷ [], [], old.machine, (blocks, left, refl, refl, refl, laid), as_it_is _ _ _)
+  by_itself counts old line words blocks machine alone happened = elim happened as (λ line words blocks machine happened. NeedsNoBridge old.bridge line → PlaysBy counts old line (said_at (changes_in machine) words) blocks (with_machine machine old)) [
+    | IsGiven hex block result new decoded submits ↦ λ alone. (words_of_submission result ∷ [], [], new, (block, result, decoded, refl, refl, submits), as_it_is _ _ _)
+    | Turn letters events blocks new turned ↦ λ alone.
+        inl (alone, (map words_of_block blocks ++ words_of_turns events ∷ [], blocks, new, (events, refl, turns_by old.machine letters events blocks new turned), as_it_is _ _ _))
+    | IsPeeked at len before after answer new long allowed ↦ λ alone. (words_of_peek after answer ∷ [], [], new, (before, after, answer, long, refl, refl, allowed), as_it_is _ _ _)
+    | IsLaid hex block result new decoded lays ↦ λ alone. (words_of_laid result ∷ [], [], new, (block, result, decoded, refl, refl, lays), as_it_is _ _ _)
+    | IsListed blocks left laid ↦ λ alone. (map words_of_block blocks ++ words_of_bert (length blocks) ∷ [], [], old.machine, (blocks, left, refl, refl, refl, laid), as_it_is _ _ _)
+  ] alone
+
+  by_bridge : (counts : List ℕ) (old : PlayerState) (line : Line) (said : List Reply) (blocks : List (List ℕ)) (steps : List Step) (bridge_now : BridgeState) (machine : MachineState)
+      → ByBridge tells old line said blocks steps bridge_now machine → PlaysBy counts old line said blocks (record old { machine = machine; bridge = bridge_now })
+  by_bridge counts old line said blocks steps bridge_now machine by = elim by as (λ line said blocks steps bridge_now machine by. PlaysBy counts old line said blocks (record old { machine = machine; bridge = bridge_now })) [
+    | Enters id none ↦ TurnedOn none (as_it_is _ _ _)
+    | StaysAs id why refuses ↦ NotOn why refuses (as_it_is _ _ _)
+    | BridgesTurns letters steps bridge_now machine on are sides counted ↦
+        inr (record { steps = steps; bridge_now = bridge_now; machine = machine; on = on; are_turns = are; sides = sides; left = as_it_is _ _ _ })
   ]
 
-  pub plays_by : (counts : List ℕ) (old : PlayerState) (line : Line) (said : List Reply) (blocks : List (List ℕ)) (new : PlayerState) → Plays tells counts old line said blocks new → PlaysBy counts old line said blocks new
-  plays_by counts old line said blocks new plays = elim plays as (λ line said blocks new plays. PlaysBy counts old line said blocks new) [
+  pub plays_by : (counts : List ℕ) (old : PlayerState) (line : Line) (said : List Reply) (blocks : List (List ℕ)) (steps : List Step) (new : PlayerState) → Plays tells counts old line said blocks steps new → PlaysBy counts old line said blocks new
+  plays_by counts old line said blocks steps new plays = elim plays as (λ line said blocks steps new plays. PlaysBy counts old line said blocks new) [
     | Blank ↦ as_it_is _ _ _
     | ByClient line words machine commanded ↦ by_its_client counts old line words machine commanded.asked
     | GivenTable hex bytes words machine other decoded gives ↦ (bytes, words, machine, other, decoded, given_by old.machine old.other bytes words machine other gives, as_it_is _ _ _)
     | OwnTable ↦ as_it_is _ _ _
-    | OnMachine line said blocks machine happened ↦ by_itself counts old line said blocks machine happened
+    | GivenShadow machine gives ↦ (machine, gives, as_it_is _ _ _)
+    | OnMachine line said blocks machine alone happened ↦ by_itself counts old line said blocks machine alone happened
+    | ByTheBridge line said blocks steps bridge_now machine by ↦ by_bridge counts old line said blocks steps bridge_now machine by
     | Heard ↦ as_it_is _ _ _
     | Reset n machine warms ↦ (n, machine, warms, as_it_is _ _ _)
     | Power n machine powers ↦ (n, machine, powers, as_it_is _ _ _)

@@ -9,12 +9,16 @@ use Rattle.erst_machine.specs.MachineState.{MachineState, IsMachine}
 use Rattle.erst_machine.specs.Events.{Event, Accessed, Warmed, Powered, Submitted, Turned as OneTurn, Laid, Happens}
 use Rattle.erst_machine.proofs.CrashTrail.{events_are_shown, happens_then, reached_happens}
 use Rattle.erst_machine.proofs.EventLemmas.{events_keep}
+use Rattle.erst_bridge.specs.Bridges.{BridgeState}
+use Rattle.bridge_durability.specs.Turns.{Step}
+use Rattle.bridge_durability.proofs.TrailLemmas.{turns_trail}
 use Rattle.script_text.specs.ScriptGrammar.{Line}
 use Rattle.apei_script.specs.Words.{Reply}
-use Rattle.apei_script.specs.Players.{PlayerState}
+use Rattle.apei_script.specs.Players.{PlayerState, budget_of}
 use Rattle.apei_script.specs.Tables.{GivesTable, IsNoTable, IsNotAttached, IsAttached}
 use Rattle.apei_script.specs.Happened.{side_of, Turned, NoTurn, OneMore, Happened, IsGiven, Turn, IsPeeked, IsLaid, IsListed}
-use Rattle.apei_script.specs.Plays.{Plays, Blank, ByClient, GivenTable, OwnTable, OnMachine, Heard, Reset, Power, FailsRestart, ResetFails, PowerFails, HasHappened}
+use Rattle.apei_script.specs.Bridged.{ByBridge, Enters, StaysAs, BridgesTurns}
+use Rattle.apei_script.specs.Plays.{Plays, Blank, ByClient, GivenTable, OwnTable, GivenShadow, OnMachine, ByTheBridge, Heard, Reset, Power, FailsRestart, ResetFails, PowerFails, HasHappened}
 use Rattle.apei_script.proofs.EventChanges.{along}
 
 abbrev Trails : Type 0 → MachineState → MachineState → Type 0
@@ -53,14 +57,24 @@ module _ (tells : Type 0) where
     | IsAttached erst client left new begins attaches reaches ↦ reached_happens tells old new reaches
   ]
 
+  of_bridge : (old : PlayerState) (line : Line) (said : List Reply) (blocks : List (List ℕ)) (steps : List Step) (next : BridgeState) (machine : MachineState)
+      → ByBridge tells old line said blocks steps next machine → Trails tells old.machine machine
+  of_bridge old line said blocks steps next machine by = elim by as (λ line said blocks steps next machine by. Trails tells old.machine machine) [
+    | Enters id none_refuses ↦ none old.machine
+    | StaysAs id why refuses ↦ none old.machine
+    | BridgesTurns letters steps next machine on are sides counted ↦ turns_trail tells old.own (budget_of old) old.bridge old.machine steps next machine are
+  ]
+
   -- every line
-  pub of_line : (counts : List ℕ) (old : PlayerState) (line : Line) (said : List Reply) (blocks : List (List ℕ)) (new : PlayerState) → Plays tells counts old line said blocks new → Trails tells old.machine new.machine
-  of_line counts old line said blocks new plays = elim plays as (λ line said blocks new plays. Trails tells old.machine new.machine) [
+  pub of_line : (counts : List ℕ) (old : PlayerState) (line : Line) (said : List Reply) (blocks : List (List ℕ)) (steps : List Step) (new : PlayerState) → Plays tells counts old line said blocks steps new → Trails tells old.machine new.machine
+  of_line counts old line said blocks steps new plays = elim plays as (λ line said blocks steps new plays. Trails tells old.machine new.machine) [
     | Blank ↦ none old.machine
     | ByClient line words machine commanded ↦ reached_happens tells old.machine machine commanded.reaches
     | GivenTable hex bytes words machine other decoded gives ↦ of_table old.machine old.other bytes words machine other gives
     | OwnTable ↦ none old.machine
-    | OnMachine line said blocks machine happened ↦ of_happened old.machine line said blocks machine happened
+    | GivenShadow machine gives ↦ reached_happens tells old.machine machine gives.reaches
+    | OnMachine line said blocks machine alone happened ↦ of_happened old.machine line said blocks machine happened
+    | ByTheBridge line said blocks steps next machine by ↦ of_bridge old line said blocks steps next machine by
     | Heard ↦ none old.machine
     | Reset n machine warms ↦ one old.machine (Warmed (Ok n)) machine warms
     | Power n machine powers ↦ one old.machine (Powered (Ok n)) machine powers
@@ -71,9 +85,9 @@ module _ (tells : Type 0) where
       let takes = along tells old new trails.0 trails.1 in
       record { trail = trails.0; happens = trails.1; shown = λ told. events_are_shown tells told old new trails.0 trails.1; never_falls = takes.never_falls; exact = takes.exact }
 
-  pub line_happened : (counts : List ℕ) (old : PlayerState) (line : Line) (said : List Reply) (blocks : List (List ℕ)) (new : PlayerState) → Plays tells counts old line said blocks new →
+  pub line_happened : (counts : List ℕ) (old : PlayerState) (line : Line) (said : List Reply) (blocks : List (List ℕ)) (steps : List Step) (new : PlayerState) → Plays tells counts old line said blocks steps new →
       HasHappened tells old.machine new.machine
-  line_happened counts old line said blocks new plays = has_happened old.machine new.machine (of_line counts old line said blocks new plays)
+  line_happened counts old line said blocks steps new plays = has_happened old.machine new.machine (of_line counts old line said blocks steps new plays)
 
   pub failed_restart : (old : MachineState) (line : Line) (new : MachineState) → FailsRestart tells old line new →
       HasHappened tells old new × Rose old.device.store.flash.faults new.device.store.flash.faults
@@ -83,27 +97,29 @@ module _ (tells : Type 0) where
   ]
 
   -- the machine stays one, its flash divided as it was
-  pub line_keeps : (counts : List ℕ) (old : PlayerState) (line : Line) (said : List Reply) (blocks : List (List ℕ)) (new : PlayerState) → IsMachine old.machine →
-      Plays tells counts old line said blocks new → IsMachine new.machine
-  line_keeps counts old line said blocks new machine plays =
-      let trails = of_line counts old line said blocks new plays in
+  pub line_keeps : (counts : List ℕ) (old : PlayerState) (line : Line) (said : List Reply) (blocks : List (List ℕ)) (steps : List Step) (new : PlayerState) → IsMachine old.machine →
+      Plays tells counts old line said blocks steps new → IsMachine new.machine
+  line_keeps counts old line said blocks steps new machine plays =
+      let trails = of_line counts old line said blocks steps new plays in
       events_keep tells old.machine new.machine trails.0 trails.1 machine
 
-  pub line_divides : (counts : List ℕ) (old : PlayerState) (line : Line) (said : List Reply) (blocks : List (List ℕ)) (new : PlayerState) → Plays tells counts old line said blocks new →
+  pub line_divides : (counts : List ℕ) (old : PlayerState) (line : Line) (said : List Reply) (blocks : List (List ℕ)) (steps : List Step) (new : PlayerState) → Plays tells counts old line said blocks steps new →
       new.machine.device.store.layout ≡ old.machine.device.store.layout
-  line_divides counts old line said blocks new plays =
-      let trails = of_line counts old line said blocks new plays in
+  line_divides counts old line said blocks steps new plays =
+      let trails = of_line counts old line said blocks steps new plays in
       (along tells old.machine new.machine trails.0 trails.1).layout
 
   -- the player's own client and steps stay
-  pub line_own : (counts : List ℕ) (old : PlayerState) (line : Line) (said : List Reply) (blocks : List (List ℕ)) (new : PlayerState) → Plays tells counts old line said blocks new →
+  pub line_own : (counts : List ℕ) (old : PlayerState) (line : Line) (said : List Reply) (blocks : List (List ℕ)) (steps : List Step) (new : PlayerState) → Plays tells counts old line said blocks steps new →
       (new.own ≡ old.own) × (new.steps ≡ old.steps)
-  line_own counts old line said blocks new plays = elim plays as (λ line said blocks new plays. (new.own ≡ old.own) × (new.steps ≡ old.steps)) [
+  line_own counts old line said blocks steps new plays = elim plays as (λ line said blocks steps new plays. (new.own ≡ old.own) × (new.steps ≡ old.steps)) [
     | Blank ↦ (refl, refl)
     | ByClient line words machine commanded ↦ (refl, refl)
     | GivenTable hex bytes words machine other decoded gives ↦ (refl, refl)
     | OwnTable ↦ (refl, refl)
-    | OnMachine line said blocks machine happened ↦ (refl, refl)
+    | GivenShadow machine gives ↦ (refl, refl)
+    | OnMachine line said blocks machine alone happened ↦ (refl, refl)
+    | ByTheBridge line said blocks steps next machine by ↦ (refl, refl)
     | Heard ↦ (refl, refl)
     | Reset n machine warms ↦ (refl, refl)
     | Power n machine powers ↦ (refl, refl)

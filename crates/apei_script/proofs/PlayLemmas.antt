@@ -1,49 +1,68 @@
 -- A line that was played, from what its parts say.
-use Rattle.std.proofs.Common.{◌≡◌, ◌∙◌, ℕ, Bool, false, List, [], ◌∷◌, ◌++◌, take, map, Option, Result, Ok, Err, OnOk, refl, sym, ap, subst}
+use Rattle.std.proofs.Common.{◌≡◌, ◌∙◌, ℕ, false, List, [], ◌∷◌, ◌++◌, take, Option, refl, sym, ap, subst}
 use Rattle.std.proofs.lemmas.List.{append-nil}
 use Rattle.std.proofs.lemmas.Bool.{false≢true}
 use Rattle.erst_client.specs.Commands.{ClientState}
 use Rattle.erst_machine.specs.MachineState.{MachineState}
+use Rattle.erst_commands.specs.Attached.{own_client}
+use Rattle.erst_bridge.specs.Bridges.{BridgeState}
+use Rattle.bridge_durability.specs.Turns.{Step}
 use Rattle.script_text.specs.ScriptGrammar.{Line, blank, bert, heard}
 use Rattle.apei_notify.specs.Telling.{Hearing, counts_of}
 use Rattle.apei_script.specs.declared.desk.Desk.{Desk}
-use Rattle.apei_script.specs.Players.{PlayerState, with_machine}
+use Rattle.apei_script.specs.Players.{PlayerState, client_of, with_machine}
 use Rattle.apei_script.specs.Words.{Reply, at_step, said_at, words_of_heard, reply_at, replies_at}
-use Rattle.apei_script.specs.Plays.{Plays, Blank, OnMachine, Heard, LinePlayed, PlaysLine, PlaysUnheard, Occurred, OccurredUnheard, LeftIn, AtLast, InList, InTurns, names_command, step_of}
+use Rattle.apei_script.specs.Bridged.{NeedsNoBridge, TurnsShown}
+use Rattle.apei_script.specs.Plays.{Plays, Blank, OnMachine, Heard, LinePlayed, PlaysLine, PlaysUnheard, Occurred, OccurredUnheard, LeftIn, AtLast, InList, InTurns, InBridged, names_command, step_of}
 use Rattle.apei_script.specs.Desks.{state_of, SameClients, Lists, ListsUnheard, LineAnswered, MakesReply}
 use Rattle.apei_script.proofs.LineLemmas.{line_happened}
 use Rattle.apei_script.proofs.LeavesLemmas.{line_leaves}
 use Rattle.apei_script.proofs.ToldLemmas.{told_none}
 
 -- a line that is no command on records
-quiet : (tells : Type 0) (counts : List ℕ) (old : PlayerState) (line : Line) (said : List Reply) (blocks : List (List ℕ)) (new : PlayerState) → names_command line ≡ false → Plays tells counts old line said blocks new
-    → LinePlayed tells counts old line said blocks new
-quiet tells counts old line said blocks new none plays = record {
+pub quiet_with : (tells : Type 0) (counts : List ℕ) (old : PlayerState) (line : Line) (said : List Reply) (blocks : List (List ℕ)) (steps : List Step) (new : PlayerState) → names_command line ≡ false → Plays tells counts old line said blocks steps new
+    → (tells → old.own ≡ own_client old.machine → TurnsShown old.bridge old.machine steps new.machine) → LinePlayed tells counts old line said blocks steps new
+quiet_with tells counts old line said blocks steps new none plays turned = record {
   plays = plays;
-  happened = line_happened tells counts old line said blocks new plays;
+  happened = line_happened tells counts old line said blocks steps new plays;
   by_map = λ told uses names. absurd (false≢true (sym none ∙ names));
+  by_shadow = λ told uses names. absurd (false≢true (sym none ∙ names));
   cause = λ uses names says. absurd (false≢true (sym none ∙ names));
-  enough = λ uses names steps. absurd (false≢true (sym none ∙ names));
-  leaves = λ told uses own. line_leaves tells told counts old line said blocks new plays uses (λ names. absurd (false≢true (sym none ∙ names))) own;
+  enough = λ uses names many. absurd (false≢true (sym none ∙ names));
+  enough_by_shadow = λ told uses names many. absurd (false≢true (sym none ∙ names));
+  leaves = λ told uses own unmade. line_leaves tells told (client_of old).range counts old line said blocks steps new plays unmade (λ names. absurd (false≢true (sym none ∙ names))) own;
+  turned = turned;
 }
 
-same_state : (machine : MachineState) (own own_now : ClientState) (other other_now : Option ClientState) (steps steps_now : Option ℕ) → own_now ≡ own → other_now ≡ other → steps_now ≡ steps
-    → ◌≡◌ {A = PlayerState} (record { machine = machine; own = own_now; other = other_now; steps = steps_now }) (record { machine = machine; own = own; other = other; steps = steps })
-same_state machine own own_now other other_now steps steps_now a b c =
-    ap (λ (x : ClientState). let s : PlayerState = record { machine = machine; own = x; other = other_now; steps = steps_now } in s) a
-    ∙ ap (λ (x : Option ClientState). let s : PlayerState = record { machine = machine; own = own; other = x; steps = steps_now } in s) b
-    ∙ ap (λ (x : Option ℕ). let s : PlayerState = record { machine = machine; own = own; other = other; steps = x } in s) c
+-- no turn of the bridge was made
+pub shows_none : (state : BridgeState) (old new : MachineState) → TurnsShown state old [] new
+shows_none state old new = record { each = λ some. absurd (some refl); first = λ some. absurd (some refl); stored = λ s image from crash. tt }
+
+quiet : (tells : Type 0) (counts : List ℕ) (old : PlayerState) (line : Line) (said : List Reply) (blocks : List (List ℕ)) (new : PlayerState) → names_command line ≡ false → Plays tells counts old line said blocks [] new
+    → LinePlayed tells counts old line said blocks [] new
+quiet tells counts old line said blocks new none plays = quiet_with tells counts old line said blocks [] new none plays (λ told own. shows_none old.bridge old.machine new.machine)
+
+same_state : (machine : MachineState) (own own_now : ClientState) (other other_now : Option ClientState) (steps steps_now : Option ℕ) (state : BridgeState) → own_now ≡ own → other_now ≡ other → steps_now ≡ steps
+    → ◌≡◌ {A = PlayerState} (record { machine = machine; own = own_now; other = other_now; steps = steps_now; bridge = state }) (record { machine = machine; own = own; other = other; steps = steps; bridge = state })
+same_state machine own own_now other other_now steps steps_now state a b c =
+    ap (λ (x : ClientState). let s : PlayerState = record { machine = machine; own = x; other = other_now; steps = steps_now; bridge = state } in s) a
+    ∙ ap (λ (x : Option ClientState). let s : PlayerState = record { machine = machine; own = own; other = x; steps = steps_now; bridge = state } in s) b
+    ∙ ap (λ (x : Option ℕ). let s : PlayerState = record { machine = machine; own = own; other = other; steps = x; bridge = state } in s) c
+
+-- only the machine and the bridge are others
+pub other_bridge : {F : Type 0} (old new : Desk F) → SameClients old new → state_of new ≡ record (state_of old) { machine = new.machine; bridge = new.bridge }
+other_bridge old new same = same_state new.machine old.own new.own old.other new.other old.steps new.steps new.bridge same.own same.other same.steps
 
 -- only the machine is another
-pub other_machine : {F : Type 0} (old new : Desk F) → SameClients old new → state_of new ≡ with_machine new.machine (state_of old)
-other_machine old new same = same_state new.machine old.own new.own old.other new.other old.steps new.steps same.own same.other same.steps
+pub other_machine : {F : Type 0} (old new : Desk F) → SameClients old new → new.bridge ≡ old.bridge → state_of new ≡ with_machine new.machine (state_of old)
+other_machine old new same bridge = other_bridge old new same ∙ ap (λ (b : BridgeState). record (state_of old) { machine = new.machine; bridge = b }) bridge
 
-pub same_desk : {F : Type 0} (old new : Desk F) → SameClients old new → new.machine ≡ old.machine → state_of new ≡ state_of old
-same_desk old new same machine = other_machine old new same ∙ ap (λ (m : MachineState). with_machine m (state_of old)) machine
+pub same_desk : {F : Type 0} (old new : Desk F) → SameClients old new → new.bridge ≡ old.bridge → new.machine ≡ old.machine → state_of new ≡ state_of old
+same_desk old new same bridge machine = other_machine old new same bridge ∙ ap (λ (m : MachineState). with_machine m (state_of old)) machine
 
 -- a line that was answered, with all that is said of it
 pub line_answered : (tells : Type 0) (old : PlayerState) (line : Line) (new : PlayerState) (made reply : List ℕ) (step : ℕ)
-    → ((words counts : List ℕ) → Plays tells counts old line (said_at (step_of new) (words ∷ [])) [] new → LinePlayed tells counts old line (said_at (step_of new) (words ∷ [])) [] new)
+    → ((words counts : List ℕ) → Plays tells counts old line (said_at (step_of new) (words ∷ [])) [] [] new → LinePlayed tells counts old line (said_at (step_of new) (words ∷ [])) [] [] new)
     → MakesReply tells old line new made → step ≡ step_of new → reply ≡ reply_at step made → LineAnswered tells old line new reply
 line_answered tells old line new made reply step whole makes at text = record {
   words = makes.words;
@@ -56,6 +75,15 @@ left_quiet line made said before last left = elim left as (λ line made said bef
   | AtLast line before last ↦ λ h. h
   | InList before last behind ↦ λ h. refl
   | InTurns letters behind events step before last ↦ λ h. refl
+  | InBridged letters behind steps step changes before last took ↦ λ h. refl
+]
+
+left_alone : (state : BridgeState) (line made : Line) (said before : List Reply) (last : Reply) → LeftIn line made said before last → NeedsNoBridge state line → NeedsNoBridge state made
+left_alone state line made said before last left = elim left as (λ line made said before last left. NeedsNoBridge state line → NeedsNoBridge state made) [
+  | AtLast line before last ↦ λ h. h
+  | InList before last behind ↦ λ h. h
+  | InTurns letters behind events step before last ↦ λ h. h
+  | InBridged letters behind steps step changes before last took ↦ λ h. h
 ]
 
 module _ {L : Type 0} (hearing : L → Hearing) (tells told_sink : Type 0) where
@@ -63,35 +91,39 @@ module _ {L : Type 0} (hearing : L → Hearing) (tells told_sink : Type 0) where
   blank_played old members written = record {
     said = [];
     blocks = [];
+    steps = [];
     played = quiet tells (counts_of hearing members) old blank [] [] old refl Blank;
     told = told_none hearing members;
     text = λ t. sym (append-nil written);
   }
 
-  pub occurred_played : (old new : PlayerState) (members members_now : List L) (line : Line) (written written_now : List ℕ) → names_command line ≡ false → new ≡ with_machine new.machine old
+  pub occurred_played : (old new : PlayerState) (members members_now : List L) (line : Line) (written written_now : List ℕ) → names_command line ≡ false → NeedsNoBridge old.bridge line → new ≡ with_machine new.machine old
       → Occurred hearing tells told_sink old.machine new.machine members members_now line written written_now
       → PlaysLine hearing tells told_sink old new members members_now line written written_now
-  occurred_played old new members members_now line written written_now none same h = record {
+  occurred_played old new members members_now line written written_now none alone same h = record {
     said = said_at (step_of new) h.words;
     blocks = h.blocks;
+    steps = [];
     played = quiet tells (counts_of hearing members) old line (said_at (step_of new) h.words) h.blocks new none
-        (subst (λ (s : PlayerState). Plays tells (counts_of hearing members) old line (said_at (step_of new) h.words) h.blocks s) (sym same) (OnMachine line h.words h.blocks new.machine h.happened));
+        (subst (λ (s : PlayerState). Plays tells (counts_of hearing members) old line (said_at (step_of new) h.words) h.blocks [] s) (sym same) (OnMachine line h.words h.blocks new.machine alone h.happened));
     told = h.told;
     text = h.text;
   }
 
-  pub occurred_unheard : (old new : PlayerState) (members members_now : List L) (line : Line) (written written_now : List ℕ) → names_command line ≡ false → new ≡ with_machine new.machine old
+  pub occurred_unheard : (old new : PlayerState) (members members_now : List L) (line : Line) (written written_now : List ℕ) → names_command line ≡ false → NeedsNoBridge old.bridge line → new ≡ with_machine new.machine old
       → OccurredUnheard hearing tells told_sink old.machine new.machine members members_now line written written_now
       → PlaysUnheard hearing tells told_sink old new members members_now line written written_now
-  occurred_unheard old new members members_now line written written_now none same h = record {
+  occurred_unheard old new members members_now line written written_now none alone same h = record {
     made = h.made;
     said = said_at (step_of new) h.words;
     before = h.before;
     last = h.last;
     left = h.left;
     blocks = h.blocks;
+    steps = [];
     played = quiet tells (counts_of hearing members) old h.made (said_at (step_of new) h.words) h.blocks new (left_quiet line h.made (said_at (step_of new) h.words) h.before h.last h.left none)
-        (subst (λ (s : PlayerState). Plays tells (counts_of hearing members) old h.made (said_at (step_of new) h.words) h.blocks s) (sym same) (OnMachine h.made h.words h.blocks new.machine h.happened));
+        (subst (λ (s : PlayerState). Plays tells (counts_of hearing members) old h.made (said_at (step_of new) h.words) h.blocks [] s) (sym same)
+        (OnMachine h.made h.words h.blocks new.machine (left_alone old.bridge line h.made (said_at (step_of new) h.words) h.before h.last h.left alone) h.happened));
     told = h.told;
     text = h.text;
   }
@@ -102,7 +134,8 @@ module _ {L : Type 0} (hearing : L → Hearing) (tells told_sink : Type 0) where
       subst (λ (s : PlayerState). PlaysLine hearing tells told_sink old s members members bert written written_now) (sym same) (record {
         said = said_at (step_of old) h.words;
         blocks = [];
-        played = quiet tells (counts_of hearing members) old bert (said_at (step_of old) h.words) [] old refl (OnMachine bert h.words [] old.machine h.happened);
+        steps = [];
+        played = quiet tells (counts_of hearing members) old bert (said_at (step_of old) h.words) [] old refl (OnMachine bert h.words [] old.machine tt h.happened);
         told = told_none hearing members;
         text = h.text;
       })
@@ -117,7 +150,8 @@ module _ {L : Type 0} (hearing : L → Hearing) (tells told_sink : Type 0) where
         last = h.last;
         left = h.left;
         blocks = [];
-        played = quiet tells (counts_of hearing members) old bert (said_at (step_of old) h.words) [] old refl (OnMachine bert h.words [] old.machine h.happened);
+        steps = [];
+        played = quiet tells (counts_of hearing members) old bert (said_at (step_of old) h.words) [] old refl (OnMachine bert h.words [] old.machine tt h.happened);
         told = told_none hearing members;
         text = h.text;
       })
@@ -126,18 +160,19 @@ module _ {L : Type 0} (hearing : L → Hearing) (tells told_sink : Type 0) where
   one_text : (step : ℕ) (words written : List ℕ) → written ++ reply_at step words ≡ written ++ replies_at step (words ∷ [])
   one_text step words written = ap (λ (xs : List ℕ). written ++ xs) (sym (append-nil (reply_at step words)))
 
-  pub one_played : (old new : PlayerState) (members : List L) (line : Line) (words written written_now : List ℕ) → LinePlayed tells (counts_of hearing members) old line (said_at (step_of new) (words ∷ [])) [] new
+  pub one_played : (old new : PlayerState) (members : List L) (line : Line) (words written written_now : List ℕ) → LinePlayed tells (counts_of hearing members) old line (said_at (step_of new) (words ∷ [])) [] [] new
       → (told_sink → written_now ≡ written ++ reply_at (step_of new) words)
       → PlaysLine hearing tells told_sink old new members members line written written_now
   one_played old new members line words written written_now played text = record {
     said = said_at (step_of new) (words ∷ []);
     blocks = [];
+    steps = [];
     played = played;
     told = told_none hearing members;
     text = λ t. text t ∙ one_text (step_of new) words written;
   }
 
-  pub one_unheard : (old new : PlayerState) (members : List L) (line : Line) (words written written_now : List ℕ) → LinePlayed tells (counts_of hearing members) old line (said_at (step_of new) (words ∷ [])) [] new
+  pub one_unheard : (old new : PlayerState) (members : List L) (line : Line) (words written written_now : List ℕ) → LinePlayed tells (counts_of hearing members) old line (said_at (step_of new) (words ∷ [])) [] [] new
       → (told_sink → (n : ℕ) × (written_now ≡ written ++ take n (reply_at (step_of new) words)))
       → PlaysUnheard hearing tells told_sink old new members members line written written_now
   one_unheard old new members line words written written_now played text = record {
@@ -147,6 +182,7 @@ module _ {L : Type 0} (hearing : L → Hearing) (tells told_sink : Type 0) where
     last = at_step (step_of new) words;
     left = AtLast line [] (at_step (step_of new) words);
     blocks = [];
+    steps = [];
     played = played;
     told = told_none hearing members;
     text = λ t. let some = text t in (some.0, some.1 ∙ ap (λ (xs : List ℕ). xs ++ take some.0 (reply_at (step_of new) words)) (sym (append-nil written)));
@@ -154,23 +190,23 @@ module _ {L : Type 0} (hearing : L → Hearing) (tells told_sink : Type 0) where
 
   -- where the listeners are as they were
   pub answer_played : (old new : PlayerState) (members members_now : List L) (line : Line) (words written written_now : List ℕ) → members_now ≡ members
-      → LinePlayed tells (counts_of hearing members) old line (said_at (step_of new) (words ∷ [])) [] new → (told_sink → written_now ≡ written ++ reply_at (step_of new) words)
+      → LinePlayed tells (counts_of hearing members) old line (said_at (step_of new) (words ∷ [])) [] [] new → (told_sink → written_now ≡ written ++ reply_at (step_of new) words)
       → PlaysLine hearing tells told_sink old new members members_now line written written_now
   answer_played old new members members_now line words written written_now same played text =
       subst (λ (now : List L). PlaysLine hearing tells told_sink old new members now line written written_now) (sym same)
       (one_played old new members line words written written_now played text)
 
   pub answer_unheard : (old new : PlayerState) (members members_now : List L) (line : Line) (words written written_now : List ℕ) → members_now ≡ members
-      → LinePlayed tells (counts_of hearing members) old line (said_at (step_of new) (words ∷ [])) [] new
+      → LinePlayed tells (counts_of hearing members) old line (said_at (step_of new) (words ∷ [])) [] [] new
       → (told_sink → (n : ℕ) × (written_now ≡ written ++ take n (reply_at (step_of new) words)))
       → PlaysUnheard hearing tells told_sink old new members members_now line written written_now
   answer_unheard old new members members_now line words written written_now same played text =
       subst (λ (now : List L). PlaysUnheard hearing tells told_sink old new members now line written written_now) (sym same)
       (one_unheard old new members line words written written_now played text)
 
-  heard_line : (old new : PlayerState) (members : List L) → new ≡ old → LinePlayed tells (counts_of hearing members) old heard (said_at (step_of new) (words_of_heard (counts_of hearing members) ∷ [])) [] new
+  heard_line : (old new : PlayerState) (members : List L) → new ≡ old → LinePlayed tells (counts_of hearing members) old heard (said_at (step_of new) (words_of_heard (counts_of hearing members) ∷ [])) [] [] new
   heard_line old new members same = quiet tells (counts_of hearing members) old heard (said_at (step_of new) (words_of_heard (counts_of hearing members) ∷ [])) [] new refl
-      (subst (λ (s : PlayerState). Plays tells (counts_of hearing members) old heard (said_at (step_of s) (words_of_heard (counts_of hearing members) ∷ [])) [] s) (sym same) Heard)
+      (subst (λ (s : PlayerState). Plays tells (counts_of hearing members) old heard (said_at (step_of s) (words_of_heard (counts_of hearing members) ∷ [])) [] [] s) (sym same) Heard)
 
   pub heard_played : (old new : PlayerState) (members : List L) (written written_now : List ℕ) → new ≡ old
       → (told_sink → written_now ≡ written ++ reply_at (step_of old) (words_of_heard (counts_of hearing members)))

@@ -1,20 +1,29 @@
 -- One line that was played.
-use Rattle.std.proofs.Common.{◌≡◌, ℕ, ◌≤◌, true, List, [], ◌∷◌, refl, sym, ap, subst, ◌∙◌}
+use Rattle.std.proofs.Common.{◌≡◌, ◌⊎◌, inl, inr, ℕ, ◌*◌, ◌≤◌, true, List, [], ◌∷◌, refl, sym, ap, subst, ◌∙◌}
 use Rattle.erst_client.specs.Commands.{ClientState}
 use Rattle.erst_client.specs.Timings.{enough_steps}
 use Rattle.erst_machine.specs.MachineState.{MachineState, IsMachine}
 use Rattle.erst_commands.specs.OwnPrograms.{OwnProgramsRun}
 use Rattle.erst_commands.specs.Attached.{own_client}
+use Rattle.erst_shadow.specs.ShadowCommands.{pieces_in, shadow_client}
+use Rattle.erst_bridge.specs.Bridges.{BridgeState}
+use Rattle.bridge_durability.specs.Turns.{Step}
 use Rattle.script_text.specs.ScriptGrammar.{Line, IsValid}
-use Rattle.apei_script.specs.Players.{PlayerState, client_of, budget_of, UsesOwn}
+use Rattle.base_model.specs.Faults.{Rose}
+use Rattle.erst_machine.specs.MachineState.{reach_in}
+use Rattle.apei_script.specs.Players.{PlayerState, client_of, budget_of, UsesOwn, UsesShadow, UsesEither}
+use Rattle.apei_script.specs.Mapped.{LineLeaves}
 use Rattle.apei_script.specs.Words.{Reply, said_at, words_in}
 use Rattle.apei_script.specs.Asked.{Asked}
 use Rattle.apei_script.specs.Happened.{Happened, IsGiven, Turn, IsPeeked, IsLaid, IsListed}
-use Rattle.apei_script.specs.Plays.{Plays, Blank, ByClient, GivenTable, OwnTable, OnMachine, Heard, Reset, Power, names_command, LinePlayed, step_of}
+use Rattle.apei_script.specs.Bridged.{ByBridge, Enters, StaysAs, BridgesTurns}
+use Rattle.apei_script.specs.Plays.{Plays, Blank, ByClient, GivenTable, OwnTable, GivenShadow, OnMachine, ByTheBridge, Heard, Reset, Power, names_command, SaysHardware, LinePlayed, step_of}
 use Rattle.apei_script.proofs.LineLemmas.{line_happened}
 use Rattle.apei_script.proofs.OwnClientLemmas.{no_command, asked_by_map, asked_cause}
 use Rattle.apei_script.proofs.EnoughSteps.{asked_through}
-use Rattle.apei_script.proofs.LeavesLemmas.{line_leaves}
+use Rattle.apei_script.proofs.ShadowClientLemmas.{shadow_by_map, shadow_cause, shadow_through}
+use Rattle.apei_script.proofs.LeavesLemmas.{mapped_leaves, shadow_mapped_leaves, line_leaves}
+use Rattle.apei_script.proofs.BridgeLemmas.{line_turned}
 
 -- the first of some replies
 abbrev first_of : List (List ℕ) → List ℕ
@@ -37,14 +46,24 @@ module _ (tells : Type 0) where
     | IsListed blocks left laid ↦ λ names. no_command names
   ]
 
-  asks : (counts : List ℕ) (old : PlayerState) (line : Line) (said : List Reply) (blocks : List (List ℕ)) (new : PlayerState) → Plays tells counts old line said blocks new → names_command line ≡ true →
+  no_bridging : {Goal : Type 0} (old : PlayerState) (line : Line) (said : List Reply) (blocks : List (List ℕ)) (steps : List Step) (next : BridgeState) (machine : MachineState)
+      → ByBridge tells old line said blocks steps next machine → names_command line ≡ true → Goal
+  no_bridging {Goal} old line said blocks steps next machine by = elim by as (λ line said blocks steps next machine by. names_command line ≡ true → Goal) [
+    | Enters id none ↦ λ names. no_command names
+    | StaysAs id why refuses ↦ λ names. no_command names
+    | BridgesTurns letters steps next machine on are sides counted ↦ λ names. no_command names
+  ]
+
+  asks : (counts : List ℕ) (old : PlayerState) (line : Line) (said : List Reply) (blocks : List (List ℕ)) (steps : List Step) (new : PlayerState) → Plays tells counts old line said blocks steps new → names_command line ≡ true →
       AsksClient tells old line said new
-  asks counts old line said blocks new plays = elim plays as (λ line said blocks new plays. names_command line ≡ true → AsksClient tells old line said new) [
+  asks counts old line said blocks steps new plays = elim plays as (λ line said blocks steps new plays. names_command line ≡ true → AsksClient tells old line said new) [
     | Blank ↦ λ names. no_command names
     | ByClient line words machine commanded ↦ λ names. record { words = words; said_is = refl; asked = commanded.asked }
     | GivenTable hex bytes words machine other decoded gives ↦ λ names. no_command names
     | OwnTable ↦ λ names. no_command names
-    | OnMachine line said blocks machine happened ↦ λ names. no_happening old.machine line said blocks machine happened names
+    | GivenShadow machine gives ↦ λ names. no_command names
+    | OnMachine line said blocks machine alone happened ↦ λ names. no_happening old.machine line said blocks machine happened names
+    | ByTheBridge line said blocks steps next machine by ↦ λ names. no_bridging old line said blocks steps next machine by names
     | Heard ↦ λ names. no_command names
     | Reset n machine warms ↦ λ names. no_command names
     | Power n machine powers ↦ λ names. no_command names
@@ -54,26 +73,54 @@ module _ (tells : Type 0) where
       Asked tells (own_client old.machine) (budget_of old) old.machine line asks.words new.machine
   by_own old line said new uses asks = subst (λ (client : ClientState). Asked tells client (budget_of old) old.machine line asks.words new.machine) uses asks.asked
 
-  pub line_played : OwnProgramsRun tells → (counts : List ℕ) (old : PlayerState) (line : Line) (said : List Reply) (blocks : List (List ℕ)) (new : PlayerState) → IsMachine old.machine → IsValid line →
-      Plays tells counts old line said blocks new → LinePlayed tells counts old line said blocks new
-  line_played own counts old line said blocks new machine valid plays =
-      let asks_own = asks counts old line said blocks new plays in
+  by_its_shadow : (old : PlayerState) (line : Line) (said : List Reply) (new : PlayerState) → UsesShadow old → (asks : AsksClient tells old line said new) →
+      Asked tells (shadow_client old.machine) (budget_of old) old.machine line asks.words new.machine
+  by_its_shadow old line said new uses asks = subst (λ (client : ClientState). Asked tells client (budget_of old) old.machine line asks.words new.machine) uses asks.asked
+
+  module _ (own : OwnProgramsRun tells) (old : PlayerState) (line : Line) (said : List Reply) (new : PlayerState) (machine : IsMachine old.machine) where
+    has_cause : UsesEither old → (asks : AsksClient tells old line said new) → names_command line ≡ true → SaysHardware said
+        → Rose old.machine.device.store.flash.faults new.machine.device.store.flash.faults
+    has_cause (inl uses) asks names says =
+        asked_cause tells own (budget_of old) old.machine line asks.words new.machine (by_own old line said new uses asks) names (ap first_of (ap words_in (sym asks.said_is) ∙ says))
+    has_cause (inr uses) asks names says =
+        shadow_cause tells own (budget_of old) old.machine machine line asks.words new.machine (by_its_shadow old line said new uses asks) names (ap first_of (ap words_in (sym asks.said_is) ∙ says))
+
+    command_leaves : tells → UsesEither old → AsksClient tells old line said new → IsValid line → names_command line ≡ true → LineLeaves (client_of old).range old.machine line new.machine
+    command_leaves told (inl uses) asks valid names =
+        subst (λ (range : ℕ). LineLeaves range old.machine line new.machine) (sym (ap (λ (client : ClientState). client.range) uses))
+        (mapped_leaves (budget_of old) old.machine line asks.words new.machine
+        (asked_by_map tells own (budget_of old) old.machine told machine line asks.words new.machine (by_own old line said new uses asks) valid names))
+    command_leaves told (inr uses) asks valid names =
+        subst (λ (range : ℕ). LineLeaves range old.machine line new.machine) (sym (ap (λ (client : ClientState). client.range) uses))
+        (shadow_mapped_leaves (budget_of old) old.machine line asks.words new.machine
+        (shadow_by_map tells own (budget_of old) old.machine machine told line asks.words new.machine (by_its_shadow old line said new uses asks) valid names))
+
+  pub line_played : OwnProgramsRun tells → (counts : List ℕ) (old : PlayerState) (line : Line) (said : List Reply) (blocks : List (List ℕ)) (steps : List Step) (new : PlayerState) → IsMachine old.machine → IsValid line →
+      Plays tells counts old line said blocks steps new → LinePlayed tells counts old line said blocks steps new
+  line_played own counts old line said blocks steps new machine valid plays =
+      let asks_own = asks counts old line said blocks steps new plays in
       record {
         plays = plays;
-        happened = line_happened tells counts old line said blocks new plays;
+        happened = line_happened tells counts old line said blocks steps new plays;
         by_map = λ told uses names.
             let a = asks_own names in
             (a.words, a.said_is, asked_by_map tells own (budget_of old) old.machine told machine line a.words new.machine (by_own old line said new uses a) valid names);
-        cause = λ uses names says.
+        by_shadow = λ told uses names.
             let a = asks_own names in
-            asked_cause tells own (budget_of old) old.machine line a.words new.machine (by_own old line said new uses a) names (ap first_of (ap words_in (sym a.said_is) ∙ says));
-        enough = λ uses names steps.
+            (a.words, a.said_is, shadow_by_map tells own (budget_of old) old.machine machine told line a.words new.machine (by_its_shadow old line said new uses a) valid names);
+        cause = λ uses names says. has_cause own old line said new machine uses (asks_own names) names says;
+        enough = λ uses names many.
             let a = asks_own names in
-            let neither = asked_through tells own (budget_of old) old.machine machine (subst (λ (client : ClientState). enough_steps client.timings ≤ budget_of old) uses steps)
+            let neither = asked_through tells own (budget_of old) old.machine machine (subst (λ (client : ClientState). enough_steps client.timings ≤ budget_of old) uses many)
             line a.words new.machine (by_own old line said new uses a) valid names in
             (λ says. neither.not_stopped says.0 (ap first_of (ap words_in (sym a.said_is) ∙ says.1)), λ says. neither.in_time says.0 (ap first_of (ap words_in (sym a.said_is) ∙ says.1)));
-        leaves = λ told uses own_line.
-            line_leaves tells told counts old line said blocks new plays uses (λ names.
+        enough_by_shadow = λ told uses names many.
             let a = asks_own names in
-            (a.words, asked_by_map tells own (budget_of old) old.machine told machine line a.words new.machine (by_own old line said new (uses names) a) valid names)) own_line;
+            let neither = shadow_through tells own (budget_of old) old.machine machine told (subst (λ (client : ClientState). enough_steps client.timings ≤ budget_of old) uses many)
+            line a.words new.machine (by_its_shadow old line said new uses a) valid names in
+            (λ says. neither.not_stopped says.0 (ap first_of (ap words_in (sym a.said_is) ∙ says.1)), λ says. neither.in_time says.0 (ap first_of (ap words_in (sym a.said_is) ∙ says.1)));
+        leaves = λ told uses own_line none.
+            line_leaves tells told (client_of old).range counts old line said blocks steps new plays none
+            (λ names. command_leaves own old line said new machine told (uses names) (asks_own names) valid names) own_line;
+        turned = λ told is. line_turned tells own told counts old line said blocks steps new plays machine is;
       }

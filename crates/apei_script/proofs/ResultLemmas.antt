@@ -1,5 +1,5 @@
 -- What is said of an answer.
-use Rattle.std.proofs.Common.{◌≡◌, ℕ, ◌≤◌, Result, Ok, Err, OnOk, OnErr, sym, subst}
+use Rattle.std.proofs.Common.{◌≡◌, ℕ, ◌≤◌, Result, Ok, Err, OnErr, sym, subst}
 use Rattle.base_model.specs.Faults.{Rose, HasCause}
 
 pub on_err : {T E P : Type 0} (r : Result T E) → P → OnErr r P

@@ -1,5 +1,7 @@
 -- The same lines of two players that are alike.
-use Rattle.std.proofs.Common.{◌≡◌, ℕ, ◌+◌, ◌*◌, Bool, List, [], ◌∷◌, ◌++◌, length, map, Option, Some, None, Result, Ok, Err, refl, sym, ap, subst, ◌∙◌}
+use Rattle.std.specs.Prelude.{not, if◌then◌else◌, codes}
+use Rattle.std.specs.List.{flat_map}
+use Rattle.std.proofs.Common.{◌≡◌, inl, inr, ℕ, ◌+◌, ◌*◌, Bool, List, [], ◌∷◌, ◌++◌, length, map, Option, Some, None, Result, Ok, Err, refl, sym, ap, subst, ◌∙◌}
 use Rattle.std.proofs.lemmas.Option.{none-some, same_Some}
 use Rattle.base_model.specs.Faults.{Rose}
 use Rattle.hex.specs.Hex.{decode_of}
@@ -42,16 +44,25 @@ use Rattle.erst_twins.proofs.ReadLemmas.{record_alike}
 use Rattle.erst_twins.proofs.MachineOutlines.{fill_both}
 use Rattle.erst_twins.proofs.EventOutlines.{submits_alike, lays_alike, happens_alike}
 use Rattle.erst_twins.proofs.OneLemmas.{one_list}
-use Rattle.script_text.specs.ScriptGrammar.{Line, blank, write, read, clear, count, next, dummy, action, table, own_table, error, turns, peek, fatal, bert, heard, reset, power}
+use Rattle.record_model.specs.Records.{is_reserved}
+use Rattle.ghes_ack.specs.Machine.{Situation, is_idle}
+use Rattle.erst_bridge.specs.Bridges.{BridgeState, Awaits}
+use Rattle.bridge_durability.specs.Turns.{last_of, Turn, Step, AreTurns}
+use Rattle.bridge_turns.specs.Made.{sides_in}
+use Rattle.bridge_twins.specs.AlikeSteps.{StepOutline, step_outline, AlikeSteps}
+use Rattle.script_text.specs.ScriptGrammar.{Line, blank, write, read, clear, count, next, dummy, action, table, own_table, shadow_table, error, turns, peek, fatal, bert, heard, reset, power, bridge}
+use Rattle.erst_shadow.specs.ShadowTables.{scratch_at, pieces_of, shadow_erst}
+use Rattle.erst_shadow.specs.ShadowCommands.{pieces_in, shadow_client}
 use Rattle.apei_script.specs.Players.{PlayerState, client_of, budget_of, with_machine}
-use Rattle.apei_script.specs.Words.{Reply, said_at, text_of_replies, words_of_write, words_of_read, words_of_clear, words_of_count, words_of_next, words_of_dummy, words_of_action, words_of_table, words_of_no_table, words_of_record, words_of_submission, words_of_turns, words_of_block, words_of_peek, words_of_laid, words_of_bert, words_of_heard, words_of_reset, words_of_power, replies_at}
-use Rattle.apei_script.specs.Tables.{ATTACH_STEPS, BeginsWith}
+use Rattle.apei_script.specs.Words.{Reply, at_step, said_at, text_of_replies, refused, words_of_write, words_of_read, words_of_clear, words_of_count, words_of_next, words_of_dummy, words_of_action, words_of_table, words_of_no_table, words_of_record, words_of_submission, words_of_turns, words_of_block, words_of_peek, words_of_laid, words_of_bert, words_of_heard, words_of_reset, words_of_power}
+use Rattle.apei_script.specs.Tables.{ATTACH_STEPS, BeginsWith, GivesShadow}
+use Rattle.apei_script.specs.Bridged.{is_on, bridge_refusal, words_of_bridge, words_of_turn, words_of_steps, block_of, blocks_in, block_replies, replies_of}
 use Rattle.apei_script.specs.Plays.{Plays, restarted, changes_in, step_of}
 use Rattle.apei_script.specs.History.{Played, heard_of, heard_after, Follows, text_of, reply_of}
 use Rattle.apei_script.specs.Alike.{AlikePlayers, own_player, WantAlike, lines_in, said_in, taken_in, PlayedAlike}
 use Rattle.apei_script.proofs.HistoryLemmas.{history_goes_on}
 use Rattle.apei_script.proofs.TurnsAlike.{turned_alike}
-use Rattle.apei_script.proofs.LineKinds.{Left, AskedBy, HappenedBy, words_of_given, other_after, Given, NoTable, Tried, ByItsClient, ByItself, PlaysBy, plays_by}
+use Rattle.apei_script.proofs.LineKinds.{Left, AskedBy, HappenedBy, words_of_given, other_after, Given, NoTable, Tried, ByItsClient, ByItself, ByBridgeTurns, Entered, TurnedOn, NotOn, PlaysBy, plays_by}
 
 abbrev faults_of : MachineState → ℕ
 faults_of state = state.device.store.flash.faults
@@ -89,9 +100,46 @@ client_by layout = record {
   timings = Some (10 * most_changes layout, 10 * (layout.per_slot + 4));
 }
 
+-- and the client of the machine's second table
+abbrev shadow_by : Layout → ClientState
+shadow_by layout = record {
+  table = shadow_erst (pieces_of (reach_of (room_of layout)));
+  address = scratch_at;
+  range = 128 * pieces_of (reach_of (room_of layout));
+  timings = (client_by layout).timings;
+}
+
 record Ends (words also_words : List ℕ) (new also_new : MachineState) : Type 0 where
   same : words ≡ also_words
   alike : AlikeMachines new also_new
+
+-- The same turns of the bridge
+
+abbrev refusal_in : BridgeState → Situation → ℕ → Option (List ℕ)
+refusal_in state situation id =
+    if is_reserved id then Some (codes "id")
+    else (if is_on state then Some (codes "on") else (if not (is_idle situation) then Some (codes "reading") else None))
+
+-- what is told of turns by what they did, the flash changes behind them and the block taken last
+flat_alike : {A : Type 0} (f : Turn → ℕ → List ℕ → List A) (steps others : List Step) → AlikeSteps steps others
+    → flat_map (λ (step : Step). f step.turn (changes_in step.machine) (last_of step.machine)) steps ≡ flat_map (λ (step : Step). f step.turn (changes_in step.machine) (last_of step.machine)) others
+flat_alike f [] [] alike = refl
+flat_alike f [] (also ∷ more) alike = absurd (cc alike)
+flat_alike f (step ∷ rest) [] alike = absurd (cc alike)
+flat_alike {A} f (step ∷ rest) (also ∷ more) alike =
+    let e : step_outline step ∷ map step_outline rest ≡ step_outline also ∷ map step_outline more = alike in
+    let head : step_outline step ≡ step_outline also = cc in
+    let tail : map step_outline rest ≡ map step_outline more = cc in
+    ap (λ (xs : List A). f step.turn (changes_in step.machine) (last_of step.machine) ++ xs) (flat_alike f rest more tail)
+    ∙ ap (λ (o : StepOutline). f o.turn o.machine.device.store.steps o.machine.handover.last ++ flat_map (λ (step : Step). f step.turn (changes_in step.machine) (last_of step.machine)) more) head
+
+same_blocks : (steps others : List Step) → AlikeSteps steps others → blocks_in steps ≡ blocks_in others
+same_blocks steps others alike = flat_alike (λ turn changes last. block_of turn last) steps others alike
+
+same_replies : (changes : ℕ) (steps others : List Step) → AlikeSteps steps others → replies_of changes steps ≡ replies_of changes others
+same_replies changes steps others alike =
+    ap (λ (said : List Reply). said ++ at_step changes (words_of_steps steps) ∷ []) (flat_alike (λ turn changes last. said_at changes (map words_of_block (block_of turn last))) steps others alike)
+    ∙ ap (λ (words : List ℕ). block_replies others ++ at_step changes (codes "turns" ++ words) ∷ []) (flat_alike (λ turn changes last. codes " " ++ words_of_turn turn changes) steps others alike)
 
 module _ (tells : Type 0) (told : tells) where
   -- what is asked of one client
@@ -204,6 +252,15 @@ module _ (tells : Type 0) (told : tells) where
         others = other_is ∙ ap (other_after tells other) both.same_answer ∙ sym kept;
       }
 
+  -- the machine's second table is the same over both
+  shadow_alike : (one also : MachineState) → AlikeMachines one also → (new also_new : MachineState) → GivesShadow tells one new → FailedNothing one new → GivesShadow tells also also_new → FailedNothing also also_new
+      → AlikeMachines new also_new
+  shadow_alike one also alike new also_new gives quiet gives_too also_quiet =
+      let pieces_are : pieces_in also ≡ pieces_in one = sym (ap (λ (o : MachineOutline). pieces_of (reach_of (room_of o.device.store.layout))) alike) in
+      (done_alike tells told _ (dialogues.attach (shadow_erst (pieces_in one)) ATTACH_STEPS) (dialogues.attaches_held (Allows tells) (shadow_erst (pieces_in one)) ATTACH_STEPS)
+      one also (Ok (shadow_client one)) (Ok (shadow_client also)) gives.left gives_too.left new also_new alike gives.attaches quiet
+      (subst (λ (pieces : ℕ). Attaches (Allows tells) (shadow_erst pieces) ATTACH_STEPS also (Ok (shadow_client also)) gives_too.left also_new) pieces_are gives_too.attaches) also_quiet).alike
+
   quiet_at : (old : MachineState) (machine : MachineState) (new player : PlayerState) → player.machine ≡ machine → new ≡ player → FailedNothing old new.machine → FailedNothing old machine
   quiet_at old machine new player is new_is quiet rose =
       quiet (subst (λ (p : PlayerState). Rose (faults_of old) (faults_of p.machine)) (sym new_is) (subst (λ (m : MachineState). Rose (faults_of old) (faults_of m)) (sym is) rose))
@@ -227,13 +284,58 @@ module _ (tells : Type 0) (told : tells) where
   same_said one also words also_words machines same =
       ap (λ (o : MachineOutline). said_at o.device.store.steps words) machines ∙ ap (said_at (changes_in also)) same
 
+  -- the bridge over two machines that are alike makes the same turns
+  abbrev MakeTurns : Type 0
+  MakeTurns = (client : ClientState) (state : BridgeState) (budget : ℕ) (one other : MachineState) (steps others : List Step) (state_now also_now : BridgeState) (one_after other_after : MachineState)
+      → AlikeMachines one other → sides_in steps ≡ sides_in others
+      → AreTurns tells client budget state one steps state_now one_after → FailedNothing one one_after
+      → AreTurns tells client budget state other others also_now other_after → FailedNothing other other_after
+      → AlikeSteps steps others × (state_now ≡ also_now) × AlikeMachines one_after other_after
+
   -- one line of one player, and of the same player with another machine
-  module _ (counts : List ℕ) (old : PlayerState) (machine_too : MachineState) (alike : AlikeMachines old.machine machine_too) (machine : IsMachine old.machine) where
+  module _ (make_turns : MakeTurns) (counts : List ℕ) (old : PlayerState) (machine_too : MachineState) (alike : AlikeMachines old.machine machine_too) (machine : IsMachine old.machine) where
     abbrev twin : PlayerState
     twin = with_machine machine_too old
 
     players_with : (other also_other : Option ClientState) (one also : MachineState) → AlikeMachines one also → other ≡ also_other → AlikePlayers (record old { machine = one; other = other }) (record twin { machine = also; other = also_other })
-    players_with other also_other one also machines others = record { machines = machines; own = refl; other = others; steps = refl }
+    players_with other also_other one also machines others = record { machines = machines; own = refl; other = others; steps = refl; bridges = refl }
+
+    restarts_alike : (one also : MachineState) → AlikeMachines one also → AlikePlayers (restarted one old) (restarted also twin)
+    restarts_alike one also machines = record { machines = machines; own = refl; other = refl; steps = refl; bridges = refl }
+
+    bridges_alike : (one also : MachineState) (state also_state : BridgeState) → AlikeMachines one also → state ≡ also_state → AlikePlayers (record old { machine = one; bridge = state }) (record twin { machine = also; bridge = also_state })
+    bridges_alike one also state also_state machines states = record { machines = machines; own = refl; other = refl; steps = refl; bridges = states }
+
+    -- turns while the bridge was on
+    bridged_alike : (letters : List ℕ) (said also_said : List Reply) (blocks also_blocks : List (List ℕ)) (new also_new : PlayerState) → ByBridgeTurns tells old letters said blocks new → FailedNothing old.machine new.machine
+        → ByBridgeTurns tells twin letters also_said also_blocks also_new → FailedNothing machine_too also_new.machine → LineAlike said also_said blocks also_blocks new also_new
+    bridged_alike letters said also_said blocks also_blocks new also_new first quiet second also_quiet =
+        let both = make_turns old.own old.bridge (budget_of old) old.machine machine_too first.steps second.steps first.bridge_now second.bridge_now first.machine second.machine alike
+        (first.sides ∙ sym second.sides)
+        first.are_turns (quiet_at old.machine first.machine new (record old { machine = first.machine; bridge = first.bridge_now }) refl first.left.new_is quiet)
+        second.are_turns (quiet_at machine_too second.machine also_new (record twin { machine = second.machine; bridge = second.bridge_now }) refl second.left.new_is also_quiet) in
+        let same_step : changes_in first.machine ≡ changes_in second.machine = ap (λ (o : MachineOutline). o.device.store.steps) both.2 in
+        close said also_said blocks also_blocks (replies_of (changes_in first.machine) first.steps) (replies_of (changes_in second.machine) second.steps) (blocks_in first.steps) (blocks_in second.steps) new also_new
+        (record old { machine = first.machine; bridge = first.bridge_now }) (record twin { machine = second.machine; bridge = second.bridge_now }) first.left second.left
+        (ap (λ (n : ℕ). replies_of n first.steps) same_step ∙ same_replies (changes_in second.machine) first.steps second.steps both.0) (same_blocks first.steps second.steps both.0)
+        (bridges_alike first.machine second.machine first.bridge_now second.bridge_now both.2 both.1)
+
+    -- the bridge is turned on by one where it is by the other
+    same_refusal : (id : ℕ) → bridge_refusal old id ≡ bridge_refusal twin id
+    same_refusal id = ap (λ (o : MachineOutline). refusal_in old.bridge o.handover.situation id) alike
+
+    entered_alike : (id : ℕ) (said also_said : List Reply) (blocks also_blocks : List (List ℕ)) (new also_new : PlayerState) → Entered tells old id said blocks new
+        → Entered tells twin id also_said also_blocks also_new → LineAlike said also_said blocks also_blocks new also_new
+    entered_alike id said also_said blocks also_blocks new also_new (TurnedOn none left) (TurnedOn nor left_too) =
+        close said also_said blocks also_blocks (said_at (changes_in old.machine) (words_of_bridge id ∷ [])) (said_at (changes_in machine_too) (words_of_bridge id ∷ [])) [] [] new also_new
+        (record old { bridge = Awaits id }) (record twin { bridge = Awaits id }) left left_too
+        (same_said old.machine machine_too (words_of_bridge id ∷ []) (words_of_bridge id ∷ []) alike refl) refl (bridges_alike old.machine machine_too (Awaits id) (Awaits id) alike refl)
+    entered_alike id said also_said blocks also_blocks new also_new (NotOn why refuses left) (NotOn reason refused_too left_too) =
+        close said also_said blocks also_blocks (said_at (changes_in old.machine) (refused why ∷ [])) (said_at (changes_in machine_too) (refused reason ∷ [])) [] [] new also_new old twin left left_too
+        (same_said old.machine machine_too (refused why ∷ []) (refused reason ∷ []) alike
+        (ap (λ (ws : List ℕ). refused ws ∷ []) (same_Some why reason (sym refuses ∙ same_refusal id ∙ refused_too)))) refl (bridges_alike old.machine machine_too old.bridge old.bridge alike refl)
+    entered_alike id said also_said blocks also_blocks new also_new (TurnedOn none left) (NotOn reason refused_too left_too) = absurd (none-some reason (sym none ∙ same_refusal id ∙ refused_too))
+    entered_alike id said also_said blocks also_blocks new also_new (NotOn why refuses left) (TurnedOn nor left_too) = absurd (none-some why (sym nor ∙ sym (same_refusal id) ∙ refuses))
 
     by_client_alike : (line : Line) (said also_said : List Reply) (blocks also_blocks : List (List ℕ)) (new also_new : PlayerState) → ByItsClient tells old line said blocks new → FailedNothing old.machine new.machine
         → ByItsClient tells twin line also_said also_blocks also_new → FailedNothing machine_too also_new.machine → LineAlike said also_said blocks also_blocks new also_new
@@ -277,8 +379,21 @@ module _ (tells : Type 0) (told : tells) where
         close said also_said blocks also_blocks (said_at (step_of old) (words_of_table (length old.own.table.entries) ∷ [])) (said_at (changes_in machine_too) (words_of_table (length old.own.table.entries) ∷ [])) [] []
         new also_new (record old { other = None }) (record twin { other = None }) first second
         (same_said old.machine machine_too (words_of_table (length old.own.table.entries) ∷ []) (words_of_table (length old.own.table.entries) ∷ []) alike refl) refl (players_with None None old.machine machine_too alike refl)
+    line_alike shadow_table said also_said blocks also_blocks new also_new first quiet second also_quiet =
+        let client_is : shadow_client old.machine ≡ shadow_client machine_too = ap (λ (o : MachineOutline). shadow_by o.device.store.layout) alike in
+        let now = shadow_alike old.machine machine_too alike first.0 second.0
+        first.1 (quiet_at old.machine first.0 new (record old { machine = first.0; other = Some (shadow_client old.machine) }) refl first.2.new_is quiet)
+        second.1 (quiet_at machine_too second.0 also_new (record twin { machine = second.0; other = Some (shadow_client machine_too) }) refl second.2.new_is also_quiet) in
+        close said also_said blocks also_blocks (said_at (changes_in first.0) (words_of_table 52 ∷ [])) (said_at (changes_in second.0) (words_of_table 52 ∷ [])) [] [] new also_new
+        (record old { machine = first.0; other = Some (shadow_client old.machine) }) (record twin { machine = second.0; other = Some (shadow_client machine_too) }) first.2 second.2
+        (same_said first.0 second.0 (words_of_table 52 ∷ []) (words_of_table 52 ∷ []) now refl) refl
+        (players_with (Some (shadow_client old.machine)) (Some (shadow_client machine_too)) first.0 second.0 now (ap (λ (client : ClientState). Some client) client_is))
     line_alike (error hex) said also_said blocks also_blocks new also_new first quiet second also_quiet = by_itself_alike (error hex) said also_said blocks also_blocks new also_new first second
-    line_alike (turns letters) said also_said blocks also_blocks new also_new first quiet second also_quiet = by_itself_alike (turns letters) said also_said blocks also_blocks new also_new first second
+    line_alike (turns letters) said also_said blocks also_blocks new also_new (inl first) quiet (inl second) also_quiet = by_itself_alike (turns letters) said also_said blocks also_blocks new also_new first.1 second.1
+    line_alike (turns letters) said also_said blocks also_blocks new also_new (inl first) quiet (inr second) also_quiet = absurd (second.on first.0)
+    line_alike (turns letters) said also_said blocks also_blocks new also_new (inr first) quiet (inl second) also_quiet = absurd (first.on second.0)
+    line_alike (turns letters) said also_said blocks also_blocks new also_new (inr first) quiet (inr second) also_quiet = bridged_alike letters said also_said blocks also_blocks new also_new first quiet second also_quiet
+    line_alike (bridge id) said also_said blocks also_blocks new also_new first quiet second also_quiet = entered_alike id said also_said blocks also_blocks new also_new first second
     line_alike (peek at len) said also_said blocks also_blocks new also_new first quiet second also_quiet = by_itself_alike (peek at len) said also_said blocks also_blocks new also_new first second
     line_alike (fatal hex) said also_said blocks also_blocks new also_new first quiet second also_quiet = by_itself_alike (fatal hex) said also_said blocks also_blocks new also_new first second
     line_alike bert said also_said blocks also_blocks new also_new first quiet second also_quiet = by_itself_alike bert said also_said blocks also_blocks new also_new first second
@@ -292,7 +407,7 @@ module _ (tells : Type 0) (told : tells) where
         let n : first.0 ≡ second.0 = let e = both.0 in cc in
         close said also_said blocks also_blocks (said_at (changes_in first.1) (words_of_reset first.0 ∷ [])) (said_at (changes_in second.1) (words_of_reset second.0 ∷ [])) [] [] new also_new
         (restarted first.1 old) (restarted second.1 twin) first.3 second.3
-        (same_said first.1 second.1 (words_of_reset first.0 ∷ []) (words_of_reset second.0 ∷ []) both.1 (ap (λ (k : ℕ). words_of_reset k ∷ []) n)) refl (players_with None None first.1 second.1 both.1 refl)
+        (same_said first.1 second.1 (words_of_reset first.0 ∷ []) (words_of_reset second.0 ∷ []) both.1 (ap (λ (k : ℕ). words_of_reset k ∷ []) n)) refl (restarts_alike first.1 second.1 both.1)
     line_alike power said also_said blocks also_blocks new also_new first quiet second also_quiet =
         let both = happens_alike old.machine machine_too alike tells told machine (Powered (Ok first.0)) (Powered (Ok second.0)) first.1 second.1 refl
         first.2 (quiet_at old.machine first.1 new (restarted first.1 old) refl first.3.new_is quiet)
@@ -300,24 +415,26 @@ module _ (tells : Type 0) (told : tells) where
         let n : first.0 ≡ second.0 = let e = both.0 in cc in
         close said also_said blocks also_blocks (said_at (changes_in first.1) (words_of_power first.0 ∷ [])) (said_at (changes_in second.1) (words_of_power second.0 ∷ [])) [] [] new also_new
         (restarted first.1 old) (restarted second.1 twin) first.3 second.3
-        (same_said first.1 second.1 (words_of_power first.0 ∷ []) (words_of_power second.0 ∷ []) both.1 (ap (λ (k : ℕ). words_of_power k ∷ []) n)) refl (players_with None None first.1 second.1 both.1 refl)
+        (same_said first.1 second.1 (words_of_power first.0 ∷ []) (words_of_power second.0 ∷ []) both.1 (ap (λ (k : ℕ). words_of_power k ∷ []) n)) refl (restarts_alike first.1 second.1 both.1)
     line_alike line said also_said blocks also_blocks new also_new first quiet second also_quiet = absurd first
 
   -- two players that are alike, as one player with two machines
   is_twin : (one also : PlayerState) → AlikePlayers one also → also ≡ with_machine also.machine one
   is_twin one also players =
+      let states = sym players.bridges in
       let own = sym players.own in
       let other = sym players.other in
       let steps = sym players.steps in
-      λ i. record { machine = also.machine; own = own i; other = other i; steps = steps i }
+      λ i. record { machine = also.machine; own = own i; other = other i; steps = steps i; bridge = states i }
 
-  played_alike : (counts : List ℕ) (one also : PlayerState) → AlikePlayers one also → IsMachine one.machine → (line : Line) (said also_said : List Reply) (blocks also_blocks : List (List ℕ)) (new also_new : PlayerState)
-      → Plays tells counts one line said blocks new → FailedNothing one.machine new.machine → Plays tells counts also line also_said also_blocks also_new → FailedNothing also.machine also_new.machine
+  played_alike : MakeTurns → (counts : List ℕ) (one also : PlayerState) → AlikePlayers one also → IsMachine one.machine → (line : Line) (said also_said : List Reply) (blocks also_blocks : List (List ℕ)) (steps also_steps : List Step) (new also_new : PlayerState)
+      → Plays tells counts one line said blocks steps new → FailedNothing one.machine new.machine → Plays tells counts also line also_said also_blocks also_steps also_new → FailedNothing also.machine also_new.machine
       → LineAlike said also_said blocks also_blocks new also_new
-  played_alike counts one also players machine line said also_said blocks also_blocks new also_new first quiet second also_quiet =
-      line_alike counts one also.machine players.machines machine line said also_said blocks also_blocks new also_new
-      (plays_by tells counts one line said blocks new first) quiet
-      (plays_by tells counts (with_machine also.machine one) line also_said also_blocks also_new (subst (λ (p : PlayerState). Plays tells counts p line also_said also_blocks also_new) (is_twin one also players) second)) also_quiet
+  played_alike make_turns counts one also players machine line said also_said blocks also_blocks steps also_steps new also_new first quiet second also_quiet =
+      line_alike make_turns counts one also.machine players.machines machine line said also_said blocks also_blocks new also_new
+      (plays_by tells counts one line said blocks steps new first) quiet
+      (plays_by tells counts (with_machine also.machine one) line also_said also_blocks also_steps also_new
+      (subst (λ (p : PlayerState). Plays tells counts p line also_said also_blocks also_steps also_new) (is_twin one also players) second)) also_quiet
 
 -- the listeners hear the same
 same_wanted : (want wants_too : ℕ → Bool) (blocks : List (List ℕ)) → ((severity : ℕ) → want severity ≡ wants_too severity) → wanted want blocks ≡ wanted wants_too blocks
@@ -332,7 +449,7 @@ same_heard (want ∷ wants) (want_too ∷ wants_too) blocks (heard_so_far ∷ co
     ap (λ (n : ℕ). heard_of heard_so_far n ∷ heard_after wants blocks counts) (same_wanted want want_too blocks same.0)
     ∙ ap (λ (ns : List ℕ). heard_of heard_so_far (wanted want_too blocks) ∷ ns) (same_heard wants wants_too blocks counts same.1)
 
-module _ (tells : Type 0) (told : tells) (wants wants_too : List (ℕ → Bool)) (want_alike : WantAlike wants wants_too) where
+module _ (tells : Type 0) (told : tells) (make_turns : MakeTurns tells told) (wants wants_too : List (ℕ → Bool)) (want_alike : WantAlike wants wants_too) where
   pub histories_alike : (counts : List ℕ) (one also : PlayerState) (first second : List Played) (one_last also_last : PlayerState) → AlikePlayers one also → IsMachine one.machine → lines_in first ≡ lines_in second
       → Follows tells wants counts one first one_last → FailedNothing one.machine one_last.machine → Follows tells wants_too counts also second also_last → FailedNothing also.machine also_last.machine
       → PlayedAlike first second one_last also_last
@@ -346,8 +463,8 @@ module _ (tells : Type 0) (told : tells) (wants wants_too : List (ℕ → Bool))
       let one_rest = (history_goes_on tells told wants (heard_after wants x.blocks counts) x.left first one_last follows.1).1.never_falls in
       let also_step = follows_too.0.happened.never_falls in
       let also_rest = (history_goes_on tells told wants_too (heard_after wants_too y.blocks counts) y.left second also_last follows_too.1).1.never_falls in
-      let plays_too = subst (λ (l : Line). Plays tells counts also l y.said y.blocks y.left) (sym line) follows_too.0.plays in
-      let both = played_alike tells told counts one also players machine x.line x.said y.said x.blocks y.blocks x.left y.left
+      let plays_too = subst (λ (l : Line). Plays tells counts also l y.said y.blocks y.steps y.left) (sym line) follows_too.0.plays in
+      let both = played_alike tells told make_turns counts one also players machine x.line x.said y.said x.blocks y.blocks x.steps y.steps x.left y.left
       follows.0.plays (quiet_first (faults_of one.machine) (faults_of x.left.machine) (faults_of one_last.machine) one_step one_rest quiet)
       plays_too (quiet_first (faults_of also.machine) (faults_of y.left.machine) (faults_of also_last.machine) also_step also_rest also_quiet) in
       let heard : heard_after wants_too y.blocks counts ≡ heard_after wants x.blocks counts =
@@ -375,6 +492,7 @@ own_players_alike one also steps alike = record {
   own = ap (λ (o : MachineOutline). client_by o.device.store.layout) alike;
   other = refl;
   steps = refl;
+  bridges = refl;
 }
 
 -- listeners want what they want
@@ -385,13 +503,13 @@ same_wants (want ∷ wants) = ((λ severity. refl), same_wants wants)
 with_value_is_machine : (state : MachineState) (value : ℕ) → IsMachine state → IsMachine (with_value value state)
 with_value_is_machine state value machine = record { sizes = machine.sizes; laid = machine.laid; map = machine.map; stands = machine.stands }
 
-pub booted_alike : (tells : Type 0) → tells → (geometry : Geometry) (flash flash_too : FlashState) (one also : MachineState)
+pub booted_alike : (tells : Type 0) (told : tells) → MakeTurns tells told → (geometry : Geometry) (flash flash_too : FlashState) (one also : MachineState)
     → records_in (layout_of geometry) flash.told.image ≡ records_in (layout_of geometry) flash_too.told.image → flash.steps ≡ flash_too.steps
     → second_copies geometry.slot_size geometry.slots flash.told.image ≡ second_copies geometry.slot_size geometry.slots flash_too.told.image → BootsFrom geometry flash one → BootsFrom geometry flash_too also
     → (wants : List (ℕ → Bool)) (counts : List ℕ) (steps : Option ℕ) (first second : List Played) (one_last also_last : PlayerState) → lines_in first ≡ lines_in second
     → Follows tells wants counts (own_player one steps) first one_last → FailedNothing one one_last.machine → Follows tells wants counts (own_player also steps) second also_last → FailedNothing also also_last.machine
     → PlayedAlike first second one_last also_last
-booted_alike tells told geometry flash flash_too one also records changes copies boots boots_too wants counts steps first second one_last also_last lines follows quiet follows_too also_quiet =
+booted_alike tells told make_turns geometry flash flash_too one also records changes copies boots boots_too wants counts steps first second one_last also_last lines follows quiet follows_too also_quiet =
     let alike = boots_from_alike geometry flash flash_too one also records changes copies boots boots_too in
-    histories_alike tells told wants wants (same_wants wants) counts (own_player one steps) (own_player also steps) first second one_last also_last (own_players_alike one also steps alike)
+    histories_alike tells told make_turns wants wants (same_wants wants) counts (own_player one steps) (own_player also steps) first second one_last also_last (own_players_alike one also steps alike)
     (with_value_is_machine one (timings_of one.device.store.layout) boots.booted.machine) lines follows quiet follows_too also_quiet

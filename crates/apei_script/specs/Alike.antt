@@ -11,12 +11,13 @@ use Rattle.apei_script.specs.Players.{PlayerState, player_of}
 use Rattle.apei_script.specs.Words.{Reply}
 use Rattle.apei_script.specs.History.{Played, text_of}
 
--- their machines are alike, and they have the same clients and the same steps
+-- their machines are alike, and they have the same clients, the same steps and the same bridge
 pub record AlikePlayers (one also : PlayerState) : Type 0 where
   pub machines : AlikeMachines one.machine also.machine
   pub own : one.own ≡ also.own
   pub other : one.other ≡ also.other
   pub steps : one.steps ≡ also.steps
+  pub bridges : one.bridge ≡ also.bridge
 
 -- a player of the client that was just attached to the machine's own table
 abbrev pub own_player : MachineState → Option ℕ → PlayerState

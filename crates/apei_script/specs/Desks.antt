@@ -10,18 +10,18 @@ use Rattle.apei_script.specs.Happened.{Happened}
 use Rattle.apei_script.specs.Plays.{Plays, LinePlayed, LeftIn, PartlyWritten, changes_in, step_of}
 
 abbrev pub state_of : {F : Type 0} → Desk F → PlayerState
-state_of desk = record { machine = desk.machine; own = desk.own; other = desk.other; steps = desk.steps }
+state_of desk = record { machine = desk.machine; own = desk.own; other = desk.other; steps = desk.steps; bridge = desk.bridge }
 
 -- a line of one reply was played, whatever the listeners have heard, and its reply made
 pub record LineAnswered (tells : Type 0) (old : PlayerState) (line : Line) (new : PlayerState) (reply : List ℕ) : Type 0 where
   pub words : List ℕ
-  pub played : (counts : List ℕ) → LinePlayed tells counts old line (said_at (step_of new) (words ∷ [])) [] new
+  pub played : (counts : List ℕ) → LinePlayed tells counts old line (said_at (step_of new) (words ∷ [])) [] [] new
   pub text : reply ≡ reply_at (step_of new) words
 
 -- a line of one reply was carried out, whatever the listeners have heard, and its reply made but for the step behind it
 pub record MakesReply (tells : Type 0) (old : PlayerState) (line : Line) (new : PlayerState) (reply : List ℕ) : Type 0 where
   pub words : List ℕ
-  pub plays : (counts : List ℕ) → Plays tells counts old line (said_at (step_of new) (words ∷ [])) [] new
+  pub plays : (counts : List ℕ) → Plays tells counts old line (said_at (step_of new) (words ∷ [])) [] [] new
   pub made : IsMade reply words
 
 -- the clients and their steps are as they were

@@ -8,17 +8,21 @@ use Rattle.apei_notify.specs.Telling.{wanted}
 use Rattle.erst_client.specs.Timings.{enough_steps}
 use Rattle.erst_machine.specs.MachineState.{records_of, told_of}
 use Rattle.erst_machine.specs.Shown.{shown_by, changes_of}
+use Rattle.bridge_durability.specs.Turns.{Step}
+use Rattle.bridge_durability.specs.Shown.{ShowsTurns}
 use Rattle.script_text.specs.ScriptGrammar.{Line}
-use Rattle.apei_script.specs.Players.{PlayerState, client_of, budget_of, UsesOwn}
+use Rattle.apei_script.specs.Players.{PlayerState, client_of, budget_of, UsesOwn, UsesShadow, UsesEither}
 use Rattle.apei_script.specs.Words.{Reply, said_at, text_of_replies}
 use Rattle.apei_script.specs.Mapped.{Mapped, after_line}
+use Rattle.apei_script.specs.ShadowMapped.{ShadowMapped}
 use Rattle.apei_script.specs.Plays.{LinePlayed, step_of, names_command, IsOwnLine, SaysHardware, SaysStopped, SaysLate}
 
--- a line that was played: its replies, the blocks of which the listeners were told, and the player afterwards
+-- a line that was played: its replies, the blocks of which the listeners were told, the turns of the bridge, and the player afterwards
 pub record Played : Type 0 where
   pub line : Line
   pub said : List Reply
   pub blocks : List (List ℕ)
+  pub steps : List Step
   pub left : PlayerState
 
 -- how often a listener has heard of an error once it was told of so many more that it wants
@@ -34,7 +38,7 @@ heard_after wants blocks counts = counts
 abbrev pub Follows : Type 0 → List (ℕ → Bool) → List ℕ → PlayerState → List Played → PlayerState → Type 0
 Follows tells wants counts first [] last = last ≡ first
 Follows tells wants counts first (played ∷ rest) last =
-    LinePlayed tells counts first played.line played.said played.blocks played.left
+    LinePlayed tells counts first played.line played.said played.blocks played.steps played.left
     × Follows tells wants (heard_after wants played.blocks counts) played.left rest last
 
 -- the blocks of which the listeners were told
@@ -58,13 +62,19 @@ abbrev pub AreCounted : List Played → Type 0
 AreCounted [] = Unit {0}
 AreCounted (played ∷ rest) = (changes_of played.left.machine ≡ step_of played.left) × AreCounted rest
 
--- what power lost at step s may show: the records after the lines that had ended by s, or as the next one leaves them where nothing fails
+-- what power lost at step s in a line may show: the records from before it, or as it leaves them where nothing fails; in turns of the bridge
+-- those after the turns that had ended by s, or as the next one leaves them
+abbrev pub ShowsLine : ℕ → PlayerState → Line → List Step → Stored → Type 0
+ShowsLine s state line [] shown = (shown ≡ records_of state.machine) ⊎ (shown ≡ after_line (client_of state).range state.machine line)
+ShowsLine s state line (step ∷ rest) shown = ShowsTurns s state.bridge state.machine (step ∷ rest) shown
+
+-- what power lost at step s may show: the records after the lines that had ended by s, or what the next one shows
 abbrev pub ShowsLines : ℕ → PlayerState → List Played → Stored → Type 0
 ShowsLines s state [] shown = shown ≡ records_of state.machine
 ShowsLines s state (played ∷ rest) shown =
     MatchBool (nat_le (changes_of played.left.machine) s)
     (ShowsLines s played.left rest shown)
-    ((shown ≡ records_of state.machine) ⊎ (shown ≡ after_line (client_of state).range state.machine played.line))
+    (ShowsLine s state played.line played.steps shown)
 
 -- at the step at which each line ended, the image showed the records that it leaves
 abbrev pub ShowsEachLine : PlayerState → PlayerState → List Played → Type 0
@@ -86,15 +96,24 @@ pub record IsMapped (state : PlayerState) (played : Played) : Type 0 where
   pub cause : SaysHardware played.said → Rose state.machine.device.store.flash.faults played.left.machine.device.store.flash.faults
   pub enough : enough_steps (client_of state).timings ≤ budget_of state → (SaysStopped played.said → ⊥) × (SaysLate played.said → ⊥)
 
--- so is each line that asks the machine's own client for a command on records
+-- the same by the machine's table whose own programs move the record
+pub record IsShadowMapped (state : PlayerState) (played : Played) : Type 0 where
+  pub words : List ℕ
+  pub said : played.said ≡ said_at (step_of played.left) (words ∷ [])
+  pub mapped : ShadowMapped (budget_of state) state.machine played.line words played.left.machine
+  pub cause : SaysHardware played.said → Rose state.machine.device.store.flash.faults played.left.machine.device.store.flash.faults
+  pub enough : enough_steps (client_of state).timings ≤ budget_of state → (SaysStopped played.said → ⊥) × (SaysLate played.said → ⊥)
+
+-- so is each line that asks the client of one of the machine's two tables for a command on records
 abbrev pub AreMapped : PlayerState → List Played → Type 0
 AreMapped state [] = Unit {0}
-AreMapped state (played ∷ rest) = (UsesOwn state → names_command played.line ≡ true → IsMapped state played) × AreMapped played.left rest
+AreMapped state (played ∷ rest) = (UsesOwn state → names_command played.line ≡ true → IsMapped state played)
+    × (UsesShadow state → names_command played.line ≡ true → IsShadowMapped state played) × AreMapped played.left rest
 
 -- none of these lines says that the flash failed
 abbrev pub NoneSaysHardware : PlayerState → List Played → Type 0
 NoneSaysHardware state [] = Unit {0}
-NoneSaysHardware state (played ∷ rest) = (UsesOwn state → names_command played.line ≡ true → SaysHardware played.said → ⊥) × NoneSaysHardware played.left rest
+NoneSaysHardware state (played ∷ rest) = (UsesEither state → names_command played.line ≡ true → SaysHardware played.said → ⊥) × NoneSaysHardware played.left rest
 
 -- none of these lines that has enough steps is stopped or late
 abbrev pub AllGoThrough : PlayerState → List Played → Type 0
@@ -103,7 +122,7 @@ AllGoThrough state (played ∷ rest) =
     (UsesOwn state → names_command played.line ≡ true → enough_steps (client_of state).timings ≤ budget_of state → (SaysStopped played.said → ⊥) × (SaysLate played.said → ⊥))
     × AllGoThrough played.left rest
 
--- before each line, and at the end, the machine's own client is in use
-abbrev pub AlwaysUsesOwn : PlayerState → List Played → Type 0
-AlwaysUsesOwn state [] = UsesOwn state
-AlwaysUsesOwn state (played ∷ rest) = UsesOwn state × AlwaysUsesOwn played.left rest
+-- before each line, and at the end, the client of one of the machine's two tables is in use
+abbrev pub AlwaysUsesEither : PlayerState → List Played → Type 0
+AlwaysUsesEither state [] = UsesEither state
+AlwaysUsesEither state (played ∷ rest) = UsesEither state × AlwaysUsesEither played.left rest

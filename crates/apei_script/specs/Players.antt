@@ -1,18 +1,21 @@
 -- What is seen of a player, beside its listeners.
-use Rattle.std.specs.Prelude.{◌≡◌, ℕ, Option, Some, None}
+use Rattle.std.specs.Prelude.{◌≡◌, ◌⊎◌, ℕ, Option, Some, None}
 use Rattle.erst_client.specs.Commands.{ClientState}
 use Rattle.erst_client.specs.Timings.{enough_steps}
 use Rattle.erst_machine.specs.MachineState.{MachineState}
 use Rattle.erst_machine.specs.OwnTables.{own_erst}
 use Rattle.erst_commands.specs.Attached.{own_client}
+use Rattle.erst_shadow.specs.ShadowCommands.{shadow_client}
+use Rattle.erst_bridge.specs.Bridges.{BridgeState, Off}
 
--- the machine; the client that was attached first; the client of a table that a line gave, which is in use in its place; and the steps
--- that each line is given, none where that is as many as are enough by the client's timings
+-- the machine; the client that was attached first; the client of a table that a line gave, which is in use in its place; the steps
+-- that each line is given, none where that is as many as are enough by the client's timings; and the bridge
 pub record PlayerState : Type 0 where
   pub machine : MachineState
   pub own : ClientState
   pub other : Option ClientState
   pub steps : Option ℕ
+  pub bridge : BridgeState
 
 -- the one of two clients that is in use
 abbrev pub in_use : ClientState → Option ClientState → ClientState
@@ -37,10 +40,22 @@ with_machine machine state = record state { machine = machine }
 abbrev pub UsesOwn : PlayerState → Type 0
 UsesOwn state = client_of state ≡ own_client state.machine
 
+-- or that of the machine's table whose own programs move the record
+abbrev pub UsesShadow : PlayerState → Type 0
+UsesShadow state = client_of state ≡ shadow_client state.machine
+
+-- it is one of these two
+abbrev pub UsesEither : PlayerState → Type 0
+UsesEither state = UsesOwn state ⊎ UsesShadow state
+
+-- no line gave a table but the machine's own two
+abbrev pub GivenNoOther : PlayerState → Type 0
+GivenNoOther state = (state.other ≡ None) ⊎ (state.other ≡ Some (shadow_client state.machine))
+
 -- a client of the machine's own table has the machine's log range and timings
 abbrev pub FitsMachine : MachineState → ClientState → Type 0
 FitsMachine machine client = client.table ≡ own_erst → client ≡ own_client machine
 
 -- a player right after it was made
 abbrev pub player_of : MachineState → ClientState → Option ℕ → PlayerState
-player_of machine own steps = record { machine = machine; own = own; other = None; steps = steps }
+player_of machine own steps = record { machine = machine; own = own; other = None; steps = steps; bridge = Off }

@@ -1,5 +1,5 @@
 -- The playing of one line. `tells` says whether the flash tells its content.
-use Rattle.std.specs.Prelude.{◌≡◌, ℕ, ◌+◌, ◌≤◌, Bool, true, false, List, [], ◌∷◌, ◌++◌, codes, decimal, length, take, map, Option, None, Ok, Err}
+use Rattle.std.specs.Prelude.{◌≡◌, ◌⊎◌, ℕ, ◌+◌, ◌≤◌, Bool, true, false, List, [], ◌∷◌, ◌++◌, codes, decimal, length, take, Option, Some, None, Ok, Err}
 use Rattle.std.specs.List.{AllZip}
 use Rattle.hex.specs.Hex.{decode_of}
 use Rattle.base_model.specs.Faults.{Rose}
@@ -15,46 +15,54 @@ use Rattle.erst_machine.specs.declared.errors.BootError.{BootError}
 use Rattle.erst_machine.specs.MachineState.{MachineState}
 use Rattle.erst_machine.specs.Events.{Event, Warms, Powers, Happens}
 use Rattle.erst_machine.specs.Shown.{IsShown, made_by_event}
+use Rattle.erst_commands.specs.Attached.{own_client}
+use Rattle.erst_bridge.specs.declared.events.BridgeEvent.TheVariants.{Line as ByReader}
+use Rattle.erst_bridge.specs.Bridges.{BridgeState, Off}
+use Rattle.bridge_durability.specs.Turns.{OfBridge, Step}
 use Rattle.script_text.specs.RunWords.{words_of_stop}
-use Rattle.script_text.specs.ScriptGrammar.{Line, IsValid, blank, comment, write, read, clear, count, next, dummy, action, table, own_table, shadow_table, error, turns, fatal, bert, heard, reset, power, bridge}
+use Rattle.script_text.specs.ScriptGrammar.{Line, IsValid, blank, comment, write, read, clear, count, next, dummy, action, table, own_table, shadow_table, error, turns, fatal, bert, heard, reset, power}
 use Rattle.apei_script.specs.declared.player.PlayStop.{PlayStop}
 use Rattle.apei_script.specs.declared.player.PlayStop.TheVariants.{SinkFault, FlashFault, Memory}
-use Rattle.apei_script.specs.Players.{PlayerState, client_of, budget_of, with_machine, UsesOwn}
+use Rattle.erst_shadow.specs.ShadowCommands.{shadow_client}
+use Rattle.apei_script.specs.Players.{PlayerState, client_of, budget_of, with_machine, UsesOwn, UsesShadow, UsesEither}
 use Rattle.apei_script.specs.Words.{Reply, at_step, said_at, words_in, text_of_reply, text_of_replies, replies_at, refused, words_of_table, words_of_turns, words_of_heard, words_of_reset, words_of_power}
 use Rattle.apei_script.specs.Asked.{Commanded}
-use Rattle.apei_script.specs.Tables.{GivesTable}
+use Rattle.apei_script.specs.Tables.{GivesTable, GivesShadow}
 use Rattle.apei_script.specs.Mapped.{Mapped, LineLeaves}
+use Rattle.apei_script.specs.ShadowMapped.{ShadowMapped}
 use Rattle.apei_script.specs.Happened.{Happened}
 use Rattle.apei_script.specs.Changes.{changes_along}
-
--- how many flash changes were made so far
-abbrev pub changes_in : MachineState → ℕ
-changes_in machine = machine.device.store.flash.steps
+pub use Rattle.apei_script.specs.Bridged.{changes_in}
+use Rattle.apei_script.specs.Bridged.{words_of_steps, ByBridge, NeedsNoBridge, TurnsShown}
 
 abbrev pub step_of : PlayerState → ℕ
 step_of state = changes_in state.machine
 
--- a restart, and the words of its reply; the client that was attached first is in use again
+-- a restart: the client that was attached first is in use again, and the bridge is off
 abbrev pub restarted : MachineState → PlayerState → PlayerState
-restarted machine old = record old { machine = machine; other = None }
+restarted machine old = record old { machine = machine; other = None; bridge = Off }
 
--- A line, its replies, the blocks of which the listeners are told, and the player afterwards. `counts` says how often each listener has heard
--- of an error before it
-pub data Plays (tells : Type 0) (counts : List ℕ) (old : PlayerState) : Line → List Reply → List (List ℕ) → PlayerState → Type 0 where
-  Blank : Plays tells counts old blank [] [] old
+-- A line, its replies, the blocks of which the listeners are told, the turns of the bridge and of the firmware beside it, and the player
+-- afterwards. `counts` says how often each listener has heard of an error before it
+pub data Plays (tells : Type 0) (counts : List ℕ) (old : PlayerState) : Line → List Reply → List (List ℕ) → List Step → PlayerState → Type 0 where
+  Blank : Plays tells counts old blank [] [] [] old
   ByClient : (line : Line) (words : List ℕ) (machine : MachineState) → Commanded tells (client_of old) (budget_of old) old.machine line words machine
-      → Plays tells counts old line (said_at (changes_in machine) (words ∷ [])) [] (with_machine machine old)
+      → Plays tells counts old line (said_at (changes_in machine) (words ∷ [])) [] [] (with_machine machine old)
   GivenTable : (hex bytes words : List ℕ) (machine : MachineState) (other : Option ClientState) → decode_of hex ≡ Ok bytes
       → GivesTable tells old.machine old.other bytes words machine other
-      → Plays tells counts old (table hex) (said_at (changes_in machine) (words ∷ [])) [] (record old { machine = machine; other = other })
-  OwnTable : Plays tells counts old own_table (said_at (step_of old) (words_of_table (length old.own.table.entries) ∷ [])) [] (record old { other = None })
-  OnMachine : (line : Line) (words blocks : List (List ℕ)) (machine : MachineState) → Happened tells old.machine line words blocks machine
-      → Plays tells counts old line (said_at (changes_in machine) words) blocks (with_machine machine old)
-  Heard : Plays tells counts old heard (said_at (step_of old) (words_of_heard counts ∷ [])) [] old
+      → Plays tells counts old (table hex) (said_at (changes_in machine) (words ∷ [])) [] [] (record old { machine = machine; other = other })
+  OwnTable : Plays tells counts old own_table (said_at (step_of old) (words_of_table (length old.own.table.entries) ∷ [])) [] [] (record old { other = None })
+  GivenShadow : (machine : MachineState) → GivesShadow tells old.machine machine
+      → Plays tells counts old shadow_table (said_at (changes_in machine) (words_of_table 52 ∷ [])) [] [] (record old { machine = machine; other = Some (shadow_client old.machine) })
+  OnMachine : (line : Line) (words blocks : List (List ℕ)) (machine : MachineState) → NeedsNoBridge old.bridge line → Happened tells old.machine line words blocks machine
+      → Plays tells counts old line (said_at (changes_in machine) words) blocks [] (with_machine machine old)
+  ByTheBridge : (line : Line) (said : List Reply) (blocks : List (List ℕ)) (steps : List Step) (next : BridgeState) (machine : MachineState) → ByBridge tells old line said blocks steps next machine
+      → Plays tells counts old line said blocks steps (record old { machine = machine; bridge = next })
+  Heard : Plays tells counts old heard (said_at (step_of old) (words_of_heard counts ∷ [])) [] [] old
   Reset : (n : ℕ) (machine : MachineState) → Warms tells old.machine (Ok n) machine
-      → Plays tells counts old reset (said_at (changes_in machine) (words_of_reset n ∷ [])) [] (restarted machine old)
+      → Plays tells counts old reset (said_at (changes_in machine) (words_of_reset n ∷ [])) [] [] (restarted machine old)
   Power : (n : ℕ) (machine : MachineState) → Powers tells old.machine (Ok n) machine
-      → Plays tells counts old power (said_at (changes_in machine) (words_of_power n ∷ [])) [] (restarted machine old)
+      → Plays tells counts old power (said_at (changes_in machine) (words_of_power n ∷ [])) [] [] (restarted machine old)
 
 -- a restart that the flash failed
 pub data FailsRestart (tells : Type 0) (old : MachineState) : Line → MachineState → Type 0 where
@@ -72,12 +80,6 @@ pub record HasHappened (tells : Type 0) (old new : MachineState) : Type 0 where
   pub exact : tells → (Rose old.device.store.flash.faults new.device.store.flash.faults → ⊥)
       → new.device.store.flash.steps ≡ old.device.store.flash.steps + changes_along old trail
 
--- a line that this program knows how to play
-abbrev pub IsBuilt : Line → Type 0
-IsBuilt shadow_table = ⊥
-IsBuilt (bridge id) = ⊥
-IsBuilt line = Unit {0}
-
 -- the hexadecimal digits of a line that has some
 abbrev pub digits_of : Line → List ℕ
 digits_of (write hex) = hex
@@ -89,7 +91,6 @@ digits_of line = []
 -- a line that can be played
 pub record IsPlayable (line : Line) : Type 0 where
   pub valid : IsValid line
-  pub built : IsBuilt line
   pub fits : length (digits_of line) ≤ LONGEST_LINE
 
 -- a line has exactly one reply, and the listeners have no part in it
@@ -99,8 +100,6 @@ has_one_reply (comment rest) = false
 has_one_reply (turns letters) = false
 has_one_reply bert = false
 has_one_reply heard = false
-has_one_reply shadow_table = false
-has_one_reply (bridge id) = false
 has_one_reply line = true
 
 -- a line asks the client in use
@@ -140,24 +139,29 @@ SaysStopped said = (why : RunStop) × (words_in said ≡ refused (codes "stopped
 abbrev pub SaysLate : List Reply → Type 0
 SaysLate said = (waited : ℕ) × (words_in said ≡ refused (codes "late " ++ decimal waited) ∷ [])
 
--- One line that was played. By the machine's own table a command on records is the record map's; it says that the flash failed only where
--- the flash's count of faults rose in this very line, and where its steps are enough it is never stopped, and never late
-pub record LinePlayed (tells : Type 0) (counts : List ℕ) (old : PlayerState) (line : Line) (said : List Reply) (blocks : List (List ℕ)) (new : PlayerState) : Type 0 where
-  pub plays : Plays tells counts old line said blocks new
+-- One line that was played. By one of the machine's own two tables a command on records is the record map's; it says that the flash failed
+-- only where the flash's count of faults rose in this very line, and where its steps are enough it is never stopped, and never late
+pub record LinePlayed (tells : Type 0) (counts : List ℕ) (old : PlayerState) (line : Line) (said : List Reply) (blocks : List (List ℕ)) (steps : List Step) (new : PlayerState) : Type 0 where
+  pub plays : Plays tells counts old line said blocks steps new
   pub happened : HasHappened tells old.machine new.machine
   pub by_map : tells → UsesOwn old → names_command line ≡ true
       → (words : List ℕ) × (said ≡ said_at (step_of new) (words ∷ [])) × Mapped (budget_of old) old.machine line words new.machine
-  pub cause : UsesOwn old → names_command line ≡ true → SaysHardware said → Rose old.machine.device.store.flash.faults new.machine.device.store.flash.faults
+  pub by_shadow : tells → UsesShadow old → names_command line ≡ true
+      → (words : List ℕ) × (said ≡ said_at (step_of new) (words ∷ [])) × ShadowMapped (budget_of old) old.machine line words new.machine
+  pub cause : UsesEither old → names_command line ≡ true → SaysHardware said → Rose old.machine.device.store.flash.faults new.machine.device.store.flash.faults
   pub enough : UsesOwn old → names_command line ≡ true → enough_steps (client_of old).timings ≤ budget_of old → (SaysStopped said → ⊥) × (SaysLate said → ⊥)
+  pub enough_by_shadow : tells → UsesShadow old → names_command line ≡ true → enough_steps (client_of old).timings ≤ budget_of old → (SaysStopped said → ⊥) × (SaysLate said → ⊥)
   -- and power lost in it leaves the records from before it, or as it leaves them where nothing fails
-  pub leaves : tells → (names_command line ≡ true → UsesOwn old) → IsOwnLine line → LineLeaves (client_of old).range old.machine line new.machine
+  pub leaves : tells → (names_command line ≡ true → UsesEither old) → IsOwnLine line → steps ≡ [] → LineLeaves (client_of old).range old.machine line new.machine
+  -- but where it made turns of the bridge, each of these is shown, and each block that they stored stays stored
+  pub turned : tells → old.own ≡ own_client old.machine → TurnsShown old.bridge old.machine steps new.machine
 
 -- why a line was stopped, and what it left: a restart that the flash failed, or want of memory for a table, which leaves all as it was
 abbrev pub Stops : Type 0 → PlayerState → Line → PlayerState → PlayStop → Type 0
 Stops tells old line new SinkFault = ⊥
 Stops tells old line new FlashFault = (machine : MachineState) × FailsRestart tells old.machine line machine × HasHappened tells old.machine machine
     × Rose old.machine.device.store.flash.faults machine.device.store.flash.faults × (new ≡ with_machine machine old)
-Stops tells old line new Memory = (new ≡ old) × ((hex : List ℕ) × (line ≡ table hex))
+Stops tells old line new Memory = (new ≡ old) × (((hex : List ℕ) × (line ≡ table hex)) ⊎ (line ≡ shadow_table))
 
 -- the listeners, before and after they were told of some blocks, each in its place
 abbrev pub Told : {L : Type 0} → (L → Hearing) → List (List ℕ) → List L → List L → Type 0
@@ -168,7 +172,8 @@ pub record PlaysLine {L : Type 0} (hearing : L → Hearing) (tells told_sink : T
     (old new : PlayerState) (members members_now : List L) (line : Line) (written written_now : List ℕ) : Type 0 where
   pub said : List Reply
   pub blocks : List (List ℕ)
-  pub played : LinePlayed tells (counts_of hearing members) old line said blocks new
+  pub steps : List Step
+  pub played : LinePlayed tells (counts_of hearing members) old line said blocks steps new
   pub told : Told hearing blocks members members_now
   pub text : told_sink → written_now ≡ written ++ text_of_replies said
 
@@ -189,6 +194,8 @@ pub data LeftIn : Line → Line → List Reply → List Reply → Reply → Type
   InList : (before : List Reply) (last : Reply) (behind : List Reply) → LeftIn bert bert (before ++ last ∷ behind) before last
   InTurns : (letters behind : List ℕ) (events : List TurnEvent) (step : ℕ) (before : List Reply) (last : Reply)
       → LeftIn (turns (letters ++ behind)) (turns letters) (before ++ last ∷ at_step step (words_of_turns (events ++ Took ∷ [])) ∷ []) before last
+  InBridged : (letters behind : List ℕ) (steps : List Step) (step : Step) (changes : ℕ) (before : List Reply) (last : Reply) → step.turn ≡ OfBridge (ByReader Took)
+      → LeftIn (turns (letters ++ behind)) (turns letters) (before ++ last ∷ at_step changes (words_of_steps (steps ++ step ∷ [])) ∷ []) before last
 
 -- replies were written, and of one more a part
 abbrev pub PartlyWritten : List Reply → Reply → List ℕ → List ℕ → Type 0
@@ -203,7 +210,8 @@ pub record PlaysUnheard {L : Type 0} (hearing : L → Hearing) (tells told_sink 
   pub last : Reply
   pub left : LeftIn line made said before last
   pub blocks : List (List ℕ)
-  pub played : LinePlayed tells (counts_of hearing members) old made said blocks new
+  pub steps : List Step
+  pub played : LinePlayed tells (counts_of hearing members) old made said blocks steps new
   pub told : Told hearing blocks members members_now
   pub text : told_sink → PartlyWritten before last written written_now
 

@@ -9,6 +9,8 @@ use Rattle.erst_client.specs.Attaching.{Attaches}
 use Rattle.erst_client.specs.Commands.{ClientState}
 use Rattle.erst_machine.specs.MachineState.{MachineState}
 use Rattle.erst_machine.specs.Allowed.{Allows}
+use Rattle.erst_shadow.specs.ShadowTables.{shadow_erst}
+use Rattle.erst_shadow.specs.ShadowCommands.{pieces_in, shadow_client, AttachesShadow}
 use Rattle.apei_script.specs.Words.{words_of_table, words_of_no_table, words_of_no_client}
 
 -- the steps that attaching to a table is given
@@ -24,6 +26,14 @@ pub record BeginsWith (erst : Erst) (bytes : List ℕ) : Type 0 where
   pub is : IsErst erst table_bytes
   pub sound : refusal bytes ≡ None
   pub only : (other : Erst) (table rest : List ℕ) → bytes ≡ table ++ rest → FitsErst other → IsErst other table → other ≡ erst
+
+-- A client was attached to the machine's second table, which never fails: beside bytes of the scratch memory all that it leaves is the
+-- timings in VALUE
+pub record GivesShadow (tells : Type 0) (old new : MachineState) : Type 0 where
+  pub left : ℕ
+  pub attaches : Attaches (Allows tells) (shadow_erst (pieces_in old)) ATTACH_STEPS old (Ok (shadow_client old)) left new
+  pub attached : AttachesShadow ATTACH_STEPS old (Ok (shadow_client old)) left new
+  pub reaches : Reaches (Allows tells) old new
 
 -- the machine before, the client that a line gave before, the bytes of this line, the words of its reply, and machine and client
 -- afterwards. Bytes that begin with no table are refused, and where no client attaches to it, the client stays

@@ -6,6 +6,7 @@ ghost use Rattle.line_grammar.specs.Parts.{IsPairs};
 
 use crate::reply::Reply;
 use apei_bytes::Memory;
+use bridge_turns::MadeTurn;
 use ghes_ack::Event;
 use line_grammar::LONGEST_BYTES;
 use script_text::decode;
@@ -14,14 +15,16 @@ use std::alloc::Global;
 /// The most turns of a line.
 const MOST_TURNS: usize = 4096;
 
-/// The bytes that a line stands for or shows, its reply, and the events of its turns.
+/// The bytes that a line stands for or shows, its reply, the events of its turns, and what they did where the bridge was on.
 #[derive(Drop)]
 pub struct Buffers {
     pub bytes: Vec<u8>,
     pub reply: Reply,
     pub events: Vec<Event>,
+    pub made: Vec<MadeTurn>,
     ghost size: { vec_len bytes ≡ LONGEST_BYTES },
     ghost room: { 4096 ≤ vec_capacity events },
+    ghost room_made: { 4096 ≤ vec_capacity made },
 }
 
 impl Buffers {
@@ -33,6 +36,7 @@ impl Buffers {
             bytes: vec![in alloc; 0u8; LONGEST_BYTES]?,
             reply: Reply::new(alloc)?,
             events: Vec::with_capacity(alloc, MOST_TURNS)?,
+            made: Vec::with_capacity(alloc, MOST_TURNS)?,
         })
     }
     /// The first bytes become those of a line's hexadecimal digits; their number is answered.

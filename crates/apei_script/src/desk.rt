@@ -7,6 +7,7 @@ ghost use Rattle.apei_script.specs.Desks.{state_of, MakesReply};
 
 use crate::buffers::Buffers;
 use crate::player::PlayStop;
+use erst_bridge::Bridge;
 use erst_client::Client;
 use erst_machine::Machine;
 use flash_model::Flash;
@@ -21,6 +22,7 @@ pub struct Desk<F: Flash> {
     pub other: Option<Client>,
     /// The steps that each line is given; `None` for as many as are enough.
     pub steps: Option<u64>,
+    pub bridge: Bridge,
     pub buffers: Buffers,
     pub alloc: Global,
 }
@@ -39,6 +41,7 @@ impl<F: Flash> Desk<F> {
                 self.use_own_table();
                 Ok(())
             }
+            ScriptLine::TableShadow => self.use_shadow_table(),
             ScriptLine::Error { hex } => {
                 self.give_block(hex);
                 Ok(())
@@ -49,6 +52,10 @@ impl<F: Flash> Desk<F> {
             }
             ScriptLine::Peek { at, len } => {
                 self.show_bytes(*at, *len);
+                Ok(())
+            }
+            ScriptLine::Bridge { id } => {
+                self.enter_bridge(*id);
                 Ok(())
             }
             ScriptLine::Reset => self.reset(),
@@ -69,6 +76,7 @@ impl<F: Flash> Desk<F> {
             return Err(PlayStop::FlashFault);
         };
         self.other = None;
+        self.bridge.leave();
         self.buffers.reply.begin(b"reset ");
         self.buffers.reply.add_number(u64::from(records));
         Ok(())
@@ -83,6 +91,7 @@ impl<F: Flash> Desk<F> {
             return Err(PlayStop::FlashFault);
         };
         self.other = None;
+        self.bridge.leave();
         self.buffers.reply.begin(b"power ");
         self.buffers.reply.add_number(u64::from(records));
         Ok(())

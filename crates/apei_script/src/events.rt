@@ -34,6 +34,7 @@ pub fn turns<F: Flash, O: Sink>(
     ensures occurred { OnOk result (AreTurned hearing F.tells O.tells desk.old chain.old letters.now desk.new chain.new (O.written out.old) (O.written out.new)) }
     ensures unheard { OnErr result (AreTurnedUnheard hearing F.tells O.tells desk.old chain.old letters.now desk.new chain.new (O.written out.old) (O.written out.new)) }
     ensures clients { SameClients desk.old desk.new }
+    ensures bridge { desk.new.bridge ≡ desk.old.bridge }
     ensures cause { HasCause (O.faults out.old) (O.faults out.new) result }
 {
     desk.buffers.events.clear();
@@ -65,7 +66,7 @@ fn turn<F: Flash>(machine: &mut Machine<F>, letter: u8) -> Event
 const SEVERITY: usize = 16;
 
 /// Tells the listeners of the block that was taken last, and writes its line.
-fn hear_of_block<F: Flash, O: Sink>(
+pub fn hear_of_block<F: Flash, O: Sink>(
     desk: &mut Desk<F>,
     chain: &mut Chain,
     out: &mut O,
@@ -76,7 +77,9 @@ fn hear_of_block<F: Flash, O: Sink>(
     ensures part { OnErr result (O.tells → (n : ℕ) × (O.written out.new ≡ O.written out.old ++ take n (reply_at (changes_in desk.old.machine) (words_of_block desk.old.machine.handover.last)))) }
     ensures machine { desk.new.machine ≡ desk.old.machine }
     ensures clients { SameClients desk.old desk.new }
+    ensures bridge { desk.new.bridge ≡ desk.old.bridge }
     ensures events { desk.new.buffers.events ≡ desk.old.buffers.events }
+    ensures made { desk.new.buffers.made ≡ desk.old.buffers.made }
     ensures cause { HasCause (O.faults out.old) (O.faults out.new) result }
 {
     let step = desk.machine.steps();
@@ -106,6 +109,7 @@ pub fn list_blocks<F: Flash, O: Sink>(desk: &mut Desk<F>, out: &mut O) -> Result
     ensures unheard { OnErr result (ListsUnheard F.tells O.tells desk.old.machine (O.written out.old) (O.written out.new)) }
     ensures machine { desk.new.machine ≡ desk.old.machine }
     ensures clients { SameClients desk.old desk.new }
+    ensures bridge { desk.new.bridge ≡ desk.old.bridge }
     ensures cause { HasCause (O.faults out.old) (O.faults out.new) result }
 {
     desk.machine.stands();
@@ -150,6 +154,7 @@ fn show_block<F: Flash, O: Sink>(
         ++ take n (reply_at (changes_in desk.old.machine) (words_of_block (part desk.old.machine.memory.region at (next - at)))))) }
     ensures machine { desk.new.machine ≡ desk.old.machine }
     ensures clients { SameClients desk.old desk.new }
+    ensures bridge { desk.new.bridge ≡ desk.old.bridge }
     ensures cause { HasCause (O.faults out.old) (O.faults out.new) result }
 {
     let step = desk.machine.steps();
@@ -201,6 +206,7 @@ fn end_list<F: Flash, O: Sink>(desk: &mut Desk<F>, count: u64, out: &mut O) -> R
     ensures part { OnErr result (O.tells → (n : ℕ) × (O.written out.new ≡ O.written out.old ++ take n (reply_at (changes_in desk.old.machine) (words_of_bert count)))) }
     ensures machine { desk.new.machine ≡ desk.old.machine }
     ensures clients { SameClients desk.old desk.new }
+    ensures bridge { desk.new.bridge ≡ desk.old.bridge }
     ensures cause { HasCause (O.faults out.old) (O.faults out.new) result }
 {
     let step = desk.machine.steps();

@@ -1,21 +1,31 @@
 // Laws on whole histories: the functions do nothing, and their clauses are the laws.
-ghost use Rattle.std.specs.Prelude.{◌≡◌, ℕ, ◌≤◌, Bool, List, Option, None};
+ghost use Rattle.std.specs.Prelude.{◌≡◌, ℕ, ◌≤◌, Bool, List, Option};
 ghost use Rattle.flash_words.specs.Flash.{CrashImage, IsLater, FlashState};
 ghost use Rattle.flash_model.specs.declared.geometry.Geometry.{Geometry as AnyGeometry};
 ghost use Rattle.flash_model.specs.Layouts.{layout_of};
-ghost use Rattle.record_model.specs.Records.{second_copies};
+ghost use Rattle.record_model.specs.Records.{Stored, second_copies};
 ghost use Rattle.record_store.specs.Store.{records_of as records_in};
 ghost use Rattle.apei_space.specs.Accesses.{Move, Trail};
-ghost use Rattle.erst_machine.specs.MachineState.{MachineState, IsMachine, told_of};
+ghost use Rattle.erst_machine.specs.MachineState.{MachineState, IsMachine, records_of, told_of};
 ghost use Rattle.erst_machine.specs.Events.{Event, Happens};
 ghost use Rattle.erst_machine.specs.Shown.{IsShown, made_by_event, changes_of, shown_by};
 ghost use Rattle.erst_commands.specs.Attached.{own_client};
 ghost use Rattle.erst_twins.specs.Alike.{AlikeMachines, FailedNothing, BootsFrom};
-ghost use Rattle.apei_script.specs.Players.{PlayerState};
-ghost use Rattle.apei_script.specs.Plays.{HasHappened};
+ghost use Rattle.apei_script.specs.Players.{PlayerState, GivenNoOther};
+ghost use Rattle.script_text.specs.ScriptGrammar.{Line};
+ghost use Rattle.bridge_durability.specs.Turns.{Step};
+ghost use Rattle.bridge_durability.specs.InStep.{KeepOrder};
+ghost use Rattle.apei_script.specs.Words.{Reply};
+ghost use Rattle.apei_script.specs.Plays.{Plays, HasHappened};
+ghost use Rattle.apei_script.specs.KeptCauses.{AllHaveCauses};
+ghost use Rattle.apei_script.specs.Orders.{IsInStep, AlwaysInStep};
+ghost use Rattle.bridge_durability.specs.Shown.{IsStoredAs};
+ghost use Rattle.apei_script.specs.Spares.{SpareLines, KeepsAll};
 ghost use Rattle.apei_script.specs.Alike.{AlikePlayers, own_player, WantAlike, lines_in, PlayedAlike};
-ghost use Rattle.apei_script.specs.History.{Played, Follows, EndInOrder, ShowsLines, ShowsEachLine, AreOwnLines, AreMapped, NoneSaysHardware, AllGoThrough, AlwaysUsesOwn};
+ghost use Rattle.apei_script.specs.History.{Played, Follows, EndInOrder, ShowsLines, ShowsEachLine, AreOwnLines, AreMapped, NoneSaysHardware, AllGoThrough, AlwaysUsesEither};
 
+use bridge_twins::alike_machines_make_turns_alike;
+use erst_commands::own_programs_run_through;
 use flash_model::Flash;
 
 /// Whatever the lines of a script do to the machine is one list of accesses, restarts, calls of the handover and fatal blocks, in their
@@ -42,7 +52,7 @@ pub fn lines_keep_a_machine<F: Flash>()
 {}
 
 /// Lines end one after another. At the step at which each one ended the flash's image showed the records that it leaves, and past images
-/// stay. In a script of the machine's own client, power lost at any flash step shows the records after the lines that had ended by then, or
+/// stay. In a script of the clients of the machine's two tables, power lost at any flash step shows the records after the lines that had ended by then, or
 /// as the next one leaves them where nothing fails.
 pub fn lines_are_shown<F: Flash>()
     ensures ends { F.tells → (wants : List (ℕ → Bool)) (counts : List ℕ) (first : PlayerState) (played : List Played) (last : PlayerState)
@@ -51,15 +61,49 @@ pub fn lines_are_shown<F: Flash>()
     ensures in_order { F.tells → (wants : List (ℕ → Bool)) (counts : List ℕ) (first : PlayerState) (played : List Played) (last : PlayerState)
         → Follows F.tells wants counts first played last → EndInOrder (changes_of first.machine) played (changes_of last.machine) }
     ensures crash { F.tells → (wants : List (ℕ → Bool)) (counts : List ℕ) (first : PlayerState) (played : List Played) (last : PlayerState)
-        → first.own ≡ own_client first.machine → first.other ≡ None → AreOwnLines played
+        → first.own ≡ own_client first.machine → GivenNoOther first → AreOwnLines played
         → Follows F.tells wants counts first played last
         → (s : ℕ) (image : List ℕ) → changes_of first.machine ≤ s → CrashImage (told_of last.machine) s image
         → ShowsLines s first played (shown_by first.machine image) }
 {}
 
-/// Each line that asks the machine's own client for a command on records is the record map's; where no fault was counted none says that
-/// the flash failed; where its steps are enough none is stopped or late; and a script that neither runs an action nor gives a table never
-/// leaves the machine's own client.
+/// A record that is stored is shown by power lost at any step from then on, as long as no line and no turn of the bridge writes or clears
+/// its identifier; so is the record of each block that the bridge stored, from the end of the turn that stored it on.
+pub fn stored_blocks_stay<F: Flash>()
+    ensures records { F.tells → (wants : List (ℕ → Bool)) (counts : List ℕ) (first : PlayerState) (played : List Played) (last : PlayerState)
+        → IsMachine first.machine → first.own ≡ own_client first.machine → GivenNoOther first → AreOwnLines played
+        → Follows F.tells wants counts first played last → (id : ℕ) (bytes : List ℕ) → SpareLines id first played → IsStoredAs id bytes (records_of first.machine)
+        → (s : ℕ) (shown : Stored) → ShowsLines s first played shown → IsStoredAs id bytes shown }
+    ensures stored { F.tells → (wants : List (ℕ → Bool)) (counts : List ℕ) (first : PlayerState) (played : List Played) (last : PlayerState)
+        → IsMachine first.machine → first.own ≡ own_client first.machine → GivenNoOther first → AreOwnLines played
+        → Follows F.tells wants counts first played last
+        → (s : ℕ) (shown : Stored) → (changes_of first.machine ≤ s → ShowsLines s first played shown) → KeepsAll s first played shown }
+{
+    own_programs_run_through::<F>();
+}
+
+/// A bridge that is on stays in step with the handover, whatever the tables and actions of the lines; and in each line of turns the reader
+/// gives a block back behind the storing of its record.
+pub fn lines_keep_in_step<F: Flash>()
+    ensures line { (counts : List ℕ) (old : PlayerState) (line : Line) (said : List Reply) (blocks : List (List ℕ)) (steps : List Step) (new : PlayerState)
+        → IsMachine old.machine → Plays F.tells counts old line said blocks steps new → IsInStep old → KeepOrder old.bridge steps × IsInStep new }
+    ensures lines { (wants : List (ℕ → Bool)) (counts : List ℕ) (first : PlayerState) (played : List Played) (last : PlayerState)
+        → IsMachine first.machine → Follows F.tells wants counts first played last → IsInStep first → AlwaysInStep first played }
+{}
+
+/// A turn of the bridge keeps a block for a failure of the flash only where the flash's count of faults rose in that very turn, and where
+/// its steps are enough, never for want of steps or of time.
+pub fn kept_blocks_have_causes<F: Flash>()
+    ensures { (wants : List (ℕ → Bool)) (counts : List ℕ) (first : PlayerState) (played : List Played) (last : PlayerState)
+        → IsMachine first.machine → first.own ≡ own_client first.machine
+        → Follows F.tells wants counts first played last → AllHaveCauses first played }
+{
+    own_programs_run_through::<F>();
+}
+
+/// Each line that asks the client of one of the machine's two tables for a command on records is the record map's; where no fault was counted
+/// none says that the flash failed; where its steps are enough none is stopped or late; and a script that neither runs an action nor gives a
+/// table of its own never leaves these two clients.
 pub fn each_line_is_the_maps<F: Flash>()
     ensures mapped { F.tells → (wants : List (ℕ → Bool)) (counts : List ℕ) (first : PlayerState) (played : List Played) (last : PlayerState)
         → Follows F.tells wants counts first played last → AreMapped first played }
@@ -67,9 +111,9 @@ pub fn each_line_is_the_maps<F: Flash>()
         → Follows F.tells wants counts first played last → FailedNothing first.machine last.machine → NoneSaysHardware first played }
     ensures enough { (wants : List (ℕ → Bool)) (counts : List ℕ) (first : PlayerState) (played : List Played) (last : PlayerState)
         → Follows F.tells wants counts first played last → AllGoThrough first played }
-    ensures own { (wants : List (ℕ → Bool)) (counts : List ℕ) (first : PlayerState) (played : List Played) (last : PlayerState)
-        → first.own ≡ own_client first.machine → first.other ≡ None → AreOwnLines played
-        → Follows F.tells wants counts first played last → AlwaysUsesOwn first played }
+    ensures either { (wants : List (ℕ → Bool)) (counts : List ℕ) (first : PlayerState) (played : List Played) (last : PlayerState)
+        → first.own ≡ own_client first.machine → GivenNoOther first → AreOwnLines played
+        → Follows F.tells wants counts first played last → AlwaysUsesEither first played }
 {}
 
 /// Players of the machines' own clients are alike where the machines are.
@@ -85,7 +129,9 @@ pub fn scripts_play_alike<F: Flash>()
         → Follows F.tells wants counts one first one_last → FailedNothing one.machine one_last.machine
         → Follows F.tells wants_too counts also second also_last → FailedNothing also.machine also_last.machine
         → PlayedAlike first second one_last also_last }
-{}
+{
+    alike_machines_make_turns_alike::<F>();
+}
 
 /// So the replies to a script tell of a flash only the records that it holds, with their generations, how many changes it has made, and
 /// how many second copies the boot ends: two flashes with the same of these, each with a machine booted over it and a player of its own
@@ -99,4 +145,6 @@ pub fn booted_scripts_play_alike<F: Flash>()
         → Follows F.tells wants counts (own_player one steps) first one_last → FailedNothing one one_last.machine
         → Follows F.tells wants counts (own_player also steps) second also_last → FailedNothing also also_last.machine
         → PlayedAlike first second one_last also_last }
-{}
+{
+    alike_machines_make_turns_alike::<F>();
+}

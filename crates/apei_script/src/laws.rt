@@ -5,6 +5,7 @@ ghost use Rattle.apei_space.specs.Accesses.{Move, Trail};
 ghost use Rattle.erst_machine.specs.MachineState.{MachineState, IsMachine};
 ghost use Rattle.erst_machine.specs.Events.{Event, Happens};
 ghost use Rattle.erst_client.specs.declared.errors.ClientError.{ClientError as AnyError};
+ghost use Rattle.bridge_durability.specs.Turns.{Step};
 ghost use Rattle.script_text.specs.ScriptGrammar.{Line, IsValid, count};
 ghost use Rattle.apei_script.specs.Players.{PlayerState};
 ghost use Rattle.apei_script.specs.Words.{Reply, said_at, words_of_count};
@@ -26,8 +27,8 @@ pub fn events_take_their_changes<F: Flash>()
 
 /// Whatever was played of a line is all that `LinePlayed` says of it.
 pub fn a_line_is_the_maps<F: Flash>()
-    ensures { (counts : List ℕ) (old : PlayerState) (line : Line) (said : List Reply) (blocks : List (List ℕ)) (new : PlayerState)
-        → IsMachine old.machine → IsValid line → Plays F.tells counts old line said blocks new → LinePlayed F.tells counts old line said blocks new }
+    ensures { (counts : List ℕ) (old : PlayerState) (line : Line) (said : List Reply) (blocks : List (List ℕ)) (steps : List Step) (new : PlayerState)
+        → IsMachine old.machine → IsValid line → Plays F.tells counts old line said blocks steps new → LinePlayed F.tells counts old line said blocks steps new }
 {
     own_programs_run_through::<F>();
 }
@@ -40,18 +41,18 @@ pub fn a_failed_restart_has_happened<F: Flash>()
 
 /// A line leads from a machine's state to a machine's state, and keeps how the flash is divided, the first client and the steps of lines.
 pub fn a_line_keeps_a_machine<F: Flash>()
-    ensures machine { (counts : List ℕ) (old : PlayerState) (line : Line) (said : List Reply) (blocks : List (List ℕ)) (new : PlayerState)
-        → IsMachine old.machine → Plays F.tells counts old line said blocks new → IsMachine new.machine }
-    ensures layout { (counts : List ℕ) (old : PlayerState) (line : Line) (said : List Reply) (blocks : List (List ℕ)) (new : PlayerState)
-        → Plays F.tells counts old line said blocks new → new.machine.device.store.layout ≡ old.machine.device.store.layout }
-    ensures own { (counts : List ℕ) (old : PlayerState) (line : Line) (said : List Reply) (blocks : List (List ℕ)) (new : PlayerState)
-        → Plays F.tells counts old line said blocks new → new.own ≡ old.own }
-    ensures steps { (counts : List ℕ) (old : PlayerState) (line : Line) (said : List Reply) (blocks : List (List ℕ)) (new : PlayerState)
-        → Plays F.tells counts old line said blocks new → new.steps ≡ old.steps }
+    ensures machine { (counts : List ℕ) (old : PlayerState) (line : Line) (said : List Reply) (blocks : List (List ℕ)) (steps : List Step) (new : PlayerState)
+        → IsMachine old.machine → Plays F.tells counts old line said blocks steps new → IsMachine new.machine }
+    ensures layout { (counts : List ℕ) (old : PlayerState) (line : Line) (said : List Reply) (blocks : List (List ℕ)) (steps : List Step) (new : PlayerState)
+        → Plays F.tells counts old line said blocks steps new → new.machine.device.store.layout ≡ old.machine.device.store.layout }
+    ensures own { (counts : List ℕ) (old : PlayerState) (line : Line) (said : List Reply) (blocks : List (List ℕ)) (steps : List Step) (new : PlayerState)
+        → Plays F.tells counts old line said blocks steps new → new.own ≡ old.own }
+    ensures steps { (counts : List ℕ) (old : PlayerState) (line : Line) (said : List Reply) (blocks : List (List ℕ)) (steps : List Step) (new : PlayerState)
+        → Plays F.tells counts old line said blocks steps new → new.steps ≡ old.steps }
 {}
 
 /// The reply to a line that counts the records tells their number, or why it was refused.
 pub fn a_count_tells_a_number<F: Flash>()
-    ensures { (counts : List ℕ) (old : PlayerState) (words : List ℕ) (new : PlayerState) → Plays F.tells counts old count (said_at (step_of new) (words ∷ [])) [] new
+    ensures { (counts : List ℕ) (old : PlayerState) (words : List ℕ) (new : PlayerState) → Plays F.tells counts old count (said_at (step_of new) (words ∷ [])) [] [] new
         → (answer : Result ℕ AnyError) × (words ≡ words_of_count answer) }
 {}

@@ -2,6 +2,7 @@
 #![tactic(auto)]
 
 mod blocks;
+mod bridged;
 mod buffers;
 mod commands;
 mod desk;
@@ -16,7 +17,8 @@ mod tables;
 
 pub use history::{
     alike_machines_make_alike_players, booted_scripts_play_alike, each_line_is_the_maps,
-    lines_are_one_list, lines_are_shown, lines_keep_a_machine, scripts_play_alike,
+    kept_blocks_have_causes, lines_are_one_list, lines_are_shown, lines_keep_a_machine,
+    lines_keep_in_step, scripts_play_alike, stored_blocks_stay,
 };
 pub use laws::{
     a_count_tells_a_number, a_failed_restart_has_happened, a_line_is_the_maps,

@@ -1,22 +1,26 @@
 // The player.
-ghost use Rattle.std.specs.Prelude.{◌≡◌, ◌≢◌, true, Ok, Err, OnOk, IfOk, IfErr};
-ghost use Rattle.base_model.specs.Faults.{Rose};
+ghost use Rattle.std.specs.Prelude.{◌≡◌, ◌≢◌, ◌≤◌, length, true, Ok, Err, OnOk, OnErr, IfOk, IfErr};
+ghost use Rattle.base_model.specs.Faults.{Rose, HasCause};
+ghost use Rattle.script_text.specs.ScriptGrammar.{turns as turns_of};
 ghost use Rattle.script_text.specs.ScriptText.{line_of};
 ghost use Rattle.apei_notify.specs.Chains.{members_of};
 ghost use Rattle.apei_script.specs.declared.player.PlayStop.TheVariants.{SinkFault as TheSinkFault, Memory as TheMemory};
 ghost use Rattle.apei_script.specs.Players.{player_of};
+ghost use Rattle.erst_bridge.specs.Bridges.{Off};
 ghost use Rattle.erst_machine.specs.MachineState.{IsMachine};
 ghost use Rattle.erst_machine.specs.Shown.{changes_of};
 ghost use Rattle.apei_script.specs.Plays.{IsPlayable, Stops, step_of, has_one_reply};
 ghost use Rattle.apei_script.specs.Desks.{state_of, LineAnswered};
 ghost use Rattle.apei_script.specs.Played.{IsPlayed, IsUnheard, IsStopped};
 
+use crate::bridged::bridged_turns;
 use crate::buffers::Buffers;
 use crate::desk::Desk;
 use crate::events::{list_blocks, say_heard, turns};
 use crate::laws::a_line_is_the_maps;
 use apei_bytes::{Memory, Sink, SinkFault, write_all};
 use apei_notify::{Chain, Listener};
+use erst_bridge::Bridge;
 use erst_client::Client;
 use erst_machine::Machine;
 use flash_model::Flash;
@@ -79,7 +83,7 @@ impl<F: Flash> Player<F> {
         ensures machine_back { IfErr result (λ refused. (refused.machine ≡ machine) × (refused.own ≡ own)) }
         ensures listeners_back { IfErr result (λ refused. members_of refused.chain ≡ members_of chain) }
     {
-        let Ok(buffers) = Buffers::new(alloc) else {
+        let Ok((buffers, bridge)) = take_memory(alloc) else {
             return Err(PlayerRefused {
                 machine,
                 own,
@@ -91,6 +95,7 @@ impl<F: Flash> Player<F> {
             own,
             other: None,
             steps,
+            bridge,
             buffers,
             alloc,
         };
@@ -108,7 +113,7 @@ impl<F: Flash> Player<F> {
     {
         match line {
             ScriptLine::Blank => {}
-            ScriptLine::Turns { letters } => turns(&mut self.desk, &mut self.chain, letters, out)?,
+            ScriptLine::Turns { letters } => self.make_turns(letters, out)?,
             ScriptLine::Bert => list_blocks(&mut self.desk, out)?,
             ScriptLine::Heard => say_heard(&mut self.desk, &self.chain, out)?,
             line => {
@@ -117,6 +122,20 @@ impl<F: Flash> Player<F> {
             }
         }
         Ok(())
+    }
+
+    /// Makes the turns of a line: while the bridge is on, those of the reader are the bridge's.
+    fn make_turns<O: Sink>(&mut self, letters: &[u8], out: &mut O) -> Result<(), SinkFault>
+        requires { length letters.now ≤ 4096 }
+        ensures played { OnOk result (IsPlayed hearing F.tells O.tells self.old (turns_of letters.now) self.new (O.written out.old) (O.written out.new)) }
+        ensures unheard { OnErr result (IsUnheard hearing F.tells O.tells self.old (turns_of letters.now) self.new (O.written out.old) (O.written out.new)) }
+        ensures cause { HasCause (O.faults out.old) (O.faults out.new) result }
+    {
+        if self.desk.bridge.is_on() {
+            bridged_turns(&mut self.desk, &mut self.chain, letters, out)
+        } else {
+            turns(&mut self.desk, &mut self.chain, letters, out)
+        }
     }
 
     /// Plays a line of one reply that the listeners have no part in, and keeps the reply, which `reply` shows.
@@ -169,9 +188,17 @@ impl<F: Flash> Player<F> {
             own: _,
             other: _,
             steps: _,
+            bridge: _,
             buffers: _,
             alloc: _,
         } = desk;
         (machine, chain)
     }
+}
+
+/// The memory of a player: that in which lines are carried out, and that of the bridge, which is off.
+fn take_memory(alloc: Global) -> Result<(Buffers, Bridge), Memory>
+    ensures { IfOk result (λ memory. memory.1 ≡ Off) }
+{
+    Ok((Buffers::new(alloc)?, Bridge::new(alloc)?))
 }

@@ -56,6 +56,13 @@ impl Reply {
         self.text.len() > LONGEST - 64
     }
 
+    /// Whether there is room for the words of any turn.
+    pub fn has_room(&self) -> bool
+        ensures { IsTrue result ↔ (length self.now ≤ 131000) }
+    {
+        self.text.len() <= LONGEST - 264
+    }
+
     /// Begins a reply by some words.
     pub fn begin(&mut self, words: &[u8])
         requires { length words.now ≤ 64 }

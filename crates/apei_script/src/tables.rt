@@ -2,7 +2,7 @@
 ghost use Rattle.std.specs.Prelude.{◌≡◌, ◌≤◌, length, OnOk, IfErr};
 ghost use Rattle.line_grammar.specs.declared.lengths.TheConstants.{LONGEST_LINE};
 ghost use Rattle.line_grammar.specs.Parts.{IsPairs};
-ghost use Rattle.script_text.specs.ScriptGrammar.{table, own_table};
+ghost use Rattle.script_text.specs.ScriptGrammar.{table, own_table, shadow_table};
 ghost use Rattle.apei_script.specs.Plays.{Stops};
 ghost use Rattle.apei_script.specs.Desks.{state_of, MakesReply};
 
@@ -12,6 +12,7 @@ use crate::refusals::{refuse, refuse_behind};
 use erst_client::Client;
 use erst_entries::{ErstError, ErstTable};
 use erst_interp::Budget;
+use erst_shadow::{attaching_never_fails, shadow_table};
 use flash_model::Flash;
 
 /// The steps that attaching to a table is given.
@@ -46,6 +47,27 @@ impl<F: Flash> Desk<F> {
             Err(error) => refuse(&mut self.buffers.reply, &error),
         }
         Ok(())
+    }
+
+    /// Attaches a client to the machine's table whose own programs move the record: it takes the place of the one that a line gave before.
+    pub fn use_shadow_table(&mut self) -> Result<(), PlayStop>
+        ensures made { OnOk result (MakesReply F.tells (state_of self.old) shadow_table (state_of self.new) self.new.buffers.reply) }
+        ensures stopped { IfErr result (λ stop. Stops F.tells (state_of self.old) shadow_table (state_of self.new) stop) }
+    {
+        attaching_never_fails::<F>();
+        self.machine.stands();
+        let table = shadow_table(self.alloc, self.machine.reach())?;
+        let entries = table.len() as u64;
+        let mut budget = Budget::new(ATTACH_STEPS);
+        match Client::attach(table, &mut budget, &mut self.machine) {
+            Ok(client) => {
+                self.other = Some(client);
+                self.buffers.reply.begin(b"table ");
+                self.buffers.reply.add_number(entries);
+                Ok(())
+            }
+            Err(_) => unreachable!(),
+        }
     }
 
     /// From here on the client that was attached first is in use again.

@@ -1,7 +1,5 @@
 // A player whose own client knows one entry more than the machine's table.
-ghost use Rattle.std.specs.Prelude.{◌≤◌, ◌↔◌, length, IsTrue};
-ghost use Rattle.script_text.specs.ScriptText.{line_of};
-ghost use Rattle.apei_script.specs.Plays.{IsBuilt};
+ghost use Rattle.std.specs.Prelude.{◌≤◌, length};
 
 use apei_bytes::{MemSink, put_u32, put_u64};
 use apei_gas::Gas;
@@ -86,19 +84,12 @@ fn player(alloc: Global) -> Result<Player<SimFlash>, Fail> {
     }
 }
 
-/// Whether a line can be played.
-fn is_built(line: &ScriptLine<'_>) -> bool
-    ensures { IsTrue result ↔ IsBuilt (line_of line.now) }
-{
-    !matches!(line, ScriptLine::TableShadow | ScriptLine::Bridge { .. })
-}
-
 /// Plays a line, and answers whether it could.
 fn plays(player: &mut Player<SimFlash>, text: &[u8], out: &mut MemSink) -> bool
     requires { length text.now ≤ 140_000 }
 {
     match ScriptLine::parse(text) {
-        Ok(line) => is_built(&line) && player.play(&line, out).is_ok(),
+        Ok(line) => player.play(&line, out).is_ok(),
         Err(_) => false,
     }
 }

@@ -29,7 +29,7 @@ get_put stored n record_now q = get-insert nat_cmp_total stored n record_now q �
     by_numbers x y = grind (arith, nat_tests)
 
 -- a write of another identifier leaves a record
-stored_after : (layout : Layout) (n : ℕ) (bytes : List ℕ) (stored : Records) (id : ℕ) (there : List ℕ) → id ≢ n → IsStoredAs id there stored → IsStoredAs id there (after layout (Write n bytes) stored)
+pub stored_after : (layout : Layout) (n : ℕ) (bytes : List ℕ) (stored : Records) (id : ℕ) (there : List ℕ) → id ≢ n → IsStoredAs id there stored → IsStoredAs id there (after layout (Write n bytes) stored)
 unfolding after made_by
 stored_after layout n bytes stored id there other is = by_test (is_none (refusal_of layout (Write n bytes) stored))
   where

@@ -62,7 +62,7 @@ pub record StoresHeld (id : ℕ) (bridge next : BridgeState) (new : MachineState
   pub there : IsStoredAs id (stored_record block id) (records_of new)
 
 module _ (tells : Type 0) (client : ClientState) (budget : ℕ) where
-  turn_beyond : (bridge : BridgeState) (old : MachineState) (turn : Turn) (next : BridgeState) (new : MachineState) (id : ℕ) → IsTurn tells client budget bridge old turn next new
+  pub turn_beyond : (bridge : BridgeState) (old : MachineState) (turn : Turn) (next : BridgeState) (new : MachineState) (id : ℕ) → IsTurn tells client budget bridge old turn next new
       → IsBeyond id bridge → IsBeyond id next
   turn_beyond bridge old (OfFirmware event) next new id is beyond = subst (IsBeyond id) (sym is.0) beyond
   turn_beyond bridge old (OfBridge event) next new id is beyond = elim is.1 as (λ bridge event next left new turn. IsBeyond id bridge → IsBeyond id next) [

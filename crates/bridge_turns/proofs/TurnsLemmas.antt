@@ -13,24 +13,24 @@ use Rattle.bridge_turns.specs.declared.made.SideTurn.TheVariants.{Firmware as By
 use Rattle.bridge_turns.specs.declared.made.MadeTurn.{MadeTurn}
 use Rattle.bridge_turns.specs.Made.{turn_of, told_turn, side_in, sides_in, made_by, AreCounted, MakesTurns}
 
-told_again : (turn : SideTurn) → told_turn (turn_of turn) ≡ turn
+pub told_again : (turn : SideTurn) → told_turn (turn_of turn) ≡ turn
 told_again (ByFirmware event) = refl
 told_again (ByBridge event) = refl
 
-sides_more : (steps : List Step) (step : Step) → sides_in (steps ++ step ∷ []) ≡ sides_in steps ++ side_in step.turn ∷ []
+pub sides_more : (steps : List Step) (step : Step) → sides_in (steps ++ step ∷ []) ≡ sides_in steps ++ side_in step.turn ∷ []
 sides_more [] step = refl
 sides_more (first ∷ steps) step = ap (λ (xs : List Side). side_in first.turn ∷ xs) (sides_more steps step)
 
-made_more : (steps : List Step) (step : Step) → made_by (steps ++ step ∷ []) ≡ made_by steps ++ (record { turn = told_turn step.turn; step = step.machine.device.store.flash.steps }) ∷ []
+pub made_more : (steps : List Step) (step : Step) → made_by (steps ++ step ∷ []) ≡ made_by steps ++ (record { turn = told_turn step.turn; step = step.machine.device.store.flash.steps }) ∷ []
 made_more [] step = refl
 made_more (first ∷ steps) step = ap (λ (xs : List MadeTurn). (record { turn = told_turn first.turn; step = first.machine.device.store.flash.steps }) ∷ xs) (made_more steps step)
 
-counted_more : (steps : List Step) (step : Step) → AreCounted steps → changes_of step.machine ≡ step.machine.device.store.flash.steps → AreCounted (steps ++ step ∷ [])
+pub counted_more : (steps : List Step) (step : Step) → AreCounted steps → changes_of step.machine ≡ step.machine.device.store.flash.steps → AreCounted (steps ++ step ∷ [])
 counted_more [] step are is = (is, tt)
 counted_more (first ∷ steps) step are is = (are.0, counted_more steps step are.1 is)
 
 module _ (tells : Type 0) (client : ClientState) (budget : ℕ) where
-  turns_more : (bridge : BridgeState) (first : MachineState) (steps : List Step) (mid : BridgeState) (machine : MachineState) (turn : Turn) (next : BridgeState) (new : MachineState)
+  pub turns_more : (bridge : BridgeState) (first : MachineState) (steps : List Step) (mid : BridgeState) (machine : MachineState) (turn : Turn) (next : BridgeState) (new : MachineState)
       → AreTurns tells client budget bridge first steps mid machine → IsTurn tells client budget mid machine turn next new
       → AreTurns tells client budget bridge first (steps ++ (record { turn = turn; bridge = next; machine = new }) ∷ []) next new
   turns_more bridge first [] mid machine turn next new are is =

@@ -13,7 +13,7 @@ use Rattle.apei_gen.proofs.generator.play.Goals as goal
 pub ask-requires-clause-playable : goal.ask-requires-clause-playable
 ask-requires-clause-playable g c =
     let hex : c.put_record.new.hex ≡ encode_lower (record_of c.in-Write.id c.in-Write.size) = c.put_record.ensures in
-    record { valid = subst IsPairs (sym hex) (record_pairs c.in-Write.id c.in-Write.size); built = tt; fits = first_of (omega arith, search rules) }
+    record { valid = subst IsPairs (sym hex) (record_pairs c.in-Write.id c.in-Write.size); fits = first_of (omega arith, search rules) }
 
 pub returns-in-Write-clause-asked : goal.returns-in-Write-clause-asked
 returns-in-Write-clause-asked g c =

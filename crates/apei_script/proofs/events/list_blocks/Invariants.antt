@@ -8,6 +8,7 @@ invariant-listing g l = record {
   so : ListedSoFar g.O.Sink.tells l.fn.desk.machine l.at l.count (g.O.Sink.written l.fn.out) (g.O.Sink.written l.out);
   machine : l.desk.machine ≡ l.fn.desk.machine;
   clients : SameClients l.fn.desk l.desk;
+  bridge : l.desk.bridge ≡ l.fn.desk.bridge;
   faults : g.O.Sink.faults l.out ≡ g.O.Sink.faults l.fn.out;
 }
 

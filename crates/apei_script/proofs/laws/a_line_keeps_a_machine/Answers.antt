@@ -8,7 +8,7 @@ pub returns-clause-layout : goal.returns-clause-layout
 returns-clause-layout g c = line_divides g.F.Flash.tells
 
 pub returns-clause-own : goal.returns-clause-own
-returns-clause-own g c = λ counts old line said blocks new plays. (line_own g.F.Flash.tells counts old line said blocks new plays).0
+returns-clause-own g c = λ counts old line said blocks steps new plays. (line_own g.F.Flash.tells counts old line said blocks steps new plays).0
 
 pub returns-clause-steps : goal.returns-clause-steps
-returns-clause-steps g c = λ counts old line said blocks new plays. (line_own g.F.Flash.tells counts old line said blocks new plays).1
+returns-clause-steps g c = λ counts old line said blocks steps new plays. (line_own g.F.Flash.tells counts old line said blocks steps new plays).1

@@ -1,0 +1,8 @@
+use Rattle.apei_script.proofs.OrderLemmas.{line_order, history_order}
+use Rattle.apei_script.proofs.history.lines_keep_in_step.Goals as goal
+
+pub returns-clause-line : goal.returns-clause-line
+returns-clause-line g c = line_order g.F.Flash.tells
+
+pub returns-clause-lines : goal.returns-clause-lines
+returns-clause-lines g c = history_order g.F.Flash.tells
