@@ -1,23 +1,22 @@
 -- Laws of a run over the lines of a script.
-use Rattle.std.proofs.Common.{◌≡◌, ℕ, ◌+◌, ◌^◌, ◌<◌, ◌≤◌, inl, inr, Bool, true, false, List, [], ◌∷◌, ◌++◌, length, map, take, refl, sym, ap, subst, ◌∙◌, arith, append_assoc, length-append}
-use Rattle.std.proofs.lemmas.Bool.{cases_lt}
+use Rattle.std.proofs.Common.{◌≡◌, ℕ, ◌+◌, Bool, true, false, List, [], ◌∷◌, ◌++◌, refl, sym, ap, subst, ◌∙◌, append_assoc}
 use Rattle.std.proofs.lemmas.List.{append-nil}
 use Rattle.std.specs.Prelude.{MatchBool, ◌↔◌}
 use Rattle.base_model.specs.Faults.{Rose}
 use Rattle.line_grammar.specs.Columns.{BreaksAt}
 use Rattle.erst_machine.specs.MachineState.{MachineState}
 use Rattle.bridge_durability.specs.Turns.{Step}
-use Rattle.script_text.specs.ScriptGrammar.{Line as ScriptLine, IsLine, table}
+use Rattle.script_text.specs.ScriptGrammar.{Line as ScriptLine, IsLine}
 use Rattle.script_text.specs.ScriptText.{Means}
 use Rattle.apei_notify.specs.Telling.{Hearing, counts_of, wants_of}
 use Rattle.apei_script.specs.declared.player.PlayStop.{PlayStop}
 use Rattle.apei_script.specs.declared.player.PlayStop.TheVariants.{FlashFault as RestartFailed, Memory as NoMemory}
-use Rattle.apei_script.specs.Players.{PlayerState, with_machine}
+use Rattle.apei_script.specs.Players.{PlayerState}
 use Rattle.apei_script.specs.Words.{Reply, text_of_replies}
 use Rattle.apei_script.specs.Plays.{LinePlayed, HasHappened, FailsRestart, PartlyWritten, PlaysLine, PlaysUnheard, Stops, Told, step_of}
 use Rattle.erst_machine.specs.Shown.{changes_of}
 use Rattle.apei_script.specs.History.{Played, Follows, AreCounted, blocks_of, reply_of, text_of, heard_after}
-use Rattle.script_lines.specs.Lines.{Line, Reading, lines_of, IsTooLong, IsNextLine, IsAtEnd, NextIsTooLong, HasNoLine}
+use Rattle.script_lines.specs.Lines.{Line, Reading, IsNextLine, IsAtEnd, NextIsTooLong, HasNoLine}
 use Rattle.script_lines.specs.Reads.{HasRead, StandsAt, AreReadInOrder, last_line}
 use Rattle.apei_cli.specs.Played.{CanPlay, ArePlayed}
 use Rattle.apei_cli.specs.Statuses.{StopsAt, EndsLines, LeavesLast}
