@@ -1,0 +1,2 @@
+pub mod BridgeOutlines
+pub mod StepOutlines
