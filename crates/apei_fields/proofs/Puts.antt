@@ -90,9 +90,15 @@ pub record WroteFields (old new : List ℕ) (at end : ℕ) (fields : List (List 
 pub no_field : (old : List ℕ) (at : ℕ) → at ≤ length old → WroteFields old old at at []
 no_field old at h = record { wrote = wrote_none old at h }
 
+-- and one more behind them
 pub next_field : {old mid new : List ℕ} {at m end : ℕ} {fields : List (List ℕ)} {field : List ℕ}
     → WroteFields old mid at m fields → Wrote mid new m end field → WroteFields old new at end (fields ++ field ∷ [])
 next_field {old} {mid} {new} {at} {m} {end} {fields} {field} a b = record { wrote = wrote_more old mid new at m end fields field a.wrote b }
+
+infixl 5 ◌▸◌
+pub ◌▸◌ : {old mid new : List ℕ} {at m end : ℕ} {fields : List (List ℕ)} {field : List ℕ}
+    → WroteFields old mid at m fields → Wrote mid new m end field → WroteFields old new at end (fields ++ field ∷ [])
+a ▸ b = next_field a b
 
 -- fields and then fields
 pub joined-append : (fields others : List (List ℕ)) → joined (fields ++ others) ≡ joined fields ++ joined others

@@ -68,15 +68,7 @@ header_again bytes h k start end =
     let again = λ (at n : ℕ) (within : at + n ≤ 128). spelled-number_at bytes at n h (omega arith) in
     let first : part bytes 0 4 ≡ codes "CPER" = sym (again 0 4 (omega arith)) ∙ ap (spelled 4) start ∙ spelled_signature in
     let last : part bytes 6 4 ≡ spelled 4 (2 ^ 32 - 1) = sym (again 6 4 (omega arith)) ∙ ap (spelled 4) end in
-    let a4 = again 4 2 (omega arith) in
-    let a10 = again 10 2 (omega arith) in
-    let a12 = again 12 4 (omega arith) in
-    let a16 = again 16 4 (omega arith) in
-    let a20 = again 20 4 (omega arith) in
-    let a24 = again 24 8 (omega arith) in
-    let a96 = again 96 8 (omega arith) in
-    let a104 = again 104 4 (omega arith) in
-    rw (first, last, a4, a10, a12, a16, a20, a24, a96, a104) refl
+    rw (first, last, again 4 2 (omega arith), again 10 2 (omega arith), again 12 4 (omega arith), again 16 4 (omega arith), again 20 4 (omega arith), again 24 8 (omega arith), again 96 8 (omega arith), again 104 4 (omega arith)) refl
 
 pub header_part : (bytes : List ℕ) → AreBytes bytes → 128 ≤ length bytes → number_at bytes 0 4 ≡ signature → number_at bytes 6 4 ≡ 2 ^ 32 - 1
     → joined (header (head_at bytes) (section_count bytes) (record_length bytes)) ≡ part bytes 0 128
@@ -119,14 +111,7 @@ descriptor_again : (bytes d : List ℕ) → AreBytes d → length d ≡ 72 → n
 descriptor_again bytes d h k within =
     let again = λ (at n : ℕ) (low : at + n ≤ 72). spelled-number_at d at n h (omega arith) in
     let body = length-part bytes (number_at d 0 4) (number_at d 4 4) within in
-    let a0 = again 0 4 (omega arith) in
-    let a4 = again 4 4 (omega arith) in
-    let a8 = again 8 2 (omega arith) in
-    let a10 = again 10 1 (omega arith) in
-    let a11 = again 11 1 (omega arith) in
-    let a12 = again 12 4 (omega arith) in
-    let a48 = again 48 4 (omega arith) in
-    rw (body, a0, a4, a8, a10, a11, a12, a48) refl
+    rw (body, again 0 4 (omega arith), again 4 4 (omega arith), again 8 2 (omega arith), again 10 1 (omega arith), again 11 1 (omega arith), again 12 4 (omega arith), again 48 4 (omega arith)) refl
 
 -- a section that isn't misplaced
 pub record InPlace (bytes : List ℕ) (first last index : ℕ) : Type 0 where

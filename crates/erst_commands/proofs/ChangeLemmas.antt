@@ -29,7 +29,7 @@ use Rattle.erst_commands.specs.OwnPrograms.{with_value, OwnProgramsRun}
 use Rattle.erst_commands.specs.Attached.{own_client}
 use Rattle.erst_commands.specs.Changes.{IsErrorOf, copies_first, waits_after, ChangeLeaves, ChangeCommand, IsTaken, IsRefused, IsFailed, IsStopped}
 use Rattle.erst_commands.proofs.MachineSteps.{on_device}
-use Rattle.erst_commands.proofs.SequenceLemmas.{Untouched, Opened, Opens, Halts, StillWaited, IsAtOnce, IsShort, wait_still, ended_from, status_in, HasTold, HasNotTold, HasNotWaited, HasNotAsked, sequence_ends}
+use Rattle.erst_commands.proofs.SequenceLemmas.{Untouched, Opened, StillWaited, IsAtOnce, IsShort, wait_still, ended_from, status_in, HasTold, HasNotTold, HasNotWaited, HasNotAsked, sequence_ends, opened_ok, opened_short}
 use Rattle.erst_commands.proofs.WayLemmas.{Leads, OnWay, Broken, Midway, of_way, of_broken, WayWaited, WayEnds, WayBreaks, WayStops, wait_way}
 use Rattle.erst_commands.proofs.SharedLemmas.{alike_then}
 
@@ -322,23 +322,8 @@ module _ (tells : Type 0) (own : OwnProgramsRun tells) (told : tells) (first : M
   abbrev pub IsStarted : MachineState → Type 0
   IsStarted w = (StartedChange first w id command) ⊎ (UnstartedChange first w id command)
 
-  opened_ok : (answers : List ℕ) (result : Result (List ℕ) RunStop) (left : ℕ) (w : MachineState) → result ≡ Ok answers → Opened first IsStarted 4 budget result left w → IsStarted w × (left + 4 ≡ budget)
-  opened_ok answers result left w is opened = (elim opened as (λ result left w opened. result ≡ Ok answers → IsStarted w × (left + 4 ≡ budget)) [
-    | Opens others left w holds sum ↦ λ e. (holds, sum)
-    | Halts w untouched short ↦ λ e. absurd (cc e)
-  ]) is
-
-  not_opened : (stop : RunStop) (result : Result (List ℕ) RunStop) (left : ℕ) (w : MachineState) → result ≡ Err stop → Opened first IsStarted 4 budget result left w
-      → ChangeCommand first (ended_from w) id command requests budget (Err (Stopped stop)) left
-  not_opened stop result left w is opened = (elim opened as (λ result left w opened. result ≡ Err stop → ChangeCommand first (ended_from w) id command requests budget (Err (Stopped stop)) left) [
-    | Opens others left w holds sum ↦ λ e. absurd (cc e)
-    | Halts w untouched short ↦ λ e.
-        subst (λ (s : RunStop). ChangeCommand first (ended_from w) id command requests budget (Err (Stopped s)) 0) (same_stop Budget stop e)
-        (stopped w 0 0 w.device.value 0 w (base_untouched first w untouched) (omega arith) (midway_none w _) (omega arith) (omega (arith, short)))
-  ]) is
-    where
-      same_stop : (x y : RunStop) → ◌≡◌ {A = Result (List ℕ) RunStop} (Err x) (Err y) → x ≡ y
-      same_stop x y e = cc
+  not_opened : (w : MachineState) → Untouched first w → budget < 4 → ChangeCommand first (ended_from w) id command requests budget (Err (Stopped Budget)) 0
+  not_opened w untouched short = stopped w 0 0 w.device.value 0 w (base_untouched first w untouched) (omega arith) (midway_none w _) (omega arith) (omega (arith, short))
 
   pub change_command : ((result : Result (List ℕ) RunStop) (left : ℕ) (last : MachineState) → Asks (Allows tells) own_entries requests budget first result left last → Opened first IsStarted 4 budget result left last)
       → (result : Result (Unit {0}) ClientError) (left : ℕ) (last : MachineState) → Sequence (Allows tells) own_entries (own_client first).timings requests budget first result left last
@@ -346,15 +331,16 @@ module _ (tells : Type 0) (own : OwnProgramsRun tells) (told : tells) (first : M
   change_command opens result left last sequence =
       elim (sequence_ends tells own (own_client first).timings requests budget first result left last sequence) as (λ result left last ends. ChangeCommand first last id command requests budget result left) [
         | HasTold answers asked mid waited idle left asks waits spent ↦
-            let opened = opened_ok answers (Ok answers) asked mid refl (opens (Ok answers) asked mid asks) in
+            let opened = opened_ok first IsStarted 4 budget answers (Ok answers) asked mid refl (opens (Ok answers) asked mid asks) in
             has_told mid asked waited left idle opened.0 opened.1 waits spent
         | HasNotTold answers asked mid waited idle other asks waits short either ↦
-            let opened = opened_ok answers (Ok answers) asked mid refl (opens (Ok answers) asked mid asks) in
+            let opened = opened_ok first IsStarted 4 budget answers (Ok answers) asked mid refl (opens (Ok answers) asked mid asks) in
             not_told mid asked waited idle other opened.0 opened.1 waits short either
         | HasNotWaited answers asked mid error left other asks waits ↦
-            let opened = opened_ok answers (Ok answers) asked mid refl (opens (Ok answers) asked mid asks) in
+            let opened = opened_ok first IsStarted 4 budget answers (Ok answers) asked mid refl (opens (Ok answers) asked mid asks) in
             not_waited mid asked error left other opened.0 opened.1 waits
-        | HasNotAsked stop left other asks ↦ not_opened stop (Err stop) left other refl (opens (Err stop) left other asks)
+        | HasNotAsked stop left other asks ↦
+            opened_short first IsStarted 4 budget (λ stop left w. ChangeCommand first (ended_from w) id command requests budget (Err (Stopped stop)) left) stop (Err stop) left other not_opened refl (opens (Err stop) left other asks)
       ]
     where
       still_told : (start idle : MachineState) (unstarted : UnstartedChange first start id command) (asked waited left : ℕ) (result : Result (Unit {0}) ClientError) → result ≡ Ok tt → asked + 4 ≡ budget → left + 2 ≡ waited

@@ -7,6 +7,7 @@ pub mod LimitLemmas
 pub mod LookLemmas
 pub mod AttachLemmas
 pub mod SequenceLemmas
+pub mod OpenLemmas
 pub mod WayLemmas
 pub mod ChangeLemmas
 pub mod StartLemmas

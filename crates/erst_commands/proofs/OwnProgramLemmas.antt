@@ -210,106 +210,35 @@ reads_one tells action given says c d w v does = (
       ∙ ap (λ (e : Configuration). unwrap_or e.result given) (sym does.1.0),
 )
 
+tell_bits : (tells : Type 0) → StraightRuns tells → (action : Action) (given : ℕ) (first : MachineState) (k : ℕ) → tells_value action ≡ true → stored (code_of action) 0 (2 ^ 32 - 1) % 2 ^ 32 ≡ code_of action
+    → (budget : ℕ) (result : Result ℕ RunStop) (left : ℕ) (last : MachineState) → first ≡ given_to action given first → ((value : ℕ) → answer_of action given value ≡ value % 2 ^ k)
+    → 2 ≡ steps_of own_entries action → program_of (code_of action) own_entries ≡ tell_entries action (answer action (2 ^ k - 1))
+    → Run (Allows tells) (program_of (code_of action) own_entries) given budget first result left last → OwnRun tells action given budget first result left last
+tell_bits tells law action given first k told code budget result left last same says two is run =
+    tell_run tells law action given first (answer action (2 ^ k - 1)) (answers action (2 ^ k - 1)) (serves_answer tells action (2 ^ k - 1)) told code budget result left last same (reads_bits tells action given k says) two is run
+
 -- Each program
 
-module _ (tells : Type 0) (law : StraightRuns tells) (given budget : ℕ) (first : MachineState) (result : Result ℕ RunStop) (left : ℕ) (last : MachineState) where
-  runs_begin_write : Run (Allows tells) (program_of 0x0 own_entries) given budget first result left last → OwnRun tells BeginWriteOperation given budget first result left last
-  unfolding own_entries entries_of
-  runs_begin_write run = one_run tells law BeginWriteOperation given first budget result left last refl (λ value. refl) refl refl refl run
-
-  runs_begin_read : Run (Allows tells) (program_of 0x1 own_entries) given budget first result left last → OwnRun tells BeginReadOperation given budget first result left last
-  unfolding own_entries entries_of
-  runs_begin_read run = one_run tells law BeginReadOperation given first budget result left last refl (λ value. refl) refl refl refl run
-
-  runs_begin_clear : Run (Allows tells) (program_of 0x2 own_entries) given budget first result left last → OwnRun tells BeginClearOperation given budget first result left last
-  unfolding own_entries entries_of
-  runs_begin_clear run = one_run tells law BeginClearOperation given first budget result left last refl (λ value. refl) refl refl refl run
-
-  runs_begin_dummy : Run (Allows tells) (program_of 0xB own_entries) given budget first result left last → OwnRun tells BeginDummyWriteOperation given budget first result left last
-  unfolding own_entries entries_of
-  runs_begin_dummy run = one_run tells law BeginDummyWriteOperation given first budget result left last refl (λ value. refl) refl refl refl run
-
-  runs_end : Run (Allows tells) (program_of 0x3 own_entries) given budget first result left last → OwnRun tells EndOperation given budget first result left last
-  unfolding own_entries entries_of
-  runs_end run = one_run tells law EndOperation given first budget result left last refl (λ value. refl) refl refl refl run
-
-  runs_execute : Run (Allows tells) (program_of 0x5 own_entries) given budget first result left last → OwnRun tells ExecuteOperation given budget first result left last
-  unfolding own_entries entries_of
-  runs_execute run = one_run tells law ExecuteOperation given first budget result left last refl (λ value. refl) refl refl refl run
-
-  runs_offset : Run (Allows tells) (program_of 0x4 own_entries) given budget first result left last → OwnRun tells SetRecordOffset given budget first result left last
-  unfolding own_entries entries_of
-  runs_offset run = give_run tells law SetRecordOffset given first refl refl budget result left last (λ value. refl) refl refl refl run
-
-  runs_identifier : Run (Allows tells) (program_of 0x9 own_entries) given budget first result left last → OwnRun tells SetRecordIdentifier given budget first result left last
-  unfolding own_entries entries_of
-  runs_identifier run = give_run tells law SetRecordIdentifier given first refl refl budget result left last (λ value. refl) refl refl refl run
-
-  runs_check : Run (Allows tells) (program_of 0x6 own_entries) given budget first result left last → OwnRun tells CheckBusyStatus given budget first result left last
-  unfolding own_entries entries_of
-  runs_check run =
-      tell_run tells law CheckBusyStatus given first (is_one CheckBusyStatus) (asks_one CheckBusyStatus) (serves_one tells CheckBusyStatus) refl refl budget result left last refl
-      (reads_one tells CheckBusyStatus given (λ value. refl)) refl refl run
-
-  runs_status : Run (Allows tells) (program_of 0x7 own_entries) given budget first result left last → OwnRun tells GetCommandStatus given budget first result left last
-  unfolding own_entries entries_of
-  runs_status run =
-      tell_run tells law GetCommandStatus given first (answer GetCommandStatus 0xFF) (answers GetCommandStatus 0xFF) (serves_answer tells GetCommandStatus 0xFF) refl refl budget result left last refl
-      (reads_bits tells GetCommandStatus given 8 (λ value. refl)) refl refl run
-
-  runs_next : Run (Allows tells) (program_of 0x8 own_entries) given budget first result left last → OwnRun tells GetRecordIdentifier given budget first result left last
-  unfolding own_entries entries_of
-  runs_next run =
-      tell_run tells law GetRecordIdentifier given first (answer GetRecordIdentifier (2 ^ 64 - 1)) (answers GetRecordIdentifier (2 ^ 64 - 1)) (serves_answer tells GetRecordIdentifier (2 ^ 64 - 1)) refl refl budget result left last refl
-      (reads_bits tells GetRecordIdentifier given 64 (λ value. refl)) refl refl run
-
-  runs_count : Run (Allows tells) (program_of 0xA own_entries) given budget first result left last → OwnRun tells GetRecordCount given budget first result left last
-  unfolding own_entries entries_of
-  runs_count run =
-      tell_run tells law GetRecordCount given first (answer GetRecordCount (2 ^ 32 - 1)) (answers GetRecordCount (2 ^ 32 - 1)) (serves_answer tells GetRecordCount (2 ^ 32 - 1)) refl refl budget result left last refl
-      (reads_bits tells GetRecordCount given 32 (λ value. refl)) refl refl run
-
-  runs_range : Run (Allows tells) (program_of 0xD own_entries) given budget first result left last → OwnRun tells GetErrorLogAddressRange given budget first result left last
-  unfolding own_entries entries_of
-  runs_range run =
-      tell_run tells law GetErrorLogAddressRange given first (answer GetErrorLogAddressRange (2 ^ 64 - 1)) (answers GetErrorLogAddressRange (2 ^ 64 - 1)) (serves_answer tells GetErrorLogAddressRange (2 ^ 64 - 1)) refl refl budget
-      result left last refl (reads_bits tells GetErrorLogAddressRange given 64 (λ value. refl)) refl refl run
-
-  runs_length : Run (Allows tells) (program_of 0xE own_entries) given budget first result left last → OwnRun tells GetErrorLogAddressRangeLength given budget first result left last
-  unfolding own_entries entries_of
-  runs_length run =
-      tell_run tells law GetErrorLogAddressRangeLength given first (answer GetErrorLogAddressRangeLength (2 ^ 64 - 1)) (answers GetErrorLogAddressRangeLength (2 ^ 64 - 1)) (serves_answer tells GetErrorLogAddressRangeLength (2 ^ 64 - 1)) refl refl
-      budget result left last refl (reads_bits tells GetErrorLogAddressRangeLength given 64 (λ value. refl)) refl refl run
-
-  runs_attributes : Run (Allows tells) (program_of 0xF own_entries) given budget first result left last → OwnRun tells GetErrorLogAddressRangeAttributes given budget first result left last
-  unfolding own_entries entries_of
-  runs_attributes run =
-      tell_run tells law GetErrorLogAddressRangeAttributes given first (answer GetErrorLogAddressRangeAttributes (2 ^ 64 - 1)) (answers GetErrorLogAddressRangeAttributes (2 ^ 64 - 1))
-      (serves_answer tells GetErrorLogAddressRangeAttributes (2 ^ 64 - 1)) refl refl budget result left last refl (reads_bits tells GetErrorLogAddressRangeAttributes given 64 (λ value. refl)) refl refl run
-
-  runs_timings : Run (Allows tells) (program_of 0x10 own_entries) given budget first result left last → OwnRun tells GetExecuteOperationTimings given budget first result left last
-  unfolding own_entries entries_of
-  runs_timings run =
-      tell_run tells law GetExecuteOperationTimings given first (answer GetExecuteOperationTimings (2 ^ 64 - 1)) (answers GetExecuteOperationTimings (2 ^ 64 - 1)) (serves_answer tells GetExecuteOperationTimings (2 ^ 64 - 1)) refl refl budget
-      result left last refl (reads_bits tells GetExecuteOperationTimings given 64 (λ value. refl)) refl refl run
-
 pub own_programs_run : (tells : Type 0) → StraightRuns tells → OwnProgramsRun tells
-own_programs_run tells law BeginWriteOperation given budget first result left last run = runs_begin_write tells law given budget first result left last run
-own_programs_run tells law BeginReadOperation given budget first result left last run = runs_begin_read tells law given budget first result left last run
-own_programs_run tells law BeginClearOperation given budget first result left last run = runs_begin_clear tells law given budget first result left last run
-own_programs_run tells law EndOperation given budget first result left last run = runs_end tells law given budget first result left last run
-own_programs_run tells law SetRecordOffset given budget first result left last run = runs_offset tells law given budget first result left last run
-own_programs_run tells law ExecuteOperation given budget first result left last run = runs_execute tells law given budget first result left last run
-own_programs_run tells law CheckBusyStatus given budget first result left last run = runs_check tells law given budget first result left last run
-own_programs_run tells law GetCommandStatus given budget first result left last run = runs_status tells law given budget first result left last run
-own_programs_run tells law GetRecordIdentifier given budget first result left last run = runs_next tells law given budget first result left last run
-own_programs_run tells law SetRecordIdentifier given budget first result left last run = runs_identifier tells law given budget first result left last run
-own_programs_run tells law GetRecordCount given budget first result left last run = runs_count tells law given budget first result left last run
-own_programs_run tells law BeginDummyWriteOperation given budget first result left last run = runs_begin_dummy tells law given budget first result left last run
-own_programs_run tells law GetErrorLogAddressRange given budget first result left last run = runs_range tells law given budget first result left last run
-own_programs_run tells law GetErrorLogAddressRangeLength given budget first result left last run = runs_length tells law given budget first result left last run
-own_programs_run tells law GetErrorLogAddressRangeAttributes given budget first result left last run = runs_attributes tells law given budget first result left last run
-own_programs_run tells law GetExecuteOperationTimings given budget first result left last run = runs_timings tells law given budget first result left last run
+unfolding own_entries entries_of
+own_programs_run tells law BeginWriteOperation given budget first result left last run = one_run tells law BeginWriteOperation given first budget result left last refl (λ value. refl) refl refl refl run
+own_programs_run tells law BeginReadOperation given budget first result left last run = one_run tells law BeginReadOperation given first budget result left last refl (λ value. refl) refl refl refl run
+own_programs_run tells law BeginClearOperation given budget first result left last run = one_run tells law BeginClearOperation given first budget result left last refl (λ value. refl) refl refl refl run
+own_programs_run tells law BeginDummyWriteOperation given budget first result left last run = one_run tells law BeginDummyWriteOperation given first budget result left last refl (λ value. refl) refl refl refl run
+own_programs_run tells law EndOperation given budget first result left last run = one_run tells law EndOperation given first budget result left last refl (λ value. refl) refl refl refl run
+own_programs_run tells law ExecuteOperation given budget first result left last run = one_run tells law ExecuteOperation given first budget result left last refl (λ value. refl) refl refl refl run
+own_programs_run tells law SetRecordOffset given budget first result left last run = give_run tells law SetRecordOffset given first refl refl budget result left last (λ value. refl) refl refl refl run
+own_programs_run tells law SetRecordIdentifier given budget first result left last run = give_run tells law SetRecordIdentifier given first refl refl budget result left last (λ value. refl) refl refl refl run
+own_programs_run tells law CheckBusyStatus given budget first result left last run =
+    tell_run tells law CheckBusyStatus given first (is_one CheckBusyStatus) (asks_one CheckBusyStatus) (serves_one tells CheckBusyStatus) refl refl budget result left last refl
+    (reads_one tells CheckBusyStatus given (λ value. refl)) refl refl run
+own_programs_run tells law GetCommandStatus given budget first result left last run = tell_bits tells law GetCommandStatus given first 8 refl refl budget result left last refl (λ value. refl) refl refl run
+own_programs_run tells law GetRecordIdentifier given budget first result left last run = tell_bits tells law GetRecordIdentifier given first 64 refl refl budget result left last refl (λ value. refl) refl refl run
+own_programs_run tells law GetRecordCount given budget first result left last run = tell_bits tells law GetRecordCount given first 32 refl refl budget result left last refl (λ value. refl) refl refl run
+own_programs_run tells law GetErrorLogAddressRange given budget first result left last run = tell_bits tells law GetErrorLogAddressRange given first 64 refl refl budget result left last refl (λ value. refl) refl refl run
+own_programs_run tells law GetErrorLogAddressRangeLength given budget first result left last run = tell_bits tells law GetErrorLogAddressRangeLength given first 64 refl refl budget result left last refl (λ value. refl) refl refl run
+own_programs_run tells law GetErrorLogAddressRangeAttributes given budget first result left last run = tell_bits tells law GetErrorLogAddressRangeAttributes given first 64 refl refl budget result left last refl (λ value. refl) refl refl run
+own_programs_run tells law GetExecuteOperationTimings given budget first result left last run = tell_bits tells law GetExecuteOperationTimings given first 64 refl refl budget result left last refl (λ value. refl) refl refl run
 
 -- How many steps each takes
 

@@ -50,7 +50,8 @@ use Rattle.erst_commands.proofs.OwnProgramLemmas.{steps-begin_read, steps-check}
 use Rattle.erst_commands.proofs.LookLemmas.{has_asked, has_failed}
 use Rattle.erst_commands.proofs.RangeLemmas.{at-start}
 use Rattle.erst_commands.proofs.ChangeLemmas.{kept_map, abandoned_idle}
-use Rattle.erst_commands.proofs.SequenceLemmas.{Untouched, Opened, Opens, Halts, ask_none, ask_more, begun_device, begin_run, offset_run, identifier_run, execute_run, StillWaited, IsAtOnce, IsShort, wait_still, ended_from, status_in, HasTold, HasNotTold, HasNotWaited, HasNotAsked, sequence_ends}
+use Rattle.erst_commands.proofs.SequenceLemmas.{Untouched, StillWaited, IsAtOnce, IsShort, wait_still, ended_from, status_in, HasTold, HasNotTold, HasNotWaited, HasNotAsked, sequence_ends, opened_ok, opened_short}
+use Rattle.erst_commands.proofs.OpenLemmas.{IsOn, reading_device, read_opens}
 use Rattle.erst_commands.proofs.SharedLemmas.{alike_then, never_falls, no_answer, no_stop, same_stop, same_number}
 
 pub needs-read : (id : ℕ) → steps_needed own_entries (read_requests id) 1 ≡ 10
@@ -178,9 +179,6 @@ pub data ReadStarted (first start : MachineState) (id : ℕ) : Type 0 where
   IsQuiet : (error : ClientError) → IsStill start.device → judged (status_in start) ≡ Err error → ReadMade first start id (Err error) → ReadStarted first start id
   IsReading : (found : ℕ) (body : List ℕ) (generation : ℕ) → HasAsked first start → start.device.reading ≡ Some found → start.device.offset ≡ 0 → start.device.status ≡ statuses.Success
       → start.device.cursor ≡ first.device.cursor → IsNamed id found (records_of first) → get (records_of first) found ≡ Some (body, generation) → length body ≤ length first.memory.range → ReadStarted first start id
-
-abbrev reading_device : DeviceState → ℕ → DeviceState
-reading_device old number = record (begun_device operations.Read old) { value = number; offset = 0; id = number }
 
 module _ (tells : Type 0) (told : tells) (first start : MachineState) (machine : IsMachine first) (id : ℕ) (elsewhere : start ≡ on_device first start.device) where
   not_there : (store : StoreView) (least : ℕ) → FoundNext tells (abandoned first.device.store) store 0 (Ok (Some least)) → get (records_of first) (named id least) ≡ None
@@ -414,47 +412,15 @@ few_to (Err error) = omega arith
 
 module _ (tells : Type 0) (own : OwnProgramsRun tells) (told : tells) (first : MachineState) (machine : IsMachine first) (id : ℕ) (small : id < 2 ^ 64) where
   abbrev IsStarted : MachineState → Type 0
-  IsStarted w = Starts tells (reading_device first.device id) first.memory.range w.device × (w ≡ on_device first w.device)
+  IsStarted w = IsOn tells first (reading_device first.device id) w
 
-  read_opens : (budget : ℕ) (result : Result (List ℕ) RunStop) (left : ℕ) (last : MachineState) → Asks (Allows tells) own_entries (read_requests id) budget first result left last → Opened first IsStarted 6 budget result left last
-  read_opens budget result left last asks =
-      ask_more tells first (λ w. w ≡ on_device first (begun_device operations.Read first.device)) IsStarted 1 5 _ _ budget first result left last
-      (λ result left last run. begin_run tells own first BeginReadOperation operations.Read refl refl refl (λ m. refl) steps-begin_read refl budget result left last run)
-      (λ budget mid result left last mid_is asks.
-      ask_more tells first (λ w. w ≡ on_device first (record (begun_device operations.Read first.device) { value = 0; offset = 0 })) IsStarted 2 3 _ _ budget mid result left last
-      (λ result left last run. offset_run tells own first (begun_device operations.Read first.device) (record { no_read = refl; no_change = refl })
-      (record { flash = refl; layout = refl; cursor = refl; given_up = refl; elsewhere = refl }) budget mid result left last mid_is run)
-      (λ budget mid result left last mid_is asks.
-      ask_more tells first (λ w. w ≡ on_device first (reading_device first.device id)) IsStarted 2 1 _ _ budget mid result left last
-      (λ result left last run. identifier_run tells own first id small (record (begun_device operations.Read first.device) { value = 0; offset = 0 }) (record { no_read = refl; no_change = refl })
-      (record { flash = refl; layout = refl; cursor = refl; given_up = refl; elsewhere = refl }) budget mid result left last mid_is run)
-      (λ budget mid result left last mid_is asks.
-      ask_more tells first IsStarted IsStarted 1 0 _ _ budget mid result left last
-      (λ result left last run. execute_run tells own first (reading_device first.device id) (record { no_read = refl; no_change = refl })
-      (record { flash = refl; layout = refl; cursor = refl; given_up = refl; elsewhere = refl }) budget mid result left last mid_is run)
-      (λ budget mid result left last mid_is asks. ask_none tells first IsStarted budget mid result left last mid_is asks)
-      asks)
-      asks)
-      asks)
-      asks
+  not_opened : (budget : ℕ) (w : MachineState) → Untouched first w → budget < 6 → ReadCommand first (ended_from w) id budget (Err (Stopped Budget)) 0
+  not_opened budget w untouched short = StopsBefore (untouched_end first w untouched) (ap (λ (m : MachineState). m.memory.range) untouched.elsewhere) untouched.cursor (inl short) (omega (arith, short))
 
-  opened_ok : (budget : ℕ) (answers : List ℕ) (result : Result (List ℕ) RunStop) (left : ℕ) (w : MachineState) → result ≡ Ok answers → Opened first IsStarted 6 budget result left w → ReadStarted first w id × (left + 6 ≡ budget)
-  opened_ok budget answers result left w is opened = (elim opened as (λ result left w opened. result ≡ Ok answers → ReadStarted first w id × (left + 6 ≡ budget)) [
-    | Opens others left w holds sum ↦ λ e. (read_started tells told first w machine id holds.1 holds.0, sum)
-    | Halts w untouched short ↦ λ e. absurd (cc e)
-  ]) is
-
-  not_opened : (budget : ℕ) (stop : RunStop) (result : Result (List ℕ) RunStop) (left : ℕ) (w : MachineState) → result ≡ Err stop → Opened first IsStarted 6 budget result left w
-      → ReadCommand first (ended_from w) id budget (Err (Stopped stop)) left
-  not_opened budget stop result left w is opened = (elim opened as (λ result left w opened. result ≡ Err stop → ReadCommand first (ended_from w) id budget (Err (Stopped stop)) left) [
-    | Opens others left w holds sum ↦ λ e. absurd (cc e)
-    | Halts w untouched short ↦ λ e.
-        subst (λ (s : RunStop). ReadCommand first (ended_from w) id budget (Err (Stopped s)) 0) (same_end Budget stop e)
-        (StopsBefore (untouched_end first w untouched) (ap (λ (m : MachineState). m.memory.range) untouched.elsewhere) untouched.cursor (inl short) (omega (arith, short)))
-  ]) is
-    where
-      same_end : (x y : RunStop) → ◌≡◌ {A = Result (List ℕ) RunStop} (Err x) (Err y) → x ≡ y
-      same_end x y e = cc
+  opened_read : (budget : ℕ) (answers : List ℕ) (left : ℕ) (w : MachineState) → Asks (Allows tells) own_entries (read_requests id) budget first (Ok answers) left w → ReadStarted first w id × (left + 6 ≡ budget)
+  opened_read budget answers left w asks =
+      let opened = opened_ok first IsStarted 6 budget answers (Ok answers) left w refl (read_opens tells own first id small budget (Ok answers) left w asks) in
+      (read_started tells told first w machine id opened.0.1 opened.0.0, opened.1)
 
   -- a quiet device
   module _ (start : MachineState) (why : ClientError) (status : judged (status_in start) ≡ Err why) (made : ReadMade first start id (Err why)) (budget asked : ℕ) (opened : asked + 6 ≡ budget) where
@@ -577,13 +543,15 @@ module _ (tells : Type 0) (own : OwnProgramsRun tells) (told : tells) (first : M
   read_command timings budget result left last sequence =
       elim (sequence_ends tells own timings (read_requests id) budget first result left last sequence) as (λ result left last ends. ReadCommand first last id budget result left) [
         | HasTold answers asked mid waited idle left asks waits spent ↦
-            let opened = opened_ok budget answers (Ok answers) asked mid refl (read_opens budget (Ok answers) asked mid asks) in
+            let opened = opened_read budget answers asked mid asks in
             by_told timings budget asked waited left mid idle opened.0 opened.1 spent waits
         | HasNotTold answers asked mid waited idle other asks waits short either ↦
-            let opened = opened_ok budget answers (Ok answers) asked mid refl (read_opens budget (Ok answers) asked mid asks) in
+            let opened = opened_read budget answers asked mid asks in
             by_not_told timings budget asked waited mid idle other opened.0 opened.1 short (same_value idle (status_in idle) other either) waits
         | HasNotWaited answers asked mid error left other asks waits ↦
-            let opened = opened_ok budget answers (Ok answers) asked mid refl (read_opens budget (Ok answers) asked mid asks) in
+            let opened = opened_read budget answers asked mid asks in
             by_not_waited timings budget asked error left mid other opened.0 opened.1 waits
-        | HasNotAsked stop left other asks ↦ not_opened budget stop (Err stop) left other refl (read_opens budget (Err stop) left other asks)
+        | HasNotAsked stop left other asks ↦
+            opened_short first IsStarted 6 budget (λ stop left w. ReadCommand first (ended_from w) id budget (Err (Stopped stop)) left) stop (Err stop) left other (not_opened budget) refl
+            (read_opens tells own first id small budget (Err stop) left other asks)
       ]

@@ -78,6 +78,30 @@ err_falls first P cost budget result left w stop is run = (elim run as (λ resul
   | Falls w untouched short ↦ λ e. record { stop_is = sym (same_stop Budget stop e); none_left = refl; untouched = untouched; short = short }
 ]) is
 
+pub opened_weaker : (first : MachineState) (P Q : MachineState → Type 0) (cost budget : ℕ) (result : Result (List ℕ) RunStop) (left : ℕ) (w : MachineState) → ((w : MachineState) → P w → Q w) → Opened first P cost budget result left w
+    → Opened first Q cost budget result left w
+opened_weaker first P Q cost budget result left w weaker opened = elim opened as (λ result left w opened. Opened first Q cost budget result left w) [
+  | Opens answers left w holds sum ↦ Opens answers left w (weaker w holds) sum
+  | Halts w untouched short ↦ Halts w untouched short
+]
+
+pub opened_ok : (first : MachineState) (P : MachineState → Type 0) (cost budget : ℕ) (answers : List ℕ) (result : Result (List ℕ) RunStop) (left : ℕ) (w : MachineState) → result ≡ Ok answers → Opened first P cost budget result left w
+    → P w × (left + cost ≡ budget)
+opened_ok first P cost budget answers result left w is opened = (elim opened as (λ result left w opened. result ≡ Ok answers → P w × (left + cost ≡ budget)) [
+  | Opens others left w holds sum ↦ λ e. (holds, sum)
+  | Halts w untouched short ↦ λ e. absurd (cc e)
+]) is
+
+pub opened_short : (first : MachineState) (P : MachineState → Type 0) (cost budget : ℕ) (Left : RunStop → ℕ → MachineState → Type 0) (stop : RunStop) (result : Result (List ℕ) RunStop) (left : ℕ) (w : MachineState)
+    → ((w : MachineState) → Untouched first w → budget < cost → Left Budget 0 w) → result ≡ Err stop → Opened first P cost budget result left w → Left stop left w
+opened_short first P cost budget Left stop result left w halted is opened = (elim opened as (λ result left w opened. result ≡ Err stop → Left stop left w) [
+  | Opens others left w holds sum ↦ λ e. absurd (cc e)
+  | Halts w untouched short ↦ λ e. subst (λ (s : RunStop). Left s 0 w) (same_end Budget stop e) (halted w untouched short)
+]) is
+  where
+    same_end : (x y : RunStop) → ◌≡◌ {A = Result (List ℕ) RunStop} (Err x) (Err y) → x ≡ y
+    same_end x y e = cc
+
 module _ (tells : Type 0) (first : MachineState) where
   pub ask_none : (P : MachineState → Type 0) (budget : ℕ) (old : MachineState) (result : Result (List ℕ) RunStop) (left : ℕ) (last : MachineState) → P old → Asks (Allows tells) own_entries [] budget old result left last
       → Opened first P 0 budget result left last

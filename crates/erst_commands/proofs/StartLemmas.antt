@@ -45,7 +45,8 @@ use Rattle.erst_commands.specs.Changes.{OfFailed, OfNoSpace, OfNotFound, copies_
 use Rattle.erst_commands.proofs.MachineSteps.{on_device}
 use Rattle.erst_commands.proofs.LimitLemmas.{changes-most}
 use Rattle.erst_commands.proofs.OwnProgramLemmas.{steps-begin_write, steps-begin_clear, steps-begin_dummy}
-use Rattle.erst_commands.proofs.SequenceLemmas.{RunTo, Reaches, Falls, Opened, Opens, Halts, StillWaited, IsAtOnce, IsShort, wait_still, ended_from, status_in, HasTold, HasNotTold, HasNotWaited, HasNotAsked, sequence_ends, ask_none, ask_more, begun_device, begin_run, offset_run, identifier_run, execute_run}
+use Rattle.erst_commands.proofs.SequenceLemmas.{Untouched, Opened, opened_weaker, opened_ok, opened_short, StillWaited, IsAtOnce, IsShort, wait_still, ended_from, status_in, HasTold, HasNotTold, HasNotWaited, HasNotAsked, sequence_ends}
+use Rattle.erst_commands.proofs.OpenLemmas.{IsOn, offset_device, clearing_device, write_opens, dummy_opens, clear_opens}
 use Rattle.erst_commands.proofs.WayLemmas.{Leads, write_leads, some_changes}
 use Rattle.erst_commands.proofs.ChangeLemmas.{Base, StartedChange, UnstartedChange, UnstartedAnswer, RefusedBy, FailedBy, kept_map, change_command}
 use Rattle.erst_commands.proofs.SharedLemmas.{never_falls, differ}
@@ -61,13 +62,6 @@ needs-clear id checks = omega arith
 
 abbrev judged_number : CommandStatus → Result (Unit {0}) ClientError
 judged_number status = judged (number_of status)
-
-pub run_weaker : (first : MachineState) (P Q : MachineState → Type 0) (cost budget : ℕ) (result : Result ℕ RunStop) (left : ℕ) (last : MachineState) → ((w : MachineState) → P w → Q w) → RunTo first P cost budget result left last
-    → RunTo first Q cost budget result left last
-run_weaker first P Q cost budget result left last weaker run = elim run as (λ result left last run. RunTo first Q cost budget result left last) [
-  | Reaches answer left w holds spent ↦ Reaches answer left w (weaker w holds) spent
-  | Falls w untouched short ↦ Falls w untouched short
-]
 
 -- What the store's start leaves
 
@@ -179,11 +173,8 @@ clear_reserved : (layout : Layout) (id : ℕ) (map : Stored) → is_reserved id 
 unfolding refusal_of
 clear_reserved layout id map reserved = rw reserved refl
 
-abbrev writing_device : DeviceState → DeviceState
-writing_device old = record (begun_device operations.Write old) { value = 0; offset = 0 }
-
 module _ (tells : Type 0) (told : tells) (first start : MachineState) (id : ℕ) (bytes : List ℕ) (elsewhere : start ≡ on_device first start.device) where
-  write_ok : (store : StoreView) → is_reserved id ≡ false → StartedWrite tells (abandoned first.device.store) store id bytes (Ok tt) → start.device ≡ record (writing_device first.device) { status = statuses.Success; store = store }
+  write_ok : (store : StoreView) → is_reserved id ≡ false → StartedWrite tells (abandoned first.device.store) store id bytes (Ok tt) → start.device ≡ record (offset_device operations.Write first.device) { status = statuses.Success; store = store }
       → StartedChange first start id (Write id bytes)
   write_ok store usable begun is =
       let there : start.device.store ≡ store = ap (λ (d : DeviceState). d.store) is in
@@ -238,7 +229,7 @@ module _ (tells : Type 0) (told : tells) (first start : MachineState) (id : ℕ)
   write_error store (errors.Small need) usable refuses cause doubt ended there status = absurd refuses
 
   write_by : (store : StoreView) (result : Result (Unit {0}) StoreError) → is_reserved id ≡ false → StartedWrite tells (abandoned first.device.store) store id bytes result
-      → start.device ≡ record (writing_device first.device) { status = status_after result; store = store } → (StartedChange first start id (Write id bytes)) ⊎ (UnstartedChange first start id (Write id bytes))
+      → start.device ≡ record (offset_device operations.Write first.device) { status = status_after result; store = store } → (StartedChange first start id (Write id bytes)) ⊎ (UnstartedChange first start id (Write id bytes))
   write_by store (Ok done) usable begun is = inl (write_ok store usable begun is)
   write_by store (Err error) usable begun is =
       let there : start.device.store ≡ store = ap (λ (d : DeviceState). d.store) is in
@@ -250,7 +241,7 @@ module _ (tells : Type 0) (told : tells) (first start : MachineState) (id : ℕ)
       })
 
   -- no record can have the identifier
-  write_refused : is_reserved id ≡ true → start.device ≡ record (writing_device first.device) { status = statuses.Failed } → UnstartedChange first start id (Write id bytes)
+  write_refused : is_reserved id ≡ true → start.device ≡ record (offset_device operations.Write first.device) { status = statuses.Failed } → UnstartedChange first start id (Write id bytes)
   write_refused reserved is =
       let there : start.device.store ≡ abandoned first.device.store = ap (λ (d : DeviceState). d.store) is in
       let facts = reserved_start first start id reserved there in
@@ -260,25 +251,25 @@ module _ (tells : Type 0) (told : tells) (first start : MachineState) (id : ℕ)
         answer = RefusedBy refused_for_good Failed (write_reserved first.device.store.layout id bytes (records_of first) reserved) OfFailed (ap (λ (d : DeviceState). judged_number d.status) is) facts.0 facts.1 facts.2 facts.3;
       }
 
-  write_started : HoldsRecord first.memory.range id bytes → Starts tells (writing_device first.device) first.memory.range start.device
+  write_started : HoldsRecord first.memory.range id bytes → Starts tells (offset_device operations.Write first.device) first.memory.range start.device
       → (StartedChange first start id (Write id bytes)) ⊎ (UnstartedChange first start id (Write id bytes))
   write_started holds starts = by_case start.device starts refl
     where
       by_reserved : (size number : ℕ) (store : StoreView) (result : Result (Unit {0}) StoreError) (b : Bool) → is_reserved id ≡ b → draft_at 0 first.memory.range ≡ Some (size, number)
           → StartedWrite tells (abandoned first.device.store) store number (part first.memory.range 0 size) result
-          → start.device ≡ record (writing_device first.device) { status = status_after result; store = store } → (StartedChange first start id (Write id bytes)) ⊎ (UnstartedChange first start id (Write id bytes))
+          → start.device ≡ record (offset_device operations.Write first.device) { status = status_after result; store = store } → (StartedChange first start id (Write id bytes)) ⊎ (UnstartedChange first start id (Write id bytes))
       by_reserved size number store result true reserved found begun is = absurd (none-some (size, number) (sym (draft_reserved first.memory.range bytes id holds reserved) ∙ found))
       by_reserved size number store result false usable found begun is =
           let same : (size, number) ≡ (length bytes, id) = same_Some _ _ (sym found ∙ draft_usable first.memory.range bytes id holds usable) in
           let exact = subst (λ (p : ℕ × ℕ). StartedWrite tells (abandoned first.device.store) store p.1 (part first.memory.range 0 p.0) result) same begun in
           write_by store result usable (subst (λ (xs : List ℕ). StartedWrite tells (abandoned first.device.store) store id xs result) holds.stands exact) is
 
-      none_by : (b : Bool) → is_reserved id ≡ b → draft_at 0 first.memory.range ≡ None → start.device ≡ record (writing_device first.device) { status = statuses.Failed }
+      none_by : (b : Bool) → is_reserved id ≡ b → draft_at 0 first.memory.range ≡ None → start.device ≡ record (offset_device operations.Write first.device) { status = statuses.Failed }
           → (StartedChange first start id (Write id bytes)) ⊎ (UnstartedChange first start id (Write id bytes))
       none_by true reserved none is = inr (write_refused reserved is)
       none_by false usable none is = absurd (none-some (length bytes, id) (sym none ∙ draft_usable first.memory.range bytes id holds usable))
 
-      by_case : (device : DeviceState) → Starts tells (writing_device first.device) first.memory.range device → start.device ≡ device
+      by_case : (device : DeviceState) → Starts tells (offset_device operations.Write first.device) first.memory.range device → start.device ≡ device
           → (StartedChange first start id (Write id bytes)) ⊎ (UnstartedChange first start id (Write id bytes))
       by_case device starts = elim starts as (λ device starts. start.device ≡ device → (StartedChange first start id (Write id bytes)) ⊎ (UnstartedChange first start id (Write id bytes))) [
         | NoneBegun none ↦ λ is. absurd (cc none)
@@ -298,34 +289,14 @@ module _ (tells : Type 0) (own : OwnProgramsRun tells) (told : tells) (first : M
   abbrev IsWriting : MachineState → Type 0
   IsWriting w = (StartedChange first w id (Write id bytes)) ⊎ (UnstartedChange first w id (Write id bytes))
 
-  write_opens : (budget : ℕ) (result : Result (List ℕ) RunStop) (left : ℕ) (last : MachineState) → Asks (Allows tells) own_entries write_requests budget first result left last → Opened first IsWriting 4 budget result left last
-  write_opens budget result left last asks =
-      ask_more tells first (λ w. w ≡ on_device first (begun_device operations.Write first.device)) IsWriting 1 3 _ _ budget first result left last
-      (λ result left last run. begin_run tells own first BeginWriteOperation operations.Write refl refl refl (λ m. refl) steps-begin_write refl budget result left last run)
-      (λ budget mid result left last mid_is asks.
-      ask_more tells first (λ w. w ≡ on_device first (writing_device first.device)) IsWriting 2 1 _ _ budget mid result left last
-      (λ result left last run. offset_run tells own first (begun_device operations.Write first.device) (record { no_read = refl; no_change = refl })
-      (record { flash = refl; layout = refl; cursor = refl; given_up = refl; elsewhere = refl }) budget mid result left last mid_is run)
-      (λ budget mid result left last mid_is asks.
-      ask_more tells first IsWriting IsWriting 1 0 _ _ budget mid result left last
-      (λ result left last run. run_weaker first (λ w. Starts tells (writing_device first.device) first.memory.range w.device × (w ≡ on_device first w.device)) IsWriting 1 budget result left last
-      (λ w reached. write_started tells told first w id bytes reached.1 holds reached.0)
-      (execute_run tells own first (writing_device first.device) (record { no_read = refl; no_change = refl }) (record { flash = refl; layout = refl; cursor = refl; given_up = refl; elsewhere = refl }) budget mid result left last mid_is run))
-      (λ budget mid result left last mid_is asks. ask_none tells first IsWriting budget mid result left last mid_is asks)
-      asks)
-      asks)
-      asks
-
   pub write_command : length bytes ≤ reach_of (room_of first.device.store.layout) → (budget : ℕ) (result : Result (Unit {0}) ClientError) (left : ℕ) (last : MachineState)
       → Sequence (Allows tells) own_entries (own_client first).timings write_requests budget first result left last → ChangeCommand first last id (Write id bytes) write_requests budget result left
   write_command fits budget result left last sequence =
       change_command tells own told first id (Write id bytes) write_requests budget needs-write (write-few first id bytes fits)
-      (λ result left last asks. write_opens budget result left last asks) result left last sequence
+      (λ result left last asks. opened_weaker first (IsOn tells first (offset_device operations.Write first.device)) IsWriting 4 budget result left last
+      (λ w on. write_started tells told first w id bytes on.1 holds on.0) (write_opens tells own first budget result left last asks)) result left last sequence
 
 -- A clear
-
-abbrev clearing_device : DeviceState → ℕ → DeviceState
-clearing_device old number = record (begun_device operations.Clear old) { value = number; id = number }
 
 module _ (tells : Type 0) (told : tells) (first start : MachineState) (id : ℕ) (elsewhere : start ≡ on_device first start.device) where
   clear_ok : (store : StoreView) → is_reserved id ≡ false → StartedClear tells (abandoned first.device.store) store id (Ok tt) → start.device ≡ record (clearing_device first.device id) { status = statuses.Success; store = store }
@@ -412,34 +383,14 @@ module _ (tells : Type 0) (own : OwnProgramsRun tells) (told : tells) (first : M
   abbrev IsClearing : MachineState → Type 0
   IsClearing w = (StartedChange first w id (Clear id)) ⊎ (UnstartedChange first w id (Clear id))
 
-  clear_opens : (budget : ℕ) (result : Result (List ℕ) RunStop) (left : ℕ) (last : MachineState) → Asks (Allows tells) own_entries (clear_requests id) budget first result left last → Opened first IsClearing 4 budget result left last
-  clear_opens budget result left last asks =
-      ask_more tells first (λ w. w ≡ on_device first (begun_device operations.Clear first.device)) IsClearing 1 3 _ _ budget first result left last
-      (λ result left last run. begin_run tells own first BeginClearOperation operations.Clear refl refl refl (λ m. refl) steps-begin_clear refl budget result left last run)
-      (λ budget mid result left last mid_is asks.
-      ask_more tells first (λ w. w ≡ on_device first (clearing_device first.device id)) IsClearing 2 1 _ _ budget mid result left last
-      (λ result left last run. identifier_run tells own first id small (begun_device operations.Clear first.device) (record { no_read = refl; no_change = refl })
-      (record { flash = refl; layout = refl; cursor = refl; given_up = refl; elsewhere = refl }) budget mid result left last mid_is run)
-      (λ budget mid result left last mid_is asks.
-      ask_more tells first IsClearing IsClearing 1 0 _ _ budget mid result left last
-      (λ result left last run. run_weaker first (λ w. Starts tells (clearing_device first.device id) first.memory.range w.device × (w ≡ on_device first w.device)) IsClearing 1 budget result left last
-      (λ w reached. clear_started tells told first w id reached.1 reached.0)
-      (execute_run tells own first (clearing_device first.device id) (record { no_read = refl; no_change = refl }) (record { flash = refl; layout = refl; cursor = refl; given_up = refl; elsewhere = refl }) budget mid result left last mid_is run))
-      (λ budget mid result left last mid_is asks. ask_none tells first IsClearing budget mid result left last mid_is asks)
-      asks)
-      asks)
-      asks
-
   pub clear_command : (budget : ℕ) (result : Result (Unit {0}) ClientError) (left : ℕ) (last : MachineState)
       → Sequence (Allows tells) own_entries (own_client first).timings (clear_requests id) budget first result left last → ChangeCommand first last id (Clear id) (clear_requests id) budget result left
   clear_command budget result left last sequence =
       change_command tells own told first id (Clear id) (clear_requests id) budget (needs-clear id) (clear-few first id)
-      (λ result left last asks. clear_opens budget result left last asks) result left last sequence
+      (λ result left last asks. opened_weaker first (IsOn tells first (clearing_device first.device id)) IsClearing 4 budget result left last
+      (λ w on. clear_started tells told first w id on.1 on.0) (clear_opens tells own first id small budget result left last asks)) result left last sequence
 
 -- A dummy write
-
-abbrev dummy_device : DeviceState → DeviceState
-dummy_device old = record (begun_device operations.Dummy old) { value = 0; offset = 0 }
 
 pub needs-dummy : steps_needed own_entries dummy_requests 1 ≡ 8
 unfolding own_entries entries_of
@@ -447,13 +398,13 @@ needs-dummy = refl
 
 module _ (tells : Type 0) (own : OwnProgramsRun tells) (first : MachineState) where
   abbrev IsDummy : MachineState → Type 0
-  IsDummy w = w ≡ on_device first (record (dummy_device first.device) { status = statuses.Success })
+  IsDummy w = w ≡ on_device first (record (offset_device operations.Dummy first.device) { status = statuses.Success })
 
-  dummy_started : (w : MachineState) → Starts tells (dummy_device first.device) first.memory.range w.device → w ≡ on_device first w.device → IsDummy w
+  dummy_started : (w : MachineState) → Starts tells (offset_device operations.Dummy first.device) first.memory.range w.device → w ≡ on_device first w.device → IsDummy w
   dummy_started w starts elsewhere = elsewhere ∙ ap (λ (d : DeviceState). on_device first d) (by_case w.device starts)
     where
-      by_case : (device : DeviceState) → Starts tells (dummy_device first.device) first.memory.range device → device ≡ record (dummy_device first.device) { status = statuses.Success }
-      by_case device starts = elim starts as (λ device starts. device ≡ record (dummy_device first.device) { status = statuses.Success }) [
+      by_case : (device : DeviceState) → Starts tells (offset_device operations.Dummy first.device) first.memory.range device → device ≡ record (offset_device operations.Dummy first.device) { status = statuses.Success }
+      by_case device starts = elim starts as (λ device starts. device ≡ record (offset_device operations.Dummy first.device) { status = statuses.Success }) [
         | NoneBegun none ↦ absurd (cc none)
         | WritesDummy begun ↦ refl
         | NoDraft begun none ↦ absurd (cc begun)
@@ -467,23 +418,9 @@ module _ (tells : Type 0) (own : OwnProgramsRun tells) (first : MachineState) wh
         | Clears store result begun usable call ↦ absurd (cc begun)
       ]
 
-  dummy_opens : (budget : ℕ) (result : Result (List ℕ) RunStop) (left : ℕ) (last : MachineState) → Asks (Allows tells) own_entries dummy_requests budget first result left last → Opened first IsDummy 4 budget result left last
-  dummy_opens budget result left last asks =
-      ask_more tells first (λ w. w ≡ on_device first (begun_device operations.Dummy first.device)) IsDummy 1 3 _ _ budget first result left last
-      (λ result left last run. begin_run tells own first BeginDummyWriteOperation operations.Dummy refl refl refl (λ m. refl) steps-begin_dummy refl budget result left last run)
-      (λ budget mid result left last mid_is asks.
-      ask_more tells first (λ w. w ≡ on_device first (dummy_device first.device)) IsDummy 2 1 _ _ budget mid result left last
-      (λ result left last run. offset_run tells own first (begun_device operations.Dummy first.device) (record { no_read = refl; no_change = refl })
-      (record { flash = refl; layout = refl; cursor = refl; given_up = refl; elsewhere = refl }) budget mid result left last mid_is run)
-      (λ budget mid result left last mid_is asks.
-      ask_more tells first IsDummy IsDummy 1 0 _ _ budget mid result left last
-      (λ result left last run. run_weaker first (λ w. Starts tells (dummy_device first.device) first.memory.range w.device × (w ≡ on_device first w.device)) IsDummy 1 budget result left last
-      (λ w reached. dummy_started w reached.0 reached.1)
-      (execute_run tells own first (dummy_device first.device) (record { no_read = refl; no_change = refl }) (record { flash = refl; layout = refl; cursor = refl; given_up = refl; elsewhere = refl }) budget mid result left last mid_is run))
-      (λ budget mid result left last mid_is asks. ask_none tells first IsDummy budget mid result left last mid_is asks)
-      asks)
-      asks)
-      asks
+  dummy_on : (budget : ℕ) (result : Result (List ℕ) RunStop) (left : ℕ) (last : MachineState) → Asks (Allows tells) own_entries dummy_requests budget first result left last → Opened first IsDummy 4 budget result left last
+  dummy_on budget result left last asks =
+      opened_weaker first (IsOn tells first (offset_device operations.Dummy first.device)) IsDummy 4 budget result left last (λ w on. dummy_started w on.0 on.1) (dummy_opens tells own first budget result left last asks)
 
   dummy_end : (value : ℕ) (w : MachineState) → IsDummy w → DummyLeaves first (ended_from (with_value value w))
   dummy_end value w is = subst (λ (m : MachineState). DummyLeaves first (ended_from (with_value value m))) (sym is) (record { store = refl; cursor = refl; elsewhere = refl })
@@ -497,29 +434,15 @@ module _ (tells : Type 0) (own : OwnProgramsRun tells) (first : MachineState) wh
     | inr same ↦ subst (λ (m : MachineState). DummyLeaves first (ended_from m)) (sym same) (dummy_end value w is)
   ]
 
-  dummy_ok : (budget : ℕ) (answers : List ℕ) (result : Result (List ℕ) RunStop) (left : ℕ) (w : MachineState) → result ≡ Ok answers → Opened first IsDummy 4 budget result left w → IsDummy w × (left + 4 ≡ budget)
-  dummy_ok budget answers result left w is opened = (elim opened as (λ result left w opened. result ≡ Ok answers → IsDummy w × (left + 4 ≡ budget)) [
-    | Opens others left w holds sum ↦ λ e. (holds, sum)
-    | Halts w untouched short ↦ λ e. absurd (cc e)
-  ]) is
-
-  dummy_halts : (budget : ℕ) (stop : RunStop) (result : Result (List ℕ) RunStop) (left : ℕ) (w : MachineState) → result ≡ Err stop → Opened first IsDummy 4 budget result left w
-      → DummyCommand first (ended_from w) dummy_requests budget (Err (Stopped stop)) left
-  dummy_halts budget stop result left w is opened = (elim opened as (λ result left w opened. result ≡ Err stop → DummyCommand first (ended_from w) dummy_requests budget (Err (Stopped stop)) left) [
-    | Opens others left w holds sum ↦ λ e. absurd (cc e)
-    | Halts w untouched short ↦ λ e.
-        subst (λ (s : RunStop). DummyCommand first (ended_from w) dummy_requests budget (Err (Stopped s)) 0) (same_end Budget stop e)
-        (IsCut
-        (record {
-          store = untouched.given_up;
-          cursor = untouched.cursor;
-          elsewhere = let device : DeviceState = (ended_from w).device in ap (λ (m : MachineState). record m { device = device }) untouched.elsewhere;
-        })
-        (omega (arith, short, needs-dummy)))
-  ]) is
-    where
-      same_end : (x y : RunStop) → ◌≡◌ {A = Result (List ℕ) RunStop} (Err x) (Err y) → x ≡ y
-      same_end x y e = cc
+  dummy_halted : (budget : ℕ) (w : MachineState) → Untouched first w → budget < 4 → DummyCommand first (ended_from w) dummy_requests budget (Err (Stopped Budget)) 0
+  dummy_halted budget w untouched short =
+      IsCut
+      (record {
+        store = untouched.given_up;
+        cursor = untouched.cursor;
+        elsewhere = let device : DeviceState = (ended_from w).device in ap (λ (m : MachineState). record m { device = device }) untouched.elsewhere;
+      })
+      (omega (arith, short, needs-dummy))
 
   dummy_waited : (start : MachineState) (asked budget : ℕ) (result : Result (Unit {0}) ClientError) (waited : ℕ) (idle : MachineState) → result ≡ Ok tt → StillWaited start asked result waited idle
       → (idle ≡ with_value 0 start) × (waited + 2 ≡ asked)
@@ -541,23 +464,24 @@ module _ (tells : Type 0) (own : OwnProgramsRun tells) (first : MachineState) wh
   dummy_command budget result left last sequence =
       elim (sequence_ends tells own (own_client first).timings dummy_requests budget first result left last sequence) as (λ result left last ends. DummyCommand first last dummy_requests budget result left) [
         | HasTold answers asked mid waited idle left asks waits spent ↦
-            let opened = dummy_ok budget answers (Ok answers) asked mid refl (dummy_opens budget (Ok answers) asked mid asks) in
+            let opened = opened_ok first IsDummy 4 budget answers (Ok answers) asked mid refl (dummy_on budget (Ok answers) asked mid asks) in
             let at = dummy_waited mid asked budget (Ok tt) waited idle refl (wait_still tells own (own_client first).timings mid (dummy_still mid opened.0) asked (Ok tt) waited idle waits) in
             told mid idle asked waited left opened.0 opened.1 at.0 at.1 spent
         | HasNotTold answers asked mid waited idle other asks waits short either ↦
-            let opened = dummy_ok budget answers (Ok answers) asked mid refl (dummy_opens budget (Ok answers) asked mid asks) in
+            let opened = opened_ok first IsDummy 4 budget answers (Ok answers) asked mid refl (dummy_on budget (Ok answers) asked mid asks) in
             let at = dummy_waited mid asked budget (Ok tt) waited idle refl (wait_still tells own (own_client first).timings mid (dummy_still mid opened.0) asked (Ok tt) waited idle waits) in
             IsCut (not_told mid idle other opened.0 at.0 either) (omega (arith, opened.1, at.1, short, needs-dummy))
         | HasNotWaited answers asked mid error left other asks waits ↦
-            let opened = dummy_ok budget answers (Ok answers) asked mid refl (dummy_opens budget (Ok answers) asked mid asks) in
+            let opened = opened_ok first IsDummy 4 budget answers (Ok answers) asked mid refl (dummy_on budget (Ok answers) asked mid asks) in
             dummy_short mid opened.0 asked budget error (Err error) left other opened.1 refl (wait_still tells own (own_client first).timings mid (dummy_still mid opened.0) asked (Err error) left other waits)
-        | HasNotAsked stop left other asks ↦ dummy_halts budget stop (Err stop) left other refl (dummy_opens budget (Err stop) left other asks)
+        | HasNotAsked stop left other asks ↦
+            opened_short first IsDummy 4 budget (λ stop left w. DummyCommand first (ended_from w) dummy_requests budget (Err (Stopped stop)) left) stop (Err stop) left other (dummy_halted budget) refl (dummy_on budget (Err stop) left other asks)
       ]
     where
       told : (mid idle : MachineState) (asked waited left : ℕ) → IsDummy mid → asked + 4 ≡ budget → idle ≡ with_value 0 mid → waited + 2 ≡ asked → left + 2 ≡ waited
           → DummyCommand first (ended_from (with_value (status_in idle) idle)) dummy_requests budget (judged (status_in idle)) left
       told mid idle asked waited left is opened at sum spent =
-          let exact : idle ≡ on_device first (record (dummy_device first.device) { status = statuses.Success }) = at ∙ ap (with_value 0) is in
+          let exact : idle ≡ on_device first (record (offset_device operations.Dummy first.device) { status = statuses.Success }) = at ∙ ap (with_value 0) is in
           subst (λ (m : MachineState). DummyCommand first (ended_from (with_value (status_in m) m)) dummy_requests budget (judged (status_in m)) left) (sym exact)
           (IsPlayed left (record { store = refl; cursor = refl; elsewhere = refl }) (omega (arith, opened, sum, spent, needs-dummy)))
 

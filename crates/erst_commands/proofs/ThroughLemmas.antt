@@ -36,8 +36,8 @@ use Rattle.erst_commands.specs.OwnPrograms.{OwnRun, IsMade, StopsAtOnce, StopsBe
 use Rattle.erst_commands.specs.Attached.{own_client}
 use Rattle.erst_commands.specs.Causes.{GoesThrough}
 use Rattle.erst_commands.proofs.MachineSteps.{on_device}
-use Rattle.erst_commands.proofs.OwnProgramLemmas.{steps-begin_write, steps-begin_read, steps-begin_clear, steps-begin_dummy}
-use Rattle.erst_commands.proofs.SequenceLemmas.{Untouched, RunTo, Opened, Opens, Halts, ask_none, ask_more, begun_device, begin_run, offset_run, identifier_run, execute_run, status_in, HasTold, HasNotTold, HasNotWaited, HasNotAsked, sequence_ends}
+use Rattle.erst_commands.proofs.SequenceLemmas.{Opened, HasTold, HasNotTold, HasNotWaited, HasNotAsked, sequence_ends, opened_ok, opened_short}
+use Rattle.erst_commands.proofs.OpenLemmas.{IsOn, offset_device, clearing_device, reading_device, write_opens, dummy_opens, clear_opens, read_opens}
 use Rattle.erst_commands.proofs.EnoughLemmas.{enough-most}
 use Rattle.erst_commands.proofs.BusyLemmas.{StartsFinite, starts_finite, WaitsThrough, waits_through}
 
@@ -66,23 +66,6 @@ judged_through statuses.RecordNotFound = record { not_stopped = λ stop e. absur
 abbrev EndsFrom : MachineState → MachineState → Type 0
 EndsFrom first w = StartsFinite first.device.store.layout w.device
 
-record HasOpened (first : MachineState) (cost budget left : ℕ) (w : MachineState) : Type 0 where
-  finite : EndsFrom first w
-  spent : left + cost ≡ budget
-
-opened_ok : (first : MachineState) (P : MachineState → Type 0) (cost budget : ℕ) (result : Result (List ℕ) RunStop) (left : ℕ) (w : MachineState) (answers : List ℕ) → ((w : MachineState) → P w → EndsFrom first w) → result ≡ Ok answers
-    → Opened first P cost budget result left w → HasOpened first cost budget left w
-opened_ok first P cost budget result left w answers ends is opened = (elim opened as (λ result left w opened. result ≡ Ok answers → HasOpened first cost budget left w) [
-  | Opens others left w holds spent ↦ λ e. record { finite = ends w holds; spent = spent }
-  | Halts w untouched short ↦ λ e. absurd (cc e)
-]) is
-
-opened_short : (first : MachineState) (P : MachineState → Type 0) (cost budget : ℕ) (result : Result (List ℕ) RunStop) (left : ℕ) (w : MachineState) (stop : RunStop) → result ≡ Err stop → Opened first P cost budget result left w → budget < cost
-opened_short first P cost budget result left w stop is opened = (elim opened as (λ result left w opened. result ≡ Err stop → budget < cost) [
-  | Opens others left w holds spent ↦ λ e. absurd (cc e)
-  | Halts w untouched short ↦ λ e. short
-]) is
-
 module _ (tells : Type 0) (own : OwnProgramsRun tells) (first : MachineState) (budget : ℕ) (enough : enough_steps (own_client first).timings ≤ budget) where
   sequence_through : (P : MachineState → Type 0) (cost : ℕ) (requests : List Request) → cost ≤ 6 → ((w : MachineState) → P w → EndsFrom first w)
       → ((result : Result (List ℕ) RunStop) (left : ℕ) (last : MachineState) → Asks (Allows tells) own_entries requests budget first result left last → Opened first P cost budget result left last)
@@ -91,17 +74,17 @@ module _ (tells : Type 0) (own : OwnProgramsRun tells) (first : MachineState) (b
       elim (sequence_ends tells own (own_client first).timings requests budget first result left last sequence) as (λ result left last ends. GoesThrough result) [
         | HasTold answers asked mid waited idle left asks waits spent ↦ judged_through idle.device.status
         | HasNotTold answers asked mid waited idle other asks waits short either ↦
-            let opened = opened_ok first P cost budget (Ok answers) asked mid answers ends refl (opens (Ok answers) asked mid asks) in
-            let started = opened.finite in
-            let through = waited_through asked (Ok tt) mid waited idle started (omega (arith, opened.spent, few)) waits in
-            absurd (omega (arith, through.enough, short, opened.spent, few, enough-most first, enough, started.few))
+            let opened = opened_ok first P cost budget answers (Ok answers) asked mid refl (opens (Ok answers) asked mid asks) in
+            let started = ends mid opened.0 in
+            let through = waited_through asked (Ok tt) mid waited idle started (omega (arith, opened.1, few)) waits in
+            absurd (omega (arith, through.enough, short, opened.1, few, enough-most first, enough, started.few))
         | HasNotWaited answers asked mid error left other asks waits ↦
-            let opened = opened_ok first P cost budget (Ok answers) asked mid answers ends refl (opens (Ok answers) asked mid asks) in
-            let started = opened.finite in
-            let through = waited_through asked (Err error) mid left other started (omega (arith, opened.spent, few)) waits in
+            let opened = opened_ok first P cost budget answers (Ok answers) asked mid refl (opens (Ok answers) asked mid asks) in
+            let started = ends mid opened.0 in
+            let through = waited_through asked (Err error) mid left other started (omega (arith, opened.1, few)) waits in
             absurd (cc through.well)
         | HasNotAsked stop left other asks ↦
-            let short = opened_short first P cost budget (Err stop) left other stop refl (opens (Err stop) left other asks) in
+            let short = opened_short first P cost budget (λ stop left w. budget < cost) stop (Err stop) left other (λ w untouched short. short) refl (opens (Err stop) left other asks) in
             absurd (omega (arith, short, few, enough-most first, enough))
       ]
     where
@@ -111,107 +94,31 @@ module _ (tells : Type 0) (own : OwnProgramsRun tells) (first : MachineState) (b
           waits_through tells own first.device.store.layout (10 * most_changes first.device.store.layout, 10 * (first.device.store.layout.per_slot + 4)) started.n mid started.finite (omega (arith, started.few))
           asked (omega (arith, spent, enough-most first, enough, started.few)) result left last waits
 
-  -- EXECUTE_OPERATION was made by a device
-  abbrev IsOn : DeviceState → MachineState → Type 0
-  IsOn device w = Starts tells device first.memory.range w.device × (w ≡ on_device first w.device)
-
-  execute_opens : (device : DeviceState) → IsStill device → Untouched first (on_device first device) → (budget : ℕ) (mid : MachineState) (result : Result (List ℕ) RunStop) (left : ℕ) (last : MachineState) → mid ≡ on_device first device
-      → Asks (Allows tells) own_entries (record { action = ExecuteOperation; given = 0 } ∷ []) budget mid result left last → Opened first (IsOn device) 1 budget result left last
-  execute_opens device still untouched budget mid result left last mid_is asks =
-      ask_more tells first (IsOn device) (IsOn device) 1 0 _ _ budget mid result left last
-      (λ result left last run. execute_run tells own first device still untouched budget mid result left last mid_is run)
-      (λ budget mid result left last mid_is asks. ask_none tells first (IsOn device) budget mid result left last mid_is asks)
-      asks
-
-  abbrev BeginsBy : Action → Operation → Type 0
-  BeginsBy action operation = (budget : ℕ) (result : Result ℕ RunStop) (left : ℕ) (last : MachineState) → Performs (Allows tells) own_entries action 0 budget first result left last
-      → RunTo first (λ w. w ≡ on_device first (begun_device operation first.device)) 1 budget result left last
-
-  -- the requests of a write, and of a dummy write
-  abbrev placed : Operation → DeviceState
-  placed operation = record (begun_device operation first.device) { value = 0; offset = 0 }
-
-  offset_opens : (action : Action) (operation : Operation) → BeginsBy action operation → (result : Result (List ℕ) RunStop) (left : ℕ) (last : MachineState)
-      → Asks (Allows tells) own_entries (record { action = action; given = 0 } ∷ record { action = SetRecordOffset; given = 0 } ∷ record { action = ExecuteOperation; given = 0 } ∷ []) budget first result left last
-      → Opened first (IsOn (placed operation)) 4 budget result left last
-  offset_opens action operation begins result left last asks =
-      ask_more tells first (λ w. w ≡ on_device first (begun_device operation first.device)) (IsOn (placed operation)) 1 3 _ _ budget first result left last
-      (λ result left last run. begins budget result left last run)
-      (λ budget mid result left last mid_is asks.
-      ask_more tells first (λ w. w ≡ on_device first (placed operation)) (IsOn (placed operation)) 2 1 _ _ budget mid result left last
-      (λ result left last run. offset_run tells own first (begun_device operation first.device) (record { no_read = refl; no_change = refl })
-      (record { flash = refl; layout = refl; cursor = refl; given_up = refl; elsewhere = refl }) budget mid result left last mid_is run)
-      (λ budget mid result left last mid_is asks.
-      execute_opens (placed operation) (record { no_read = refl; no_change = refl }) (record { flash = refl; layout = refl; cursor = refl; given_up = refl; elsewhere = refl }) budget mid result left last mid_is asks)
-      asks)
-      asks
-
-  -- those of a clear
-  abbrev clearing : ℕ → DeviceState
-  clearing number = record (begun_device operations.Clear first.device) { value = number; id = number }
-
-  clear_opens : (id : ℕ) → id < 2 ^ 64 → (result : Result (List ℕ) RunStop) (left : ℕ) (last : MachineState) → Asks (Allows tells) own_entries (clear_requests id) budget first result left last → Opened first (IsOn (clearing id)) 4 budget result left last
-  clear_opens id small result left last asks =
-      ask_more tells first (λ w. w ≡ on_device first (begun_device operations.Clear first.device)) (IsOn (clearing id)) 1 3 _ _ budget first result left last
-      (λ result left last run. begin_run tells own first BeginClearOperation operations.Clear refl refl refl (λ m. refl) steps-begin_clear refl budget result left last run)
-      (λ budget mid result left last mid_is asks.
-      ask_more tells first (λ w. w ≡ on_device first (clearing id)) (IsOn (clearing id)) 2 1 _ _ budget mid result left last
-      (λ result left last run. identifier_run tells own first id small (begun_device operations.Clear first.device) (record { no_read = refl; no_change = refl })
-      (record { flash = refl; layout = refl; cursor = refl; given_up = refl; elsewhere = refl }) budget mid result left last mid_is run)
-      (λ budget mid result left last mid_is asks.
-      execute_opens (clearing id) (record { no_read = refl; no_change = refl }) (record { flash = refl; layout = refl; cursor = refl; given_up = refl; elsewhere = refl }) budget mid result left last mid_is asks)
-      asks)
-      asks
-
-  -- and those of a read
-  abbrev reading : ℕ → DeviceState
-  reading number = record (begun_device operations.Read first.device) { value = number; offset = 0; id = number }
-
-  read_opens : (id : ℕ) → id < 2 ^ 64 → (result : Result (List ℕ) RunStop) (left : ℕ) (last : MachineState) → Asks (Allows tells) own_entries (read_requests id) budget first result left last → Opened first (IsOn (reading id)) 6 budget result left last
-  read_opens id small result left last asks =
-      ask_more tells first (λ w. w ≡ on_device first (begun_device operations.Read first.device)) (IsOn (reading id)) 1 5 _ _ budget first result left last
-      (λ result left last run. begin_run tells own first BeginReadOperation operations.Read refl refl refl (λ m. refl) steps-begin_read refl budget result left last run)
-      (λ budget mid result left last mid_is asks.
-      ask_more tells first (λ w. w ≡ on_device first (placed operations.Read)) (IsOn (reading id)) 2 3 _ _ budget mid result left last
-      (λ result left last run. offset_run tells own first (begun_device operations.Read first.device) (record { no_read = refl; no_change = refl })
-      (record { flash = refl; layout = refl; cursor = refl; given_up = refl; elsewhere = refl }) budget mid result left last mid_is run)
-      (λ budget mid result left last mid_is asks.
-      ask_more tells first (λ w. w ≡ on_device first (reading id)) (IsOn (reading id)) 2 1 _ _ budget mid result left last
-      (λ result left last run. identifier_run tells own first id small (placed operations.Read) (record { no_read = refl; no_change = refl })
-      (record { flash = refl; layout = refl; cursor = refl; given_up = refl; elsewhere = refl }) budget mid result left last mid_is run)
-      (λ budget mid result left last mid_is asks.
-      execute_opens (reading id) (record { no_read = refl; no_change = refl }) (record { flash = refl; layout = refl; cursor = refl; given_up = refl; elsewhere = refl }) budget mid result left last mid_is asks)
-      asks)
-      asks)
-      asks
-
   module _ (long : length first.memory.range ≡ reach_in first.device) where
-    ends_on : (device : DeviceState) → IsStill device → device.store.layout ≡ first.device.store.layout → (w : MachineState) → IsOn device w → EndsFrom first w
+    ends_on : (device : DeviceState) → IsStill device → device.store.layout ≡ first.device.store.layout → (w : MachineState) → IsOn tells first device w → EndsFrom first w
     ends_on device still same w on =
         subst (λ (l : Layout). StartsFinite l w.device) same
         (starts_finite tells device first.memory.range still (long ∙ ap (λ (l : Layout). reach_of (room_of l)) (sym same)) w.device on.0)
 
     pub write_through : (result : Result (Unit {0}) ClientError) (left : ℕ) (last : MachineState) → Sequence (Allows tells) own_entries (own_client first).timings write_requests budget first result left last → GoesThrough result
     write_through =
-        sequence_through (IsOn (placed operations.Write)) 4 write_requests (omega arith) (ends_on (placed operations.Write) (record { no_read = refl; no_change = refl }) refl)
-        (offset_opens BeginWriteOperation operations.Write
-        (λ budget result left last run. begin_run tells own first BeginWriteOperation operations.Write refl refl refl (λ m. refl) steps-begin_write refl budget result left last run))
+        sequence_through (IsOn tells first (offset_device operations.Write first.device)) 4 write_requests (omega arith) (ends_on (offset_device operations.Write first.device) (record { no_read = refl; no_change = refl }) refl)
+        (write_opens tells own first budget)
 
     pub dummy_through : (result : Result (Unit {0}) ClientError) (left : ℕ) (last : MachineState) → Sequence (Allows tells) own_entries (own_client first).timings dummy_requests budget first result left last → GoesThrough result
     dummy_through =
-        sequence_through (IsOn (placed operations.Dummy)) 4 dummy_requests (omega arith) (ends_on (placed operations.Dummy) (record { no_read = refl; no_change = refl }) refl)
-        (offset_opens BeginDummyWriteOperation operations.Dummy
-        (λ budget result left last run. begin_run tells own first BeginDummyWriteOperation operations.Dummy refl refl refl (λ m. refl) steps-begin_dummy refl budget result left last run))
+        sequence_through (IsOn tells first (offset_device operations.Dummy first.device)) 4 dummy_requests (omega arith) (ends_on (offset_device operations.Dummy first.device) (record { no_read = refl; no_change = refl }) refl)
+        (dummy_opens tells own first budget)
 
     pub clear_through : (id : ℕ) → id < 2 ^ 64 → (result : Result (Unit {0}) ClientError) (left : ℕ) (last : MachineState) → Sequence (Allows tells) own_entries (own_client first).timings (clear_requests id) budget first result left last
         → GoesThrough result
     clear_through id small =
-        sequence_through (IsOn (clearing id)) 4 (clear_requests id) (omega arith) (ends_on (clearing id) (record { no_read = refl; no_change = refl }) refl) (clear_opens id small)
+        sequence_through (IsOn tells first (clearing_device first.device id)) 4 (clear_requests id) (omega arith) (ends_on (clearing_device first.device id) (record { no_read = refl; no_change = refl }) refl) (clear_opens tells own first id small budget)
 
     pub read_through : (id : ℕ) → id < 2 ^ 64 → (result : Result (Unit {0}) ClientError) (left : ℕ) (last : MachineState) → Sequence (Allows tells) own_entries (own_client first).timings (read_requests id) budget first result left last
         → GoesThrough result
     read_through id small =
-        sequence_through (IsOn (reading id)) 6 (read_requests id) (omega arith) (ends_on (reading id) (record { no_read = refl; no_change = refl }) refl) (read_opens id small)
+        sequence_through (IsOn tells first (reading_device first.device id)) 6 (read_requests id) (omega arith) (ends_on (reading_device first.device id) (record { no_read = refl; no_change = refl }) refl) (read_opens tells own first id small budget)
 
 -- Count and next
 

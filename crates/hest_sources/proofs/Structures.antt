@@ -48,12 +48,7 @@ pub gas_again : (bytes : List ℕ) → AreBytes bytes → length bytes ≡ 12 �
 unfolding gas_fields
 gas_again bytes h k =
     let again = λ (at m : ℕ) (low : at + m ≤ 12). spelled-number_at bytes at m h (omega arith) in
-    let a0 = again 0 1 (omega arith) in
-    let a1 = again 1 1 (omega arith) in
-    let a2 = again 2 1 (omega arith) in
-    let a3 = again 3 1 (omega arith) in
-    let a4 = again 4 8 (omega arith) in
-    let fields : gas_fields (gas_at bytes) ≡ parts gas_sizes 0 bytes = rw (a0, a1, a2, a3, a4) refl in
+    let fields : gas_fields (gas_at bytes) ≡ parts gas_sizes 0 bytes = rw (again 0 1 (omega arith), again 1 1 (omega arith), again 2 1 (omega arith), again 3 1 (omega arith), again 4 8 (omega arith)) refl in
     sym (gas_joined (gas_at bytes) (is_gas bytes h k)) ∙ ap joined fields ∙ joined-parts gas_sizes 0 bytes ∙ part-whole bytes 12 (omega arith)
 
 pub gas_reads : (gas : Gas) → IsGas gas → gas_at (spelling gas) ≡ gas
@@ -169,16 +164,8 @@ front_again : (bytes : List ℕ) (ack : Option Ack) → AreBytes bytes → 64 �
 front_again bytes ack h k kind =
     let again = λ (at m : ℕ) (low : at + m ≤ 64). spelled-number_at bytes at m h (omega arith) in
     let a0 : spelled 2 (type_of ack) ≡ part bytes 0 2 = ap (spelled 2) (sym kind) ∙ again 0 2 (omega arith) in
-    let a2 = again 2 2 (omega arith) in
-    let a4 = again 4 2 (omega arith) in
-    let a6 = again 6 1 (omega arith) in
-    let a7 = again 7 1 (omega arith) in
-    let a8 = again 8 4 (omega arith) in
-    let a12 = again 12 4 (omega arith) in
-    let a16 = again 16 4 (omega arith) in
-    let a60 = again 60 4 (omega arith) in
     let status = gas_again (part bytes 20 12) (AreBytes-part bytes 20 12 h) (length-part bytes 20 12 (omega arith)) in
-    let fields : ghes_fields (front_at bytes ack) ≡ parts ghes_sizes 0 bytes = rw (a0, a2, a4, a6, a7, a8, a12, a16, a60, status) refl in
+    let fields : ghes_fields (front_at bytes ack) ≡ parts ghes_sizes 0 bytes = rw (a0, again 2 2 (omega arith), again 4 2 (omega arith), again 6 1 (omega arith), again 7 1 (omega arith), again 8 4 (omega arith), again 12 4 (omega arith), again 16 4 (omega arith), again 60 4 (omega arith), status) refl in
     ap joined fields ∙ joined-parts ghes_sizes 0 bytes
 
 ack_again : (bytes : List ℕ) → AreBytes bytes → 92 ≤ length bytes → joined (ack_fields (ack_at bytes)) ≡ part bytes 64 28

@@ -47,15 +47,7 @@ head_read image place gate kill format generation id len a b c fits stands =
     let at_a = at_field image place 20 2 a bytes stands (omega arith) (little-spelled 2 a fits.a_fits) in
     let at_b = at_field image place 22 2 b bytes stands (omega arith) (little-spelled 2 b fits.b_fits) in
     let at_c = at_field image place 24 2 c bytes stands (omega arith) (little-spelled 2 c fits.c_fits) in
-    λ i. record {
-      gate = at_gate i;
-      kill = at_kill i;
-      format = at_format i;
-      generation = at_generation i;
-      id = at_id i;
-      len = at_len i;
-      next = at_a i ∷ at_b i ∷ at_c i ∷ [];
-    }
+    λ i. record { gate = at_gate i; kill = at_kill i; format = at_format i; generation = at_generation i; id = at_id i; len = at_len i; next = at_a i ∷ at_b i ∷ at_c i ∷ [] }
 
 part-nothing : (image : List ℕ) (at : ℕ) → part image at 0 ≡ []
 unfolding part

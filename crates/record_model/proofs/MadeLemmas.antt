@@ -41,21 +41,18 @@ none_made : (per_slot len : ℕ) (marked : Bool) → made_in_slot per_slot len (
 none_made per_slot len true = refl
 none_made per_slot len false = refl
 
+-- behind a sector the next one is erased, or all are
+one_sector_more : (f : Stage → ℕ) (layout : Layout) (done : ℕ) (next all : Stage) (n : ℕ) → done < layout.per_slot → f next ≡ n → (done + 1 ≡ layout.per_slot → f all ≡ n) → f (cond (nat_lt (done + 1) layout.per_slot) next all) ≡ n
+one_sector_more f layout done next all n low more last =
+    by_choice f (nat_lt (done + 1) layout.per_slot) next all n (λ on. more) (λ past. last (let least : layout.per_slot ≤ done + 1 = ltb-false (done + 1) layout.per_slot past in omega arith))
+
 -- one change more is made at the stage after one
 pub made_one_more : (layout : Layout) (plan : Plan) (number : ℕ) (step : Step) → number ≤ length plan.further → IsStep layout (length (target_of layout plan number).bytes) step
     → made_at layout plan (stage_after layout plan number step) ≡ made_at layout plan (Fill number step) + 1
-made_one_more layout plan zero (EraseFromHead done) h form =
-    by_choice (made_at layout plan) (nat_lt (done + 1) layout.per_slot) (Fill 0 (EraseFromHead (done + 1))) (Fill 0 PutHead) _ (λ on. omega arith)
-    (λ all. let past : layout.per_slot ≤ done + 1 = ltb-false (done + 1) layout.per_slot all in let low : done < layout.per_slot = form in omega arith)
-made_one_more layout plan (suc n) (EraseFromHead done) h form =
-    by_choice (made_at layout plan) (nat_lt (done + 1) layout.per_slot) (Fill (suc n) (EraseFromHead (done + 1))) (Fill (suc n) PutHead) _ (λ on. omega arith)
-    (λ all. let past : layout.per_slot ≤ done + 1 = ltb-false (done + 1) layout.per_slot all in let low : done < layout.per_slot = form in omega arith)
-made_one_more layout plan zero (EraseFromTail done) h form =
-    by_choice (made_at layout plan) (nat_lt (done + 1) layout.per_slot) (Fill 0 (EraseFromTail (done + 1))) (Fill 0 PutHead) _ (λ on. omega arith)
-    (λ all. let past : layout.per_slot ≤ done + 1 = ltb-false (done + 1) layout.per_slot all in let low : done < layout.per_slot = form in omega arith)
-made_one_more layout plan (suc n) (EraseFromTail done) h form =
-    by_choice (made_at layout plan) (nat_lt (done + 1) layout.per_slot) (Fill (suc n) (EraseFromTail (done + 1))) (Fill (suc n) PutHead) _ (λ on. omega arith)
-    (λ all. let past : layout.per_slot ≤ done + 1 = ltb-false (done + 1) layout.per_slot all in let low : done < layout.per_slot = form in omega arith)
+made_one_more layout plan zero (EraseFromHead done) h form = one_sector_more (made_at layout plan) layout done (Fill 0 (EraseFromHead (done + 1))) (Fill 0 PutHead) _ form (omega arith) (λ last. omega arith)
+made_one_more layout plan (suc n) (EraseFromHead done) h form = one_sector_more (made_at layout plan) layout done (Fill (suc n) (EraseFromHead (done + 1))) (Fill (suc n) PutHead) _ form (omega arith) (λ last. omega arith)
+made_one_more layout plan zero (EraseFromTail done) h form = one_sector_more (made_at layout plan) layout done (Fill 0 (EraseFromTail (done + 1))) (Fill 0 PutHead) _ form (omega arith) (λ last. omega arith)
+made_one_more layout plan (suc n) (EraseFromTail done) h form = one_sector_more (made_at layout plan) layout done (Fill (suc n) (EraseFromTail (done + 1))) (Fill (suc n) PutHead) _ form (omega arith) (λ last. omega arith)
 made_one_more layout plan zero PutHead h form = omega arith
 made_one_more layout plan (suc n) PutHead h form = omega arith
 made_one_more layout plan zero (Piece piece) h form =

@@ -17,34 +17,27 @@ slots_apart k j size h =
     let below : (k + 1) * size ≤ j * size = mul-le-mul_right size (omega arith) in
     omega arith
 
--- a head or a tail mark outside the range is the same
-pub head_at-before : (place len at : ℕ) (old new : List ℕ) → SameOutside place len old new → at + 26 ≤ place → head_at new at ≡ head_at old at
+-- a head whose numbers are the same is the same
+head_at-same : (at : ℕ) (old new : List ℕ) → ((place n : ℕ) → at ≤ place → place + n ≤ at + 26 → number_at new place n ≡ number_at old place n) → head_at new at ≡ head_at old at
 unfolding head_at
-head_at-before place len at old new same h =
-    let gate = number_at-before place len at 1 old new same (omega arith) in
-    let kill = number_at-before place len (at + 1) 1 old new same (omega arith) in
-    let format = number_at-before place len (at + 2) 2 old new same (omega arith) in
-    let generation = number_at-before place len (at + 4) 4 old new same (omega arith) in
-    let id = number_at-before place len (at + 8) 8 old new same (omega arith) in
-    let size = number_at-before place len (at + 16) 4 old new same (omega arith) in
-    let one = number_at-before place len (at + 20) 2 old new same (omega arith) in
-    let two = number_at-before place len (at + 22) 2 old new same (omega arith) in
-    let three = number_at-before place len (at + 24) 2 old new same (omega arith) in
+head_at-same at old new same =
+    let gate = same at 1 (omega arith) (omega arith) in
+    let kill = same (at + 1) 1 (omega arith) (omega arith) in
+    let format = same (at + 2) 2 (omega arith) (omega arith) in
+    let generation = same (at + 4) 4 (omega arith) (omega arith) in
+    let id = same (at + 8) 8 (omega arith) (omega arith) in
+    let size = same (at + 16) 4 (omega arith) (omega arith) in
+    let one = same (at + 20) 2 (omega arith) (omega arith) in
+    let two = same (at + 22) 2 (omega arith) (omega arith) in
+    let three = same (at + 24) 2 (omega arith) (omega arith) in
     λ i. record { gate = gate i; kill = kill i; format = format i; generation = generation i; id = id i; len = size i; next = one i ∷ two i ∷ three i ∷ [] }
 
+-- a head or a tail mark outside the range is the same
+pub head_at-before : (place len at : ℕ) (old new : List ℕ) → SameOutside place len old new → at + 26 ≤ place → head_at new at ≡ head_at old at
+head_at-before place len at old new same h = head_at-same at old new (λ k n from to. number_at-before place len k n old new same (omega arith))
+
 pub head_at-after : (place len at : ℕ) (old new : List ℕ) → SameOutside place len old new → place + len ≤ at → head_at new at ≡ head_at old at
-unfolding head_at
-head_at-after place len at old new same h =
-    let gate = number_at-after place len at 1 old new same (omega arith) in
-    let kill = number_at-after place len (at + 1) 1 old new same (omega arith) in
-    let format = number_at-after place len (at + 2) 2 old new same (omega arith) in
-    let generation = number_at-after place len (at + 4) 4 old new same (omega arith) in
-    let id = number_at-after place len (at + 8) 8 old new same (omega arith) in
-    let size = number_at-after place len (at + 16) 4 old new same (omega arith) in
-    let one = number_at-after place len (at + 20) 2 old new same (omega arith) in
-    let two = number_at-after place len (at + 22) 2 old new same (omega arith) in
-    let three = number_at-after place len (at + 24) 2 old new same (omega arith) in
-    λ i. record { gate = gate i; kill = kill i; format = format i; generation = generation i; id = id i; len = size i; next = one i ∷ two i ∷ three i ∷ [] }
+head_at-after place len at old new same h = head_at-same at old new (λ k n from to. number_at-after place len k n old new same (omega arith))
 
 pub tail_at-before : (place len at size : ℕ) (old new : List ℕ) → SameOutside place len old new → 1 ≤ size → at + size ≤ place → tail_at new at size ≡ tail_at old at size
 unfolding tail_at

@@ -266,6 +266,14 @@ part_made layout plan (suc n) old new is h known filled =
       λ k never. absurd (both_ways false refl never),
     ))
 
+-- once a sector is erased, the next one is, or all are
+sector_made : (layout : Layout) (plan : Plan) (number done : ℕ) (next : Step) (new : List ℕ) → done < layout.per_slot → StandsAtStage layout plan new (Fill number next)
+    → (done + 1 ≡ layout.per_slot → StandsAtStage layout plan new (Fill number PutHead))
+    → StandsAtStage layout plan new (cond (nat_lt (done + 1) layout.per_slot) (Fill number next) (Fill number PutHead))
+sector_made layout plan number done next new low more all =
+    by_choice layout plan new (nat_lt (done + 1) layout.per_slot) (Fill number next) (Fill number PutHead) (λ on. more)
+    (λ past. all (let least : layout.per_slot ≤ done + 1 = ltb-false (done + 1) layout.per_slot past in omega arith))
+
 -- Once the change of a step is made, the next stage stands
 pub step_made : (layout : Layout) (plan : Plan) (number : ℕ) (step : Step) (old new : List ℕ) → IsPlan layout plan → number ≤ length plan.further
     → IsStep layout (length (target_of layout plan number).bytes) step → KnowsPlan layout plan old → StandsAtStage layout plan old (Fill number step)
@@ -273,26 +281,14 @@ pub step_made : (layout : Layout) (plan : Plan) (number : ℕ) (step : Step) (ol
     → IsWritten layout number (target_of layout plan number) step new → StandsAtStage layout plan new (stage_after layout plan number step)
 step_made layout plan number (EraseFromHead done) old new is h form knows stands same written =
     let known = step_torn layout plan number (EraseFromHead done) old new is h form knows stands same in
-    let slot = (target_of layout plan number).slot in
-    let low : done < layout.per_slot = form in
-    let more = IsCleanFromHead-more layout slot done old new low stands.1 same written in
-    by_choice layout plan new (nat_lt (done + 1) layout.per_slot) (Fill number (EraseFromHead (done + 1))) (Fill number PutHead)
-    (λ on. (known.parts, more, known.ahead))
-    (λ all. (known.parts, all_from_head layout slot (done + 1) new (last all low) more, known.ahead))
-  where
-    last : nat_lt (done + 1) layout.per_slot ≡ false → done < layout.per_slot → done + 1 ≡ layout.per_slot
-    last all low = let past : layout.per_slot ≤ done + 1 = ltb-false (done + 1) layout.per_slot all in omega arith
+    let more = IsCleanFromHead-more layout (target_of layout plan number).slot done old new form stands.1 same written in
+    sector_made layout plan number done (EraseFromHead (done + 1)) new form (known.parts, more, known.ahead)
+    (λ last. (known.parts, all_from_head layout (target_of layout plan number).slot (done + 1) new last more, known.ahead))
 step_made layout plan number (EraseFromTail done) old new is h form knows stands same written =
     let known = step_torn layout plan number (EraseFromTail done) old new is h form knows stands same in
-    let slot = (target_of layout plan number).slot in
-    let low : done < layout.per_slot = form in
-    let more = IsCleanFromTail-more layout slot done old new low stands.1 same written in
-    by_choice layout plan new (nat_lt (done + 1) layout.per_slot) (Fill number (EraseFromTail (done + 1))) (Fill number PutHead)
-    (λ on. (known.parts, more, known.ahead))
-    (λ all. (known.parts, all_from_tail layout slot (done + 1) new (last all low) more, known.ahead))
-  where
-    last : nat_lt (done + 1) layout.per_slot ≡ false → done < layout.per_slot → done + 1 ≡ layout.per_slot
-    last all low = let past : layout.per_slot ≤ done + 1 = ltb-false (done + 1) layout.per_slot all in omega arith
+    let more = IsCleanFromTail-more layout (target_of layout plan number).slot done old new form stands.1 same written in
+    sector_made layout plan number done (EraseFromTail (done + 1)) new form (known.parts, more, known.ahead)
+    (λ last. (known.parts, all_from_tail layout (target_of layout plan number).slot (done + 1) new last more, known.ahead))
 step_made layout plan zero PutHead old new is h form knows stands same written =
     let known = step_torn layout plan zero PutHead old new is h form knows stands same in
     (known.parts, first_begun layout plan plan.further old new is.names.few is.names.below is.id is.generation (let most = is.names.most in let small = reach_small (layout.slot_size - 64) in omega arith) stands.1 same written, known.ahead)

@@ -1,21 +1,13 @@
 use Rattle.std.proofs.Common.{ℕ, subst, arith}
 use Rattle.base_model.specs.Bytes.{joined}
 use Rattle.apei_fields.specs.Writing.{Wrote}
-use Rattle.apei_fields.proofs.Puts.{no_field, next_field}
+use Rattle.apei_fields.proofs.Puts.{◌▸◌, no_field}
 use Rattle.cper_frame.specs.Grammar.{descriptor_fields}
 use Rattle.cper_frame.proofs.writer.put_descriptor.Goals as goal
 
 pub returns-clause-wrote : goal.returns-clause-wrote
 returns-clause-wrote c =
-    let w0 = no_field c.args.out.now c.args.at (omega arith) in
-    let w1 = next_field w0 c.write_u32-length.ensures.wrote in
-    let w2 = next_field w1 c.write_u32-revision.ensures.wrote in
-    let w3 = next_field w2 c.write_u16-validation.ensures.wrote in
-    let w4 = next_field w3 c.write_u8-reserved.ensures.wrote in
-    let w5 = next_field w4 c.write_u8-flags.ensures.wrote in
-    let w6 = next_field w5 c.write_u32-kind.ensures.wrote in
-    let w7 = next_field w6 c.write_guid-fru.ensures.wrote in
-    let w8 = next_field w7 c.write_guid-severity.ensures.wrote in
-    let w9 = next_field w8 c.write_u32-fru_text.ensures.wrote in
-    let w10 = next_field w9 c.write_array.ensures.wrote in
-    subst (λ (end : ℕ). Wrote c.args.out.now c.write_array.new.out c.args.at end (joined (descriptor_fields c.args.head.now c.args.offset c.args.count))) (omega arith) w10.wrote
+    let fields = no_field c.args.out.now c.args.at (omega arith) ▸ c.write_u32-length.ensures.wrote ▸ c.write_u32-revision.ensures.wrote
+    ▸ c.write_u16-validation.ensures.wrote ▸ c.write_u8-reserved.ensures.wrote ▸ c.write_u8-flags.ensures.wrote ▸ c.write_u32-kind.ensures.wrote
+    ▸ c.write_guid-fru.ensures.wrote ▸ c.write_guid-severity.ensures.wrote ▸ c.write_u32-fru_text.ensures.wrote ▸ c.write_array.ensures.wrote in
+    subst (λ (end : ℕ). Wrote c.args.out.now c.write_array.new.out c.args.at end (joined (descriptor_fields c.args.head.now c.args.offset c.args.count))) (omega arith) fields.wrote
