@@ -2,9 +2,10 @@
 ghost use Rattle.std.specs.Prelude.{◌≡◌, ◌⊎◌, ℕ, ◌+◌, ◌-◌, ◌*◌, ◌/◌, ◌<◌, ◌≤◌, ◌^◌, List, [], ◌∷◌, ◌++◌, length, IsOk, IfOk, IfErr, OnOk, OnErr, IfSome, Some, None, Ok, Err, MatchOption, MatchResult};
 ghost use Rattle.base_model.specs.Bytes.{part, joined};
 ghost use Rattle.std.specs.FinMap.{len};
-ghost use Rattle.flash_words.specs.Flash.{FlashState, LosesOnlyByChange, StaysLit, raised};
+ghost use Rattle.flash_words.specs.Flash.{FlashState, LosesOnlyByChange, StaysLit, raised, next_count};
 ghost use Rattle.record_model.specs.Records.{second_copies};
 ghost use Rattle.record_store.specs.Store.{IsReady, IsFlashOf, IsSettled, KeepsRecordsOf};
+ghost use Rattle.record_recovery.specs.Answers.{IsOneFault};
 ghost use Rattle.record_store.specs.Answers.{RefusesFlash};
 ghost use Rattle.apei_gas.specs.Access.{bits};
 ghost use Rattle.erst_device.specs.DeviceState.{at_first, records};
@@ -91,6 +92,9 @@ impl<F: Flash> Machine<F> {
         // It restarts no flash, and no call behind the one that lost power finds the flash without it.
         ensures lit { IfOk result (λ machine. StaysLit (F.state flash) machine.device.store.flash) }
         ensures lit_back { IfErr result (λ refused. StaysLit (F.state flash) (F.state refused.flash)) }
+
+        // The fault that is answered is the only one: nothing is asked of the flash behind it.
+        ensures once { IfErr result (λ refused. refused.why ≡ BootError.Flash → (F.state refused.flash).faults ≡ next_count (F.state flash).faults) }
     {
         if let Some(why) = misfit(&flash, &geometry) {
             return Err(BootRefused { why, flash });
@@ -279,6 +283,8 @@ fn refused_boot<F: Flash>(refused: StoreRefused<F>) -> BootRefused<F>
     ensures flash { F.state result.flash ≡ F.state refused.flash }
     ensures why { (geometry : Geometry) (old : FlashState) → RefusesFlash geometry old (F.state refused.flash) refused.why
         → RefusesBoot geometry old (F.state result.flash) result.why }
+    ensures once { (old : FlashState) → IsOneFault old (F.state refused.flash) refused.why
+        → result.why ≡ BootError.Flash → (F.state result.flash).faults ≡ next_count old.faults }
 {
     let StoreRefused { why, flash } = refused;
     let why = match why {

@@ -10,7 +10,7 @@ returns-in-Err-clause-refused g c =
     let back = c.in-Err.ensures in
     subst (HasNotBegun g.F.Flash.tells (order_of c.args.plan.now) (g.F.Flash.state c.args.flash) (g.F.Flash.state c.in-Err.field-0.flash)) (sym c.boot_status.ensures)
     (refused_begun g.F.Flash.tells (order_of c.args.plan.now) c.in-Ok.geometry (g.F.Flash.state c.args.flash) (g.F.Flash.state c.in-Err.field-0.flash) c.in-Err.field-0.why c.size.result
-    (record { sector = is.sector; per_slot = is.per_slot; slots = is.slots }) back.refused back.back back.power_back back.lit_back back.at_most)
+    (record { sector = is.sector; per_slot = is.per_slot; slots = is.slots }) back.refused back.back back.power_back back.lit_back back.at_most back.once)
 
 pub returns-in-Ok-boot-clause-booted : goal.returns-in-Ok-boot-clause-booted
 returns-in-Ok-boot-clause-booted g c =

@@ -23,3 +23,6 @@ invariant_of-result g c =
 pub returns-in-Ok-attach-clause-booted : goal.returns-in-Ok-attach-clause-booted
 returns-in-Ok-attach-clause-booted g c =
     is_booted _ _ _ _ _ _ c.new.ensures c.in-Ok-attach.ensures.opened c.reach.ensures c.in-Ok.ensures.sizes c.in-Ok.ensures.memory c.in-Ok.ensures.handover c.in-Ok.ensures.stands
+
+pub returns-in-Err-clause-once : goal.returns-in-Err-clause-once
+returns-in-Err-clause-once g c = c.refused_boot.ensures.once (g.F.Flash.state c.args.flash) c.in-Err.ensures.once
