@@ -24,7 +24,7 @@ use Rattle.apei_script.specs.Asked.{Answers}
 use Rattle.apei_script.specs.Happened.{Happened, IsGiven, IsLaid}
 use Rattle.apei_script.specs.Tables.{GivesTable}
 use Rattle.apei_script.specs.Bridged.{is_on, bridge_refusal, words_of_bridge, NeedsNoBridge, Enters, StaysAs}
-use Rattle.apei_script.specs.Plays.{ByTheBridge, step_of, ByClient, GivenTable, OwnTable, GivenShadow, OnMachine, Reset, Power, ResetFails, PowerFails, HasHappened, Stops}
+use Rattle.apei_script.specs.Plays.{ByTheBridge, ByClient, GivenTable, OwnTable, GivenShadow, OnMachine, Reset, Power, ResetFails, PowerFails, HasHappened, Stops}
 use Rattle.apei_script.specs.Desks.{MakesReply}
 use Rattle.apei_script.proofs.ShadowGiving.{IsShadowGiven}
 

@@ -1,16 +1,15 @@
 -- One line that was played.
-use Rattle.std.proofs.Common.{◌≡◌, ◌⊎◌, inl, inr, ℕ, ◌*◌, ◌≤◌, true, List, [], ◌∷◌, refl, sym, ap, subst, ◌∙◌}
+use Rattle.std.proofs.Common.{◌≡◌, inl, inr, ℕ, ◌≤◌, true, List, [], ◌∷◌, refl, sym, ap, subst, ◌∙◌}
 use Rattle.erst_client.specs.Commands.{ClientState}
 use Rattle.erst_client.specs.Timings.{enough_steps}
 use Rattle.erst_machine.specs.MachineState.{MachineState, IsMachine}
 use Rattle.erst_commands.specs.OwnPrograms.{OwnProgramsRun}
 use Rattle.erst_commands.specs.Attached.{own_client}
-use Rattle.erst_shadow.specs.ShadowCommands.{pieces_in, shadow_client}
+use Rattle.erst_shadow.specs.ShadowCommands.{shadow_client}
 use Rattle.erst_bridge.specs.Bridges.{BridgeState}
 use Rattle.bridge_durability.specs.Turns.{Step}
 use Rattle.script_text.specs.ScriptGrammar.{Line, IsValid}
 use Rattle.base_model.specs.Faults.{Rose}
-use Rattle.erst_machine.specs.MachineState.{reach_in}
 use Rattle.apei_script.specs.Players.{PlayerState, client_of, budget_of, UsesOwn, UsesShadow, UsesEither}
 use Rattle.apei_script.specs.Mapped.{LineLeaves}
 use Rattle.apei_script.specs.Words.{Reply, said_at, words_in}
