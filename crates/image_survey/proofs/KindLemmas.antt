@@ -10,12 +10,12 @@ use Rattle.record_recovery.specs.Listed.{first_records}
 use Rattle.record_slots.specs.Slots.{numbers_of}
 use Rattle.image_survey.specs.declared.kinds.SlotKind.{SlotKind}
 use Rattle.image_survey.specs.declared.kinds.SlotKind.TheVariants.{First, Orphan, Filling, Killed, Unknown}
-use Rattle.image_survey.specs.declared.looks.Look.{Look}
-use Rattle.image_survey.specs.Looks.{IsSeen}
+use Rattle.record_recovery.specs.declared.found.Look.{Look}
+use Rattle.record_recovery.specs.Looks.{IsSeen}
 use Rattle.image_survey.specs.Kinds.{kind_by, is_erased, kind_at}
 use Rattle.image_survey.specs.Counts.{is_record, is_second_copy}
 use Rattle.image_survey.specs.Shown.{IsFirstOf}
-use Rattle.image_survey.proofs.LookLemmas.{seen_up}
+use Rattle.record_recovery.proofs.LookLemmas.{seen_up}
 
 -- marks tell of no record and of no second copy
 choice_record : (a b c d e : Bool)

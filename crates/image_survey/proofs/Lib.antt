@@ -1,5 +1,4 @@
 pub mod Places
-pub mod Parts
 pub mod LookLemmas
 pub mod SlotLemmas
 pub mod KindLemmas

@@ -8,9 +8,9 @@ use Rattle.record_model.proofs.LiveLemmas.{live_parts, entry_live, entry_dead, l
 use Rattle.record_model.proofs.FirstLemmas.{is_first-chosen}
 use Rattle.record_recovery.specs.Listed.{first_records}
 use Rattle.record_slots.specs.Slots.{numbers_of}
-use Rattle.image_survey.specs.declared.looks.Look.{Look}
-use Rattle.image_survey.specs.Looks.{IsSeen}
-use Rattle.image_survey.proofs.LookLemmas.{seen_up}
+use Rattle.record_recovery.specs.declared.found.Look.{Look}
+use Rattle.record_recovery.specs.Looks.{IsSeen}
+use Rattle.record_recovery.proofs.LookLemmas.{seen_up}
 
 three_tests : (p q r : Bool) → p ≡ true → q ≡ true → (p && q && r) ≡ r
 three_tests p q r h i = ap (λ (b : Bool). b && q && r) h ∙ ap (λ (b : Bool). b && r) i

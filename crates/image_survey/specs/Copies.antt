@@ -4,7 +4,7 @@ use Rattle.std.specs.declared.alloc.Global.{Global}
 use Rattle.std.specs.declared.vec.Vec.{Vec}
 use Rattle.base_model.specs.Faults.{Rose}
 use Rattle.flash_model.specs.declared.geometry.Geometry.{Geometry}
-use Rattle.flash_words.specs.Flash.{FlashState, StaysLit}
+use Rattle.flash_words.specs.Flash.{FlashState, StaysLit, next_count}
 use Rattle.record_slots.specs.Slots.{Fits}
 use Rattle.image_survey.specs.declared.flash.ImageError.{ImageError}
 use Rattle.image_survey.specs.declared.flash.ImageError.TheVariants.{Size, Flash, Memory}
@@ -18,11 +18,13 @@ pub record LeavesAlone (tells : Type 0) (old new : FlashState) : Type 0 where
   pub power : new.powered ≡ old.powered
   pub lit : StaysLit old new
 
--- another size is answered exactly where the flash has one, a fault only where the count of faults rose, and before an
--- answer of size or memory the flash is not even read
+-- another size is answered exactly where the flash has one, and a fault only where the count of faults rose, by one. Bytes and a
+-- fault come of one read, and the other answers of none
 abbrev pub IsAnswer : Geometry → FlashState → FlashState → Result (Vec ℕ Global) ImageError → Type 0
-IsAnswer geometry old new (Ok image) = Fits geometry old × (new.faults ≡ old.faults)
+IsAnswer geometry old new (Ok image) = Fits geometry old × (new.faults ≡ old.faults) × (new.reads ≡ next_count old.reads)
 IsAnswer geometry old new (Err (Size found sector)) =
     (Fits geometry old → ⊥) × (found ≡ old.size) × (sector ≡ old.sector_size) × (new ≡ old)
-IsAnswer geometry old new (Err Flash) = Fits geometry old × (old.faults ≤ new.faults) × Rose old.faults new.faults
+IsAnswer geometry old new (Err Flash) =
+    Fits geometry old × (old.faults ≤ new.faults) × Rose old.faults new.faults
+    × (new.faults ≡ next_count old.faults) × (new.reads ≡ next_count old.reads)
 IsAnswer geometry old new (Err Memory) = Fits geometry old × (new ≡ old)

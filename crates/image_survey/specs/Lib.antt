@@ -1,4 +1,3 @@
-pub mod Looks
 pub mod Kinds
 pub mod Shown
 pub mod Reading

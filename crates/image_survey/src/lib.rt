@@ -16,7 +16,7 @@ mod totals;
 pub use finding::find;
 pub use flash::{ImageError, read_image};
 pub use kinds::SlotKind;
-pub use looks::Look;
 pub use reading::record_at;
+pub use record_recovery::Look;
 pub use survey::{SlotView, survey_slots};
 pub use totals::{Totals, count_slots};

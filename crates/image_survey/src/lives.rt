@@ -1,12 +1,12 @@
 // Which slots are live: upright, with the further parts of their records.
-ghost use Rattle.std.specs.Prelude.{◌≡◌, ℕ, ◌-◌, ◌<◌, true, length, IfOk};
-ghost use Rattle.record_model.specs.Records.{Slot, is_upright, is_live, are_parts, further_of};
-ghost use Rattle.record_slots.specs.Slots.{numbers_of};
-ghost use Rattle.image_survey.specs.Looks.{AreSeen, AreMarked};
+ghost use Rattle.std.specs.Prelude.{◌≡◌, ℕ, ◌-◌, ◌<◌, length, IfOk};
+ghost use Rattle.record_model.specs.Records.{Slot, is_live};
+ghost use Rattle.record_recovery.specs.Looks.{AreSeen, AreMarked};
 
 use crate::Look;
 use flash_model::Geometry;
-use record_slots::{Head, has_part, is_upright, parts_of};
+use record_recovery::has_parts;
+use record_slots::is_upright;
 use std::alloc::{AllocError, Global};
 
 /// A mark for each slot, set where it is live.
@@ -36,21 +36,4 @@ fn is_live(looks: &[Look], geometry: &Geometry, slot: u32) -> bool
 {
     let look = looks[slot as usize];
     is_upright(&look.head, look.tail, geometry) && has_parts(looks, geometry, slot, &look.head)
-}
-
-// Whether the further slots that the head of an upright slot names have the further parts of its record.
-fn has_parts(looks: &[Look], geometry: &Geometry, slot: u32, head: &Head) -> bool
-    requires looked { length looks.now ≡ geometry.now.slots }
-    requires upright { (tail : ℕ) × (is_upright (geometry.now.slot_size - 64) geometry.now.slots (numbers_of head.now) tail ≡ true) }
-    ensures { (seen : ℕ → Slot) → AreSeen seen geometry.now.slots looks.now → result
-        ≡ are_parts (geometry.now.slot_size - 64) slot (numbers_of head.now) seen 1 (further_of (geometry.now.slot_size - 64) (numbers_of head.now)) }
-{
-    let further = parts_of(geometry, head.len) - 1;
-    for at in 0..further {
-        let look = &looks[head.next[at as usize] as usize];
-        if !has_part(&look.head, look.tail, geometry, slot, head, at + 1) {
-            return false;
-        }
-    }
-    true
 }

@@ -1,18 +1,12 @@
 // The heads and the tail marks of an image's slots.
 ghost use Rattle.std.specs.Prelude.{◌≡◌, ◌+◌, ◌*◌, ◌<◌, ◌≤◌, length, IfOk};
 ghost use Rattle.record_model.specs.Records.{slot_at};
-ghost use Rattle.image_survey.specs.Looks.{IsSeen, AreSeen};
+ghost use Rattle.record_recovery.specs.Looks.{IsSeen, AreSeen};
 
+use crate::Look;
 use flash_model::Geometry;
 use record_slots::Head;
 use std::alloc::{AllocError, Global};
-
-/// The head and the tail mark of a slot.
-#[derive(Clone, Copy, Debug, PartialEq, Eq)]
-pub struct Look {
-    pub head: Head,
-    pub tail: u8,
-}
 
 /// The place of a slot's first byte.
 #[tactic(auto, using(crate::proofs::Places::slot_within))]

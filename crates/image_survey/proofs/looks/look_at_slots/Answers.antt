@@ -1,7 +1,7 @@
 use Rattle.std.proofs.Common.{◌≡◌, ◌+◌, ◌<◌, ◌++◌, ◌∷◌, [], ℕ, List, length, get_or, ap, subst, sym, arith, length-append}
 use Rattle.record_model.specs.Records.{slot_at}
-use Rattle.image_survey.specs.declared.looks.Look.{Look}
-use Rattle.image_survey.specs.Looks.{IsSeen}
+use Rattle.record_recovery.specs.declared.found.Look.{Look}
+use Rattle.record_recovery.specs.Looks.{IsSeen}
 use Rattle.image_survey.proofs.LookLemmas.{push_fact}
 use Rattle.image_survey.proofs.looks.look_at_slots.Goals as goal
 

@@ -3,7 +3,7 @@ use Rattle.record_model.specs.Records.{part_len, parts_of, slot_at}
 use Rattle.record_slots.specs.Slots.{numbers_of}
 use Rattle.image_survey.specs.Reading.{slot_of_part}
 use Rattle.image_survey.proofs.KindLemmas.{first_up}
-use Rattle.image_survey.proofs.LookLemmas.{names_parts}
+use Rattle.record_recovery.proofs.LookLemmas.{names_parts}
 use Rattle.image_survey.proofs.ReadLemmas.{joined_more, joined_all, stored_first}
 use Rattle.image_survey.proofs.reading.record_bytes.Goals as goal
 
