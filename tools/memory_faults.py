@@ -75,14 +75,15 @@ TABLE = next(line for line in example("examples/looping-table.script") if line.s
 SCRIPT = [
     "# Every kind of line.", "", "write " + record(1, 900).hex(), "read 1", "count", "next", "dummy", "action 14 0", "write " + record(2, 128).hex(),
     "write " + record(1, 500).hex(), "clear 2", TABLE, "action 0 0", "table own", "error " + BLOCK, "turns FFFFRRRRRFF", "peek 1048576 64",
-    "fatal " + BLOCK, "bert", "heard", "reset", "read 1", "power", "read 1", "count",
+    "fatal " + BLOCK, "bert", "heard", "reset", "read 1", "table shadow", "write " + record(3, 300).hex(), "read 1", "power", "read 1",
+    "bridge 500", "error " + BLOCK, "turns FFFFRRRRRRRRRR", "count",
 ]
 ITEMS = [line for name in ("examples/check.script", "examples/check-parts.script") for line in example(name)]
 IN_ADVANCE = "as where none is refused"
 
 
 def takes_table(line):
-    return line.split(" ")[0] in ("table", "erst", "hest") and line.split(" ")[1] not in ("own", "shadow")
+    return line.split(" ")[0] in ("table", "erst", "hest") and line.split(" ")[1] != "own"
 
 
 class Job:
