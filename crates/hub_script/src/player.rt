@@ -1,5 +1,5 @@
 // The player of a script of several error sources.
-ghost use Rattle.std.specs.Prelude.{◌≡◌, ◌≢◌, ◌+◌, ◌<◌, ◌≤◌, ℕ, length, Ok, Err, None, OnOk, OnErr, IfOk, IfErr};
+ghost use Rattle.std.specs.Prelude.{◌≡◌, ◌≢◌, ⊤, ◌+◌, ◌<◌, ◌≤◌, ℕ, length, Ok, Err, None, OnOk, OnErr, IfOk, IfErr};
 ghost use Rattle.base_model.specs.Faults.{Rose, HasCause};
 ghost use Rattle.line_grammar.specs.Columns.{BreaksAt};
 ghost use Rattle.line_grammar.specs.Parts.{IsPairs};
@@ -266,6 +266,7 @@ impl HubPlayer {
 
     /// The listeners that are left: source by source where a hub was opened, and else in their order.
     pub fn into_members(self) -> Vec<Box<dyn Listener>>
+        requires { ⊤ }
         ensures { result.items ≡ members_in (stage_of self) }
     {
         let HubPlayer {

@@ -1,5 +1,5 @@
 // A script of several error sources, played line by line.
-ghost use Rattle.std.specs.Prelude.{◌≡◌, ◌⊎◌};
+ghost use Rattle.std.specs.Prelude.{◌≡◌, ◌⊎◌, ⊤};
 ghost use Rattle.base_model.specs.Faults.{Rose};
 ghost use Rattle.script_lines.specs.Causes.{HasSourceCause, HasSinkCause};
 ghost use Rattle.script_lines.specs.Lines.{lines_of};
@@ -64,6 +64,7 @@ pub fn serve_script<I: Source, O: Sink>(
     script: &mut I,
     out: &mut O,
 ) -> (HubEnd, Vec<Box<dyn Listener>>)
+    requires { ⊤ }
     // Where there is no memory to begin with, nothing was touched.
     ensures served { ((result.0 ≡ HubEnd.Memory) × ((script.new ≡ script.old) × (out.new ≡ out.old)) × (result.1.items ≡ listeners.items))
         ⊎ ServesScript hearing I.tells O.tells (I.rest script.old) (I.rest script.new) (O.written out.old) (O.written out.new) listeners.items result.1.items result.0 }
