@@ -1,8 +1,7 @@
 -- Lines that are played.
 use Rattle.std.proofs.Common.{◌≡◌, ◌∙◌, ℕ, ◌+◌, ◌*◌, ◌<◌, ◌≤◌, inl, inr, Bool, true, false, List, [], ◌∷◌, ◌++◌, length, take, drop, get_or, map, refl, sym, ap, subst, arith, append_assoc, cond, length-append}
-use Rattle.std.specs.Prelude.{codes, decimal, IsTrue}
-use Rattle.std.specs.List.{flat_map}
-use Rattle.std.proofs.lemmas.List.{append-nil, map-append, take-append-drop, take_more, take_all, flat_map_more, length-take-le, get_or-take}
+use Rattle.std.specs.Prelude.{codes}
+use Rattle.std.proofs.lemmas.List.{append-nil, take-append-drop, take_more, take_all, flat_map_more, length-take-le, get_or-take}
 use Rattle.apei_notify.specs.Telling.{Hearing}
 use Rattle.ghes_ack.specs.declared.events.Event.{Event}
 use Rattle.ghes_ack.specs.declared.events.Event.TheVariants.{Idle, Fill, Publish, Free, Wait, Nothing, Found, Copied, Took, Clear, Ack}
@@ -18,7 +17,7 @@ use Rattle.hub_script.specs.declared.refusals.HubRefusal.TheVariants.{NoHub}
 use Rattle.hub_script.specs.Replies.{refused, reply_line, text_of_replies, words_of_block, words_of_turns, word_of}
 use Rattle.hub_script.specs.Shown.{IsPartWritten}
 use Rattle.hub_script.specs.Stages.{Stage, Waiting, Serving}
-use Rattle.hub_script.specs.Plays.{Plays, IsRefused, source_of, side_of, named_at, AllNamed, Turned, NoTurn, OneMore, TakesTurns, AllTurned}
+use Rattle.hub_script.specs.Plays.{Plays, IsRefused, source_of, side_of, AllNamed, Turned, NoTurn, OneMore, AllTurned}
 use Rattle.hub_script.specs.Lines.{PlaysLine, PlaysUnheard, TextIs, IsLeft, LeftOfTurns, AtLast, InBlock}
 use Rattle.hub_script.specs.TurnLines.{TakesTurn, TakesUnheard}
 use Rattle.hub_script.specs.Made.{MakesReply}

@@ -1,5 +1,5 @@
 -- What is said of an answer.
-use Rattle.std.proofs.Common.{◌≡◌, ℕ, ◌≤◌, Bool, true, false, Result, Ok, Err, OnOk, OnErr, sym, subst}
+use Rattle.std.proofs.Common.{◌≡◌, ℕ, ◌≤◌, Bool, true, false, Result, Ok, Err, OnErr, sym, subst}
 use Rattle.std.specs.Prelude.{MatchBool}
 use Rattle.base_model.specs.Faults.{Rose, HasCause}
 

@@ -1,5 +1,5 @@
 -- Laws of a script that is played so far, and of its ends.
-use Rattle.std.proofs.Common.{◌≡◌, ℕ, ◌+◌, ◌≤◌, ◌⊎◌, inl, inr, Bool, true, false, List, [], ◌∷◌, ◌++◌, length, take, refl, sym, ap, subst, ◌∙◌, arith, append_assoc}
+use Rattle.std.proofs.Common.{◌≡◌, ℕ, ◌+◌, ◌≤◌, ◌⊎◌, inl, inr, List, [], ◌∷◌, ◌++◌, length, take, refl, sym, ap, subst, ◌∙◌, arith, append_assoc}
 use Rattle.std.proofs.lemmas.Bool.{cases_lt}
 use Rattle.std.proofs.lemmas.List.{append-nil}
 use Rattle.base_model.specs.Faults.{Rose}
@@ -16,7 +16,7 @@ use Rattle.hub_script.specs.Stages.{Stage, Waiting, members_in}
 use Rattle.hub_script.specs.Plays.{Plays}
 use Rattle.hub_script.specs.Lines.{PlaysLine, PlaysUnheard, TextIs, GivesTable}
 use Rattle.hub_script.specs.History.{Played, Follows, IsLineOf, ArePlayed, AreInGrammar, text_of_played}
-use Rattle.hub_script.specs.Scripts.{StopsAt, EndsBy, EndsLines, PlaysScript, ServesScript, fault_of}
+use Rattle.hub_script.specs.Scripts.{StopsAt, EndsLines, PlaysScript, ServesScript, fault_of}
 use Rattle.hub_script.specs.declared.ending.HubEnd.{HubEnd}
 use Rattle.hub_script.specs.declared.ending.HubEnd.TheVariants.{Done, BadLine, SourceFault, SinkFault, TooLong, Memory}
 use Rattle.hub_script.proofs.ServedLemmas.{are_served}

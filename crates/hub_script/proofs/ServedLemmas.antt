@@ -1,9 +1,6 @@
 -- Lines that were played one after another make one list of calls of one hub.
-use Rattle.std.proofs.Common.{◌≡◌, ◌∙◌, ℕ, ◌⊎◌, inl, inr, List, [], ◌∷◌, ◌++◌, refl, sym, ap, subst}
-use Rattle.std.specs.Prelude.{Some, slice_get}
-use Rattle.std.proofs.lemmas.List.{append-nil}
+use Rattle.std.proofs.Common.{◌≡◌, ℕ, ◌⊎◌, inl, inr, List, [], ◌∷◌, ◌++◌, refl, sym, ap, subst}
 use Rattle.apei_notify.specs.Telling.{Hearing}
-use Rattle.hest_sources.specs.declared.sources.Ghes.{Ghes}
 use Rattle.hest_sources.specs.declared.sources.HestSource.{HestSource}
 use Rattle.ghes_ack.specs.declared.events.Event.{Event}
 use Rattle.ghes_hub.specs.Hubs.{HubState, Call, Submits, Turns, Removes, Does, DoAll}
@@ -11,7 +8,7 @@ use Rattle.ghes_hub.specs.Opens.{IsOpened}
 use Rattle.ghes_hub.proofs.OpenLemmas.{from_opening}
 use Rattle.hub_script.specs.HubGrammar.{Line, blank, comment, hest, error, turns, heard, removal}
 use Rattle.hub_script.specs.Stages.{Stage, Waiting, Serving}
-use Rattle.hub_script.specs.Plays.{Plays, IsQuiet, IsRefused, source_of, side_of, Opens, NoTable, NoOpening, Opened, Queues, NoSource, NotTaken, Queued, Turned, NoTurn, OneMore, TakesTurns, NotNamed, AllTurned, Counts, NoneToCount, Counted, Drops, NoneToDrop, NoListener, Dropped}
+use Rattle.hub_script.specs.Plays.{Plays, source_of, side_of, NoTable, NoOpening, Opened, NoSource, NotTaken, Queued, Turned, NoTurn, OneMore, NotNamed, AllTurned, NoneToCount, Counted, NoneToDrop, NoListener, Dropped}
 use Rattle.hub_script.specs.History.{Played, Follows, calls_of, AreServed, NoHub, ByHub}
 
 -- calls, and then calls

@@ -1,5 +1,5 @@
 -- Words that are written in pieces.
-use Rattle.std.proofs.Common.{◌≡◌, ◌∙◌, ℕ, ◌+◌, ◌≤◌, min, suc, List, [], ◌∷◌, ◌++◌, length, take, drop, map, refl, sym, ap, append_assoc, arith, add-one, zero, ◌<◌}
+use Rattle.std.proofs.Common.{◌≡◌, ◌∙◌, ℕ, ◌+◌, min, suc, List, [], ◌∷◌, ◌++◌, length, take, drop, map, refl, sym, ap, append_assoc, arith, add-one, zero, ◌<◌}
 use Rattle.std.specs.Prelude.{codes, decimal, IfSome, slice_get}
 use Rattle.std.specs.List.{flat_map}
 use Rattle.std.proofs.lemmas.List.{append-nil, map-append, take-append-drop, flat_map_more, take_min, take-append-le}

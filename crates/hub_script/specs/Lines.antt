@@ -1,11 +1,10 @@
 -- A line of a script as a text, and what is written of it.
 use Rattle.std.specs.Prelude.{◌≡◌, ℕ, List, [], ◌∷◌, ◌++◌, take}
-use Rattle.line_grammar.specs.Columns.{BreaksAt}
 use Rattle.apei_notify.specs.Telling.{Hearing}
 use Rattle.ghes_ack.specs.declared.events.Event.{Event}
 use Rattle.ghes_ack.specs.declared.events.Event.TheVariants.{Took}
 use Rattle.ghes_hub.specs.Hubs.{Call}
-use Rattle.hub_script.specs.HubGrammar.{Line, IsLine, blank, comment, hest, error, turns, heard, removal}
+use Rattle.hub_script.specs.HubGrammar.{Line, blank, comment, hest, turns}
 use Rattle.hub_script.specs.HubText.{IsWritten}
 use Rattle.hub_script.specs.Replies.{text_of_replies, reply_line, words_of_turns}
 use Rattle.hub_script.specs.Stages.{Stage}

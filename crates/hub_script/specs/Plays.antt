@@ -1,5 +1,5 @@
 -- What one line of a script makes of a stage: its replies, its calls of the hub, and the stage after it.
-use Rattle.std.specs.Prelude.{◌≡◌, ℕ, ◌+◌, ◌-◌, ◌*◌, ◌^◌, ◌<◌, ◌≤◌, nat_lt, ◌==◌, if◌then◌else◌, min, List, [], ◌∷◌, ◌++◌, length, take, map, get_or, Some, None, slice_get, Ok}
+use Rattle.std.specs.Prelude.{◌≡◌, ℕ, ◌-◌, ◌*◌, ◌^◌, ◌<◌, ◌≤◌, nat_lt, ◌==◌, if◌then◌else◌, List, [], ◌∷◌, ◌++◌, length, take, map, get_or, Some, None, slice_get, Ok}
 use Rattle.hex.specs.Hex.{decode_of}
 use Rattle.apei_notify.specs.Telling.{Hearing, counts_of}
 use Rattle.hest_sources.specs.declared.sources.HestSource.{HestSource}

@@ -1,8 +1,8 @@
-use Rattle.std.proofs.Common.{◌≡◌, ◌∙◌, ℕ, ◌+◌, ◌<◌, ◌≤◌, List, ◌++◌, length, decimal, ap, sym, arith, append_assoc, length-append}
+use Rattle.std.proofs.Common.{◌∙◌, ℕ, List, ◌++◌, length, decimal, ap, arith, append_assoc, length-append}
 use Rattle.std.specs.Prelude.{codes, slice_get}
-use Rattle.std.proofs.lemmas.Result.{err_from_is_err_and, on_ok_weaker, on_err_weaker}
+use Rattle.std.proofs.lemmas.Result.{on_ok_weaker, on_err_weaker}
 use Rattle.ghes_hub.specs.Seen.{seen}
-use Rattle.hub_script.proofs.ResultLemmas.{on_err, has_cause, same_cause}
+use Rattle.hub_script.proofs.ResultLemmas.{on_err}
 use Rattle.hub_script.proofs.PieceLemmas.{heard_step, heard_part, heard_all, heard_last}
 use Rattle.hub_script.proofs.heard.show_heard.Goals as goal
 

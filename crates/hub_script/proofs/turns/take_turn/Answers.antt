@@ -1,7 +1,5 @@
-use Rattle.std.proofs.Common.{◌≡◌, ◌∙◌, ℕ, List, ◌++◌, take, sym, ap, append_assoc}
-use Rattle.std.specs.Prelude.{codes}
+use Rattle.std.proofs.Common.{◌∙◌, sym}
 use Rattle.std.proofs.lemmas.Result.{on_ok_weaker, on_err_weaker}
-use Rattle.hub_script.specs.Replies.{reply_line, words_of_block, word_of}
 use Rattle.hub_script.proofs.PlayLemmas.{turn_shown, turn_unheard, turn_quiet}
 use Rattle.hub_script.proofs.turns.take_turn.Goals as goal
 

@@ -1,4 +1,4 @@
-use Rattle.std.proofs.Common.{◌≡◌, ◌∙◌, ℕ, List, length, take, Ok, sym, ap, subst, arith}
+use Rattle.std.proofs.Common.{◌≡◌, ◌∙◌, ℕ, List, length, take, Ok, sym, ap, subst}
 use Rattle.std.proofs.lemmas.List.{with_items_is}
 use Rattle.hex.specs.Hex.{decode_of}
 use Rattle.hub_script.proofs.desk.Desk.decode.Goals as goal
