@@ -1,5 +1,5 @@
 -- Lines that are played.
-use Rattle.std.proofs.Common.{◌≡◌, ◌∙◌, ℕ, ◌+◌, ◌*◌, ◌<◌, ◌≤◌, Bool, true, false, List, [], ◌∷◌, ◌++◌, length, take, drop, get_or, map, refl, sym, ap, subst, arith, append_assoc, cond, length-append}
+use Rattle.std.proofs.Common.{◌≡◌, ◌∙◌, ℕ, ◌+◌, ◌*◌, ◌<◌, ◌≤◌, inl, inr, Bool, true, false, List, [], ◌∷◌, ◌++◌, length, take, drop, get_or, map, refl, sym, ap, subst, arith, append_assoc, cond, length-append}
 use Rattle.std.specs.Prelude.{codes, decimal, IsTrue}
 use Rattle.std.specs.List.{flat_map}
 use Rattle.std.proofs.lemmas.List.{append-nil, map-append, take-append-drop, take_more, take_all, flat_map_more, length-take-le, get_or-take}
@@ -10,13 +10,16 @@ use Rattle.ghes_ack.specs.declared.events.Side.{Side}
 use Rattle.ghes_hub.specs.Hubs.{HubState, HubTurns, Call, Turns, last_in, sources_in}
 use Rattle.ghes_hub.specs.Runs.{takes, told_at}
 use Rattle.hub_script.specs.HubGrammar.{Line, blank, comment, hest, error, turns, heard, removal}
+use Rattle.hub_script.specs.HubText.{IsText, line_of}
+use Rattle.hub_script.specs.declared.hub_line.HubLine.{HubLine}
+use Rattle.hub_script.specs.declared.hub_line.HubLine.TheVariants.{Blank, Hest, Error, Turns as TurnsOf, Heard, Drop}
 use Rattle.hub_script.specs.RefusalWords.{words_of_refusal}
 use Rattle.hub_script.specs.declared.refusals.HubRefusal.TheVariants.{NoHub}
 use Rattle.hub_script.specs.Replies.{refused, reply_line, text_of_replies, words_of_block, words_of_turns, word_of}
 use Rattle.hub_script.specs.Shown.{IsPartWritten}
 use Rattle.hub_script.specs.Stages.{Stage, Waiting, Serving}
 use Rattle.hub_script.specs.Plays.{Plays, IsRefused, source_of, side_of, named_at, AllNamed, Turned, NoTurn, OneMore, TakesTurns, AllTurned}
-use Rattle.hub_script.specs.Lines.{PlaysLine, PlaysUnheard, IsLeft, LeftOfTurns, AtLast, InBlock}
+use Rattle.hub_script.specs.Lines.{PlaysLine, PlaysUnheard, TextIs, IsLeft, LeftOfTurns, AtLast, InBlock}
 use Rattle.hub_script.specs.TurnLines.{TakesTurn, TakesUnheard}
 use Rattle.hub_script.specs.Made.{MakesReply}
 use Rattle.hub_script.proofs.ShownLemmas.{flat_map-append}
@@ -315,3 +318,18 @@ said_longer event events now at is short =
 -- the source of a pair is there
 pub is_named : {L : Type 0} (first now : HubState L) (pairs : List ℕ) (at source : ℕ) → AllNamed first pairs → 2 * at < length pairs → source ≡ source_of (get_or pairs (2 * at) 0) → sources_in now ≡ sources_in first → source < sources_in now
 is_named first now pairs at source named within is count = let here = named at within in omega (arith, here, is, count)
+
+-- a blank line says nothing
+pub blank_played : {L : Type 0} (hearing : L → Hearing) (told_sink : Type 0) (stage : Stage L) (written : List ℕ) → PlaysLine hearing told_sink stage blank stage written written
+blank_played hearing told_sink stage written = record { said = []; calls = []; plays = record { said_is = refl; calls_are = refl; stays = refl }; text = λ t. sym (append-nil written) }
+
+-- the line that a text is, a comment where it is one
+pub text_is : {L : Type 0} (hearing : L → Hearing) (told_sink : Type 0) (old new : Stage L) (written now text : List ℕ) (line : HubLine) → IsText text line → PlaysLine hearing told_sink old (line_of line) new written now
+    → TextIs text (λ asked. PlaysLine hearing told_sink old asked new written now)
+text_is hearing told_sink old new written now text Blank (inl is) plays = record { line = blank; written = is; made = plays }
+text_is hearing told_sink old new written now text Blank (inr (rest, is)) plays = record { line = comment rest; written = is; made = record { said = plays.said; calls = plays.calls; plays = plays.plays; text = plays.text } }
+text_is hearing told_sink old new written now text (Hest hex) is plays = record { line = hest hex.now; written = is; made = plays }
+text_is hearing told_sink old new written now text (Error source hex) is plays = record { line = error source hex.now; written = is; made = plays }
+text_is hearing told_sink old new written now text (TurnsOf pairs) is plays = record { line = turns pairs.now; written = is; made = plays }
+text_is hearing told_sink old new written now text (Heard source) is plays = record { line = heard source; written = is; made = plays }
+text_is hearing told_sink old new written now text (Drop source at) is plays = record { line = removal source at; written = is; made = plays }

@@ -93,7 +93,7 @@ hub_refused table hub_error.Memory has is = absurd has
 
 -- a hub has a list of listeners for each source
 pub hub_chains : {X : Type 0} {H : X → Type 0} (hub : Hub X H) → length (seen hub).chains ≡ sources_in (seen hub)
-hub_chains hub = length-map members_of hub.chains.items ∙ hub.one_each
+hub_chains hub = length-map hub.chains.items members_of ∙ hub.one_each
 
 pub none_is : {X : Type 0} (o : Option X) → is_some o ≡ false → o ≡ None
 none_is None e = refl

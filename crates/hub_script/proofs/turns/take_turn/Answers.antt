@@ -17,6 +17,6 @@ returns-then-is_taking-clause-unheard g c =
     (turn_unheard _ _ c.args.source c.args.side _ _ c.turn-event.result _ _ c.taken.result.now c.turn-event.ensures.turned (sym c.is_taking.ensures ∙ c.if-is_taking.true) c.taken.ensures)
     c.show_block.ensures.part
 
-pub returns-else-is_taking-clause-turned : goal.returns-else-is_taking-clause-turned
-returns-else-is_taking-clause-turned g c =
+pub returns-clause-turned : goal.returns-clause-turned
+returns-clause-turned g c =
     turn_quiet _ _ c.args.source c.args.side _ _ c.turn-event.result _ c.add.new.self c.add-2.new.self c.word_of.result.now _ c.turn-event.ensures.turned (sym c.is_taking.ensures ∙ c.if-is_taking.false) c.add.ensures c.add-2.ensures c.word_of.ensures.word

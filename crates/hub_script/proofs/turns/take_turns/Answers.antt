@@ -1,6 +1,6 @@
 use Rattle.std.proofs.Common.{◌≡◌, ◌∙◌, ℕ, ◌+◌, ◌*◌, ◌<◌, ◌≤◌, List, ◌++◌, length, take, refl, sym, ap, subst, arith, length-append}
 use Rattle.std.proofs.lemmas.Result.{err_from_is_err_and, on_ok_weaker, on_err_weaker}
-use Rattle.hub_script.specs.Replies.{reply_line}
+use Rattle.ghes_hub.specs.Seen.{seen}
 use Rattle.hub_script.proofs.ResultLemmas.{on_err, has_cause, same_cause}
 use Rattle.hub_script.proofs.PlayLemmas.{no_turn, turn_more, turn_cut, all_turned, all_unheard, lent_text, lent_part, said_longer, is_named}
 use Rattle.hub_script.proofs.turns.take_turns.Goals as goal
@@ -16,7 +16,7 @@ turning-init g c = record {
 pub take_turn-requires-clause-source : goal.take_turn-requires-clause-source
 take_turn-requires-clause-source g c =
     let test = c.turning-test.true in
-    is_named _ _ c.args.pairs.now c.turning.at c.source_of-source.result c.requires.named (omega (arith, test)) c.source_of-source.ensures c.turning.invariant.count
+    is_named (seen c.args.hub.now) (seen c.turning.hub) c.args.pairs.now c.turning.at c.source_of-source.result c.requires.named (omega (arith, test)) c.source_of-source.ensures c.turning.invariant.count
 
 pub take_turn-requires-clause-room : goal.take_turn-requires-clause-room
 take_turn-requires-clause-room g c =

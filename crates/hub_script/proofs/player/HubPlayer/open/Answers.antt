@@ -1,4 +1,4 @@
-use Rattle.std.proofs.Common.{◌∙◌, sym, rules}
+use Rattle.std.proofs.Common.{◌∙◌, take, sym, rules}
 use Rattle.std.proofs.lemmas.Result.{on_ok_weaker}
 use Rattle.script_text.specs.TableWords.{HestHasWords}
 use Rattle.hub_script.proofs.StageLemmas.{refused_open, at_none, still_none, none_is, no_table, opens, table_refused, as_lent}
@@ -12,7 +12,7 @@ returns-in-Err-clause-made g c =
     let has : HestHasWords c.in-Err.why = search rules in
     let decoded = as_lent _ _ c.deref.result.now _ c.decode-len.ensures.bytes c.deref.ensures.value in
     still_none _ c.args.self.now.listeners.items c.args.self.now.hub _ _ (none_is c.args.self.now.hub (sym c.is_some.ensures ∙ c.if-is_some.false))
-    (no_table _ _ _ _ _ decoded c.in-Err.why (table_refused _ c.in-Err.why has c.in-Err.ensures.refused) c.refuse-in-Err.ensures)
+    (no_table _ _ _ (take c.decode-len.result c.deref.result.now) _ decoded c.in-Err.why (table_refused (take c.decode-len.result c.deref.result.now) c.in-Err.why has c.in-Err.ensures.refused) c.refuse-in-Err.ensures)
 
 pub returns-in-Ok-clause-made : goal.returns-in-Ok-clause-made
 returns-in-Ok-clause-made g c =
