@@ -1,14 +1,14 @@
 -- The status of a script of several error sources, by its end.
-use Rattle.std.proofs.Common.{◌≡◌, ℕ, ◌⊎◌, inl, inr, refl, sym, ap, subst, ◌∙◌, arith}
+use Rattle.std.proofs.Common.{◌≡◌, ℕ, ◌⊎◌, inl, inr, refl, sym, ap, subst, ◌∙◌}
 use Rattle.script_lines.specs.Causes.{HasSourceCause, HasSinkCause}
 use Rattle.hub_script.specs.Scripts.{fault_of as hub_fault}
 use Rattle.hub_script.specs.declared.ending.HubEnd.{HubEnd}
 use Rattle.hub_script.specs.declared.ending.HubEnd.TheVariants as ending
-use Rattle.apei_cli.specs.Runs.{fault_of, HasFlashCause}
+use Rattle.apei_cli.specs.Runs.{fault_of}
 use Rattle.apei_cli.specs.Jobs.{MayEndCheck}
 use Rattle.apei_cli.specs.HubRuns.{hub_status}
 use Rattle.apei_cli.specs.declared.status.Status.{Status}
-use Rattle.apei_cli.specs.declared.status.Status.TheVariants.{Done, BadWords, BadLine, SourceFault, SinkFault, FlashFault, BadGeometry, TooLong, Memory}
+use Rattle.apei_cli.specs.declared.status.Status.TheVariants.{Done, Memory}
 
 fault_as : (end : HubEnd) → hub_fault end ≡ fault_of (hub_status end)
 fault_as ending.Done = refl
@@ -42,15 +42,3 @@ module _ (end : HubEnd) (status : Status) (is : status ≡ hub_status end) where
   pub done_or_memory : (end ≡ ending.Done) ⊎ (end ≡ ending.Memory) → (status ≡ Done) ⊎ (status ≡ Memory)
   done_or_memory (inl done) = inl (is ∙ ap hub_status done)
   done_or_memory (inr memory) = inr (is ∙ ap hub_status memory)
-
--- the flash was not asked, so it counted no fault
-pub keeps_faults : (faults : ℕ) (status : Status) → MayEndCheck status → HasFlashCause faults faults status
-keeps_faults faults Done may = omega arith
-keeps_faults faults BadWords may = absurd may
-keeps_faults faults (BadLine line column) may = omega arith
-keeps_faults faults SourceFault may = omega arith
-keeps_faults faults SinkFault may = omega arith
-keeps_faults faults FlashFault may = absurd may
-keeps_faults faults (BadGeometry sector per_slot slots size) may = absurd may
-keeps_faults faults (TooLong line) may = omega arith
-keeps_faults faults Memory may = omega arith
