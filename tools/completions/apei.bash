@@ -63,7 +63,7 @@ _apei() {
       [[ $given == *" $option "* || $option= != "$current"* ]] || COMPREPLY+=("$option=")
     done
   elif [[ -z $job ]]; then
-    mapfile -t COMPREPLY < <(compgen -W 'play sim check gen' -- "$current")
+    mapfile -t COMPREPLY < <(compgen -W 'play sim check gen hub' -- "$current")
   fi
 }
 

@@ -1,5 +1,5 @@
 //! Plays scripts of a machine's error record store: `apei sim` on a simulated flash, `apei play --image PATH` on one in a file. `apei gen`
-//! plays a script of its own making, and `apei check` shows tables, records and blocks. A script is read from standard input, and the
+//! plays a script of its own making, `apei check` shows tables, records and blocks, and `apei hub` plays a script on several error sources. A script is read from standard input, and the
 //! replies are written to standard output.
 #![tactic(auto)]
 

@@ -3,3 +3,4 @@ pub mod RunLemmas
 pub mod WholeLemmas
 pub mod CompleteLemmas
 pub mod JobLemmas
+pub mod HubLemmas

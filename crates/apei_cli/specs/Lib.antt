@@ -5,4 +5,5 @@ pub mod Numbers
 pub mod Messages
 pub mod Sim
 pub mod Orders
+pub mod HubRuns
 pub mod Jobs

@@ -3,6 +3,7 @@
 
 mod boot;
 mod generated;
+mod hub;
 mod program;
 mod script;
 mod sim;

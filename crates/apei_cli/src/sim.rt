@@ -37,7 +37,7 @@ fn simulates(job: Job) -> bool
 {
     match job {
         Job::Sim | Job::Gen => true,
-        Job::Play | Job::Check => false,
+        Job::Play | Job::Check | Job::Hub => false,
     }
 }
 

@@ -4,7 +4,7 @@ use Rattle.std.specs.Str.{bytes_eq}
 use Rattle.clap.specs.Words.{App, Rule, Text, new_app, new_rule, with_rule}
 use Rattle.clap.specs.Simple.{on_top}
 use Rattle.apei_words.specs.declared.job.Job.{Job}
-use Rattle.apei_words.specs.declared.job.Job.TheVariants.{Play, Sim, Check, Gen}
+use Rattle.apei_words.specs.declared.job.Job.TheVariants.{Play, Sim, Check, Gen, Hub}
 use Rattle.apei_words.specs.declared.setting.Setting.{Setting}
 use Rattle.apei_words.specs.declared.setting.Setting.TheVariants.{Image, Sector, PerSlot, Slots, Steps, Cut, Fail, FailRead, Torn, Count, Seed, Show}
 
@@ -15,6 +15,7 @@ job_of name =
     else if bytes_eq name (codes "sim") then Some Sim
     else if bytes_eq name (codes "check") then Some Check
     else if bytes_eq name (codes "gen") then Some Gen
+    else if bytes_eq name (codes "hub") then Some Hub
     else None
 
 abbrev pub settings : List Setting
@@ -36,6 +37,7 @@ name_of Show = codes "show"
 
 abbrev pub plays : Job → Bool
 plays Check = false
+plays Hub = false
 plays _ = true
 
 abbrev pub is_play : Job → Bool

@@ -17,6 +17,8 @@ pub enum Job {
     Check,
     /// It plays generated commands on a simulated flash.
     Gen,
+    /// It plays a script on the error sources of a table.
+    Hub,
 }
 
 /// What a command line asks for. An option that it doesn't give has its default.

@@ -65,7 +65,7 @@ impl Setting {
         match self {
             Setting::Image => matches!(job, Job::Play),
             Setting::Sector | Setting::PerSlot | Setting::Slots | Setting::Steps => {
-                !matches!(job, Job::Check)
+                !matches!(job, Job::Check | Job::Hub)
             }
             Setting::Cut | Setting::Fail | Setting::FailRead | Setting::Torn => {
                 matches!(job, Job::Sim)

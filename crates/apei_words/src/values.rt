@@ -40,6 +40,7 @@ fn job_named(name: &str) -> Option<Job>
         "sim" => Some(Job::Sim),
         "check" => Some(Job::Check),
         "gen" => Some(Job::Gen),
+        "hub" => Some(Job::Hub),
         _ => None,
     }
 }

@@ -2,3 +2,10 @@ pub mod LineLemmas
 pub mod TurnLemmas
 pub mod NumberLemmas
 pub mod OneLine
+pub mod ResultLemmas
+pub mod ShownLemmas
+pub mod ServedLemmas
+pub mod PlayLemmas
+pub mod StageLemmas
+pub mod PieceLemmas
+pub mod ScriptLemmas

@@ -3,3 +3,12 @@ pub mod HubGrammar
 pub mod HubWords
 pub mod HubText
 pub mod RefusalWords
+pub mod Replies
+pub mod Stages
+pub mod Plays
+pub mod Lines
+pub mod Shown
+pub mod TurnLines
+pub mod Made
+pub mod History
+pub mod Scripts

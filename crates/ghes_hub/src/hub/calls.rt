@@ -1,5 +1,5 @@
 // The calls of a hub.
-ghost use Rattle.std.specs.Prelude.{◌≡◌, ◌-◌, ◌^◌, ◌<◌, min, length, IfOk, OnOk, OnErr, MatchResult, IfSome, Some, None, slice_get};
+ghost use Rattle.std.specs.Prelude.{◌≡◌, ◌-◌, ◌^◌, ◌<◌, ◌≤◌, true, min, length, IfOk, OnOk, OnErr, MatchResult, IfSome, Some, None, slice_get};
 ghost use Rattle.ghes_hub.specs.Chains.{in_order};
 ghost use Rattle.ghes_hub.specs.Hubs.{HubTurns, HubSubmits, HubRemoves, last_in, sources_in};
 ghost use Rattle.ghes_hub.specs.OneSource.{waiting_of, refusal_of};
@@ -38,7 +38,9 @@ impl Hub {
     /// One turn of a side of a source. The listeners of the source are told of a block when it is taken.
     pub fn turn(&mut self, source: u32, side: Side) -> Event
         requires { source < sources_in (seen self.old) }
-        ensures { HubTurns hearing source side result (seen self.old) (seen self.new) }
+        ensures turned { HubTurns hearing source side result (seen self.old) (seen self.new) }
+        // A block that was taken has a head.
+        ensures took { takes result ≡ true → 20 ≤ length (last_in (seen self.new).sources source) }
     {
         let at = source as usize;
         let event = self.sources.turn(at, side);

@@ -27,8 +27,8 @@ invariant_of-self g c =
       room = omega (arith, room, less);
     }
 
-pub returns-then-is_taking : goal.returns-then-is_taking
-returns-then-is_taking g c =
+pub returns-then-is_taking-clause-turned : goal.returns-then-is_taking-clause-turned
+returns-then-is_taking-clause-turned g c =
     let old = c.args.self.now in
     let xs = old.chains.items in
     let here : c.args.source < length xs = (let r = c.requires in let one = old.one_each in omega (arith, r, one)) in
@@ -41,8 +41,8 @@ returns-then-is_taking g c =
       count = c.turn-event.ensures.count;
     }
 
-pub returns-else-is_taking : goal.returns-else-is_taking
-returns-else-is_taking g c = record {
+pub returns-else-is_taking-clause-turned : goal.returns-else-is_taking-clause-turned
+returns-else-is_taking-clause-turned g c = record {
   turned = c.turn-event.ensures.turned;
   others = c.turn-event.ensures.others;
   told = tells_none _ (chains_of c.args.self.now.chains.items) c.args.source (last_in c.turn-event.new.self c.args.source) (takes c.turn-event.result) (sym c.is_taking.ensures ∙ c.if-is_taking.false);

@@ -1,0 +1,334 @@
+-- Lines that are played.
+use Rattle.std.proofs.Common.{◌≡◌, ◌∙◌, ℕ, ◌+◌, ◌*◌, ◌<◌, ◌≤◌, inl, inr, Bool, true, false, List, [], ◌∷◌, ◌++◌, length, take, drop, get_or, map, refl, sym, ap, subst, arith, append_assoc, cond, length-append}
+use Rattle.std.specs.Prelude.{codes}
+use Rattle.std.proofs.lemmas.List.{append-nil, take-append-drop, take_more, take_all, flat_map_more, length-take-le, get_or-take}
+use Rattle.apei_notify.specs.Telling.{Hearing}
+use Rattle.ghes_ack.specs.declared.events.Event.{Event}
+use Rattle.ghes_ack.specs.declared.events.Event.TheVariants.{Idle, Fill, Publish, Free, Wait, Nothing, Found, Copied, Took, Clear, Ack}
+use Rattle.ghes_ack.specs.declared.events.Side.{Side}
+use Rattle.ghes_hub.specs.Hubs.{HubState, HubTurns, Call, Turns, last_in, sources_in}
+use Rattle.ghes_hub.specs.Runs.{takes, told_at}
+use Rattle.hub_script.specs.HubGrammar.{Line, blank, comment, hest, error, turns, heard, removal}
+use Rattle.hub_script.specs.HubText.{IsText, line_of}
+use Rattle.hub_script.specs.declared.hub_line.HubLine.{HubLine}
+use Rattle.hub_script.specs.declared.hub_line.HubLine.TheVariants.{Blank, Hest, Error, Turns as TurnsOf, Heard, Drop}
+use Rattle.hub_script.specs.RefusalWords.{words_of_refusal}
+use Rattle.hub_script.specs.declared.refusals.HubRefusal.TheVariants.{NoHub}
+use Rattle.hub_script.specs.Replies.{refused, reply_line, text_of_replies, words_of_block, words_of_turns, word_of}
+use Rattle.hub_script.specs.Shown.{IsPartWritten}
+use Rattle.hub_script.specs.Stages.{Stage, Waiting, Serving}
+use Rattle.hub_script.specs.Plays.{Plays, IsRefused, source_of, side_of, AllNamed, Turned, NoTurn, OneMore, AllTurned}
+use Rattle.hub_script.specs.Lines.{PlaysLine, PlaysUnheard, TextIs, IsLeft, LeftOfTurns, AtLast, InBlock}
+use Rattle.hub_script.specs.TurnLines.{TakesTurn, TakesUnheard}
+use Rattle.hub_script.specs.Made.{MakesReply}
+use Rattle.hub_script.proofs.ShownLemmas.{flat_map-append}
+
+-- what is asked of a hub
+abbrev pub asks_hub : Line → Bool
+asks_hub blank = false
+asks_hub (comment rest) = false
+asks_hub (hest hex) = false
+asks_hub (error source hex) = true
+asks_hub (turns pairs) = true
+asks_hub (heard source) = true
+asks_hub (removal source at) = true
+
+while_waiting : {L : Type 0} (hearing : L → Hearing) (listeners : List L) (line : Line) (said : List (List ℕ)) (calls : List Call) (new : Stage L) → asks_hub line ≡ true
+    → IsRefused NoHub (Waiting listeners) said calls new → Plays hearing (Waiting listeners) line said calls new
+while_waiting hearing listeners blank said calls new asks is = absurd (cc asks)
+while_waiting hearing listeners (comment rest) said calls new asks is = absurd (cc asks)
+while_waiting hearing listeners (hest hex) said calls new asks is = absurd (cc asks)
+while_waiting hearing listeners (error source hex) said calls new asks is = is
+while_waiting hearing listeners (turns pairs) said calls new asks is = is
+while_waiting hearing listeners (heard source) said calls new asks is = is
+while_waiting hearing listeners (removal source at) said calls new asks is = is
+
+-- one reply is a text
+one_text : (words : List ℕ) → text_of_replies (words ∷ []) ≡ reply_line words
+one_text words = append-nil (reply_line words)
+
+-- replies, and one more
+more_text : (written : List ℕ) (said : List (List ℕ)) (words : List ℕ) → (written ++ text_of_replies said) ++ reply_line words ≡ written ++ text_of_replies (said ++ words ∷ [])
+more_text written said words =
+    append_assoc written (text_of_replies said) (reply_line words)
+    ∙ ap (λ (xs : List ℕ). written ++ xs) (ap (λ (xs : List ℕ). text_of_replies said ++ xs) (sym (one_text words)) ∙ sym (flat_map-append reply_line said (words ∷ [])))
+
+-- a line of one reply has it left
+left_one : {L : Type 0} (hearing : L → Hearing) (old : Stage L) (line : Line) (words : List ℕ) (calls : List Call) (new : Stage L) → Plays hearing old line (words ∷ []) calls new → IsLeft line line (words ∷ []) [] words
+left_one hearing old blank words calls new is = absurd (cc is.said_is)
+left_one hearing old (comment rest) words calls new is = absurd (cc is.said_is)
+left_one hearing old (hest hex) words calls new is = (refl, refl, refl)
+left_one hearing old (error source hex) words calls new is = (refl, refl, refl)
+left_one hearing old (turns pairs) words calls new is = AtLast pairs [] words
+left_one hearing old (heard source) words calls new is = (refl, refl, refl)
+left_one hearing old (removal source at) words calls new is = (refl, refl, refl)
+
+module _ {L : Type 0} (hearing : L → Hearing) (told_sink : Type 0) (old new : Stage L) (line : Line) (written now : List ℕ) where
+  -- a line of one reply, which was written
+  pub one_played : (words : List ℕ) (calls : List Call) → Plays hearing old line (words ∷ []) calls new → (told_sink → now ≡ written ++ reply_line words) → PlaysLine hearing told_sink old line new written now
+  one_played words calls plays text = record { said = words ∷ []; calls = calls; plays = plays; text = λ t. text t ∙ ap (λ (xs : List ℕ). written ++ xs) (sym (one_text words)) }
+
+  -- and one which was written in part
+  pub one_unheard : (words : List ℕ) (calls : List Call) → Plays hearing old line (words ∷ []) calls new → (told_sink → IsPartWritten (reply_line words) written now) → PlaysUnheard hearing told_sink old line new written now
+  one_unheard words calls plays text = record {
+    made = line;
+    said = words ∷ [];
+    calls = calls;
+    before = [];
+    last = words;
+    left = left_one hearing old line words calls new plays;
+    plays = plays;
+    text = λ t. let part = text t in (part.0, part.1 ∙ ap (λ (xs : List ℕ). xs ++ take part.0 (reply_line words)) (sym (append-nil written)));
+  }
+
+  pub reply_played : (reply lent : List ℕ) → MakesReply hearing old line new reply → lent ≡ reply → (told_sink → now ≡ written ++ lent) → PlaysLine hearing told_sink old line new written now
+  reply_played reply lent made same text = one_played made.words made.calls made.plays (λ t. text t ∙ ap (λ (xs : List ℕ). written ++ xs) (same ∙ made.text))
+
+  pub reply_unheard : (reply lent : List ℕ) → MakesReply hearing old line new reply → lent ≡ reply → (told_sink → (n : ℕ) × (now ≡ written ++ take n lent)) → PlaysUnheard hearing told_sink old line new written now
+  reply_unheard reply lent made same text = one_unheard made.words made.calls made.plays
+      (λ t. let part = text t in (part.0, part.1 ∙ ap (λ (xs : List ℕ). written ++ take part.0 xs) (same ∙ made.text)))
+
+-- a reply to a line for which there is no hub
+pub no_hub : {L : Type 0} (hearing : L → Hearing) (listeners : List L) (line : Line) (reply : List ℕ) → asks_hub line ≡ true → reply ≡ reply_line (refused (words_of_refusal NoHub))
+    → MakesReply hearing (Waiting listeners) line (Waiting listeners) reply
+no_hub hearing listeners line reply asks is = record {
+  words = refused (words_of_refusal NoHub);
+  calls = [];
+  plays = while_waiting hearing listeners line (refused (words_of_refusal NoHub) ∷ []) [] (Waiting listeners) asks (record { said_is = refl; calls_are = refl; stays = refl });
+  text = is;
+}
+
+-- a turn that took a block has the event for it
+pub took_is : (event : Event) → takes event ≡ true → event ≡ Took
+took_is Idle e = absurd (cc e)
+took_is Fill e = absurd (cc e)
+took_is Publish e = absurd (cc e)
+took_is Free e = absurd (cc e)
+took_is Wait e = absurd (cc e)
+took_is Nothing e = absurd (cc e)
+took_is Found e = absurd (cc e)
+took_is Copied e = absurd (cc e)
+took_is Took e = refl
+took_is Clear e = absurd (cc e)
+took_is Ack e = absurd (cc e)
+
+pub took_text : (event : Event) (source : ℕ) (last : List ℕ) → takes event ≡ true → reply_line (words_of_block source last) ≡ text_of_replies (map (words_of_block source) (told_at event last))
+took_text event source last e = subst (λ (ev : Event). reply_line (words_of_block source last) ≡ text_of_replies (map (words_of_block source) (told_at ev last))) (sym (took_is event e)) (sym (one_text (words_of_block source last)))
+
+pub none_text : (event : Event) (source : ℕ) (last written : List ℕ) → takes event ≡ false → written ≡ written ++ text_of_replies (map (words_of_block source) (told_at event last))
+none_text event source last written e =
+    sym (append-nil written) ∙ ap (λ (b : Bool). written ++ text_of_replies (map (words_of_block source) (cond b (last ∷ []) []))) (sym e)
+
+-- an event behind those before it
+said_more : (event : Event) (events spaced now word : List ℕ) → spaced ≡ events ++ codes " " → now ≡ spaced ++ word → word ≡ word_of event → now ≡ events ++ (codes " " ++ word_of event)
+said_more event events spaced now word one two is =
+    two ∙ ap (λ (xs : List ℕ). xs ++ word) one ∙ ap (λ (xs : List ℕ). (events ++ codes " ") ++ xs) is ∙ append_assoc events (codes " ") (word_of event)
+
+module _ {L : Type 0} (hearing : L → Hearing) (told_sink : Type 0) (source : ℕ) (side : Side) (old new : HubState L) (event : Event) where
+  -- a turn whose block was shown
+  pub turn_shown : (events spaced now word written block later : List ℕ) → HubTurns hearing source side event old new → takes event ≡ true → block ≡ last_in new.sources source
+      → spaced ≡ events ++ codes " " → now ≡ spaced ++ word → word ≡ word_of event
+      → (told_sink → later ≡ written ++ reply_line (words_of_block source block)) → TakesTurn hearing told_sink source side old new events now written later
+  turn_shown events spaced now word written block later turned took is one two word_is text = record {
+    event = event;
+    turned = turned;
+    said = said_more event events spaced now word one two word_is;
+    text = λ t. text t ∙ ap (λ (b : List ℕ). written ++ reply_line (words_of_block source b)) is ∙ ap (λ (xs : List ℕ). written ++ xs) (took_text event source (last_in new.sources source) took);
+  }
+
+  -- or was refused
+  pub turn_unheard : (written later block : List ℕ) → HubTurns hearing source side event old new → takes event ≡ true → block ≡ last_in new.sources source
+      → (told_sink → IsPartWritten (reply_line (words_of_block source block)) written later) → TakesUnheard hearing told_sink source side old new written later
+  turn_unheard written later block turned took is text = record {
+    turned = subst (λ (e : Event). HubTurns hearing source side e old new) (took_is event took) turned;
+    text = λ t. subst (λ (b : List ℕ). IsPartWritten (reply_line (words_of_block source b)) written later) is (text t);
+  }
+
+  -- a turn that took none
+  pub turn_quiet : (events spaced now word written : List ℕ) → HubTurns hearing source side event old new → takes event ≡ false
+      → spaced ≡ events ++ codes " " → now ≡ spaced ++ word → word ≡ word_of event → TakesTurn hearing told_sink source side old new events now written written
+  turn_quiet events spaced now word written turned none one two word_is = record {
+    event = event;
+    turned = turned;
+    said = said_more event events spaced now word one two word_is;
+    text = λ t. none_text event source (last_in new.sources source) written none;
+  }
+
+-- turns so far: those of some pairs were made, their events are said, and the blocks that were taken are shown
+pub record TurnedSoFar {L : Type 0} (hearing : L → Hearing) (told_sink : Type 0) (old new : HubState L) (pairs said_events written now : List ℕ) : Type 0 where
+  pub calls : List Call
+  pub events : List Event
+  pub said : List (List ℕ)
+  pub turned : Turned hearing old pairs calls events said new
+  pub events_are : said_events ≡ words_of_turns events
+  pub text : told_sink → now ≡ written ++ text_of_replies said
+
+-- two more places of some pairs
+two_more : (pairs : List ℕ) (at : ℕ) → 2 * at + 1 < length pairs → take (2 * (at + 1)) pairs ≡ take (2 * at) pairs ++ get_or pairs (2 * at) 0 ∷ get_or pairs (2 * at + 1) 0 ∷ []
+two_more pairs at within =
+    let n : 2 * (at + 1) ≡ 2 * at + 1 + 1 = omega arith in
+    ap (λ (k : ℕ). take k pairs) n
+    ∙ take_more pairs (2 * at + 1) 0 within
+    ∙ ap (λ (xs : List ℕ). xs ++ get_or pairs (2 * at + 1) 0 ∷ []) (take_more pairs (2 * at) 0 (omega (arith, within)))
+    ∙ append_assoc (take (2 * at) pairs) (get_or pairs (2 * at) 0 ∷ []) (get_or pairs (2 * at + 1) 0 ∷ [])
+
+-- a beginning of pairs names sources
+named_front : {L : Type 0} (hub : HubState L) (pairs : List ℕ) (k : ℕ) → k ≤ length pairs → AllNamed hub pairs → AllNamed hub (take k pairs)
+named_front hub pairs k within named at there =
+    let l = length-take-le k pairs within in
+    let here = named at (omega (arith, there, l, within)) in
+    subst (λ (c : ℕ). source_of c < sources_in hub) (sym (get_or-take k pairs (2 * at) 0 (omega (arith, there, l)))) here
+
+module _ {L : Type 0} (hearing : L → Hearing) (told_sink : Type 0) where
+  pub no_turn : (old : HubState L) (said_events written : List ℕ) → said_events ≡ codes "turns" → TurnedSoFar hearing told_sink old old [] said_events written written
+  no_turn old said_events written is = record { calls = []; events = []; said = []; turned = NoTurn; events_are = is; text = λ t. sym (append-nil written) }
+
+  -- one more turn, of the source and the side that its pair names
+  more_turned : (old mid new : HubState L) (all : List ℕ) (at : ℕ) (said_events said_now written middle now : List ℕ) → 2 * at + 1 < length all
+      → TurnedSoFar hearing told_sink old mid (take (2 * at) all) said_events written middle
+      → TakesTurn hearing told_sink (source_of (get_or all (2 * at) 0)) (side_of (get_or all (2 * at + 1) 0)) mid new said_events said_now middle now
+      → TurnedSoFar hearing told_sink old new (take (2 * (at + 1)) all) said_now written now
+  more_turned old mid new all at said_events said_now written middle now within so turn =
+      let digit = get_or all (2 * at) 0 in
+      let letter = get_or all (2 * at + 1) 0 in
+      let shown : List (List ℕ) = map (words_of_block (source_of digit)) (told_at turn.event (last_in new.sources (source_of digit))) in
+      subst (λ (pairs : List ℕ). TurnedSoFar hearing told_sink old new pairs said_now written now) (sym (two_more all at within)) (record {
+        calls = so.calls ++ Turns (source_of digit) (side_of letter) turn.event ∷ [];
+        events = so.events ++ turn.event ∷ [];
+        said = so.said ++ shown;
+        turned = OneMore (take (2 * at) all) so.calls so.events so.said mid digit letter turn.event new so.turned turn.turned;
+        events_are = turn.said ∙ ap (λ (xs : List ℕ). xs ++ (codes " " ++ word_of turn.event)) so.events_are ∙ flat_map_more (λ (event : Event). codes " " ++ word_of event) (codes "turns") so.events turn.event;
+        text = λ t. turn.text t ∙ ap (λ (xs : List ℕ). xs ++ text_of_replies shown) (so.text t) ∙ append_assoc written (text_of_replies so.said) (text_of_replies shown)
+            ∙ ap (λ (xs : List ℕ). written ++ xs) (sym (flat_map-append reply_line so.said shown));
+      })
+
+  pub turn_more : (old mid new : HubState L) (all : List ℕ) (at source : ℕ) (side : Side) (said_events said_now written middle now : List ℕ) → 2 * at + 1 < length all
+      → source ≡ source_of (get_or all (2 * at) 0) → side ≡ side_of (get_or all (2 * at + 1) 0)
+      → TurnedSoFar hearing told_sink old mid (take (2 * at) all) said_events written middle
+      → TakesTurn hearing told_sink source side mid new said_events said_now middle now
+      → TurnedSoFar hearing told_sink old new (take (2 * (at + 1)) all) said_now written now
+  turn_more old mid new all at source side said_events said_now written middle now within of_source of_side so turn =
+      more_turned old mid new all at said_events said_now written middle now within so
+      (subst (λ (i : ℕ). TakesTurn hearing told_sink i (side_of (get_or all (2 * at + 1) 0)) mid new said_events said_now middle now) of_source
+      (subst (λ (s : Side). TakesTurn hearing told_sink source s mid new said_events said_now middle now) of_side turn))
+
+  -- the sink refused the line of a block
+  cut_turned : (old mid new : HubState L) (all : List ℕ) (at : ℕ) (said_events written middle now : List ℕ) → 2 * at + 1 < length all → AllNamed old all
+      → TurnedSoFar hearing told_sink old mid (take (2 * at) all) said_events written middle
+      → TakesUnheard hearing told_sink (source_of (get_or all (2 * at) 0)) (side_of (get_or all (2 * at + 1) 0)) mid new middle now
+      → PlaysUnheard hearing told_sink (Serving old) (turns all) (Serving new) written now
+  cut_turned old mid new all at said_events written middle now within named so turn =
+      let digit = get_or all (2 * at) 0 in
+      let letter = get_or all (2 * at + 1) 0 in
+      let front = take (2 * (at + 1)) all in
+      let block = words_of_block (source_of digit) (last_in new.sources (source_of digit)) in
+      let events = so.events ++ Took ∷ [] in
+      let made : Turned hearing old front (so.calls ++ Turns (source_of digit) (side_of letter) Took ∷ []) events (so.said ++ block ∷ []) new =
+      subst (λ (pairs : List ℕ). Turned hearing old pairs (so.calls ++ Turns (source_of digit) (side_of letter) Took ∷ []) events (so.said ++ block ∷ []) new) (sym (two_more all at within))
+      (OneMore (take (2 * at) all) so.calls so.events so.said mid digit letter Took new so.turned turn.turned) in
+      record {
+        made = turns front;
+        said = (so.said ++ block ∷ []) ++ words_of_turns events ∷ [];
+        calls = so.calls ++ Turns (source_of digit) (side_of letter) Took ∷ [];
+        before = so.said;
+        last = block;
+        left = subst (λ (xs : List ℕ). LeftOfTurns xs (turns front) ((so.said ++ block ∷ []) ++ words_of_turns events ∷ []) so.said block) (take-append-drop (2 * (at + 1)) all)
+            (subst (λ (xs : List (List ℕ)). LeftOfTurns (front ++ drop (2 * (at + 1)) all) (turns front) xs so.said block) (sym (append_assoc so.said (block ∷ []) (words_of_turns events ∷ [])))
+            (InBlock front (drop (2 * (at + 1)) all) so.events so.said block));
+        plays = AllTurned (so.calls ++ Turns (source_of digit) (side_of letter) Took ∷ []) events (so.said ++ block ∷ []) new (named_front old all (2 * (at + 1)) (omega (arith, within)) named) made;
+        text = λ t. let part = turn.text t in (part.0, part.1 ∙ ap (λ (xs : List ℕ). xs ++ take part.0 (reply_line block)) (so.text t));
+      }
+
+  pub turn_cut : (old mid new : HubState L) (all : List ℕ) (at source : ℕ) (side : Side) (said_events written middle now : List ℕ) → 2 * at + 1 < length all → AllNamed old all
+      → source ≡ source_of (get_or all (2 * at) 0) → side ≡ side_of (get_or all (2 * at + 1) 0)
+      → TurnedSoFar hearing told_sink old mid (take (2 * at) all) said_events written middle
+      → TakesUnheard hearing told_sink source side mid new middle now
+      → PlaysUnheard hearing told_sink (Serving old) (turns all) (Serving new) written now
+  turn_cut old mid new all at source side said_events written middle now within named of_source of_side so turn =
+      cut_turned old mid new all at said_events written middle now within named so
+      (subst (λ (i : ℕ). TakesUnheard hearing told_sink i (side_of (get_or all (2 * at + 1) 0)) mid new middle now) of_source
+      (subst (λ (s : Side). TakesUnheard hearing told_sink source s mid new middle now) of_side turn))
+
+  -- all turns
+  of_all : (old new : HubState L) (all : List ℕ) (at : ℕ) (said_events written now : List ℕ) → length all ≤ 2 * at → TurnedSoFar hearing told_sink old new (take (2 * at) all) said_events written now
+      → TurnedSoFar hearing told_sink old new all said_events written now
+  of_all old new all at said_events written now end so = subst (λ (xs : List ℕ). TurnedSoFar hearing told_sink old new xs said_events written now) (take_all (2 * at) all end) so
+
+  pub all_turned : (old new : HubState L) (all : List ℕ) (at : ℕ) (said_events written middle now : List ℕ) → length all ≤ 2 * at → AllNamed old all → TurnedSoFar hearing told_sink old new (take (2 * at) all) said_events written middle
+      → (told_sink → now ≡ middle ++ reply_line said_events) → PlaysLine hearing told_sink (Serving old) (turns all) (Serving new) written now
+  all_turned old new all at said_events written middle now end named some text =
+      let so = of_all old new all at said_events written middle end some in
+      record {
+        said = so.said ++ words_of_turns so.events ∷ [];
+        calls = so.calls;
+        plays = AllTurned so.calls so.events so.said new named so.turned;
+        text = λ t. text t ∙ ap (λ (xs : List ℕ). middle ++ reply_line xs) so.events_are ∙ ap (λ (xs : List ℕ). xs ++ reply_line (words_of_turns so.events)) (so.text t)
+            ∙ more_text written so.said (words_of_turns so.events);
+      }
+
+  -- and a part of the reply behind them
+  pub all_unheard : (old new : HubState L) (all : List ℕ) (at : ℕ) (said_events written middle now : List ℕ) → length all ≤ 2 * at → AllNamed old all → TurnedSoFar hearing told_sink old new (take (2 * at) all) said_events written middle
+      → (told_sink → IsPartWritten (reply_line said_events) middle now) → PlaysUnheard hearing told_sink (Serving old) (turns all) (Serving new) written now
+  all_unheard old new all at said_events written middle now end named some text =
+      let so = of_all old new all at said_events written middle end some in
+      record {
+        made = turns all;
+        said = so.said ++ words_of_turns so.events ∷ [];
+        calls = so.calls;
+        before = so.said;
+        last = words_of_turns so.events;
+        left = AtLast all so.said (words_of_turns so.events);
+        plays = AllTurned so.calls so.events so.said new named so.turned;
+        text = λ t. let part = text t in (
+          part.0,
+          part.1 ∙ ap (λ (xs : List ℕ). middle ++ take part.0 (reply_line xs)) so.events_are ∙ ap (λ (xs : List ℕ). xs ++ take part.0 (reply_line (words_of_turns so.events))) (so.text t),
+        );
+      }
+
+-- what was lent to the sink is the reply with the end of its line
+pub lent_text : (told_sink : Type 0) (written now lent words : List ℕ) {reply : List ℕ} → lent ≡ reply → reply ≡ reply_line words → (told_sink → now ≡ written ++ lent) → told_sink → now ≡ written ++ reply_line words
+lent_text told_sink written now lent words same is text t = text t ∙ ap (λ (xs : List ℕ). written ++ xs) (same ∙ is)
+
+pub lent_part : (told_sink : Type 0) (written now lent words : List ℕ) {reply : List ℕ} → lent ≡ reply → reply ≡ reply_line words → (told_sink → (n : ℕ) × (now ≡ written ++ take n lent)) → told_sink → IsPartWritten (reply_line words) written now
+lent_part told_sink written now lent words same is text t = let part = text t in (part.0, part.1 ∙ ap (λ (xs : List ℕ). written ++ take part.0 xs) (same ∙ is))
+
+word_short : (event : Event) → length (word_of event) ≤ 7
+word_short Idle = omega arith
+word_short Fill = omega arith
+word_short Publish = omega arith
+word_short Free = omega arith
+word_short Wait = omega arith
+word_short Nothing = omega arith
+word_short Found = omega arith
+word_short Copied = omega arith
+word_short Took = omega arith
+word_short Clear = omega arith
+word_short Ack = omega arith
+
+-- one event more has at most eight bytes
+pub said_longer : (event : Event) (events now : List ℕ) (at : ℕ) → now ≡ events ++ (codes " " ++ word_of event) → length events ≤ 5 + 8 * at → length now ≤ 5 + 8 * (at + 1)
+said_longer event events now at is short =
+    let w = word_short event in
+    let n = ap length is ∙ length-append events (codes " " ++ word_of event) in
+    let m = length-append (codes " ") (word_of event) in
+    let one : length (codes " ") ≡ 1 = refl in
+    omega (arith, w, n, m, one, short)
+
+-- the source of a pair is there
+pub is_named : {L : Type 0} (first now : HubState L) (pairs : List ℕ) (at source : ℕ) → AllNamed first pairs → 2 * at < length pairs → source ≡ source_of (get_or pairs (2 * at) 0) → sources_in now ≡ sources_in first → source < sources_in now
+is_named first now pairs at source named within is count = let here = named at within in omega (arith, here, is, count)
+
+-- a blank line says nothing
+pub blank_played : {L : Type 0} (hearing : L → Hearing) (told_sink : Type 0) (stage : Stage L) (written : List ℕ) → PlaysLine hearing told_sink stage blank stage written written
+blank_played hearing told_sink stage written = record { said = []; calls = []; plays = record { said_is = refl; calls_are = refl; stays = refl }; text = λ t. sym (append-nil written) }
+
+-- the line that a text is, a comment where it is one
+pub text_is : {L : Type 0} (hearing : L → Hearing) (told_sink : Type 0) (old new : Stage L) (written now text : List ℕ) (line : HubLine) → IsText text line → PlaysLine hearing told_sink old (line_of line) new written now
+    → TextIs text (λ asked. PlaysLine hearing told_sink old asked new written now)
+text_is hearing told_sink old new written now text Blank (inl is) plays = record { line = blank; written = is; made = plays }
+text_is hearing told_sink old new written now text Blank (inr (rest, is)) plays = record { line = comment rest; written = is; made = record { said = plays.said; calls = plays.calls; plays = plays.plays; text = plays.text } }
+text_is hearing told_sink old new written now text (Hest hex) is plays = record { line = hest hex.now; written = is; made = plays }
+text_is hearing told_sink old new written now text (Error source hex) is plays = record { line = error source hex.now; written = is; made = plays }
+text_is hearing told_sink old new written now text (TurnsOf pairs) is plays = record { line = turns pairs.now; written = is; made = plays }
+text_is hearing told_sink old new written now text (Heard source) is plays = record { line = heard source; written = is; made = plays }
+text_is hearing told_sink old new written now text (Drop source at) is plays = record { line = removal source at; written = is; made = plays }

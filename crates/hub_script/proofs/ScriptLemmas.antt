@@ -1,0 +1,178 @@
+-- Laws of a script that is played so far, and of its ends.
+use Rattle.std.proofs.Common.{◌≡◌, ℕ, ◌+◌, ◌≤◌, ◌⊎◌, inl, inr, List, [], ◌∷◌, ◌++◌, length, take, refl, sym, ap, subst, ◌∙◌, arith, append_assoc}
+use Rattle.std.proofs.lemmas.Bool.{cases_lt}
+use Rattle.std.proofs.lemmas.List.{append-nil}
+use Rattle.base_model.specs.Faults.{Rose}
+use Rattle.line_grammar.specs.Columns.{BreaksAt}
+use Rattle.line_grammar.specs.declared.lengths.TheConstants.{LONGEST_LINE}
+use Rattle.apei_notify.specs.Telling.{Hearing}
+use Rattle.script_lines.specs.Causes.{HasSourceCause, HasSinkCause}
+use Rattle.script_lines.specs.Lines.{Line as TextLine, Reading, lines_of, IsTooLong, IsNextLine}
+use Rattle.script_lines.specs.Reads.{HasRead, StandsAt, AreTaken, last_line}
+use Rattle.hub_script.specs.HubGrammar.{Line, IsLine, hest}
+use Rattle.hub_script.specs.HubText.{IsWritten}
+use Rattle.hub_script.specs.Replies.{text_of_replies, reply_line}
+use Rattle.hub_script.specs.Stages.{Stage, Waiting, members_in}
+use Rattle.hub_script.specs.Plays.{Plays}
+use Rattle.hub_script.specs.Lines.{PlaysLine, PlaysUnheard, TextIs, GivesTable}
+use Rattle.hub_script.specs.History.{Played, Follows, IsLineOf, ArePlayed, AreInGrammar, text_of_played}
+use Rattle.hub_script.specs.Scripts.{StopsAt, EndsLines, PlaysScript, ServesScript, fault_of}
+use Rattle.hub_script.specs.declared.ending.HubEnd.{HubEnd}
+use Rattle.hub_script.specs.declared.ending.HubEnd.TheVariants.{Done, BadLine, SourceFault, SinkFault, TooLong, Memory}
+use Rattle.hub_script.proofs.ServedLemmas.{are_served}
+
+-- a line within the lengths has no more bytes than are parsed
+pub is_short : (text : List ℕ) (line : TextLine) → text ≡ line.text → (IsTooLong line → ⊥) → length text ≤ LONGEST_LINE
+is_short text line is within = elim (cases_lt LONGEST_LINE (length line.text)) [ inl long ↦ absurd (within (inl long)) | inr short ↦ omega (arith, ap length is) ]
+
+Follows-push : {L : Type 0} (hearing : L → Hearing) (first : Stage L) (some : List (Played L)) (mid : Stage L) (one : Played L) → Follows hearing first some mid
+    → Plays hearing mid one.line one.said one.calls one.left → Follows hearing first (some ++ one ∷ []) one.left
+Follows-push {L} hearing first [] mid one is plays = (subst (λ (stage : Stage L). Plays hearing stage one.line one.said one.calls one.left) is plays, refl)
+Follows-push hearing first (head ∷ some) mid one (plays, follows) line = (plays, Follows-push hearing head.left some mid one follows line)
+
+ArePlayed-push : {L : Type 0} (texts : List TextLine) (text : TextLine) (some : List (Played L)) (one : Played L) → ArePlayed texts some → IsLineOf text one.line → ArePlayed (texts ++ text ∷ []) (some ++ one ∷ [])
+ArePlayed-push [] text [] one are is = (is, tt)
+ArePlayed-push [] text (first ∷ some) one are is = absurd are
+ArePlayed-push (first ∷ texts) text [] one are is = absurd are
+ArePlayed-push (first ∷ texts) text (head ∷ some) one are is = (are.0, ArePlayed-push texts text some one are.1 is)
+
+text-push : {L : Type 0} (some : List (Played L)) (one : Played L) → text_of_played (some ++ one ∷ []) ≡ text_of_played some ++ text_of_replies one.said
+text-push [] one = append-nil (text_of_replies one.said)
+text-push (first ∷ some) one = ap (λ (bs : List ℕ). text_of_replies first.said ++ bs) (text-push some one) ∙ sym (append_assoc (text_of_replies first.said) (text_of_played some) (text_of_replies one.said))
+
+module _ {L : Type 0} (hearing : L → Hearing) (told_source told_sink : Type 0) where
+  -- a script so far: the lines that were read, all of them played
+  pub record SoFar (old new : Stage L) (script rest written written_now : List ℕ) (reading : Reading) : Type 0 where
+    pub lines : List TextLine
+    pub played : List (Played L)
+    pub read : HasRead told_source script rest lines reading
+    pub are : ArePlayed lines played
+    pub follows : Follows hearing old played new
+    pub text : told_sink → written_now ≡ written ++ text_of_played played
+
+  pub start : (stage : Stage L) (script written : List ℕ) (reading : Reading) → HasRead told_source script script [] reading → SoFar stage stage script script written written reading
+  start stage script written reading read = record { lines = []; played = []; read = read; are = tt; follows = refl; text = λ told. sym (append-nil written) }
+
+  -- an end behind a line that was read, or where none is
+  ends_by : (old new : Stage L) (script rest rest_now written now : List ℕ) (reading : Reading) (ending : HubEnd) → (so_far : SoFar old new script rest written now reading)
+      → EndsLines told_source told_sink script rest_now written now so_far.played ending → PlaysScript hearing told_source told_sink old new script rest_now written now ending
+  ends_by old new script rest rest_now written now reading ending so_far ends = record { played = so_far.played; follows = so_far.follows; ends = ends }
+
+  pub ends_done : (old new : Stage L) (script rest rest_now written now : List ℕ) (a : Reading) → (so_far : SoFar old new script rest written now a)
+      → (told_source → (lines_of 0 script ≡ so_far.lines) × (rest_now ≡ [])) → PlaysScript hearing told_source told_sink old new script rest_now written now Done
+  ends_done old new script rest rest_now written now a so_far at_end = ends_by old new script rest rest_now written now a Done so_far
+      ((λ told. let end = at_end told in (end.1, subst (λ (lines : List TextLine). ArePlayed lines so_far.played) (sym end.0) so_far.are)), so_far.text)
+
+  pub ends_fault : (old new : Stage L) (script rest rest_now written now : List ℕ) (a : Reading) → (so_far : SoFar old new script rest written now a)
+      → (told_source → AreTaken script rest_now so_far.lines) → PlaysScript hearing told_source told_sink old new script rest_now written now SourceFault
+  ends_fault old new script rest rest_now written now a so_far taken = ends_by old new script rest rest_now written now a SourceFault so_far
+      ((λ told. (so_far.lines, taken told, so_far.are)), so_far.text)
+
+  pub ends_too_long : (old new : Stage L) (script rest rest_now written now : List ℕ) (a : Reading) (number last : ℕ) → number ≡ last → (so_far : SoFar old new script rest written now a)
+      → (told_source → (line : TextLine) × StandsAt script so_far.lines (last + 1) line × IsTooLong line) → PlaysScript hearing told_source told_sink old new script rest_now written now (TooLong (number + 1))
+  ends_too_long old new script rest rest_now written now a number last is so_far stands = ends_by old new script rest rest_now written now a (TooLong (number + 1)) so_far (
+    (λ told.
+        let at = stands told in
+        (at.0, record { before = so_far.lines; stands = subst (λ (n : ℕ). StandsAt script so_far.lines (n + 1) at.0) (sym is) at.1; are = so_far.are }, at.2)),
+    so_far.text,
+  )
+
+  -- the line that was read last
+  module _ (old mid : Stage L) (script rest rest_now written middle : List ℕ) (a b : Reading) (so_far : SoFar old mid script rest written middle a)
+      (text : List ℕ) (next : IsNextLine told_source a b rest rest_now) (same : text ≡ b.line) where
+    is_line : (line : Line) → IsWritten text line → IsLineOf (last_line b) line
+    is_line line written = record { within = next.within; written = (written.0, sym same ∙ written.1) }
+
+    stops_at : (number : ℕ) → number ≡ b.number → (told_source → StandsAt script so_far.lines b.number (last_line b)) → told_source → StopsAt script so_far.played number (last_line b)
+    stops_at number is stands told = record { before = so_far.lines; stands = subst (λ (n : ℕ). StandsAt script so_far.lines n (last_line b)) (sym is) (stands told); are = so_far.are }
+
+    -- it was played
+    pub so_far_next : (new : Stage L) (now : List ℕ) → HasRead told_source script rest_now (so_far.lines ++ last_line b ∷ []) b
+        → TextIs text (λ line. PlaysLine hearing told_sink mid line new middle now) → SoFar old new script rest_now written now b
+    so_far_next new now read plays =
+        let one : Played L = record { line = plays.line; said = plays.made.said; calls = plays.made.calls; left = new } in
+        record {
+          lines = so_far.lines ++ last_line b ∷ [];
+          played = so_far.played ++ one ∷ [];
+          read = read;
+          are = ArePlayed-push so_far.lines (last_line b) so_far.played one so_far.are (is_line plays.line plays.written);
+          follows = Follows-push hearing old so_far.played mid one so_far.follows plays.made.plays;
+          text = λ told. plays.made.text told ∙ ap (λ (bs : List ℕ). bs ++ text_of_replies one.said) (so_far.text told) ∙ append_assoc written (text_of_played so_far.played) (text_of_replies one.said)
+              ∙ ap (λ (bs : List ℕ). written ++ bs) (sym (text-push so_far.played one));
+        }
+
+    -- the sink refused a reply of it
+    pub ends_unheard : (new : Stage L) (now : List ℕ) → (told_source → StandsAt script so_far.lines b.number (last_line b))
+        → TextIs text (λ line. PlaysUnheard hearing told_sink mid line new middle now) → PlaysScript hearing told_source told_sink old new script rest_now written now SinkFault
+    ends_unheard new now stands plays =
+        let made = plays.made in
+        let one : Played L = record { line = made.made; said = made.said; calls = made.calls; left = new } in
+        record {
+          played = so_far.played ++ one ∷ [];
+          follows = Follows-push hearing old so_far.played mid one so_far.follows made.plays;
+          ends = record {
+            first = so_far.played;
+            last = one;
+            played_is = refl;
+            line = plays.line;
+            before = made.before;
+            unheard = made.last;
+            left = made.left;
+            lines = λ told. let at = stands told in record { before = so_far.lines; text = last_line b; behind = at.behind; lines = at.lines; are = so_far.are; is = is_line plays.line plays.written };
+            text = λ told. let part = made.text told in (part.0, part.1 ∙ ap (λ (bs : List ℕ). bs ++ text_of_replies made.before ++ take part.0 (reply_line made.last)) (so_far.text told));
+          };
+        }
+
+    -- it is none
+    pub ends_bad : (new : Stage L) (now : List ℕ) (number column : ℕ) → new ≡ mid → now ≡ middle → number ≡ b.number → (told_source → StandsAt script so_far.lines b.number (last_line b)) → BreaksAt IsLine text column
+        → PlaysScript hearing told_source told_sink old new script rest_now written now (BadLine number column)
+    ends_bad new now number column stays kept is stands breaks = record {
+      played = so_far.played;
+      follows = subst (Follows hearing old so_far.played) (sym stays) so_far.follows;
+      ends = (
+        (λ told. (last_line b, stops_at number is stands told, record { within = next.within; breaks = subst (λ (t : List ℕ). BreaksAt IsLine t column) same breaks })),
+        (λ told. kept ∙ so_far.text told),
+      );
+    }
+
+    -- there was no memory for it
+    pub ends_memory : (new : Stage L) (now : List ℕ) → new ≡ mid → now ≡ middle → (told_source → StandsAt script so_far.lines b.number (last_line b)) → GivesTable text
+        → PlaysScript hearing told_source told_sink old new script rest_now written now Memory
+    ends_memory new now stays kept stands table = record {
+      played = so_far.played;
+      follows = subst (Follows hearing old so_far.played) (sym stays) so_far.follows;
+      ends = (
+        (λ told. (last_line b, b.number, table.hex, stops_at b.number refl stands told, is_line (hest table.hex) table.written)),
+        (λ told. kept ∙ so_far.text told),
+      );
+    }
+
+-- from listeners that wait on
+pub serves_script : {L : Type 0} (hearing : L → Hearing) (told_source told_sink : Type 0) (old new : Stage L) (script rest written now : List ℕ) (listeners listeners_now : List L) (ending : HubEnd)
+    → PlaysScript hearing told_source told_sink old new script rest written now ending → old ≡ Waiting listeners → listeners_now ≡ members_in new
+    → ServesScript hearing told_source told_sink script rest written now listeners listeners_now ending
+serves_script {L} hearing told_source told_sink old new script rest written now listeners listeners_now ending plays begins back =
+    let follows = subst (λ (stage : Stage L). Follows hearing stage plays.played new) begins plays.follows in
+    record { played = plays.played; last = new; follows = follows; ends = plays.ends; members = back; served = are_served hearing listeners plays.played new follows }
+
+-- a line among those in the grammar
+in_grammar_at : (before : List TextLine) (line : TextLine) (behind : List TextLine) → AreInGrammar (before ++ line ∷ behind) → (IsTooLong line → ⊥) × IsLine line.text
+in_grammar_at [] line behind all = (all.0, all.1)
+in_grammar_at (first ∷ before) line behind all = in_grammar_at before line behind all.2
+
+-- where all lines are in the grammar and no fault was counted, all are read
+pub is_done : {L : Type 0} (hearing : L → Hearing) (told_source told_sink : Type 0) (old new : Stage L) (script rest written now : List ℕ) (source source_now sink sink_now : ℕ) (ending : HubEnd)
+    → PlaysScript hearing told_source told_sink old new script rest written now ending → HasSourceCause source source_now (fault_of ending) → HasSinkCause sink sink_now (fault_of ending)
+    → told_source → AreInGrammar (lines_of 0 script) → (Rose source source_now → ⊥) → (Rose sink sink_now → ⊥) → (ending ≡ Done) ⊎ (ending ≡ Memory)
+is_done hearing told_source told_sink old new script rest written now source source_now sink sink_now Done plays in_cause out_cause told all no_source no_sink = inl refl
+is_done hearing told_source told_sink old new script rest written now source source_now sink sink_now (BadLine number column) plays in_cause out_cause told all no_source no_sink =
+    let ends = plays.ends.0 told in
+    let at = in_grammar_at ends.1.before ends.0 ends.1.stands.behind (subst AreInGrammar ends.1.stands.lines all) in
+    absurd (ends.2.breaks.1.outside at.1)
+is_done hearing told_source told_sink old new script rest written now source source_now sink sink_now SourceFault plays in_cause out_cause told all no_source no_sink = absurd (no_source in_cause)
+is_done hearing told_source told_sink old new script rest written now source source_now sink sink_now SinkFault plays in_cause out_cause told all no_source no_sink = absurd (no_sink out_cause)
+is_done hearing told_source told_sink old new script rest written now source source_now sink sink_now (TooLong number) plays in_cause out_cause told all no_source no_sink =
+    let ends = plays.ends.0 told in
+    let at = in_grammar_at ends.1.before ends.0 ends.1.stands.behind (subst AreInGrammar ends.1.stands.lines all) in
+    absurd (at.0 ends.2)
+is_done hearing told_source told_sink old new script rest written now source source_now sink sink_now Memory plays in_cause out_cause told all no_source no_sink = inr refl

@@ -1,0 +1,74 @@
+use Rattle.std.proofs.Common.{◌≡◌, ◌∙◌, length, refl, ap, arith}
+use Rattle.std.proofs.lemmas.Result.{err_from_is_err_and, on_ok_weaker, on_err_weaker}
+use Rattle.ghes_hub.specs.Seen.{seen}
+use Rattle.hub_script.proofs.ResultLemmas.{on_err, has_cause, same_cause}
+use Rattle.hub_script.proofs.PlayLemmas.{no_turn, turn_more, turn_cut, all_turned, all_unheard, lent_text, lent_part, said_longer, is_named}
+use Rattle.hub_script.proofs.turns.take_turns.Goals as goal
+
+pub turning-init : goal.turning-init
+turning-init g c = record {
+  so = no_turn _ _ _ _ _ c.begin.ensures;
+  short = let n : length c.begin.new.self ≡ 5 = ap length c.begin.ensures in omega arith;
+  count = refl;
+  faults = refl;
+}
+
+pub take_turn-requires-clause-source : goal.take_turn-requires-clause-source
+take_turn-requires-clause-source g c =
+    let test = c.turning-test.true in
+    is_named (seen c.args.hub.now) (seen c.turning.hub) c.args.pairs.now c.turning.at c.source_of-source.result c.requires.named (omega (arith, test)) c.source_of-source.ensures c.turning.invariant.count
+
+pub take_turn-requires-clause-room : goal.take_turn-requires-clause-room
+take_turn-requires-clause-room g c =
+    let short = c.turning.invariant.short in
+    let test = c.turning-test.true in
+    let most = c.requires.valid.most in
+    omega (arith, short, test, most)
+
+pub returns-in_err-take_turn-clause-unheard : goal.returns-in_err-take_turn-clause-unheard
+returns-in_err-take_turn-clause-unheard g c =
+    let test = c.turning-test.true in
+    on_err c.from_residual.result
+    (turn_cut _ _ _ _ _ c.args.pairs.now c.turning.at c.source_of-source.result c.side_of-side.result _ _ _ _ (omega (arith, test)) c.requires.named c.source_of-source.ensures c.side_of-side.ensures
+    c.turning.invariant.so c.in_err-take_turn.ensures.unheard)
+
+pub returns-in_err-take_turn-clause-cause : goal.returns-in_err-take_turn-clause-cause
+returns-in_err-take_turn-clause-cause g c =
+    let p = err_from_is_err_and c.from_residual.result c.from_residual.ensures.1 in
+    has_cause _ _ _ c.from_residual.result p.0 _ c.turning.invariant.faults p.1 c.in_err-take_turn.ensures.cause
+
+pub turning-preserved : goal.turning-preserved
+turning-preserved g c =
+    let test = c.turning-test.true in
+    let turn = c.in_ok-take_turn.ensures.turned in
+    record {
+      so = turn_more _ _ _ _ _ c.args.pairs.now c.turning.at c.source_of-source.result c.side_of-side.result _ _ _ _ _ (omega (arith, test)) c.source_of-source.ensures c.side_of-side.ensures
+          c.turning.invariant.so turn;
+      short = said_longer turn.event _ _ c.turning.at turn.said c.turning.invariant.short;
+      count = turn.turned.count ∙ c.turning.invariant.count;
+      faults = c.in_ok-take_turn.ensures.cause.ok ∙ c.turning.invariant.faults;
+    }
+
+pub end-requires : goal.end-requires
+end-requires g c =
+    let short = c.turning.invariant.short in
+    let most = c.requires.valid.most in
+    let end = c.turning.auto.at-end in
+    omega (arith, short, most, end)
+
+pub returns-clause-played : goal.returns-clause-played
+returns-clause-played g c =
+    let test = c.turning-test.false in
+    let even = c.requires.valid.even.1 in
+    on_ok_weaker c.write_all.result
+    (λ h. all_turned _ _ _ _ c.args.pairs.now c.turning.at _ _ _ _ (omega (arith, test, even)) c.requires.named c.turning.invariant.so (lent_text _ _ _ _ _ c.text.ensures c.end.ensures h)) c.write_all.ensures.all
+
+pub returns-clause-unheard : goal.returns-clause-unheard
+returns-clause-unheard g c =
+    let test = c.turning-test.false in
+    let even = c.requires.valid.even.1 in
+    on_err_weaker c.write_all.result
+    (λ h. all_unheard _ _ _ _ c.args.pairs.now c.turning.at _ _ _ _ (omega (arith, test, even)) c.requires.named c.turning.invariant.so (lent_part _ _ _ _ _ c.text.ensures c.end.ensures h)) c.write_all.ensures.part
+
+pub returns-clause-cause : goal.returns-clause-cause
+returns-clause-cause g c = same_cause _ _ _ c.write_all.result c.turning.invariant.faults c.write_all.ensures.cause

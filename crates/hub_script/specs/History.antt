@@ -1,0 +1,63 @@
+-- Lines that were played one after another.
+use Rattle.std.specs.Prelude.{◌≡◌, ℕ, List, [], ◌∷◌, Some, slice_get}
+use Rattle.std.specs.List.{flat_map}
+use Rattle.apei_notify.specs.Telling.{Hearing}
+use Rattle.hest_sources.specs.declared.sources.Ghes.{Ghes}
+use Rattle.hest_sources.specs.declared.sources.HestSource.{HestSource}
+use Rattle.ghes_ack.specs.Machine.{zeros}
+use Rattle.ghes_hub.specs.Deals.{dealt_to}
+use Rattle.ghes_hub.specs.Hubs.{HubState, Call, DoAll, Serves, sources_in}
+use Rattle.ghes_hub.specs.Layouts.{layout_kind}
+use Rattle.ghes_hub.specs.Opens.{IsOpened}
+use Rattle.ghes_hub.specs.Refusals.{generics, layout_of}
+use Rattle.script_lines.specs.Lines.{Line as TextLine, IsTooLong}
+use Rattle.hub_script.specs.HubGrammar.{Line, IsLine}
+use Rattle.hub_script.specs.HubText.{IsWritten}
+use Rattle.hub_script.specs.Replies.{text_of_replies}
+use Rattle.hub_script.specs.Stages.{Stage, Waiting, Serving}
+use Rattle.hub_script.specs.Plays.{Plays}
+
+-- a line that was played: its replies, its calls of the hub, and the stage after it
+pub record Played (L : Type 0) : Type 0 where
+  pub line : Line
+  pub said : List (List ℕ)
+  pub calls : List Call
+  pub left : Stage L
+
+-- each line is played from the stage that the one before it left
+abbrev pub Follows : {L : Type 0} → (L → Hearing) → Stage L → List (Played L) → Stage L → Type 0
+Follows hearing first [] last = last ≡ first
+Follows hearing first (played ∷ rest) last = Plays hearing first played.line played.said played.calls played.left × Follows hearing played.left rest last
+
+-- all calls of the hub, in order
+abbrev pub calls_of : {L : Type 0} → List (Played L) → List Call
+calls_of {L} lines = flat_map (λ (played : Played L). played.calls) lines
+
+-- all replies as they are written
+abbrev pub text_of_played : {L : Type 0} → List (Played L) → List ℕ
+text_of_played {L} lines = flat_map (λ (played : Played L). text_of_replies played.said) lines
+
+-- a line of the script is this one, within the lengths
+pub record IsLineOf (text : TextLine) (line : Line) : Type 0 where
+  pub within : IsTooLong text → ⊥
+  pub written : IsWritten text.text line
+
+-- the lines of a script are those that were played
+abbrev pub ArePlayed : {L : Type 0} → List TextLine → List (Played L) → Type 0
+ArePlayed [] [] = Unit {0}
+ArePlayed (text ∷ texts) (played ∷ rest) = IsLineOf text played.line × ArePlayed texts rest
+ArePlayed texts lines = ⊥
+
+-- each line is one of such a script, within the lengths
+abbrev pub AreInGrammar : List TextLine → Type 0
+AreInGrammar [] = Unit {0}
+AreInGrammar (line ∷ lines) = (IsTooLong line → ⊥) × IsLine line.text × AreInGrammar lines
+
+-- What became of the listeners that a script was given, and of the blocks of which they were told. No hub was opened, and they wait; or one
+-- was opened for a table, and each of its sources is served as its own blocks, turns and removals alone say, whatever stands between
+pub data AreServed {L : Type 0} (hearing : L → Hearing) (listeners : List L) (calls : List Call) : Stage L → Type 0 where
+  NoHub : calls ≡ [] → AreServed hearing listeners calls (Waiting listeners)
+  ByHub : (table : List HestSource) (first last : HubState L) → IsOpened table listeners first → DoAll hearing calls first last
+      → ((i : ℕ) (source : Ghes) → slice_get (generics table) i ≡ Some source
+      → Serves hearing (layout_kind (layout_of i source)) i (zeros source.block_len) (dealt_to (sources_in first) i 0 listeners) calls last)
+      → AreServed hearing listeners calls (Serving last)

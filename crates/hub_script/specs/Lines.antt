@@ -1,0 +1,65 @@
+-- A line of a script as a text, and what is written of it.
+use Rattle.std.specs.Prelude.{◌≡◌, ℕ, List, [], ◌∷◌, ◌++◌, take}
+use Rattle.apei_notify.specs.Telling.{Hearing}
+use Rattle.ghes_ack.specs.declared.events.Event.{Event}
+use Rattle.ghes_ack.specs.declared.events.Event.TheVariants.{Took}
+use Rattle.ghes_hub.specs.Hubs.{Call}
+use Rattle.hub_script.specs.HubGrammar.{Line, blank, comment, hest, turns}
+use Rattle.hub_script.specs.HubText.{IsWritten}
+use Rattle.hub_script.specs.Replies.{text_of_replies, reply_line, words_of_turns}
+use Rattle.hub_script.specs.Stages.{Stage}
+use Rattle.hub_script.specs.Plays.{Plays}
+use Rattle.hub_script.specs.declared.hub_line.HubLine.{HubLine}
+use Rattle.hub_script.specs.declared.hub_line.HubLine.TheVariants.{Hest}
+
+-- a line was played, and its replies written
+pub record PlaysLine {L : Type 0} (hearing : L → Hearing) (told_sink : Type 0) (old : Stage L) (line : Line) (new : Stage L) (written written_now : List ℕ) : Type 0 where
+  pub said : List (List ℕ)
+  pub calls : List Call
+  pub plays : Plays hearing old line said calls new
+  pub text : told_sink → written_now ≡ written ++ text_of_replies said
+
+-- What is left of turns where the sink refused a reply: the turns that were made, the replies to them, those of them that were written whole,
+-- and the one that was refused. It is the last one, or that of a block which a turn took; then no further turn is made
+pub data LeftOfTurns : List ℕ → Line → List (List ℕ) → List (List ℕ) → List ℕ → Type 0 where
+  AtLast : (pairs : List ℕ) (before : List (List ℕ)) (last : List ℕ) → LeftOfTurns pairs (turns pairs) (before ++ last ∷ []) before last
+  InBlock : (pairs behind : List ℕ) (events : List Event) (before : List (List ℕ)) (last : List ℕ)
+      → LeftOfTurns (pairs ++ behind) (turns pairs) (before ++ last ∷ words_of_turns (events ++ Took ∷ []) ∷ []) before last
+
+-- the same of any line: but for turns it has one reply at most
+abbrev pub IsLeft : Line → Line → List (List ℕ) → List (List ℕ) → List ℕ → Type 0
+IsLeft blank made said before last = ⊥
+IsLeft (comment rest) made said before last = ⊥
+IsLeft (turns pairs) made said before last = LeftOfTurns pairs made said before last
+IsLeft line made said before last = (made ≡ line) × (said ≡ last ∷ []) × (before ≡ [])
+
+-- replies were written, and of one more a part
+abbrev pub ArePartlyWritten : List (List ℕ) → List ℕ → List ℕ → List ℕ → Type 0
+ArePartlyWritten before last written written_now = (n : ℕ) × (written_now ≡ written ++ text_of_replies before ++ take n (reply_line last))
+
+-- a line was played, or what is left of it, and the sink refused a reply
+pub record PlaysUnheard {L : Type 0} (hearing : L → Hearing) (told_sink : Type 0) (old : Stage L) (line : Line) (new : Stage L) (written written_now : List ℕ) : Type 0 where
+  pub made : Line
+  pub said : List (List ℕ)
+  pub calls : List Call
+  pub before : List (List ℕ)
+  pub last : List ℕ
+  pub left : IsLeft line made said before last
+  pub plays : Plays hearing old made said calls new
+  pub text : told_sink → ArePartlyWritten before last written written_now
+
+-- a text is a line of which this was made
+pub record TextIs (text : List ℕ) (Made : Line → Type 0) : Type 0 where
+  pub line : Line
+  pub written : IsWritten text line
+  pub made : Made line
+
+-- a text is a table, the one line for which memory is taken
+pub record GivesTable (text : List ℕ) : Type 0 where
+  pub hex : List ℕ
+  pub written : IsWritten text (hest hex)
+
+-- a line gives a table
+abbrev pub IsTable : HubLine → Type 0
+IsTable (Hest hex) = Unit {0}
+IsTable line = ⊥

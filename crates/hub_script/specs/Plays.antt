@@ -1,0 +1,124 @@
+-- What one line of a script makes of a stage: its replies, its calls of the hub, and the stage after it.
+use Rattle.std.specs.Prelude.{◌≡◌, ℕ, ◌-◌, ◌*◌, ◌^◌, ◌<◌, ◌≤◌, nat_lt, ◌==◌, if◌then◌else◌, List, [], ◌∷◌, ◌++◌, length, take, map, get_or, Some, None, slice_get, Ok}
+use Rattle.hex.specs.Hex.{decode_of}
+use Rattle.apei_notify.specs.Telling.{Hearing, counts_of}
+use Rattle.hest_sources.specs.declared.sources.HestSource.{HestSource}
+use Rattle.hest_sources.specs.declared.tables.HestError.{HestError}
+use Rattle.hest_sources.specs.Tables.{IsHest, refusal}
+use Rattle.ghes_ack.specs.declared.events.Event.{Event}
+use Rattle.ghes_ack.specs.declared.events.Side.{Side}
+use Rattle.ghes_ack.specs.declared.events.Side.TheVariants.{Firmware, Reader}
+use Rattle.ghes_ack.specs.declared.submission.SubmitError.{SubmitError}
+use Rattle.ghes_hub.specs.declared.errors.HubError.{HubError}
+use Rattle.ghes_hub.specs.declared.source.Source.{Source}
+use Rattle.ghes_hub.specs.Hubs.{HubState, Call, Submits, Turns, Removes, HubSubmits, HubTurns, HubRemoves, last_in, sources_in}
+use Rattle.ghes_hub.specs.OneSource.{refusal_of, waiting_of}
+use Rattle.ghes_hub.specs.Opens.{IsOpened}
+use Rattle.ghes_hub.specs.Refusals.{hub_refusal}
+use Rattle.ghes_hub.specs.Runs.{told_at}
+use Rattle.hub_script.specs.HubGrammar.{Line, blank, comment, hest, error, turns, heard, removal}
+use Rattle.hub_script.specs.RefusalWords.{words_of_refusal}
+use Rattle.hub_script.specs.Replies.{refused, words_of_opened, words_of_queued, words_of_block, words_of_turns, words_of_heard, words_of_dropped}
+use Rattle.hub_script.specs.Stages.{Stage, Waiting, Serving}
+use Rattle.hub_script.specs.declared.refusals.HubRefusal.{HubRefusal}
+use Rattle.hub_script.specs.declared.refusals.HubRefusal.TheVariants.{Open, Table, Hub, NoHub, Nobody, Submit}
+
+-- the source of a hexadecimal digit in lower case
+abbrev pub source_of : ℕ → ℕ
+source_of digit = if nat_lt digit 58 then digit - 48 else digit - 87
+
+-- F is the firmware, R the reader
+abbrev pub side_of : ℕ → Side
+side_of letter = if letter == 70 then Firmware else Reader
+
+-- the source that pair number `at` of some turns names
+abbrev pub named_at : List ℕ → ℕ → ℕ
+named_at pairs at = source_of (get_or pairs (2 * at) 0)
+
+-- so many listeners of a source a hub counts at most
+unfoldable pub most_listed : ℕ
+most_listed = 2 ^ 32 - 1
+
+abbrev pub listed : {L : Type 0} → List L → List L
+listed members = take most_listed members
+
+-- nothing is said and done
+pub record IsQuiet {L : Type 0} (old : Stage L) (said : List (List ℕ)) (calls : List Call) (new : Stage L) : Type 0 where
+  pub said_is : said ≡ []
+  pub calls_are : calls ≡ []
+  pub stays : new ≡ old
+
+-- a line is refused, which changes nothing
+pub record IsRefused {L : Type 0} (why : HubRefusal) (old : Stage L) (said : List (List ℕ)) (calls : List Call) (new : Stage L) : Type 0 where
+  pub said_is : said ≡ refused (words_of_refusal why) ∷ []
+  pub calls_are : calls ≡ []
+  pub stays : new ≡ old
+
+-- a table, for listeners that wait: it is none, no hub is opened for it, or one is
+pub data Opens {L : Type 0} (listeners : List L) (hex : List ℕ) : List (List ℕ) → List Call → Stage L → Type 0 where
+  NoTable : (bytes : List ℕ) (why : HestError) → decode_of hex ≡ Ok bytes → refusal bytes ≡ Some why
+      → Opens listeners hex (refused (words_of_refusal (Table why)) ∷ []) [] (Waiting listeners)
+  NoOpening : (bytes : List ℕ) (n : ℕ) (table : List HestSource) (why : HubError) → decode_of hex ≡ Ok bytes → n ≤ length bytes → IsHest table (take n bytes)
+      → hub_refusal table ≡ Some why → Opens listeners hex (refused (words_of_refusal (Hub why)) ∷ []) [] (Waiting listeners)
+  Opened : (bytes : List ℕ) (n : ℕ) (table : List HestSource) (hub : HubState L) → decode_of hex ≡ Ok bytes → n ≤ length bytes → IsHest table (take n bytes)
+      → hub_refusal table ≡ None → IsOpened table listeners hub → Opens listeners hex (words_of_opened (sources_in hub) ∷ []) [] (Serving hub)
+
+-- a block for the firmware of a source
+pub data Queues {L : Type 0} (hub : HubState L) (source : ℕ) (hex : List ℕ) : List (List ℕ) → List Call → Stage L → Type 0 where
+  NoSource : sources_in hub ≤ source → Queues hub source hex (refused (words_of_refusal Nobody) ∷ []) [] (Serving hub)
+  NotTaken : (block : List ℕ) (handover : Source) (why : SubmitError) → source < sources_in hub → decode_of hex ≡ Ok block
+      → slice_get hub.sources.list source ≡ Some handover → refusal_of handover block ≡ Some why
+      → Queues hub source hex (refused (words_of_refusal (Submit why)) ∷ []) [] (Serving hub)
+  Queued : (block : List ℕ) (handover after : Source) (new : HubState L) → source < sources_in hub → decode_of hex ≡ Ok block
+      → slice_get hub.sources.list source ≡ Some handover → refusal_of handover block ≡ None → HubSubmits source block hub new
+      → slice_get new.sources.list source ≡ Some after
+      → Queues hub source hex (words_of_queued (length (waiting_of after)) ∷ []) (Submits source block ∷ []) (Serving new)
+
+-- turns one after another: the calls, their events, the replies to the blocks that were taken, and the hub afterwards
+pub data Turned {L : Type 0} (hearing : L → Hearing) (old : HubState L) : List ℕ → List Call → List Event → List (List ℕ) → HubState L → Type 0 where
+  NoTurn : Turned hearing old [] [] [] [] old
+  OneMore : (pairs : List ℕ) (calls : List Call) (events : List Event) (said : List (List ℕ)) (mid : HubState L) (digit letter : ℕ) (event : Event) (new : HubState L)
+      → Turned hearing old pairs calls events said mid
+      → HubTurns hearing (source_of digit) (side_of letter) event mid new
+      → Turned hearing old (pairs ++ digit ∷ letter ∷ []) (calls ++ Turns (source_of digit) (side_of letter) event ∷ []) (events ++ event ∷ [])
+      (said ++ map (words_of_block (source_of digit)) (told_at event (last_in new.sources (source_of digit)))) new
+
+-- each pair of some turns names a source
+abbrev pub AllNamed : {L : Type 0} → HubState L → List ℕ → Type 0
+AllNamed hub pairs = (at : ℕ) → 2 * at < length pairs → named_at pairs at < sources_in hub
+
+-- turns, none of which is made where a pair names no source
+pub data TakesTurns {L : Type 0} (hearing : L → Hearing) (hub : HubState L) (pairs : List ℕ) : List (List ℕ) → List Call → Stage L → Type 0 where
+  NotNamed : (at : ℕ) → 2 * at < length pairs → sources_in hub ≤ named_at pairs at
+      → TakesTurns hearing hub pairs (refused (words_of_refusal Nobody) ∷ []) [] (Serving hub)
+  AllTurned : (calls : List Call) (events : List Event) (said : List (List ℕ)) (new : HubState L) → AllNamed hub pairs → Turned hearing hub pairs calls events said new
+      → TakesTurns hearing hub pairs (said ++ words_of_turns events ∷ []) calls (Serving new)
+
+-- how often the listeners of a source have heard
+pub data Counts {L : Type 0} (hearing : L → Hearing) (hub : HubState L) (source : ℕ) : List (List ℕ) → List Call → Stage L → Type 0 where
+  NoneToCount : sources_in hub ≤ source → Counts hearing hub source (refused (words_of_refusal Nobody) ∷ []) [] (Serving hub)
+  Counted : (members : List L) → source < sources_in hub → slice_get hub.chains source ≡ Some members
+      → Counts hearing hub source (words_of_heard (counts_of hearing (listed members)) ∷ []) [] (Serving hub)
+
+-- a listener of a source is dropped
+pub data Drops {L : Type 0} (hub : HubState L) (source at : ℕ) : List (List ℕ) → List Call → Stage L → Type 0 where
+  NoneToDrop : sources_in hub ≤ source → Drops hub source at (refused (words_of_refusal Nobody) ∷ []) [] (Serving hub)
+  NoListener : (members : List L) → source < sources_in hub → slice_get hub.chains source ≡ Some members → length (listed members) ≤ at
+      → Drops hub source at (refused (words_of_refusal Nobody) ∷ []) [] (Serving hub)
+  Dropped : (members : List L) (new : HubState L) → source < sources_in hub → slice_get hub.chains source ≡ Some members → at < length (listed members)
+      → HubRemoves source at hub new → Drops hub source at (words_of_dropped source at ∷ []) (Removes source at ∷ []) (Serving new)
+
+-- what each line makes of each stage
+abbrev pub Plays : {L : Type 0} → (L → Hearing) → Stage L → Line → List (List ℕ) → List Call → Stage L → Type 0
+Plays hearing old blank said calls new = IsQuiet old said calls new
+Plays hearing old (comment rest) said calls new = IsQuiet old said calls new
+Plays hearing (Waiting listeners) (hest hex) said calls new = Opens listeners hex said calls new
+Plays hearing (Serving hub) (hest hex) said calls new = IsRefused Open (Serving hub) said calls new
+Plays hearing (Waiting listeners) (error source hex) said calls new = IsRefused NoHub (Waiting listeners) said calls new
+Plays hearing (Serving hub) (error source hex) said calls new = Queues hub source hex said calls new
+Plays hearing (Waiting listeners) (turns pairs) said calls new = IsRefused NoHub (Waiting listeners) said calls new
+Plays hearing (Serving hub) (turns pairs) said calls new = TakesTurns hearing hub pairs said calls new
+Plays hearing (Waiting listeners) (heard source) said calls new = IsRefused NoHub (Waiting listeners) said calls new
+Plays hearing (Serving hub) (heard source) said calls new = Counts hearing hub source said calls new
+Plays hearing (Waiting listeners) (removal source at) said calls new = IsRefused NoHub (Waiting listeners) said calls new
+Plays hearing (Serving hub) (removal source at) said calls new = Drops hub source at said calls new
