@@ -47,8 +47,8 @@ def table():
 class Device:
     """The device in plain words: what is begun, and an execution that runs, which is a read or the changes that are left of it."""
 
-    def __init__(self, fail=None, torn=0):
-        self.store = Model(PER_SLOT, SLOTS, fail, torn, SECTOR)
+    def __init__(self, store):
+        self.store = store
         self.range = bytearray(self.store.reach)
         self.operation, self.offset, self.identifier, self.status = END, 0, 0, 0
         self.read, self.changes = None, []
@@ -85,9 +85,12 @@ class Device:
             self.abandon()
             return self.asked(lambda: len(self.store.settle()), 2**32 - 1)
         elif code == 0x10:
-            greatest = 4 * (PER_SLOT + 2) + 2 + 4 * -(-self.store.room // 256)
-            return 2**32 * 10 * greatest + 10 * (PER_SLOT + 4)
+            return 2**32 * 10 * self.greatest() + 10 * (self.store.per_slot + 4)
         return {0xD: 0x100000, 0xE: self.store.reach, 0xF: 0}.get(code, value)
+
+    def greatest(self):
+        """The most changes that a write or a clear makes."""
+        return 4 * (self.store.per_slot + 2) + 2 + 4 * -(-self.store.room // 256)
 
     def asked(self, question, fault):
         """The answer of the store, or that of a fault."""
@@ -115,7 +118,7 @@ class Device:
     def plan(self, command):
         """The changes that a command makes on a copy of the store, to be made one by one."""
         self.store.settle()
-        copy, made = Model(PER_SLOT, SLOTS, sector=SECTOR), []
+        copy, made = Model(self.store.per_slot, len(self.store.slots), sector=self.store.sector), []
         copy.slots = [bytearray(data) for data in self.store.slots]
         change = copy.change
         copy.change = lambda *fields: (made.append(fields), change(*fields))
@@ -233,7 +236,7 @@ def main():
     def differs(case):
         lines, fail, torn = case
         lines = ["table " + table(), *lines]
-        device = Device(fail, torn)
+        device = Device(Model(PER_SLOT, SLOTS, fail, torn, SECTOR))
         words = ["sim", f"--sector={SECTOR}", f"--per-slot={PER_SLOT}", f"--slots={SLOTS}"]
         words += [] if fail is None else [f"--fail={fail}", f"--torn={torn}"]
         wanted = [device.reply(line) for line in lines]

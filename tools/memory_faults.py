@@ -9,7 +9,7 @@ the run number N a few lines of C, which cc compiles and the loader puts before 
 second form the runs of `sim` by FIRST to LAST are made by `rt try --fail-alloc N` instead, which proves nothing and builds the program for
 each N. A run in which a request was refused ends
 
-- with status 8, 'out of memory', before the first reply, or at a line with the bytes of a table, whose reply is the first that is missing;
+- with status 8, 'out of memory', before the first reply, or at a line that makes a table, whose reply is the first that is missing;
 - or, where the flash's journal asked, as a run in which the flash change made then fails: `refused hardware`, and the records before or after
   that command; or with status 5 where a boot, a `reset` or a `power` made the change;
 - or, where the file of `play` was opened, with status 5 before the first reply;
@@ -75,7 +75,7 @@ TABLE = next(line for line in example("examples/looping-table.script") if line.s
 SCRIPT = [
     "# Every kind of line.", "", "write " + record(1, 900).hex(), "read 1", "count", "next", "dummy", "action 14 0", "write " + record(2, 128).hex(),
     "write " + record(1, 500).hex(), "clear 2", TABLE, "action 0 0", "table own", "error " + BLOCK, "turns FFFFRRRRRFF", "peek 1048576 64",
-    "fatal " + BLOCK, "bert", "heard", "reset", "read 1", "table shadow", "write " + record(3, 300).hex(), "read 1", "power", "read 1",
+    "fatal " + BLOCK, "bert", "heard", "reset", "read 1", "table shadow", "write " + record(3, 300).hex(), "read 3", "power", "read 1",
     "bridge 500", "error " + BLOCK, "turns FFFFRRRRRRRRRR", "count",
 ]
 ITEMS = [line for name in ("examples/check.script", "examples/check-parts.script") for line in example(name)]
@@ -109,7 +109,7 @@ class Job:
         if (status, said) == (8, "apei: out of memory\n") and replies == self.whole[1][: len(replies)]:
             if not replies:
                 return "out of memory before the first reply"
-            return "out of memory at the bytes of a table" if takes_table(self.next_line(replies)) else None
+            return "out of memory at a table" if takes_table(self.next_line(replies)) else None
         if found in self.failing:
             return "a flash change that fails"
         if self.name == "gen" and status == 0 and len(replies) == 1 and replies[0].split(" refused")[0] == self.whole[1][0].split(" refused")[0]:
