@@ -3,7 +3,6 @@
 #![tactic(auto)]
 
 ghost use Rattle.std.specs.Prelude.{◌≡◌, ◌*◌, length};
-ghost use Rattle.image_survey.specs.Shown.{AreShown};
 
 mod image_file;
 mod status;
@@ -11,8 +10,8 @@ mod status;
 use crate::image_file::read_file;
 use crate::status::Status;
 use flash_model::Geometry;
-use image_survey::{SlotView, find, record_at, survey_slots};
-use look_text::{json_of, text_of};
+use image_survey::{find, record_at, survey_slots};
+use look_text::{Image, json_of, text_of};
 use look_words::{Options, OptionsError, Show, options_of};
 use std::env;
 use std::io::{ErrorKind, Write};
@@ -53,16 +52,21 @@ fn look(rt: &HostRuntime, options: &Options) -> Status {
 }
 
 // Shows the image.
-fn show_image(rt: &HostRuntime, image: &[u8], geometry: &Geometry, show: Show) -> Status
-    requires { length image.now ≡ geometry.now.slot_size * geometry.now.slots }
+fn show_image(rt: &HostRuntime, bytes: &[u8], geometry: &Geometry, show: Show) -> Status
+    requires { length bytes.now ≡ geometry.now.slot_size * geometry.now.slots }
 {
-    let Ok(views) = survey_slots(rt.alloc(), image, geometry) else {
+    let Ok(views) = survey_slots(rt.alloc(), bytes, geometry) else {
         return Status::Memory;
     };
+    let image = Image {
+        bytes,
+        geometry,
+        views: &views,
+    };
     let shown = match show {
-        Show::Text => text_of(rt.alloc(), image, geometry, &views),
-        Show::Json => json_of(rt.alloc(), image, geometry, &views),
-        Show::Record(id) => return write_record(rt, image, geometry, &views, id),
+        Show::Text => text_of(rt.alloc(), &image),
+        Show::Json => json_of(rt.alloc(), &image),
+        Show::Record(id) => return write_record(rt, &image, id),
     };
     match shown {
         Ok(shown) => write(rt, shown.as_bytes()),
@@ -71,21 +75,11 @@ fn show_image(rt: &HostRuntime, image: &[u8], geometry: &Geometry, show: Show) -
 }
 
 // Writes the bytes of a record.
-fn write_record(
-    rt: &HostRuntime,
-    image: &[u8],
-    geometry: &Geometry,
-    views: &[SlotView],
-    id: u64,
-) -> Status
-    requires sized { length image.now ≡ geometry.now.slot_size * geometry.now.slots }
-    requires all { length views.now ≡ geometry.now.slots }
-    requires shown { AreShown geometry.now.slot_size geometry.now.slots image.now views.now }
-{
-    let Some(slot) = find(views, geometry, id) else {
+fn write_record(rt: &HostRuntime, image: &Image<'_>, id: u64) -> Status {
+    let Some(slot) = find(image.views, image.geometry, id) else {
         return Status::NoRecord { id };
     };
-    match record_at(rt.alloc(), image, geometry, views, slot) {
+    match record_at(rt.alloc(), image.bytes, image.geometry, image.views, slot) {
         Ok(Some(bytes)) => write(rt, &bytes),
         Ok(None) => Status::NoRecord { id },
         Err(_) => Status::Memory,

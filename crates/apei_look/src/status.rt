@@ -1,4 +1,7 @@
 // How a run ended.
+ghost use Rattle.std.specs.Prelude.{◌≡◌};
+ghost use Rattle.apei_look.specs.Numbers.{number_of};
+
 use std::alloc::AllocError;
 use thiserror::Error;
 
@@ -42,7 +45,9 @@ pub enum Status {
 
 impl Status {
     /// The program's exit number. Those that `apei` has too mean the same.
-    pub fn number(&self) -> u8 {
+    pub fn number(&self) -> u8
+        ensures { result ≡ number_of self.now }
+    {
         match self {
             Status::Done => 0,
             Status::BadWords => 1,

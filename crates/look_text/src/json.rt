@@ -1,41 +1,29 @@
 // The whole as JSON.
-ghost use Rattle.std.specs.Prelude.{◌≡◌, ◌*◌, ◌<◌, length};
-ghost use Rattle.image_survey.specs.Shown.{AreShown};
+ghost use Rattle.std.specs.Prelude.{◌<◌, length};
 
 use crate::guid::add_guid;
+use crate::image::{Image, further_slots};
 use crate::kind::word;
-use crate::slots::further_of;
 use crate::time::{add_time, has_time, is_precise};
 use cper_frame::{Record, RecordHead, notification_name, section_name, severity_name};
 use flash_model::Geometry;
-use image_survey::{SlotKind, SlotView, count_slots, record_at};
+use image_survey::{SlotKind, SlotView, count_slots};
 use record_slots::Head;
 use std::alloc::{AllocError, Global};
 
 /// What `text_of` says of an image, as one JSON object on one line. Identifiers are strings, as some programs round great
 /// numbers.
-pub fn json_of(
-    alloc: Global,
-    image: &[u8],
-    geometry: &Geometry,
-    views: &[SlotView],
-) -> Result<String, AllocError>
-    requires sized { length image.now ≡ geometry.now.slot_size * geometry.now.slots }
-    requires all { length views.now ≡ geometry.now.slots }
-    requires shown { AreShown geometry.now.slot_size geometry.now.slots image.now views.now }
-{
+pub fn json_of(alloc: Global, image: &Image<'_>) -> Result<String, AllocError> {
     let mut out = String::new(alloc);
-    add_totals(&mut out, geometry, views)?;
-    add_slots(&mut out, views)?;
-    add_records(alloc, &mut out, image, geometry, views)?;
+    add_totals(&mut out, image)?;
+    add_slots(&mut out, image.views)?;
+    add_records(alloc, &mut out, image)?;
     out.push_str("}\n")?;
     Ok(out)
 }
 
-fn add_totals(out: &mut String, geometry: &Geometry, views: &[SlotView]) -> Result<(), AllocError>
-    requires all { length views.now ≡ geometry.now.slots }
-{
-    let all = count_slots(views, geometry);
+fn add_totals(out: &mut String, image: &Image<'_>) -> Result<(), AllocError> {
+    let all = count_slots(image.views, image.geometry);
     let free = all.free;
     let records = all.records;
     let second_copies = all.second_copies;
@@ -87,24 +75,14 @@ fn add_numbers(out: &mut String, head: &Head) -> Result<(), AllocError> {
     )
 }
 
-fn add_records(
-    alloc: Global,
-    out: &mut String,
-    image: &[u8],
-    geometry: &Geometry,
-    views: &[SlotView],
-) -> Result<(), AllocError>
-    requires sized { length image.now ≡ geometry.now.slot_size * geometry.now.slots }
-    requires all { length views.now ≡ geometry.now.slots }
-    requires shown { AreShown geometry.now.slot_size geometry.now.slots image.now views.now }
-{
+fn add_records(alloc: Global, out: &mut String, image: &Image<'_>) -> Result<(), AllocError> {
     out.push_str(",\"stored\":[")?;
     let mut is_first = true;
-    for slot in 0..geometry.slots as u32 {
-        if let Some(bytes) = record_at(alloc, image, geometry, views, slot)? {
+    for slot in 0..image.geometry.slots as u32 {
+        if let Some((head, bytes)) = image.record_at(alloc, slot)? {
             add_comma(out, is_first)?;
             is_first = false;
-            add_stored(out, geometry, slot, &views[slot as usize].look.head)?;
+            add_stored(out, image.geometry, slot, &head)?;
             add_frame(out, &bytes)?;
         }
     }
@@ -130,7 +108,7 @@ fn add_stored(
         out,
         "{{\"id\":\"{id}\",\"generation\":{generation},\"bytes\":{len},\"slots\":[{slot}"
     )?;
-    for next in &head.next[..further_of(geometry, head)] {
+    for next in further_slots(geometry, head) {
         let next = *next;
         write!(out, ",{next}")?;
     }

@@ -1,8 +1,13 @@
 // The letters and the words for what a slot is.
+ghost use Rattle.std.specs.Prelude.{◌≡◌};
+ghost use Rattle.look_text.specs.Words.{letter_of, word_of};
+
 use image_survey::SlotKind;
 
 /// The letter of the picture.
-pub fn letter(kind: SlotKind) -> char {
+pub fn letter(kind: SlotKind) -> char
+    ensures { result ≡ letter_of kind }
+{
     match kind {
         SlotKind::First => 'R',
         SlotKind::Further => '+',
@@ -16,7 +21,9 @@ pub fn letter(kind: SlotKind) -> char {
 }
 
 /// The word of a line.
-pub fn word<'a>(kind: SlotKind) -> &'a str {
+pub fn word<'a>(kind: SlotKind) -> &'a str
+    ensures { result.now ≡ word_of kind }
+{
     match kind {
         SlotKind::First => "first",
         SlotKind::Further => "further",

@@ -3,6 +3,7 @@
 #![tactic(auto)]
 
 mod guid;
+mod image;
 mod json;
 mod kind;
 mod picture;
@@ -11,5 +12,6 @@ mod slots;
 mod text;
 mod time;
 
+pub use image::Image;
 pub use json::json_of;
 pub use text::text_of;

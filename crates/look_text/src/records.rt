@@ -1,32 +1,20 @@
 // Lines for each record.
-ghost use Rattle.std.specs.Prelude.{◌≡◌, ◌*◌, ◌<◌, length};
-ghost use Rattle.image_survey.specs.Shown.{AreShown};
+ghost use Rattle.std.specs.Prelude.{◌<◌, length};
 
 use crate::guid::add_guid;
-use crate::slots::further_of;
+use crate::image::{Image, further_slots};
 use crate::time::{add_time, has_time, is_precise};
 use cper_frame::{Record, RecordHead, notification_name, section_name, severity_name};
 use flash_model::Geometry;
-use image_survey::{SlotView, record_at};
 use record_slots::Head;
 use std::alloc::{AllocError, Global};
 
 /// Lines for each record that a boot finds, in the order of their first slots: its identifier, its generation, its length and
 /// its slots, and behind them what its header and its section descriptors say.
-pub fn add_records(
-    alloc: Global,
-    out: &mut String,
-    image: &[u8],
-    geometry: &Geometry,
-    views: &[SlotView],
-) -> Result<(), AllocError>
-    requires sized { length image.now ≡ geometry.now.slot_size * geometry.now.slots }
-    requires all { length views.now ≡ geometry.now.slots }
-    requires shown { AreShown geometry.now.slot_size geometry.now.slots image.now views.now }
-{
-    for slot in 0..geometry.slots as u32 {
-        if let Some(bytes) = record_at(alloc, image, geometry, views, slot)? {
-            add_stored(out, geometry, slot, &views[slot as usize].look.head)?;
+pub fn add_records(alloc: Global, out: &mut String, image: &Image<'_>) -> Result<(), AllocError> {
+    for slot in 0..image.geometry.slots as u32 {
+        if let Some((head, bytes)) = image.record_at(alloc, slot)? {
+            add_stored(out, image.geometry, slot, &head)?;
             add_frame(out, &bytes)?;
         }
     }
@@ -47,11 +35,17 @@ fn add_stored(
         out,
         "\nrecord {id} generation {generation} bytes {len} slots {slot}"
     )?;
-    for next in &head.next[..further_of(geometry, head)] {
-        let next = *next;
-        write!(out, " {next}")?;
-    }
+    add_slot_numbers(out, further_slots(geometry, head))?;
     out.push('\n')
+}
+
+/// Numbers of slots, each behind a space.
+pub fn add_slot_numbers(out: &mut String, slots: &[u16]) -> Result<(), AllocError> {
+    for slot in slots {
+        let slot = *slot;
+        write!(out, " {slot}")?;
+    }
+    Ok(())
 }
 
 // What its bytes say.

@@ -1,10 +1,10 @@
 // A line for each slot.
-ghost use Rattle.std.specs.Prelude.{◌≤◌};
-
+use crate::image::further_slots;
 use crate::kind::word;
+use crate::records::add_slot_numbers;
 use flash_model::Geometry;
 use image_survey::{SlotKind, SlotView};
-use record_slots::{GATE_FURTHER, Head, parts_of};
+use record_slots::{GATE_FURTHER, Head};
 use std::alloc::AllocError;
 
 // The format of a slot whose head is not programmed yet.
@@ -52,22 +52,11 @@ fn add_first(out: &mut String, geometry: &Geometry, head: &Head) -> Result<(), A
     let generation = head.generation;
     let len = head.len;
     write!(out, " id {id} generation {generation} bytes {len}")?;
-    let further = further_of(geometry, head);
-    if further > 0 {
+    let further = further_slots(geometry, head);
+    if !further.is_empty() {
         out.push_str(" further")?;
     }
-    for next in &head.next[..further] {
-        let next = *next;
-        write!(out, " {next}")?;
-    }
-    Ok(())
-}
-
-/// How many further slots a head names.
-pub fn further_of(geometry: &Geometry, head: &Head) -> usize
-    ensures { result ≤ 3 }
-{
-    parts_of(geometry, head.len).saturating_sub(1).min(3) as usize
+    add_slot_numbers(out, further)
 }
 
 // The head of a further slot.

@@ -1,41 +1,27 @@
 // The whole as text.
-ghost use Rattle.std.specs.Prelude.{◌≡◌, ◌*◌, length};
-ghost use Rattle.image_survey.specs.Shown.{AreShown};
-
+use crate::image::Image;
 use crate::picture::{add_legend, add_picture};
 use crate::records::add_records;
 use crate::slots::add_slots;
-use flash_model::Geometry;
-use image_survey::{SlotView, count_slots};
+use image_survey::count_slots;
 use std::alloc::{AllocError, Global};
 
 /// The text of an image: a line for the whole, a picture of the slots with its legend, a line for each slot that is not
 /// erased, and lines for each record that a boot finds.
-pub fn text_of(
-    alloc: Global,
-    image: &[u8],
-    geometry: &Geometry,
-    views: &[SlotView],
-) -> Result<String, AllocError>
-    requires sized { length image.now ≡ geometry.now.slot_size * geometry.now.slots }
-    requires all { length views.now ≡ geometry.now.slots }
-    requires shown { AreShown geometry.now.slot_size geometry.now.slots image.now views.now }
-{
+pub fn text_of(alloc: Global, image: &Image<'_>) -> Result<String, AllocError> {
     let mut out = String::new(alloc);
-    add_totals(&mut out, geometry, views)?;
-    add_picture(&mut out, views)?;
+    add_totals(&mut out, image)?;
+    add_picture(&mut out, image.views)?;
     add_legend(&mut out)?;
-    add_slots(&mut out, geometry, views)?;
-    add_records(alloc, &mut out, image, geometry, views)?;
+    add_slots(&mut out, image.geometry, image.views)?;
+    add_records(alloc, &mut out, image)?;
     Ok(out)
 }
 
 // The line for the whole.
-fn add_totals(out: &mut String, geometry: &Geometry, views: &[SlotView]) -> Result<(), AllocError>
-    requires all { length views.now ≡ geometry.now.slots }
-{
-    let slots = geometry.slots();
-    let all = count_slots(views, geometry);
+fn add_totals(out: &mut String, image: &Image<'_>) -> Result<(), AllocError> {
+    let slots = image.geometry.slots();
+    let all = count_slots(image.views, image.geometry);
     let free = all.free;
     let records = all.records;
     let second_copies = all.second_copies;

@@ -1,0 +1,44 @@
+// An image, and what was found of its slots.
+ghost use Rattle.std.specs.Prelude.{◌≡◌, ◌*◌, ◌<◌, ◌≤◌, length};
+ghost use Rattle.image_survey.specs.Shown.{AreShown};
+
+use flash_model::Geometry;
+use image_survey::{SlotView, record_at};
+use record_slots::{Head, parts_of};
+use std::alloc::{AllocError, Global};
+
+/// The bytes of an image, its geometry, and what each of its slots is.
+#[derive(Clone, Copy)]
+pub struct Image<'a> {
+    pub bytes: &'a [u8],
+    pub geometry: &'a Geometry,
+    pub views: &'a [SlotView],
+    pub ghost sized: { length bytes.now ≡ geometry.now.slot_size * geometry.now.slots },
+    pub ghost all: { length views.now ≡ geometry.now.slots },
+    pub ghost shown: { AreShown geometry.now.slot_size geometry.now.slots bytes.now views.now },
+}
+
+impl<'a> Image<'a> {
+    /// The head of the record whose first slot a slot is, and the record's bytes; none where it is no first slot.
+    pub(crate) fn record_at(
+        &self,
+        alloc: Global,
+        slot: u32,
+    ) -> Result<Option<(Head, Vec<u8>)>, AllocError>
+        requires { slot < self.now.geometry.now.slots }
+    {
+        let found = record_at(alloc, self.bytes, self.geometry, self.views, slot)?;
+        match found {
+            Some(bytes) => Ok(Some((self.views[slot as usize].look.head, bytes))),
+            None => Ok(None),
+        }
+    }
+}
+
+/// The further slots that a head names.
+pub(crate) fn further_slots<'a>(geometry: &Geometry, head: &'a Head) -> &'a [u16]
+    ensures { length result.now ≤ 3 }
+{
+    let further = parts_of(geometry, head.len).saturating_sub(1).min(3) as usize;
+    &head.next[..further]
+}
