@@ -4,9 +4,10 @@
     tools/check_model.py [PROGRAM] [ITEMS] [SEED]
     tools/check_model.py --lines FLAGS < SCRIPT
 
-PROGRAM is the built program, by default crates/apei/out/apei; build it by ./apei sim </dev/null. ITEMS (by default 3000) items are
-made and checked with each choice of --show. docs/FORMATS.md has the formats, docs/SCRIPT.md the lines. The number of lines that differ
-is printed; the exit status is 0 where there is none. In the second form it only writes the lines that a script of good lines wants.
+PROGRAM is the built program, by default crates/apei/out/apei; build it by ./apei sim </dev/null. ITEMS (by default 3000) items are made and
+checked with each choice of --show, and so is each beginning of a whole one of each kind. docs/FORMATS.md has the formats, docs/SCRIPT.md the
+lines. The number of lines that differ is printed; the exit status is 0 where there is none. In the second form it only writes the lines that a
+script of good lines wants.
 """
 
 import os
@@ -260,6 +261,16 @@ def some_line(chance):
     return f"{word} {digits.upper() if chance.random() < 0.1 else digits}"
 
 
+def beginnings(chance):
+    """Each beginning of a whole item of each kind that has parts, and of a table without."""
+    for word, make in MAKERS.items():
+        found = []
+        while len(found) < 1 + (word != "bert"):
+            data = make(chance)
+            found = shown(f"{word} {data.hex()}", "HEAD|PARTS")
+        yield from (f"{word} {data[:length].hex()}" for length in range(1, len(data) + 1))
+
+
 def main():
     if sys.argv[1:2] == ["--lines"]:
         for line in sys.stdin.read().splitlines():
@@ -269,7 +280,7 @@ def main():
     program = sys.argv[1] if len(sys.argv) > 1 else os.path.join(TOP, "crates/apei/out/apei")
     items = int(sys.argv[2]) if len(sys.argv) > 2 else 3000
     chance = random.Random(int(sys.argv[3]) if len(sys.argv) > 3 else 1)
-    lines = [some_line(chance) for _ in range(items)]
+    lines = [some_line(chance) for _ in range(items)] + list(beginnings(chance))
     different = 0
     for flags in CHOICES:
         wanted = [reply for line in lines for reply in shown(line, flags)]
@@ -281,7 +292,7 @@ def main():
             print("different: wanted %r, found %r" % pair, file=sys.stderr)
         if done.returncode != 0:
             print(done.stderr.decode().strip(), file=sys.stderr)
-    print(f"{items} items, {different} lines different")
+    print(f"{len(lines)} items, {different} lines different")
     return 1 if different else 0
 
 

@@ -3,9 +3,11 @@
 
     tools/faults.py [PROGRAM]
 
-PROGRAM is the built program, by default crates/apei/out/apei. The script stores a record of two sections, counts, walks, reads and
-clears. Each reply is compared with what the records allow: a command that the flash failed is in or out, and every other one is answered
-by the records that are there. A second script replaces and clears records over several slots; power is lost at each of its changes too. The last line is 'N runs, M wrong'; the exit status is 0 where none is.
+PROGRAM is the built program, by default crates/apei/out/apei. The script stores a record of two sections, counts, walks, reads and clears. Each
+reply is compared with what the records allow: a command that the flash failed is in or out, and every other one is answered by the records that
+are there. A second script replaces and clears records over several slots; power is lost at each of its changes too. It is lost as well in each
+of the fourteen changes of a write, a replacement and a clear, and comes back at once; then the command is given again. The last line is 'N runs,
+M wrong'; the exit status is 0 where none is.
 """
 
 import os
@@ -145,5 +147,28 @@ for cut in range(steps[-1]):
         status, found, _ = play(lines + ["power", *asks], words)
         failed = ["refused hardware"] * (len(lines) - ended)
         expect(status == 0 and found[: len(lines)] == replies[:ended] + failed and found[len(lines) :] in shown, words, found)
+
+# A write of 6 changes, a replacement of 7 and a clear of 1. Power comes back right behind the command that lost it: the record is then the one from before
+# it or the one after it, and the command can be given again.
+lines = [file_model.write(1, 128), file_model.write(1, 200), "clear 1"]
+status, replies, steps = play(lines, file_model.FLASH)
+expect((status, steps) == (0, [6, 13, 14]), file_model.FLASH, replies)
+states = [{}]
+for line in lines:
+    states.append(file_model.answer(line, states[-1])[1])
+for cut in range(steps[-1]):
+    ended = sum(step <= cut for step in steps)
+    behind = ["read 1", *lines[ended:], "count"]
+    possible = []
+    for records in states[ended : ended + 2]:
+        said = replies[:ended] + ["refused hardware", f"power {len(records)}"]
+        for line in behind:
+            reply, records = file_model.answer(line, records)
+            said.append(reply)
+        possible.append(said)
+    for torn in range(4):
+        words = [*file_model.FLASH, f"--cut={cut}", f"--torn={torn}"]
+        status, found, _ = play(lines[: ended + 1] + ["power", *behind], words)
+        expect(status == 0 and found in possible, words, found)
 print(f"{runs} runs, {wrong} wrong")
 sys.exit(wrong != 0)

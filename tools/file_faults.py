@@ -1,14 +1,15 @@
 #!/usr/bin/env python3
-"""Has each write and each sync of a real file fail once, by strace, and opens the file again; the gate runs it.
+"""Has each write and each sync of a real file fail once, by strace, and opens the file again, and each read of the input and each write of the
+output; the gate runs it.
 
     tools/file_faults.py [PROGRAM]
 
-PROGRAM is the built program, by default crates/apei/out/apei. `play` writes, replaces and clears records over several slots; the write or
-sync of each of its flash changes fails with EIO, and with ENOSPC. Afterwards the file is opened again: the records are those that the
-replies acknowledged, a command that was refused as `hardware` being in or out. So it is where the first write of that opening fails as
-well. A file that is made meets the same faults, and those of its two names; then it is there, whole and erased, or it is not, and the next
-run makes it. A file in a folder that is missing is refused. The last line is 'N runs, M wrong'; the exit status is 0 where none is, and
-where there is no strace, or none that may trace, which is said.
+PROGRAM is the built program, by default crates/apei/out/apei. `play` writes, replaces and clears records over several slots; the write or sync
+of each of its flash changes fails with EIO, and with ENOSPC. Afterwards the file is opened again: the records are those that the replies
+acknowledged, a command that was refused as `hardware` being in or out. So it is where the first write of that opening fails as well. A file that
+is made meets the same faults, and those of its two names; then it is there, whole and erased, or it is not, and the next run makes it. A file in
+a folder that is missing is refused. `sim` ends at the read and at the write that fails, with the replies before it. The last line is 'N runs, M
+wrong'; the exit status is 0 where none is, and where there is no strace, or none that may trace, which is said.
 """
 
 import os
@@ -26,6 +27,12 @@ IDENTIFIERS = [1, 2, 3]
 # One record over three slots, one of one, replacements over two slots and over four, a second record of two, and clears.
 LINES = [write(1, 900), "count", write(2, 128), write(1, 500), "read 1", write(3, 449), write(2, 1345), "read 2", "clear 1", "count", write(1, 128),
          write(3, 128), "clear 3", "read 3", "count"]
+
+
+# Lines that need no record, with their replies; comments behind them take the last line past what one read takes.
+PLAIN = [("count", "count 0"), ("next", "next end"), ("# nothing", None), ("dummy", "dummy ok"), ("read 7", "refused empty"), ("action 14 0", "result 32512"),
+         ("turns FR", "turns idle nothing"), ("bert", "bert 0"), ("heard", "heard 0 0 0"), ("reset", "reset 0")]
+PLAIN += [("#" * 100000, None)] * 6 + [("count", "count 0")]
 
 
 def traced(call, error, when):
@@ -89,6 +96,37 @@ def making_fails(program, folder, call, error, when):
     return opened_again(program, image, states, what)
 
 
+def ends_at(program, script, call, error, when):
+    """Status, replies and what was said of a run whose so many-th read of the script, or write of a reply, fails."""
+    of = ["-P", script] if call == "read" else []
+    with open(script, "rb") as given:
+        done = subprocess.run([*traced(call, error, when), *of, program, "sim"], stdin=given, capture_output=True)
+    return done.returncode, done.stdout.decode().splitlines(), done.stderr.decode()
+
+
+def streams_fail(program, folder):
+    """How many runs were made whose input or output fails, and what is wrong of them."""
+    script, log = os.path.join(folder, "script"), os.path.join(folder, "reads")
+    text = "".join(line + "\n" for line, _ in PLAIN)
+    with open(script, "w") as file:
+        file.write(text)
+    with open(script, "rb") as given:
+        subprocess.run(["strace", "-f", "-qq", "-o", log, "-e", "trace=read", "-P", script, program, "sim"], stdin=given, capture_output=True)
+    with open(log) as file:
+        read = [int(line.rsplit(" = ", 1)[1]) for line in file]
+    replies = [f"{reply} @0" for _, reply in PLAIN if reply]
+    wrong = [] if len(read) > 3 and sum(read) == len(text) else [f"reads of {read} bytes"]
+    runs = [("read", when, 3, "apei: read failed\n") for when in range(1, len(read) + 1)]
+    runs += [("write", when, 4, "apei: write failed\n") for when in range(1, len(replies) + 1)]
+    for call, when, status, said in runs:
+        ended = text[: sum(read[: when - 1])].count("\n")
+        before = replies[: when - 1] if call == "write" else [f"{reply} @0" for _, reply in PLAIN[:ended] if reply]
+        found = ends_at(program, script, call, "EIO", when)
+        if found != (status, before, said):
+            wrong.append(f"{call} {when}: status {found[0]}, {found[1]}, {found[2]}")
+    return len(runs), wrong
+
+
 def main():
     program = sys.argv[1] if len(sys.argv) > 1 else os.path.join(TOP, "crates/apei/out/apei")
     if not shutil.which("strace"):
@@ -114,13 +152,15 @@ def main():
         if nowhere != (5, [], "apei: flash failed\n") or os.path.exists(os.path.join(folder, "missing")):
             wrong.append(f"a folder that is missing: {nowhere}")
         jobs = [(change_fails, call, error, when) for call in ("pwrite64", "fdatasync") for error in ERRORS for when in range(1, changed[call] + 1)]
+        streams, found = streams_fail(program, folder)
+        wrong += found
         jobs += [(making_fails, call, error, when) for call, count in made.items() for error in ERRORS for when in range(1, count + 1)]
         with ThreadPoolExecutor(os.cpu_count()) as lanes:
             for found in lanes.map(lambda job: job[0](program, folder, *job[1:]), jobs):
                 wrong += found
     for what in wrong:
         print(what, file=sys.stderr)
-    print(f"{len(jobs) + 4} runs, {len(wrong)} wrong")
+    print(f"{len(jobs) + streams + 4} runs, {len(wrong)} wrong")
     return 1 if wrong else 0
 
 

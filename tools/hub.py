@@ -1,12 +1,13 @@
 #!/usr/bin/env python3
-"""Plays turns of two error sources, one of type 9 and one of type 10, by the program and by a plain model, and compares; the gate runs it.
+"""Plays turns of two error sources, one of type 9 and one of type 10, and of the machine's own, by the program and by a plain model, and compares;
+the gate runs it.
 
     tools/hub.py [PROGRAM] [MORE] [SEED]
 
 PROGRAM is the built program, by default crates/apei/out/apei. Each order of twelve turns of the two sides is played on either source alone and
-on both in turn, with the source of type 9 first and last; and MORE (by default 2000) lists of turns, tables and lines that SEED makes. The plain
-model is one handover a source, by docs/HANDOVER.md, and for a table the refusals of docs/SCRIPT.md. The last line is 'N runs, M wrong'; the exit
-status is 0 where none is.
+on both in turn, with the source of type 9 first and last, and in the job `sim` on the machine's own, begun anew by a reset before each; and MORE
+(by default 2000) lists of turns, tables and lines that SEED makes. The plain model is one handover a source, by docs/HANDOVER.md, and for a
+table the refusals of docs/SCRIPT.md. The last line is 'N runs, M wrong'; the exit status is 0 where none is.
 """
 
 import itertools
@@ -181,10 +182,13 @@ def script_of(sources, lines, others=()):
     return ["hest " + hest(sources, others).hex()] + lines, said
 
 
+def acknowledged():
+    return Source(10, gas(address=0x300000), gas(address=0x300008))
+
+
 def two(plain_first):
     plain = Source(9, gas(address=0x310000))
-    acknowledged = Source(10, gas(address=0x300000), gas(address=0x300008))
-    return [plain, acknowledged] if plain_first else [acknowledged, plain]
+    return [plain, acknowledged()] if plain_first else [acknowledged(), plain]
 
 
 def orders():
@@ -194,6 +198,19 @@ def orders():
             for sources in ("0" * 12, "1" * 12, "01" * 6):
                 pairs = "".join(at + side for at, side in zip(sources, sides))
                 yield script_of(two(plain_first), errors + ["turns " + pairs, "heard 0", "heard 1"])
+
+
+def own_orders():
+    """One script of the job `sim` that plays each order on the machine's own source, and what it says."""
+    errors = [f"error 0 {block(2, 92).hex()}", f"error 0 {block(1, 20).hex()}"]
+    script, said, heard = [], [], [0, 0, 0]
+    for sides in itertools.product("FR", repeat=12):
+        own = Hub([acknowledged()])
+        script += ["reset"] + [line.replace("error 0 ", "error ") for line in errors] + ["turns " + "".join(sides)]
+        said += ["reset 0"] + [reply for line in errors for reply in own.line(line)]
+        said += [reply.replace("block 0 ", "block ") for reply in own.turns("".join("0" + side for side in sides))]
+        heard = [before + more for before, (mask, more) in zip(heard, own.chains[0])]
+    return script + ["heard"], [reply + " @0" for reply in said + ["heard " + " ".join(map(str, heard))]]
 
 
 def random_register(chance):
@@ -224,11 +241,14 @@ def random_script(chance):
     return script_of(sources, lines, range(chance.randrange(3)))
 
 
-def is_wrong(program, script, said):
-    run = subprocess.run([program, "hub"], input="".join(line + "\n" for line in script).encode(), capture_output=True)
+def is_wrong(program, script, said, job="hub"):
+    run = subprocess.run([program, job], input="".join(line + "\n" for line in script).encode(), capture_output=True)
     if run.returncode == 0 and run.stdout.decode() == "".join(line + "\n" for line in said) and not run.stderr:
         return False
-    print("hub: for", "\n".join(line[:400] for line in script), "wanted", "\n".join(said)[:2000], "but got", run.returncode, run.stdout.decode()[:2000], run.stderr.decode(), sep="\n")
+    found = run.stdout.decode().splitlines()
+    at = next((at for at, pair in enumerate(zip(said, found)) if pair[0] != pair[1]), min(len(said), len(found)))
+    print(f"{job}: for", "\n".join(line[:400] for line in script)[:4000], f"wanted as reply {at}", *said[at : at + 1], "but got", *found[at : at + 1], sep="\n")
+    print(f"with status {run.returncode}", run.stderr.decode(), sep="\n")
     return True
 
 
@@ -236,7 +256,7 @@ def main():
     program = sys.argv[1] if len(sys.argv) > 1 else os.path.join(TOP, "crates/apei/out/apei")
     more = int(sys.argv[2]) if len(sys.argv) > 2 else 2000
     chance = random.Random(int(sys.argv[3]) if len(sys.argv) > 3 else 1)
-    scripts = itertools.chain(orders(), (random_script(chance) for _ in range(more)))
+    scripts = itertools.chain([(*own_orders(), "sim")], orders(), (random_script(chance) for _ in range(more)))
     with ThreadPoolExecutor(os.cpu_count()) as pool:
         answers = [wrong for wrong in pool.map(lambda one: is_wrong(program, *one), scripts)]
     print(f"{len(answers)} runs, {sum(answers)} wrong")

@@ -83,6 +83,9 @@ BY_HAND = [
     ([first(5, 1, 449, (1, NO, NO)), part(5, 1, 1, 1, 0), first(5, 2, 449, (3, NO, NO)), part(5, 2, 1, 1, 2), NOTHING], {5: (2, 2)}, 1),
 ]
 
+# Slots of one byte value hold nothing.
+BY_HAND += [([bytes([value]) * SIZE] * 5, {}, 0) for value in range(256)]
+
 # One slot with each field of its head at its limits: whether it is upright, which a record of one slot then is, and which its change tells.
 ALONE = [
     (dict(), True), (dict(gate=0xFF), False), (dict(gate=0x3C), False), (dict(kill=0), False), (dict(tail=0xFF), False), (dict(tail=0xA4), False),
