@@ -4,10 +4,10 @@ the gate runs it.
 
     tools/hub.py [PROGRAM] [MORE] [SEED]
 
-PROGRAM is the built program, by default crates/apei/out/apei. Each order of twelve turns of the two sides is played on either source alone and
-on both in turn, with the source of type 9 first and last, and in the job `sim` on the machine's own, begun anew by a reset before each; and MORE
-(by default 2000) lists of turns, tables and lines that SEED makes. The plain model is one handover a source, by docs/HANDOVER.md, and for a
-table the refusals of docs/SCRIPT.md. The last line is 'N runs, M wrong'; the exit status is 0 where none is.
+PROGRAM is the built program, by default crates/apei/out/apei. Each order of twelve turns of the two sides is played on one source, then on the
+other, and on both in turn, with the source of type 9 first and last, and in the job `sim` on the machine's own, begun anew by a reset before
+each; and MORE (by default 2000) lists of turns, tables and lines that SEED makes. The plain model is one handover a source, by docs/HANDOVER.md,
+and for a table the refusals of docs/SCRIPT.md. The last line is 'N runs, M wrong'; the exit status is 0 where none is.
 """
 
 import itertools
@@ -195,9 +195,9 @@ def orders():
     errors = [f"error {at} {block(at, size).hex()}" for at, size in ((0, 20), (1, 40), (0, 100), (1, 20))]
     for sides in itertools.product("FR", repeat=12):
         for plain_first in (False, True):
-            for sources in ("0" * 12, "1" * 12, "01" * 6):
-                pairs = "".join(at + side for at, side in zip(sources, sides))
-                yield script_of(two(plain_first), errors + ["turns " + pairs, "heard 0", "heard 1"])
+            for played in (["0" * 12, "1" * 12], ["01" * 6]):
+                turns = ["turns " + "".join(at + side for at, side in zip(sources, sides)) for sources in played]
+                yield script_of(two(plain_first), errors + turns + ["heard 0", "heard 1"])
 
 
 def own_orders():

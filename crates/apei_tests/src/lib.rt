@@ -1,13 +1,17 @@
-//! Tests of players and of whole runs: sources and sinks that fail, flashes that lose power at a boot or have another size.
+//! Tests by bytes from outside: tables and their registers, error records, error status blocks, streams, and a listener.
 #![tactic(auto)]
 
 #[cfg(test)]
-mod boots;
+mod blocks;
 #[cfg(test)]
-mod play;
+mod erst;
 #[cfg(test)]
-mod players;
+mod hest;
 #[cfg(test)]
-mod runs;
+mod listeners;
+#[cfg(test)]
+mod records;
+#[cfg(test)]
+mod registers;
 #[cfg(test)]
 mod streams;

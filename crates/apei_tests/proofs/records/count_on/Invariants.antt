@@ -1,6 +1,6 @@
 use Rattle.std.proofs.Common.{◌≡◌, length, None}
 use Rattle.cper_frame.specs.Stream.{frame_of}
-use Rattle.table_tests.proofs.records.count_on.Given as goal
+use Rattle.apei_tests.proofs.records.count_on.Given as goal
 
 abbrev pub invariant-loop-rest : goal.invariant-loop-rest
 invariant-loop-rest l = frame_of l.reader ≡ None
