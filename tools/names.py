@@ -1,13 +1,14 @@
 #!/usr/bin/env python3
 """Has apei-names put names into lines, and compares it with a plain reading of them; the gate runs it.
 
-    tools/names.py [PROGRAM] [INPUTS] [SEED]
+    tools/names.py [PROGRAM] [INPUTS] [SEED] [CHECKER]
 
 PROGRAM is the built program, by default crates/apei_names/out/apei_names. It is given each code of an action and of an instruction, each
 severity and each section type in each kind of line, the replies of examples/ and tests/scripts, lines that are nearly of a kind, an empty
-input, one without a newline at its end, one that comes in pieces, and INPUTS more (by default 300) of words and bytes drawn at random. Then
-runs that can't be done are refused: words behind its name, an input that can't be read, an output that takes nothing, and a line that there is
-no memory for. The last line is 'N inputs, M wrong'; the exit status is 0 where none is.
+input, one without a newline at its end, one that comes in pieces, and INPUTS more (by default 300) of words and bytes drawn at random. CHECKER,
+by default crates/apei/out/apei, checks the items of an example as files, with names and without (tools/check-files). Then runs that can't be
+done are refused: words behind its name, an input that can't be read, an output that takes nothing, and a line that there is no memory for. The
+last line is 'N inputs, M wrong'; the exit status is 0 where none is.
 """
 
 import glob
@@ -16,6 +17,7 @@ import random
 import resource
 import subprocess
 import sys
+import tempfile
 
 TOP = os.path.dirname(os.path.dirname(os.path.abspath(__file__)))
 # ACPI 6.4, 18.5.1.1 and 18.5.1.2: by code, from 0 on.
@@ -142,6 +144,22 @@ def in_pieces(program, data, chance):
         return shown + made.stdout.read()
 
 
+def in_files(program, checker, folder):
+    """What is wrong where tools/check-files shows the items of an example with names."""
+    with open(os.path.join(TOP, "examples/check-parts.script"), encoding="ascii") as script:
+        items = [line.split() for line in script if line.strip() and not line.startswith("#")]
+    paths = [os.path.join(folder, f"{at}-{word}") for at, (word, _) in enumerate(items)]
+    for path, (_, digits) in zip(paths, items):
+        with open(path, "wb") as file:
+            file.write(bytes.fromhex(digits))
+    words = [os.path.join(TOP, "tools/check-files"), f"--program={checker}", "--show=HEAD|PARTS"]
+    plain, with_names = (subprocess.run([*words, *more, *paths], capture_output=True, timeout=60) for more in ((), (f"--names={program}",)))
+    lines = [line.split(b": ", 1) for line in plain.stdout.splitlines()]
+    want = b"".join(path + b": " + named(line) + b"\n" for path, line in lines)
+    if not lines or with_names.stdout != want or (with_names.returncode, with_names.stderr) != (plain.returncode, plain.stderr):
+        yield f"check-files --names: status {with_names.returncode}, said {with_names.stderr!r}, {with_names.stdout[:500]!r}"
+
+
 def refusals(program):
     """What is wrong where a run can't be done."""
 
@@ -182,7 +200,10 @@ def main(words):
         if in_pieces(program, data, chance) != wanted(data):
             wrong += 1
             print(f"in pieces {data[:300]!r}", file=sys.stderr)
-    for what in refusals(program):
+    checker = os.path.abspath(words[3] if len(words) > 3 else os.path.join(TOP, "crates/apei/out/apei"))
+    with tempfile.TemporaryDirectory() as folder:
+        found = [*in_files(program, checker, folder), *refusals(program)]
+    for what in found:
         wrong += 1
         print(what, file=sys.stderr)
     print(f"{inputs} inputs, {wrong} wrong")

@@ -10,7 +10,8 @@ use crate::names::name_of;
 use crate::values::{LineKind, Value};
 use std::alloc::AllocError;
 
-/// Appends a line of a check with the names of its numbers and GUIDs, or the line itself where it is of another kind.
+/// Appends a line of a check with the names of its numbers and GUIDs, or the line itself where it is of another kind. Where there
+/// is no memory some of it may have been appended.
 pub fn add_named(line: &[u8], out: &mut Vec<u8>) -> Result<(), AllocError>
     ensures { OnOk result (out.new.items ≡ out.old.items ++ named_line line.now) }
 {
