@@ -15,6 +15,7 @@ import glob
 import os
 import random
 import resource
+import select
 import subprocess
 import sys
 import tempfile
@@ -127,8 +128,16 @@ def run(program, data):
     return subprocess.run([program], input=data, capture_output=True, timeout=60)
 
 
+def read_some(stream, count):
+    """So many bytes, or fewer where no more come for ten seconds or it ends."""
+    shown = b""
+    while len(shown) < count and select.select([stream], [], [], 10)[0] and (more := os.read(stream.fileno(), count - len(shown))):
+        shown += more
+    return shown
+
+
 def in_pieces(program, data, chance):
-    """The output for an input that comes in pieces."""
+    """The output for an input that comes in pieces; what ended is to be written before more is read."""
     with subprocess.Popen([program], stdin=subprocess.PIPE, stdout=subprocess.PIPE) as made:
         shown = b""
         at = 0
@@ -136,9 +145,10 @@ def in_pieces(program, data, chance):
             end = data.find(b"\n", at + chance.randrange(1, 200)) + 1 or len(data)
             made.stdin.write(data[at:end])
             made.stdin.flush()
-            # What ended is written before more is read.
             want = wanted(data[at:end]) if data[end - 1 : end] == b"\n" else b""
-            shown += made.stdout.read(len(want)) if want else b""
+            shown += read_some(made.stdout, len(want))
+            if not shown.endswith(want):
+                break
             at = end
         made.stdin.close()
         return shown + made.stdout.read()
