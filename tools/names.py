@@ -210,6 +210,7 @@ def main(words):
         if in_pieces(program, data, chance) != wanted(data):
             wrong += 1
             print(f"in pieces {data[:300]!r}", file=sys.stderr)
+            break
     checker = os.path.abspath(words[3] if len(words) > 3 else os.path.join(TOP, "crates/apei/out/apei"))
     with tempfile.TemporaryDirectory() as folder:
         found = [*in_files(program, checker, folder), *refusals(program)]
