@@ -1,0 +1,5 @@
+pub mod Guids
+pub mod Lines
+pub mod Names
+pub mod Parts
+pub mod Values
