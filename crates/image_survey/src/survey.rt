@@ -1,6 +1,7 @@
 // What each slot of an image is.
 ghost use Rattle.std.specs.Prelude.{◌≡◌, ◌-◌, ◌*◌, ◌<◌, ◌==◌, length, IfOk};
 ghost use Rattle.std.specs.List.{list_all};
+ghost use Rattle.std.specs.Str.{bytes_eq};
 ghost use Rattle.record_model.specs.Records.{slot_at, entry_of, is_first};
 ghost use Rattle.image_survey.specs.Kinds.{is_erased};
 ghost use Rattle.record_recovery.specs.Looks.{AreSeen, AreMarked};
@@ -97,9 +98,18 @@ fn is_erased(image: &[u8], geometry: &Geometry, slot: u32) -> bool
     are_erased(&image[place..place + size])
 }
 
-// Whether each byte is 0xFF.
+// Whether each byte is 0xFF: the first is, and each other is as the one before it. So many are compared at once.
 fn are_erased(bytes: &[u8]) -> bool
     ensures { result ≡ list_all (λ byte. byte == 0xFF) bytes.now }
 {
-    bytes.iter().all(|byte| *byte == ERASED)
+    let Some((first, rest)) = bytes.split_first() else {
+        return true;
+    };
+    *first == ERASED && are_equal(rest, &bytes[..rest.len()])
+}
+
+fn are_equal(one: &[u8], other: &[u8]) -> bool
+    ensures { result ≡ bytes_eq one.now other.now }
+{
+    one == other
 }

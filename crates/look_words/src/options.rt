@@ -1,7 +1,13 @@
 // What the command line asks for.
-use crate::number::number;
-use clap::error::ErrorKind;
-use clap::{Arg, ArgAction, ArgMatches, Command};
+ghost use Rattle.std.specs.Prelude.{◌≡◌, Err, IfOk};
+ghost use Rattle.clap.specs.Words.{found_of, rows_of};
+ghost use Rattle.look_words.specs.Options.{AreBad, AreOptionsIn, AreOptionsOf, NoneFits};
+ghost use Rattle.look_words.specs.declared.options.OptionsError.TheVariants.{BadWords, Memory as NoMemory};
+
+use crate::command::matches_in;
+use crate::setting::Setting;
+use crate::values::{image, number_or, show};
+use clap::ArgMatches;
 use std::alloc::{AllocError, Global};
 
 /// What of an image is shown.
@@ -38,6 +44,8 @@ pub enum OptionsError {
 }
 
 impl From<AllocError> for OptionsError {
+    ghost from_gives = { λ _ error. error ≡ NoMemory };
+
     fn from(_: AllocError) -> Self {
         OptionsError::Memory
     }
@@ -45,70 +53,24 @@ impl From<AllocError> for OptionsError {
 
 /// What the words behind the program's name ask for: `--image`, which has to be there, `--sector`, `--per-slot` and `--slots`,
 /// and `--record` or `--json`, each at most once.
-pub fn options_of(alloc: Global, words: &[String]) -> Result<Options, OptionsError> {
-    let command = command(alloc)?;
-    match command.try_get_matches_from(words) {
-        Ok(matches) => options_in(alloc, &matches),
-        Err(error) => match error.kind() {
-            ErrorKind::OutOfMemory => Err(OptionsError::Memory),
-            _ => Err(OptionsError::BadWords),
-        },
-    }
+pub fn options_of(alloc: Global, words: &[String]) -> Result<Options, OptionsError>
+    ensures options { IfOk result (AreOptionsOf words.now) }
+    ensures bad_words { result ≡ Err BadWords → AreBad words.now }
+{
+    let matches = matches_in(alloc, words)?;
+    options_in(alloc, &matches)
 }
 
-fn command<'a>(alloc: Global) -> Result<Command<'a>, AllocError> {
-    let mut command = Command::new(alloc, "apei-look")
-        .no_binary_name(true)
-        .disable_help_flag(true)
-        .disable_version_flag(true)
-        .disable_help_subcommand(true)
-        .arg(
-            Arg::new(alloc, "json")
-                .long("json")
-                .action(ArgAction::SetTrue),
-        )?;
-    for name in ["image", "sector", "per-slot", "slots", "record"] {
-        command = command.arg(Arg::new(alloc, name).long(name))?;
-    }
-    Ok(command)
-}
-
-fn options_in(alloc: Global, matches: &ArgMatches<'_>) -> Result<Options, OptionsError> {
+// The options that the values are.
+fn options_in(alloc: Global, matches: &ArgMatches<'_>) -> Result<Options, OptionsError>
+    ensures options { IfOk result (AreOptionsIn (rows_of (found_of matches.now))) }
+    ensures bad_words { result ≡ Err BadWords → NoneFits (AreOptionsIn (rows_of (found_of matches.now))) BadWords }
+{
     Ok(Options {
         image: image(alloc, matches)?,
-        sector: number_or(matches, "sector", 4096)?,
-        per_slot: number_or(matches, "per-slot", 2)?,
-        slots: number_or(matches, "slots", 32)?,
-        show: what_to_show(matches)?,
+        sector: number_or(matches, Setting::Sector, 4096)?,
+        per_slot: number_or(matches, Setting::PerSlot, 2)?,
+        slots: number_or(matches, Setting::Slots, 32)?,
+        show: show(matches)?,
     })
-}
-
-// The path of the image, which is not empty.
-fn image(alloc: Global, matches: &ArgMatches<'_>) -> Result<String, OptionsError> {
-    match matches.get_str("image") {
-        Some(path) if !path.is_empty() => Ok(String::from_str(alloc, path)?),
-        _ => Err(OptionsError::BadWords),
-    }
-}
-
-// The number that an option was given, or its default.
-fn number_or(matches: &ArgMatches<'_>, name: &str, default: u64) -> Result<u64, OptionsError> {
-    match matches.get_str(name) {
-        Some(digits) => number(digits).ok_or(OptionsError::BadWords),
-        None => Ok(default),
-    }
-}
-
-// One record, JSON, or text where neither is asked for. Both are none.
-fn what_to_show(matches: &ArgMatches<'_>) -> Result<Show, OptionsError> {
-    let json = matches.get_flag("json");
-    match matches.get_str("record") {
-        Some(_) if json => Err(OptionsError::BadWords),
-        Some(digits) => match number(digits) {
-            Some(id) => Ok(Show::Record(id)),
-            None => Err(OptionsError::BadWords),
-        },
-        None if json => Ok(Show::Json),
-        None => Ok(Show::Text),
-    }
 }

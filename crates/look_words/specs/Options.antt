@@ -1,0 +1,67 @@
+-- What a command line asks for.
+use Rattle.std.specs.Prelude.{◌≡◌, ℕ, ◌<◌, ◌≤◌, Bool, true, false, List, [], length, map, Option, Some, None, String, string_bytes, codes, decimal}
+use Rattle.std.specs.Option.{option_map_or}
+use Rattle.std.specs.Str.{bytes_eq}
+use Rattle.std.specs.declared.alloc.Global.{Global}
+use Rattle.clap.specs.Words.{Row, Text, fault_of, first_of, matches_of}
+use Rattle.look_words.specs.Commands.{name_of, the_command}
+use Rattle.look_words.specs.declared.options.Options.{Options}
+use Rattle.look_words.specs.declared.options.OptionsError.{OptionsError}
+use Rattle.look_words.specs.declared.options.OptionsError.TheVariants.{BadWords}
+use Rattle.look_words.specs.declared.options.Show.{Show}
+use Rattle.look_words.specs.declared.options.Show.TheVariants.{Text as TheText, Json, Record as OfRecord}
+use Rattle.look_words.specs.declared.setting.Setting.{Setting}
+use Rattle.look_words.specs.declared.setting.Setting.TheVariants.{Image, Sector, PerSlot, Slots, Record}
+
+abbrev pub texts_of : List (String Global) → List Text
+texts_of words = map string_bytes words
+
+-- the text that an option was given
+abbrev pub given : Setting → List Row → Option Text
+given setting rows = first_of (name_of setting) rows
+
+-- the flag was given: clap keeps the text "true" of it
+abbrev pub wants_json : List Row → Bool
+wants_json rows = option_map_or (λ text. bytes_eq text (codes "true")) (first_of (codes "json") rows) false
+
+-- a text is a number below 2^64 in decimal digits, without a sign and without a zero before other digits
+abbrev pub IsNumber : Text → ℕ → Type 0
+IsNumber text n = (n ≤ 0xFFFF_FFFF_FFFF_FFFF) × (text ≡ decimal n)
+
+-- the number that an option was given, or its default
+abbrev pub IsGivenOr : ℕ → Option Text → ℕ → Type 0
+IsGivenOr default None n = n ≡ default
+IsGivenOr default (Some text) n = IsNumber text n
+
+-- the path of the image, which has to be given and is not empty
+abbrev pub IsImage : Option Text → String Global → Type 0
+IsImage None image = ⊥
+IsImage (Some path) image = (string_bytes image ≡ path) × (0 < length path)
+
+-- JSON, one record, or text where neither is asked for; never both
+abbrev pub IsShow : Bool → Option Text → Show → Type 0
+IsShow true (Some digits) show = ⊥
+IsShow true None show = show ≡ Json
+IsShow false None show = show ≡ TheText
+IsShow false (Some digits) show = (id : ℕ) × IsNumber digits id × (show ≡ OfRecord id)
+
+-- nothing fits
+abbrev pub NoneFits : {X : Type 0} → (X → Type 0) → OptionsError → Type 0
+NoneFits {X} Fits error = (error ≡ BadWords) × ((x : X) → ¬ Fits x)
+
+-- the value of each option or its default
+pub record AreOptionsIn (rows : List Row) (options : Options) : Type 0 where
+  pub image : IsImage (given Image rows) options.image
+  pub sector : IsGivenOr 4096 (given Sector rows) options.sector
+  pub per_slot : IsGivenOr 2 (given PerSlot rows) options.per_slot
+  pub slots : IsGivenOr 32 (given Slots rows) options.slots
+  pub show : IsShow (wants_json rows) (given Record rows) options.show
+
+-- clap finds no fault in the words, and the options are what it then reads of them
+pub record AreOptionsOf (words : List (String Global)) (options : Options) : Type 0 where
+  pub taken : fault_of the_command (texts_of words) ≡ []
+  pub values : AreOptionsIn (matches_of the_command (texts_of words)) options
+
+-- the words are no command line of the program
+abbrev pub AreBad : List (String Global) → Type 0
+AreBad words = (options : Options) → ¬ AreOptionsOf words options
