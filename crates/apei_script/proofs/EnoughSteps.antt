@@ -8,6 +8,7 @@ use Rattle.erst_machine.specs.MachineState.{MachineState, IsMachine}
 use Rattle.erst_commands.specs.OwnPrograms.{OwnProgramsRun}
 use Rattle.erst_commands.specs.Attached.{own_client}
 use Rattle.erst_commands.specs.Causes.{GoesThrough}
+use Rattle.erst_commands.proofs.EnoughLemmas.{has_steps}
 use Rattle.erst_commands.proofs.ThroughLemmas.{clear_through, dummy_through, count_through, next_through, client_write_through, client_read_through}
 use Rattle.script_text.specs.ScriptGrammar.{Line, IsValid}
 use Rattle.script_text.specs.RunWords.{words_of_stop}
@@ -44,12 +45,12 @@ asked_through tells own steps old machine enough line words new asked = elim ask
   | ReadsRecord id out after result left new long reads ↦ λ valid names.
       says_neither _ result (client_read_through tells own old machine steps enough id valid out result after left new reads) (λ refusal. of_read refusal after result)
   | ClearsRecord id result left new sequence ↦ λ valid names.
-      says_neither _ result (clear_through tells own old steps enough machine.sizes.range id valid result left new sequence) (λ refusal. of_clear refusal id result)
+      says_neither _ result (clear_through tells own old steps (has_steps old steps enough) machine.sizes.range id valid result left new sequence) (λ refusal. of_clear refusal id result)
   | CountsRecords result left new counts ↦ λ valid names.
       says_neither _ result (count_through tells own old steps enough result left new counts) (λ refusal. of_count refusal result)
   | FindsNext result left new finds ↦ λ valid names.
       says_neither _ result (next_through tells own old steps enough result left new finds) (λ refusal. of_next refusal result)
   | WritesDummy result left new sequence ↦ λ valid names.
-      says_neither _ result (dummy_through tells own old steps enough machine.sizes.range result left new sequence) (λ refusal. of_dummy refusal result)
+      says_neither _ result (dummy_through tells own old steps (has_steps old steps enough) machine.sizes.range result left new sequence) (λ refusal. of_dummy refusal result)
   | RunsAction code value answer left new run ↦ λ valid names. no_command names
 ]

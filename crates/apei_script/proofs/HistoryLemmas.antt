@@ -151,13 +151,13 @@ module _ (tells : Type 0) where
         → IsMapped old played
     is_mapped counts old played line uses names =
         let by_map = line.by_map told uses names in
-        record { words = by_map.0; said = by_map.1; mapped = by_map.2; cause = line.cause (inl uses) names; enough = line.enough uses names }
+        record { words = by_map.0; said = by_map.1; mapped = by_map.2; cause = line.cause (inl uses) names; enough = line.enough (inl uses) names }
 
     is_shadow_mapped : (counts : List ℕ) (old : PlayerState) (played : Played) → LinePlayed tells counts old played.line played.said played.blocks played.steps played.left → UsesShadow old
         → names_command played.line ≡ true → IsShadowMapped old played
     is_shadow_mapped counts old played line uses names =
         let mapped = line.by_shadow told uses names in
-        record { words = mapped.0; said = mapped.1; mapped = mapped.2; cause = line.cause (inr uses) names; enough = line.enough_by_shadow told uses names }
+        record { words = mapped.0; said = mapped.1; mapped = mapped.2; cause = line.cause (inr uses) names; enough = line.enough (inr uses) names }
 
     pub history_is_mapped : (wants : List (ℕ → Bool)) (counts : List ℕ) (first : PlayerState) (played : List Played) (last : PlayerState) → Follows tells wants counts first played last
         → AreMapped first played

@@ -29,7 +29,6 @@ quiet_with tells counts old line said blocks steps new none plays turned = recor
   by_shadow = λ told uses names. absurd (false≢true (sym none ∙ names));
   cause = λ uses names says. absurd (false≢true (sym none ∙ names));
   enough = λ uses names many. absurd (false≢true (sym none ∙ names));
-  enough_by_shadow = λ told uses names many. absurd (false≢true (sym none ∙ names));
   leaves = λ told uses own unmade. line_leaves tells told (client_of old).range counts old line said blocks steps new plays unmade (λ names. absurd (false≢true (sym none ∙ names))) own;
   turned = turned;
 }

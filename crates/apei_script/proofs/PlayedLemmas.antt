@@ -19,7 +19,7 @@ use Rattle.apei_script.specs.Bridged.{ByBridge, Enters, StaysAs, BridgesTurns}
 use Rattle.apei_script.specs.Plays.{Plays, Blank, ByClient, GivenTable, OwnTable, GivenShadow, OnMachine, ByTheBridge, Heard, Reset, Power, names_command, SaysHardware, LinePlayed, step_of}
 use Rattle.apei_script.proofs.LineLemmas.{line_happened}
 use Rattle.apei_script.proofs.OwnClientLemmas.{no_command, asked_by_map, asked_cause}
-use Rattle.apei_script.proofs.EnoughSteps.{asked_through}
+use Rattle.apei_script.proofs.EnoughSteps.{SaysNeither, asked_through}
 use Rattle.apei_script.proofs.ShadowClientLemmas.{shadow_by_map, shadow_cause, shadow_through}
 use Rattle.apei_script.proofs.LeavesLemmas.{mapped_leaves, shadow_mapped_leaves, line_leaves}
 use Rattle.apei_script.proofs.BridgeLemmas.{line_turned}
@@ -84,6 +84,14 @@ module _ (tells : Type 0) where
     has_cause (inr uses) asks names says =
         shadow_cause tells own (budget_of old) old.machine machine line asks.words new.machine (by_its_shadow old line said new uses asks) names (ap first_of (ap words_in (sym asks.said_is) ∙ says))
 
+    says_neither : UsesEither old → (asks : AsksClient tells old line said new) → enough_steps (client_of old).timings ≤ budget_of old → IsValid line → names_command line ≡ true → SaysNeither asks.words
+    says_neither (inl uses) asks many valid names =
+        asked_through tells own (budget_of old) old.machine machine (subst (λ (client : ClientState). enough_steps client.timings ≤ budget_of old) uses many)
+        line asks.words new.machine (by_own old line said new uses asks) valid names
+    says_neither (inr uses) asks many valid names =
+        shadow_through tells own (budget_of old) old.machine machine (subst (λ (client : ClientState). enough_steps client.timings ≤ budget_of old) uses many)
+        line asks.words new.machine (by_its_shadow old line said new uses asks) valid names
+
     command_leaves : tells → UsesEither old → AsksClient tells old line said new → IsValid line → names_command line ≡ true → LineLeaves (client_of old).range old.machine line new.machine
     command_leaves told (inl uses) asks valid names =
         subst (λ (range : ℕ). LineLeaves range old.machine line new.machine) (sym (ap (λ (client : ClientState). client.range) uses))
@@ -110,13 +118,7 @@ module _ (tells : Type 0) where
         cause = λ uses names says. has_cause own old line said new machine uses (asks_own names) names says;
         enough = λ uses names many.
             let a = asks_own names in
-            let neither = asked_through tells own (budget_of old) old.machine machine (subst (λ (client : ClientState). enough_steps client.timings ≤ budget_of old) uses many)
-            line a.words new.machine (by_own old line said new uses a) valid names in
-            (λ says. neither.not_stopped says.0 (ap first_of (ap words_in (sym a.said_is) ∙ says.1)), λ says. neither.in_time says.0 (ap first_of (ap words_in (sym a.said_is) ∙ says.1)));
-        enough_by_shadow = λ told uses names many.
-            let a = asks_own names in
-            let neither = shadow_through tells own (budget_of old) old.machine machine told (subst (λ (client : ClientState). enough_steps client.timings ≤ budget_of old) uses many)
-            line a.words new.machine (by_its_shadow old line said new uses a) valid names in
+            let neither = says_neither own old line said new machine uses a many valid names in
             (λ says. neither.not_stopped says.0 (ap first_of (ap words_in (sym a.said_is) ∙ says.1)), λ says. neither.in_time says.0 (ap first_of (ap words_in (sym a.said_is) ∙ says.1)));
         leaves = λ told uses own_line none.
             line_leaves tells told (client_of old).range counts old line said blocks steps new plays none

@@ -65,22 +65,20 @@ module _ (tells : Type 0) (own : OwnProgramsRun tells) (steps : ℕ) (old : Mach
       ]
 
   -- and with enough steps it is neither stopped nor late
-  pub shadow_through : tells → enough_steps (own_client old).timings ≤ steps → (line : Line) (words : List ℕ) (new : MachineState) → Asked tells (shadow_client old) steps old line words new
+  pub shadow_through : enough_steps (own_client old).timings ≤ steps → (line : Line) (words : List ℕ) (new : MachineState) → Asked tells (shadow_client old) steps old line words new
       → IsValid line → names_command line ≡ true → SaysNeither words
-  shadow_through told enough line words new asked = elim asked as (λ line words new asked. IsValid line → names_command line ≡ true → SaysNeither words) [
+  shadow_through enough line words new asked = elim asked as (λ line words new asked. IsValid line → names_command line ≡ true → SaysNeither words) [
     | WritesRecord hex bytes result left new decoded writes ↦ λ valid names.
-        says_neither _ result (client_write_through bytes steps old new result left enough (writes_as_map tells own told bytes steps old result left new machine writes)) (λ refusal. of_write refusal bytes result)
+        says_neither _ result (client_write_through tells own old machine steps enough bytes result left new writes) (λ refusal. of_write refusal bytes result)
     | ReadsRecord id out after result left new long reads ↦ λ valid names.
-        says_neither _ result (client_read_through id out steps old new result after left enough (reads_as_map tells own told id out steps old machine valid result after left new reads))
-        (λ refusal. of_read refusal after result)
+        says_neither _ result (client_read_through tells own old machine steps enough id valid out result after left new reads) (λ refusal. of_read refusal after result)
     | ClearsRecord id result left new sequence ↦ λ valid names.
-        says_neither _ result (clear_through id steps old new result left enough (shadow_clear tells own told old (pieces_in old) id (holds_pieces old machine) valid steps result left new sequence))
-        (λ refusal. of_clear refusal id result)
+        says_neither _ result (clear_through tells own old machine steps enough id valid result left new sequence) (λ refusal. of_clear refusal id result)
     | CountsRecords result left new counts ↦ λ valid names.
         says_neither _ result (count_through tells own old steps enough result left new (own_count tells (pieces_in old) steps old result left new counts)) (λ refusal. of_count refusal result)
     | FindsNext result left new finds ↦ λ valid names.
         says_neither _ result (next_through tells own old steps enough result left new (own_next tells (pieces_in old) steps old result left new finds)) (λ refusal. of_next refusal result)
     | WritesDummy result left new sequence ↦ λ valid names.
-        says_neither _ result (dummy_through steps old new result left enough (shadow_dummy tells own old (pieces_in old) (holds_pieces old machine) steps result left new sequence)) (λ refusal. of_dummy refusal result)
+        says_neither _ result (dummy_through tells own old machine steps enough result left new sequence) (λ refusal. of_dummy refusal result)
     | RunsAction code value answer left new run ↦ λ valid names. no_command names
   ]

@@ -119,7 +119,7 @@ NoneSaysHardware state (played ∷ rest) = (UsesEither state → names_command p
 abbrev pub AllGoThrough : PlayerState → List Played → Type 0
 AllGoThrough state [] = Unit {0}
 AllGoThrough state (played ∷ rest) =
-    (UsesOwn state → names_command played.line ≡ true → enough_steps (client_of state).timings ≤ budget_of state → (SaysStopped played.said → ⊥) × (SaysLate played.said → ⊥))
+    (UsesEither state → names_command played.line ≡ true → enough_steps (client_of state).timings ≤ budget_of state → (SaysStopped played.said → ⊥) × (SaysLate played.said → ⊥))
     × AllGoThrough played.left rest
 
 -- before each line, and at the end, the client of one of the machine's two tables is in use

@@ -149,8 +149,7 @@ pub record LinePlayed (tells : Type 0) (counts : List ℕ) (old : PlayerState) (
   pub by_shadow : tells → UsesShadow old → names_command line ≡ true
       → (words : List ℕ) × (said ≡ said_at (step_of new) (words ∷ [])) × ShadowMapped (budget_of old) old.machine line words new.machine
   pub cause : UsesEither old → names_command line ≡ true → SaysHardware said → Rose old.machine.device.store.flash.faults new.machine.device.store.flash.faults
-  pub enough : UsesOwn old → names_command line ≡ true → enough_steps (client_of old).timings ≤ budget_of old → (SaysStopped said → ⊥) × (SaysLate said → ⊥)
-  pub enough_by_shadow : tells → UsesShadow old → names_command line ≡ true → enough_steps (client_of old).timings ≤ budget_of old → (SaysStopped said → ⊥) × (SaysLate said → ⊥)
+  pub enough : UsesEither old → names_command line ≡ true → enough_steps (client_of old).timings ≤ budget_of old → (SaysStopped said → ⊥) × (SaysLate said → ⊥)
   -- and power lost in it leaves the records from before it, or as it leaves them where nothing fails
   pub leaves : tells → (names_command line ≡ true → UsesEither old) → IsOwnLine line → steps ≡ [] → LineLeaves (client_of old).range old.machine line new.machine
   -- but where it made turns of the bridge, each of these is shown, and each block that they stored stays stored

@@ -1,6 +1,7 @@
 -- Steps that are enough by the machine's timings.
 use Rattle.std.proofs.Common.{◌≡◌, ℕ, ◌+◌, ◌*◌, ◌/◌, ◌≤◌, max, min, List, Result, Err, arith}
 use Rattle.std.proofs.Math.Nat.{mul_comm, mul-le-mul_left}
+use Rattle.flash_words.specs.Layout.{Layout}
 use Rattle.record_model.specs.RecordMap.{Command, changes_of}
 use Rattle.erst_entries.specs.declared.actions.Action.TheVariants.{CheckBusyStatus}
 use Rattle.erst_interp.specs.declared.stops.RunStop.TheVariants.{Budget}
@@ -24,6 +25,13 @@ enough-most state =
   where
     by_number : (n : ℕ) → n ≤ 2058 → 6 + 2 * (n + 1) ≤ min (1024 + 8 * (10 * n / 10 + 2)) 1048576
     by_number n few = omega arith
+
+-- a budget for the requests of a command, and for a check behind each change and one more
+abbrev pub HasSteps : Layout → ℕ → Type 0
+HasSteps layout budget = 6 + 2 * (most_changes layout + 1) ≤ budget
+
+pub has_steps : (state : MachineState) (budget : ℕ) → enough_steps (own_client state).timings ≤ budget → HasSteps state.device.store.layout budget
+has_steps state budget enough = omega (arith, enough-most state, enough)
 
 refused_no_stop : (error : ClientError) (refusal : _) → IsErrorOf refusal error → error ≡ Stopped Budget → ⊥
 refused_no_stop error refusal is = elim is as (λ refusal error is. error ≡ Stopped Budget → ⊥) [

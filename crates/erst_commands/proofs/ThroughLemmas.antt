@@ -17,7 +17,7 @@ use Rattle.erst_client.specs.declared.errors.ClientError.TheVariants.{Hardware, 
 use Rattle.erst_client.specs.declared.requests.Request.{Request}
 use Rattle.erst_client.specs.Timings.{enough_steps}
 use Rattle.erst_client.specs.Requests.{Performs, Asks}
-use Rattle.erst_client.specs.Commands.{frame_refusal, write_refusal, copy_refusal, address_in, Puts, NotPut, NotMarked, IsPut, Writes, IsNoRecord, IsNotPut, IsAsked, CopiesOut, IsFilled, IsNotFilled, copied, Reads, IsNotRead, HasNoLength, IsNotCopied, IsCopied, Counts, Names, counted as count_answer, named as next_answer}
+use Rattle.erst_client.specs.Commands.{ClientState, frame_refusal, copy_refusal, address_in, Puts, NotPut, NotMarked, IsPut, Writes, IsNoRecord, IsNotPut, IsAsked, CopiesOut, IsFilled, IsNotFilled, copied, Reads, IsNotRead, HasNoLength, IsNotCopied, IsCopied, Counts, Names, counted as count_answer, named as next_answer}
 use Rattle.erst_client.specs.Sequences.{Waits, write_requests, read_requests, clear_requests, dummy_requests, judged, Sequence}
 use Rattle.erst_device.specs.declared.registers.Operation.{Operation}
 use Rattle.erst_device.specs.declared.registers.Operation.TheVariants as operations
@@ -38,7 +38,7 @@ use Rattle.erst_commands.specs.Causes.{GoesThrough}
 use Rattle.erst_commands.proofs.MachineSteps.{on_device}
 use Rattle.erst_commands.proofs.SequenceLemmas.{Opened, HasTold, HasNotTold, HasNotWaited, HasNotAsked, sequence_ends, opened_ok, opened_short}
 use Rattle.erst_commands.proofs.OpenLemmas.{IsOn, offset_device, clearing_device, reading_device, write_opens, dummy_opens, clear_opens, read_opens}
-use Rattle.erst_commands.proofs.EnoughLemmas.{enough-most}
+use Rattle.erst_commands.proofs.EnoughLemmas.{HasSteps, has_steps, enough-most}
 use Rattle.erst_commands.proofs.BusyLemmas.{StartsFinite, starts_finite, WaitsThrough, waits_through}
 
 -- Answers that are neither a stop nor late
@@ -66,7 +66,7 @@ judged_through statuses.RecordNotFound = record { not_stopped = λ stop e. absur
 abbrev EndsFrom : MachineState → MachineState → Type 0
 EndsFrom first w = StartsFinite first.device.store.layout w.device
 
-module _ (tells : Type 0) (own : OwnProgramsRun tells) (first : MachineState) (budget : ℕ) (enough : enough_steps (own_client first).timings ≤ budget) where
+module _ (tells : Type 0) (own : OwnProgramsRun tells) (first : MachineState) (budget : ℕ) (enough : HasSteps first.device.store.layout budget) where
   sequence_through : (P : MachineState → Type 0) (cost : ℕ) (requests : List Request) → cost ≤ 6 → ((w : MachineState) → P w → EndsFrom first w)
       → ((result : Result (List ℕ) RunStop) (left : ℕ) (last : MachineState) → Asks (Allows tells) own_entries requests budget first result left last → Opened first P cost budget result left last)
       → (result : Result (Unit {0}) ClientError) (left : ℕ) (last : MachineState) → Sequence (Allows tells) own_entries (own_client first).timings requests budget first result left last → GoesThrough result
@@ -77,7 +77,7 @@ module _ (tells : Type 0) (own : OwnProgramsRun tells) (first : MachineState) (b
             let opened = opened_ok first P cost budget answers (Ok answers) asked mid refl (opens (Ok answers) asked mid asks) in
             let started = ends mid opened.0 in
             let through = waited_through asked (Ok tt) mid waited idle started (omega (arith, opened.1, few)) waits in
-            absurd (omega (arith, through.enough, short, opened.1, few, enough-most first, enough, started.few))
+            absurd (omega (arith, through.enough, short, opened.1, few, enough, started.few))
         | HasNotWaited answers asked mid error left other asks waits ↦
             let opened = opened_ok first P cost budget answers (Ok answers) asked mid refl (opens (Ok answers) asked mid asks) in
             let started = ends mid opened.0 in
@@ -85,14 +85,14 @@ module _ (tells : Type 0) (own : OwnProgramsRun tells) (first : MachineState) (b
             absurd (cc through.well)
         | HasNotAsked stop left other asks ↦
             let short = opened_short first P cost budget (λ stop left w. budget < cost) stop (Err stop) left other (λ w untouched short. short) refl (opens (Err stop) left other asks) in
-            absurd (omega (arith, short, few, enough-most first, enough))
+            absurd (omega (arith, short, few, enough))
       ]
     where
       waited_through : (asked : ℕ) (result : Result (Unit {0}) ClientError) (mid : MachineState) (left : ℕ) (last : MachineState) → (started : EndsFrom first mid) → budget ≤ asked + 6
           → Waits (Allows tells) own_entries (own_client first).timings asked mid result left last → WaitsThrough started.n asked result left
       waited_through asked result mid left last started spent waits =
           waits_through tells own first.device.store.layout (10 * most_changes first.device.store.layout, 10 * (first.device.store.layout.per_slot + 4)) started.n mid started.finite (omega (arith, started.few))
-          asked (omega (arith, spent, enough-most first, enough, started.few)) result left last waits
+          asked (omega (arith, spent, enough, started.few)) result left last waits
 
   module _ (long : length first.memory.range ≡ reach_in first.device) where
     ends_on : (device : DeviceState) → IsStill device → device.store.layout ≡ first.device.store.layout → (w : MachineState) → IsOn tells first device w → EndsFrom first w
@@ -227,30 +227,49 @@ error_through error is = record { not_stopped = λ stop e. is.not_stopped stop (
     same : (x y : ClientError) → ◌≡◌ {A = Result ℕ ClientError} (Err x) (Err y) → x ≡ y
     same x y e = cc
 
-module _ (tells : Type 0) (own : OwnProgramsRun tells) (first : MachineState) (machine : IsMachine first) (budget : ℕ) (enough : enough_steps (own_client first).timings ≤ budget) where
-  pub client_write_through : (bytes : List ℕ) (result : Result (Unit {0}) ClientError) (left : ℕ) (last : MachineState) → Writes (Allows tells) (own_client first) bytes budget first result left last → GoesThrough result
-  client_write_through bytes result left last writes = elim writes as (λ result left last writes. GoesThrough result) [
-    | IsNoRecord error is ↦ of_own error (frame_own (framed (2 ^ 32 - 1) bytes) (length bytes) (reach_in first.device) error is)
+-- The write and the read of any client whose sequences go through
+
+module _ (tells : Type 0) (client : ClientState) where
+  pub writes_through : (bytes : List ℕ) (budget : ℕ) (first : MachineState) → IsMachine first → (result : Result (Unit {0}) ClientError) (left : ℕ) (last : MachineState)
+      → ((mid : MachineState) (result : Result (Unit {0}) ClientError) (left : ℕ) (last : MachineState) → IsMachine mid → mid.device.store.layout ≡ first.device.store.layout
+      → Sequence (Allows tells) client.table.entries client.timings write_requests budget mid result left last → GoesThrough result)
+      → Writes (Allows tells) client bytes budget first result left last → GoesThrough result
+  writes_through bytes budget first machine result left last by_sequence writes = elim writes as (λ result left last writes. GoesThrough result) [
+    | IsNoRecord error is ↦ of_own error (frame_own (framed (2 ^ 32 - 1) bytes) (length bytes) client.range error is)
     | IsNotPut error last is puts ↦ (has_put tells _ bytes first (Err error) last puts).through
     | IsAsked mid result left last is puts sequence ↦
         let put = has_put tells _ bytes first (Ok tt) mid puts in
-        asked mid result left last (put.machine machine) put.layout sequence
+        by_sequence mid result left last (put.machine machine) put.layout sequence
   ]
-    where
-      timings_of_layout : Layout → Option (ℕ × ℕ)
-      timings_of_layout layout = Some (10 * most_changes layout, 10 * (layout.per_slot + 4))
 
-      asked : (mid : MachineState) (result : Result (Unit {0}) ClientError) (left : ℕ) (last : MachineState) → IsMachine mid → mid.device.store.layout ≡ first.device.store.layout
-          → Sequence (Allows tells) own_entries (own_client first).timings write_requests budget mid result left last → GoesThrough result
-      asked mid result left last is layout sequence =
-          write_through tells own mid budget (subst (λ (l : Layout). enough_steps (timings_of_layout l) ≤ budget) (sym layout) enough) is.sizes.range result left last
-          (subst (λ (l : Layout). Sequence (Allows tells) own_entries (timings_of_layout l) write_requests budget mid result left last) (sym layout) sequence)
+  pub reads_through : (id : ℕ) (out : List ℕ) (budget : ℕ) (first : MachineState) (result : Result ℕ ClientError) (after : List ℕ) (left : ℕ) (last : MachineState)
+      → ((result : Result (Unit {0}) ClientError) (left : ℕ) (last : MachineState)
+      → Sequence (Allows tells) client.table.entries client.timings (read_requests id) budget first result left last → GoesThrough result)
+      → Reads (Allows tells) client id out budget first result after left last → GoesThrough result
+  reads_through id out budget first result after left last by_sequence reads = elim reads as (λ result after left last reads. GoesThrough result) [
+    | IsNotRead error left last sequence ↦ error_through error (by_sequence (Err error) left last sequence)
+    | HasNoLength left mid field fault last sequence length_at ↦ through_range fault
+    | IsNotCopied left mid field error last sequence length_at refused ↦ of_own error (copy_own (number_at field 0 4) client.range (length out) error refused)
+    | IsCopied left mid field next whole answer last sequence length_at fits copies ↦ copied_through tells _ _ whole next answer last (number_at field 0 4) copies
+  ]
+
+-- by the machine's own table
+
+module _ (tells : Type 0) (own : OwnProgramsRun tells) (first : MachineState) (machine : IsMachine first) (budget : ℕ) (enough : enough_steps (own_client first).timings ≤ budget) where
+  abbrev timings_of_layout : Layout → Option (ℕ × ℕ)
+  timings_of_layout layout = Some (10 * most_changes layout, 10 * (layout.per_slot + 4))
+
+  -- a machine with the same layout has the same timings
+  asked_through : (mid : MachineState) (result : Result (Unit {0}) ClientError) (left : ℕ) (last : MachineState) → IsMachine mid → mid.device.store.layout ≡ first.device.store.layout
+      → Sequence (Allows tells) own_entries (own_client first).timings write_requests budget mid result left last → GoesThrough result
+  asked_through mid result left last is same sequence =
+      write_through tells own mid budget (subst (λ (l : Layout). HasSteps l budget) (sym same) (has_steps first budget enough)) is.sizes.range result left last
+      (subst (λ (l : Layout). Sequence (Allows tells) own_entries (timings_of_layout l) write_requests budget mid result left last) (sym same) sequence)
+
+  pub client_write_through : (bytes : List ℕ) (result : Result (Unit {0}) ClientError) (left : ℕ) (last : MachineState) → Writes (Allows tells) (own_client first) bytes budget first result left last → GoesThrough result
+  client_write_through bytes result left last = writes_through tells (own_client first) bytes budget first machine result left last asked_through
 
   pub client_read_through : (id : ℕ) → id < 2 ^ 64 → (out : List ℕ) (result : Result ℕ ClientError) (after : List ℕ) (left : ℕ) (last : MachineState) → Reads (Allows tells) (own_client first) id out budget first result after left last
       → GoesThrough result
-  client_read_through id small out result after left last reads = elim reads as (λ result after left last reads. GoesThrough result) [
-    | IsNotRead error left last sequence ↦ error_through error (read_through tells own first budget enough machine.sizes.range id small (Err error) left last sequence)
-    | HasNoLength left mid field fault last sequence length_at ↦ through_range fault
-    | IsNotCopied left mid field error last sequence length_at refused ↦ of_own error (copy_own (number_at field 0 4) (reach_in first.device) (length out) error refused)
-    | IsCopied left mid field next whole answer last sequence length_at fits copies ↦ copied_through tells _ _ whole next answer last (number_at field 0 4) copies
-  ]
+  client_read_through id small out result after left last =
+      reads_through tells (own_client first) id out budget first result after left last (read_through tells own first budget (has_steps first budget enough) machine.sizes.range id small)

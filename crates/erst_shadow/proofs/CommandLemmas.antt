@@ -56,7 +56,7 @@ is_machine_with state range scratch machine same long = record {
   stands = machine.stands;
 }
 
-length_moved : (state : MachineState) (pieces : ℕ) → HoldsPieces state pieces → length (range_with_record pieces state) ≡ length state.memory.range
+pub length_moved : (state : MachineState) (pieces : ℕ) → HoldsPieces state pieces → length (range_with_record pieces state) ≡ length state.memory.range
 length_moved state pieces rooms =
     let size : length (part state.memory.scratch 0 (128 * pieces)) ≡ 128 * pieces = length-part state.memory.scratch 0 (128 * pieces) (omega (arith, rooms.scratch, rooms.few)) in
     length-put_at state.memory.range 0 (part state.memory.scratch 0 (128 * pieces)) (omega (arith, size, rooms.range))

@@ -1,107 +1,91 @@
--- With the steps that are enough by the machine's timings each command goes through.
-use Rattle.std.proofs.Common.{◌≡◌, ℕ, ◌+◌, ◌*◌, ◌/◌, ◌-◌, ◌^◌, ◌≤◌, Bool, true, false, cond, List, length, Option, Some, None, Result, Ok, Err, sym, ap, subst, arith}
-use Rattle.std.specs.Prelude.{codes, min, nat_lt, ◌||◌}
-use Rattle.base_model.specs.Bytes.{number_at}
-use Rattle.base_model.proofs.BytesLemmas.{length-put_at}
-use Rattle.cper_frame.specs.declared.error.FrameError.{FrameError}
-use Rattle.cper_frame.specs.Reading.{checked as framed}
-use Rattle.record_model.specs.RecordMap.{Write, Clear}
+-- With the steps that are enough by the machine's timings each command goes through, whatever the flash tells.
+use Rattle.std.proofs.Common.{◌≡◌, ◌∙◌, ℕ, ◌+◌, ◌*◌, ◌/◌, ◌^◌, ◌≤◌, ◌<◌, List, length, Option, Some, Result, sym, subst, arith}
+use Rattle.std.specs.Prelude.{min}
+use Rattle.flash_words.specs.Layout.{Layout, room_of, reach_of}
 use Rattle.erst_client.specs.declared.errors.ClientError.{ClientError}
-use Rattle.erst_client.specs.declared.errors.ClientError.TheVariants.{Frame, Trailing, TooLong, BadLength, SmallBuffer, Stopped, Late}
-use Rattle.erst_client.specs.Commands.{frame_refusal, copy_refusal}
-use Rattle.erst_client.specs.Sequences.{write_requests, clear_requests}
+use Rattle.erst_client.specs.declared.requests.Request.{Request}
+use Rattle.erst_client.specs.Commands.{Writes, Reads}
+use Rattle.erst_client.specs.Sequences.{Sequence, write_requests, read_requests, clear_requests, dummy_requests}
 use Rattle.erst_client.specs.Timings.{enough_steps}
 use Rattle.erst_device.specs.Timings.{most_changes}
-use Rattle.erst_machine.specs.MachineState.{MachineState, reach_in}
+use Rattle.erst_machine.specs.MachineState.{MachineState, IsMachine, reach_in}
+use Rattle.erst_machine.specs.Allowed.{Allows}
+use Rattle.erst_commands.specs.OwnPrograms.{OwnProgramsRun}
 use Rattle.erst_commands.specs.Attached.{own_client}
 use Rattle.erst_commands.specs.Causes.{GoesThrough}
-use Rattle.erst_commands.specs.Writes.{marked, id_of}
+use Rattle.erst_commands.proofs.EnoughLemmas.{HasSteps}
 use Rattle.erst_commands.proofs.LimitLemmas.{most-small}
-use Rattle.erst_commands.proofs.RangeLemmas.{not_refused}
-use Rattle.erst_commands.proofs.StartLemmas.{needs-write, needs-clear, write-few, clear-few}
-use Rattle.erst_shadow.specs.ShadowSequences.{IsCutShort}
-use Rattle.erst_shadow.specs.ShadowCommands.{pieces_in, ShadowChange, ShadowDummy, ShadowRead, ShadowWriteAnswered, IsNoRecord, IsWritten, ShadowReadAnswered, IsNotRead, IsNotCopied, IsCopied}
-use Rattle.erst_shadow.proofs.NeedLemmas.{change_enough, dummy_enough, read_enough}
+use Rattle.erst_commands.proofs.ThroughLemmas.{write_through as own_write_through, clear_through as own_clear_through, read_through as own_read_through, dummy_through as own_dummy_through, writes_through, reads_through}
+use Rattle.erst_shadow.specs.ShadowTables.{shadow_entries, pieces_of}
+use Rattle.erst_shadow.specs.ShadowMoves.{holding, range_with_record, HoldsPieces}
+use Rattle.erst_shadow.specs.ShadowSequences.{SequenceAsOwn}
+use Rattle.erst_shadow.specs.ShadowCommands.{pieces_in, shadow_client}
+use Rattle.erst_shadow.proofs.CommandLemmas.{holds_pieces, length_moved}
+use Rattle.erst_shadow.proofs.NeedLemmas.{own_paid}
+use Rattle.erst_shadow.proofs.SequenceLemmas.{write_as_own, clear_as_own, read_as_own, dummy_as_own}
 
 -- they are those of the most changes, of a read and of both moves
-enough-all : (state : MachineState) → 16 * pieces_in state + 22 + 2 * most_changes state.device.store.layout ≤ enough_steps (own_client state).timings
+pub enough-all : (state : MachineState) → 16 * pieces_in state + 22 + 2 * most_changes state.device.store.layout ≤ enough_steps (own_client state).timings
 enough-all state = by_number (most_changes state.device.store.layout) (pieces_in state) (most-small state.device.store.layout) (omega arith)
   where
     by_number : (n pieces : ℕ) → n ≤ 2058 → pieces ≤ 31 → 16 * pieces + 22 + 2 * n ≤ min (1024 + 8 * (10 * n / 10 + 2)) 1048576
     by_number n pieces few less = omega arith
 
-pub write_through : (bytes : List ℕ) (id budget : ℕ) (first last : MachineState) (result : Result (Unit {0}) ClientError) (left : ℕ) → length bytes ≤ reach_in first.device → enough_steps (own_client first).timings ≤ budget
-    → ShadowChange (pieces_in first) first last id (Write id bytes) write_requests budget result left → GoesThrough result
-write_through bytes id budget first last result left fits enough change =
-    change_enough (pieces_in first) first last id (Write id bytes) write_requests budget result left needs-write change (omega (arith, enough-all first, enough, write-few first id bytes fits))
+module _ (tells : Type 0) (own : OwnProgramsRun tells) (first : MachineState) (machine : IsMachine first) (budget : ℕ) (enough : enough_steps (own_client first).timings ≤ budget) where
+  -- the machine's own programs have all of them but those of both moves
+  own_steps : (requests : List Request) (result : Result (Unit {0}) ClientError) (left : ℕ) (last : MachineState) (is : SequenceAsOwn tells (pieces_in first) (own_client first).timings requests budget first result left last)
+      → HasSteps first.device.store.layout is.own_budget
+  own_steps requests result left last is =
+      let paid = own_paid (pieces_in first) budget result left is.own_budget is.own_left is.paid in
+      omega (arith, enough-all first, enough, paid)
 
-pub clear_through : (id budget : ℕ) (first last : MachineState) (result : Result (Unit {0}) ClientError) (left : ℕ) → enough_steps (own_client first).timings ≤ budget
-    → ShadowChange (pieces_in first) first last id (Clear id) (clear_requests id) budget result left → GoesThrough result
-clear_through id budget first last result left enough change =
-    change_enough (pieces_in first) first last id (Clear id) (clear_requests id) budget result left (needs-clear id) change (omega (arith, enough-all first, enough, clear-few first id))
+  own_range : length (range_with_record (pieces_in first) first) ≡ reach_in first.device
+  own_range = length_moved first (pieces_in first) (holds_pieces first machine) ∙ machine.sizes.range
 
-pub dummy_through : (budget : ℕ) (first last : MachineState) (result : Result (Unit {0}) ClientError) (left : ℕ) → enough_steps (own_client first).timings ≤ budget
-    → ShadowDummy (pieces_in first) first last budget result left → GoesThrough result
-dummy_through budget first last result left enough dummy = dummy_enough (pieces_in first) first last budget result left dummy (omega (arith, enough-all first, enough))
+  pub write_through : (result : Result (Unit {0}) ClientError) (left : ℕ) (last : MachineState) → Sequence (Allows tells) (shadow_entries (pieces_in first)) (own_client first).timings write_requests budget first result left last
+      → GoesThrough result
+  write_through result left last sequence =
+      let is = write_as_own tells own (pieces_in first) (own_client first).timings budget first (holds_pieces first machine) result left last sequence in
+      own_write_through tells own (holding (range_with_record (pieces_in first) first) is.scratch first) is.own_budget (own_steps write_requests result left last is) own_range result is.own_left is.own_last is.sequence
 
-read_through : (id budget : ℕ) (first last : MachineState) (result : Result (Unit {0}) ClientError) (left : ℕ) → enough_steps (own_client first).timings ≤ budget
-    → ShadowRead (pieces_in first) first last id budget result left → GoesThrough result
-read_through id budget first last result left enough read = read_enough (pieces_in first) first last id budget result left read (omega (arith, enough-all first, enough))
+  pub clear_through : (id : ℕ) → id < 2 ^ 64 → (result : Result (Unit {0}) ClientError) (left : ℕ) (last : MachineState)
+      → Sequence (Allows tells) (shadow_entries (pieces_in first)) (own_client first).timings (clear_requests id) budget first result left last → GoesThrough result
+  clear_through id small result left last sequence =
+      let is = clear_as_own tells own (pieces_in first) (own_client first).timings budget first (holds_pieces first machine) result left last id sequence in
+      own_clear_through tells own (holding (range_with_record (pieces_in first) first) is.scratch first) is.own_budget (own_steps (clear_requests id) result left last is) own_range id small result is.own_left is.own_last is.sequence
 
--- A refusal of the client's own is no stop, and not late
+  pub read_through : (id : ℕ) → id < 2 ^ 64 → (result : Result (Unit {0}) ClientError) (left : ℕ) (last : MachineState)
+      → Sequence (Allows tells) (shadow_entries (pieces_in first)) (own_client first).timings (read_requests id) budget first result left last → GoesThrough result
+  read_through id small result left last sequence =
+      let is = read_as_own tells own (pieces_in first) (own_client first).timings budget first (holds_pieces first machine) result left last id sequence in
+      own_read_through tells own (holding (range_with_record (pieces_in first) first) is.scratch first) is.own_budget (own_steps (read_requests id) result left last is) own_range id small result is.own_left is.own_last is.sequence
 
-refusal_through : {T : Type 0} (error : ClientError) → (IsCutShort error → ⊥) → GoesThrough {T = T} (Err error)
-refusal_through {T} error whole = record {
-  not_stopped = λ stop e. whole (subst (λ (x : ClientError). IsCutShort x) (sym (same error (Stopped stop) e)) tt);
-  in_time = λ waited e. whole (subst (λ (x : ClientError). IsCutShort x) (sym (same error (Late waited) e)) tt);
-}
-  where
-    same : (x y : ClientError) → ◌≡◌ {A = Result T ClientError} (Err x) (Err y) → x ≡ y
-    same x y e = cc
-
-of_test : (test : Bool) (refusal : ClientError) (other : Option ClientError) (error : ClientError) → (IsCutShort refusal → ⊥) → (other ≡ Some error → IsCutShort error → ⊥) → cond {A = Option ClientError} test (Some refusal) other ≡ Some error
-    → IsCutShort error → ⊥
-of_test true refusal other error whole rest e = subst (λ (x : ClientError). IsCutShort x → ⊥) (cc e) whole
-of_test false refusal other error whole rest e = rest e
-
-of_none : (error : ClientError) → ◌≡◌ {A = Option ClientError} None (Some error) → IsCutShort error → ⊥
-of_none error e = absurd (cc e)
-
-frame_whole : (answer : Result ℕ FrameError) (have range : ℕ) (error : ClientError) → frame_refusal answer have range ≡ Some error → IsCutShort error → ⊥
-frame_whole (Err why) have range error e = of_test true (Frame why) None error (λ short. short) (of_none error) e
-frame_whole (Ok len) have range error e =
-    of_test (nat_lt len have) (Trailing (have - len)) _ error (λ short. short) (of_test (nat_lt range have) (TooLong have range) None error (λ short. short) (of_none error)) e
-
-copy_whole : (len range room : ℕ) (error : ClientError) → copy_refusal len range room ≡ Some error → IsCutShort error → ⊥
-copy_whole len range room error e =
-    of_test (nat_lt len 128 || nat_lt range len) (BadLength len) _ error (λ short. short) (of_test (nat_lt room len) (SmallBuffer len) None error (λ short. short) (of_none error)) e
-
-error_through : (error : ClientError) → GoesThrough {T = Unit {0}} (Err error) → GoesThrough {T = ℕ} (Err error)
-error_through error is = record { not_stopped = λ stop e. is.not_stopped stop (ap (λ (x : ClientError). Err x) (same error (Stopped stop) e)); in_time = λ waited e. is.in_time waited (ap (λ (x : ClientError). Err x) (same error (Late waited) e)) }
-  where
-    same : (x y : ClientError) → ◌≡◌ {A = Result ℕ ClientError} (Err x) (Err y) → x ≡ y
-    same x y e = cc
-
-number_through : (n : ℕ) → GoesThrough {T = ℕ} (Ok n)
-number_through n = record { not_stopped = λ stop e. absurd (cc e); in_time = λ waited e. absurd (cc e) }
+  pub dummy_through : (result : Result (Unit {0}) ClientError) (left : ℕ) (last : MachineState) → Sequence (Allows tells) (shadow_entries (pieces_in first)) (own_client first).timings dummy_requests budget first result left last
+      → GoesThrough result
+  dummy_through result left last sequence =
+      let is = dummy_as_own tells own (pieces_in first) (own_client first).timings budget first (holds_pieces first machine) result left last sequence in
+      own_dummy_through tells own (holding (range_with_record (pieces_in first) first) is.scratch first) is.own_budget (own_steps dummy_requests result left last is) own_range result is.own_left is.own_last is.sequence
 
 -- A client's write and read
 
-pub client_write_through : (bytes : List ℕ) (budget : ℕ) (first last : MachineState) (result : Result (Unit {0}) ClientError) (left : ℕ) → enough_steps (own_client first).timings ≤ budget
-    → ShadowWriteAnswered bytes budget first result left last → GoesThrough result
-client_write_through bytes budget first last result left enough answered = elim answered as (λ result left last answered. GoesThrough result) [
-  | IsNoRecord error is ↦ refusal_through error (frame_whole (framed (2 ^ 32 - 1) bytes) (length bytes) (128 * pieces_in first) error is)
-  | IsWritten result left last is change there ↦
-      let framed = not_refused bytes (128 * pieces_in first) is in
-      let least = framed.least in
-      let same = length-put_at bytes 108 (codes "ER") (omega arith) in
-      write_through (marked bytes) (id_of bytes) budget first last result left (omega (arith, same, framed.fits)) enough change
-]
+module _ (tells : Type 0) (own : OwnProgramsRun tells) (first : MachineState) (machine : IsMachine first) (budget : ℕ) (enough : enough_steps (own_client first).timings ≤ budget) where
+  abbrev pieces_by : Layout → ℕ
+  pieces_by layout = pieces_of (reach_of (room_of layout))
 
-pub client_read_through : (id : ℕ) (out : List ℕ) (budget : ℕ) (first last : MachineState) (result : Result ℕ ClientError) (after : List ℕ) (left : ℕ) → enough_steps (own_client first).timings ≤ budget
-    → ShadowReadAnswered id out budget first result after left last → GoesThrough result
-client_read_through id out budget first last result after left enough answered = elim answered as (λ result after left last answered. GoesThrough result) [
-  | IsNotRead error left last read ↦ error_through error (read_through id budget first last (Err error) left enough read)
-  | IsNotCopied error left last read why ↦ refusal_through error (copy_whole (number_at read.own_last.memory.range 20 4) (128 * pieces_in first) (length out) error why)
-  | IsCopied left last read fits ↦ number_through (number_at read.own_last.memory.range 20 4)
-]
+  abbrev timings_by : Layout → Option (ℕ × ℕ)
+  timings_by layout = Some (10 * most_changes layout, 10 * (layout.per_slot + 4))
+
+  -- a machine with the same layout has the same client
+  asked_through : (mid : MachineState) (result : Result (Unit {0}) ClientError) (left : ℕ) (last : MachineState) → IsMachine mid → mid.device.store.layout ≡ first.device.store.layout
+      → Sequence (Allows tells) (shadow_entries (pieces_in first)) (own_client first).timings write_requests budget mid result left last → GoesThrough result
+  asked_through mid result left last is same sequence =
+      write_through tells own mid is budget (subst (λ (l : Layout). enough_steps (timings_by l) ≤ budget) (sym same) enough) result left last
+      (subst (λ (l : Layout). Sequence (Allows tells) (shadow_entries (pieces_by l)) (timings_by l) write_requests budget mid result left last) (sym same) sequence)
+
+  pub client_write_through : (bytes : List ℕ) (result : Result (Unit {0}) ClientError) (left : ℕ) (last : MachineState) → Writes (Allows tells) (shadow_client first) bytes budget first result left last → GoesThrough result
+  client_write_through bytes result left last = writes_through tells (shadow_client first) bytes budget first machine result left last asked_through
+
+  pub client_read_through : (id : ℕ) → id < 2 ^ 64 → (out : List ℕ) (result : Result ℕ ClientError) (after : List ℕ) (left : ℕ) (last : MachineState) → Reads (Allows tells) (shadow_client first) id out budget first result after left last
+      → GoesThrough result
+  client_read_through id small out result after left last =
+      reads_through tells (shadow_client first) id out budget first result after left last (read_through tells own first machine budget enough id small)

@@ -9,7 +9,7 @@ ghost use Rattle.erst_client.specs.Attaching.{Attaches};
 ghost use Rattle.erst_client.specs.Commands.{ClientState, Writes, Reads, Counts, Names};
 ghost use Rattle.erst_client.specs.Sequences.{Sequence, write_requests, read_requests, clear_requests, dummy_requests};
 ghost use Rattle.erst_client.specs.Timings.{enough_steps};
-ghost use Rattle.erst_machine.specs.MachineState.{MachineState, IsMachine, records_of};
+ghost use Rattle.erst_machine.specs.MachineState.{MachineState, IsMachine, reach_in, records_of};
 ghost use Rattle.erst_machine.specs.Allowed.{Allows};
 ghost use Rattle.erst_commands.specs.Attached.{own_client};
 ghost use Rattle.erst_commands.specs.Causes.{HasItsCause, GoesThrough};
@@ -144,24 +144,35 @@ pub fn commands_need_exactly()
         → ShadowRead pieces first last id budget result left → 16 * pieces + 22 ≤ budget → GoesThrough result }
 {}
 
-/// The steps that a client takes by the machine's timings are enough: no command is stopped, and none is late.
+/// The steps that a client takes by the machine's timings are enough for each of its commands.
 pub fn enough_steps_are_enough()
-    ensures write { (bytes : List ℕ) (budget : ℕ) (first last : MachineState) (result : Result (Unit {0}) ClientError) (left : ℕ) → enough_steps (own_client first).timings ≤ budget
-        → ShadowWriteAnswered bytes budget first result left last → GoesThrough result }
-    ensures clear { (id budget : ℕ) (first last : MachineState) (result : Result (Unit {0}) ClientError) (left : ℕ) → enough_steps (own_client first).timings ≤ budget
-        → ShadowChange (pieces_in first) first last id (Clear id) (clear_requests id) budget result left → GoesThrough result }
-    ensures dummy { (budget : ℕ) (first last : MachineState) (result : Result (Unit {0}) ClientError) (left : ℕ) → enough_steps (own_client first).timings ≤ budget
-        → ShadowDummy (pieces_in first) first last budget result left → GoesThrough result }
-    ensures read { (id : ℕ) (out : List ℕ) (budget : ℕ) (first last : MachineState) (result : Result ℕ ClientError) (after : List ℕ) (left : ℕ) → enough_steps (own_client first).timings ≤ budget
-        → ShadowReadAnswered id out budget first result after left last → GoesThrough result }
+    ensures write { (state : MachineState) (id : ℕ) (bytes : List ℕ) → length bytes ≤ reach_in state.device
+        → 16 * pieces_in state + 18 + 2 * max 1 (changes_of state.device.store.layout (Write id bytes) (records_of state)) ≤ enough_steps (own_client state).timings }
+    ensures clear { (state : MachineState) (id : ℕ)
+        → 16 * pieces_in state + 18 + 2 * max 1 (changes_of state.device.store.layout (Clear id) (records_of state)) ≤ enough_steps (own_client state).timings }
+    ensures read { (state : MachineState) → 16 * pieces_in state + 22 ≤ enough_steps (own_client state).timings }
+    ensures dummy { (state : MachineState) → 16 * pieces_in state + 20 ≤ enough_steps (own_client state).timings }
 {}
 
-/// A count and a next with those steps, on every flash.
-pub fn looks_go_through<F: Flash>()
+/// On every flash, whether it tells its content or not: with those steps a command is never stopped, and never late. A count and a next are
+/// the machine's own, with a table of any number of pieces.
+pub fn enough_steps_go_through<F: Flash>()
+    ensures write_sequence { (first : MachineState) → IsMachine first → (budget : ℕ) → enough_steps (own_client first).timings ≤ budget → (result : Result (Unit {0}) ClientError) (left : ℕ) (last : MachineState)
+        → Sequence (Allows F.tells) (shadow_entries (pieces_in first)) (own_client first).timings write_requests budget first result left last → GoesThrough result }
+    ensures clear_sequence { (first : MachineState) → IsMachine first → (budget : ℕ) → enough_steps (own_client first).timings ≤ budget → (id : ℕ) → id < 2 ^ 64 → (result : Result (Unit {0}) ClientError) (left : ℕ) (last : MachineState)
+        → Sequence (Allows F.tells) (shadow_entries (pieces_in first)) (own_client first).timings (clear_requests id) budget first result left last → GoesThrough result }
+    ensures read_sequence { (first : MachineState) → IsMachine first → (budget : ℕ) → enough_steps (own_client first).timings ≤ budget → (id : ℕ) → id < 2 ^ 64 → (result : Result (Unit {0}) ClientError) (left : ℕ) (last : MachineState)
+        → Sequence (Allows F.tells) (shadow_entries (pieces_in first)) (own_client first).timings (read_requests id) budget first result left last → GoesThrough result }
+    ensures dummy_sequence { (first : MachineState) → IsMachine first → (budget : ℕ) → enough_steps (own_client first).timings ≤ budget → (result : Result (Unit {0}) ClientError) (left : ℕ) (last : MachineState)
+        → Sequence (Allows F.tells) (shadow_entries (pieces_in first)) (own_client first).timings dummy_requests budget first result left last → GoesThrough result }
     ensures count { (pieces budget : ℕ) (first : MachineState) (result : Result ℕ ClientError) (left : ℕ) (last : MachineState) → enough_steps (own_client first).timings ≤ budget
         → Counts (Allows F.tells) (shadow_entries pieces) budget first result left last → GoesThrough result }
     ensures next { (pieces budget : ℕ) (first : MachineState) (result : Result (Option ℕ) ClientError) (left : ℕ) (last : MachineState) → enough_steps (own_client first).timings ≤ budget
         → Names (Allows F.tells) (shadow_entries pieces) budget first result left last → GoesThrough result }
+    ensures write { (first : MachineState) → IsMachine first → (budget : ℕ) → enough_steps (own_client first).timings ≤ budget → (bytes : List ℕ) (result : Result (Unit {0}) ClientError) (left : ℕ) (last : MachineState)
+        → Writes (Allows F.tells) (shadow_client first) bytes budget first result left last → GoesThrough result }
+    ensures read { (first : MachineState) → IsMachine first → (budget : ℕ) → enough_steps (own_client first).timings ≤ budget → (id : ℕ) → id < 2 ^ 64 → (out : List ℕ) (result : Result ℕ ClientError) (after : List ℕ) (left : ℕ) (last : MachineState)
+        → Reads (Allows F.tells) (shadow_client first) id out budget first result after left last → GoesThrough result }
 {
     own_programs_run_through::<F>();
 }
