@@ -56,6 +56,17 @@ heard_front {X} f xs k n within =
     ∙ ap (λ (ys : List ℕ). codes "heard" ++ ys) (flat_map-append g (map f (take k xs)) (map f more))
     ∙ sym (append_assoc (codes "heard") (flat_map g (map f (take k xs))) (flat_map g (map f more)))
 
+-- before the first listener
+pub heard_start : {X : Type 0} (f : X → ℕ) (told : Type 0) (o : Option (List X)) (written reply : List ℕ) → reply ≡ codes "heard"
+    → IfSome o (λ members. AreShown told written written reply (words_of_heard (map f (take 0 members))))
+heard_start f told None written reply is = tt
+heard_start f told (Some members) written reply is = record { shown = []; text = λ t. sym (append-nil written); words_are = is }
+
+-- a listener that is counted is there
+pub is_listed : {X : Type 0} (o : Option (List X)) (at n : ℕ) → at < n → IfSome o (λ members. n ≡ min (length members) (2 ^ 32 - 1)) → IfSome o (λ members. at < length members)
+is_listed None at n within many = tt
+is_listed (Some members) at n within many = omega (arith, within, many)
+
 pub heard_step : {X : Type 0} (f : X → ℕ) (told : Type 0) (o : Option (List X)) (written middle now held reply reply_now : List ℕ) (k n count : ℕ)
     → IfSome o (λ members. AreShown told written middle held (words_of_heard (map f (take k members)))) → AreShown told middle now reply held → k < n → IfSome o (λ members. n ≡ min (length members) (2 ^ 32 - 1))
     → IfSome o (λ members. IfSome (slice_get members k) (λ b. count ≡ f b)) → reply_now ≡ reply ++ (codes " " ++ decimal count)

@@ -1,10 +1,20 @@
-use Rattle.std.proofs.Common.{◌∙◌, ℕ, List, ◌++◌, length, decimal, ap, arith, append_assoc, length-append}
+use Rattle.std.proofs.Common.{◌≡◌, ◌∙◌, ℕ, List, ◌++◌, length, decimal, refl, ap, arith, append_assoc, length-append}
 use Rattle.std.specs.Prelude.{codes, slice_get}
 use Rattle.std.proofs.lemmas.Result.{on_ok_weaker, on_err_weaker}
 use Rattle.ghes_hub.specs.Seen.{seen}
 use Rattle.hub_script.proofs.ResultLemmas.{on_err}
-use Rattle.hub_script.proofs.PieceLemmas.{heard_step, heard_part, heard_all, heard_last}
+use Rattle.hub_script.proofs.PieceLemmas.{heard_start, is_listed, heard_step, heard_part, heard_all, heard_last}
 use Rattle.hub_script.proofs.heard.show_heard.Goals as goal
+
+pub hearing-init : goal.hearing-init
+hearing-init g c = record {
+  so = heard_start (λ b. ((goal.Listener-dyn g (b.vtable, b.value)).hearing b.value).count) g.O.Sink.tells (slice_get (seen c.args.hub.now).chains c.args.source) (g.O.Sink.written c.args.out.now) c.begin.new.self c.begin.ensures;
+  short = let n : length c.begin.new.self ≡ 5 = ap length c.begin.ensures in omega (arith, n);
+  faults = refl;
+}
+
+pub heard-requires-clause-at : goal.heard-requires-clause-at
+heard-requires-clause-at g c = is_listed (slice_get (seen c.args.hub.now).chains c.args.source) c.hearing.at c.listeners-at-end.result c.hearing-test.true c.listeners-at-end.ensures
 
 pub returns-in_err-make_room-clause-part : goal.returns-in_err-make_room-clause-part
 returns-in_err-make_room-clause-part g c =
