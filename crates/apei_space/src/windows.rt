@@ -69,7 +69,7 @@ pub struct Stretch {
     start: usize,
 }
 
-/// The windows in the order of their places, memory first.
+/// The windows in the order of their addresses.
 pub fn stretches(alloc: Global, windows: &[Window]) -> Result<Vec<Stretch>, Memory>
     requires { total windows.now < 2 ^ 63 }
     ensures { IfOk result (λ table. All (IsStretch windows.now) table.items) }
@@ -83,34 +83,29 @@ pub fn stretches(alloc: Global, windows: &[Window]) -> Result<Vec<Stretch>, Memo
         });
         start += window.len as usize;
     }
-    table.sort_by_key(|stretch| rank(stretch.window.place))?;
+    table.sort_by_key(|stretch| address(stretch.window.place))?;
     Ok(table)
 }
 
-/// A number that rises with the address, above all memory for I/O.
-fn rank(place: Place) -> u128
-    ensures { address_of place ≤ result }
-{
-    match place {
-        Place::Memory(at) => u128::from(at),
-        Place::Io(at) => u128::from(at) + (1 << 64),
-    }
-}
+/// So many windows are looked at one by one as fast as by a search.
+const FEW: usize = 4;
 
-/// The same as `spot`, by a binary search in the windows' order.
+/// The same as `spot`, by a binary search in the order of the addresses. It misses only where memory and I/O are mixed up there.
 pub fn search(table: &[Stretch], windows: &[Window], at: Place) -> Option<(usize, u32)>
     requires few { total windows.now < 2 ^ 63 }
     requires apart { AreApart windows.now }
     requires table { All (IsStretch windows.now) table.now }
     ensures { result ≡ spot windows.now 0 at }
 {
-    let place = rank(at);
-    let behind = table.partition_point(|stretch| rank(stretch.window.place) <= place);
-    if behind > 0 {
-        let stretch = table[behind - 1];
-        let room = stretch.window.room(at);
-        if room > 0 {
-            return Some((stretch.start + (stretch.window.len - room) as usize, room));
+    if table.len() > FEW {
+        let first = address(at);
+        let behind = table.partition_point(|stretch| address(stretch.window.place) <= first);
+        if behind > 0 {
+            let stretch = table[behind - 1];
+            let room = stretch.window.room(at);
+            if room > 0 {
+                return Some((stretch.start + (stretch.window.len - room) as usize, room));
+            }
         }
     }
     spot(windows, at)
