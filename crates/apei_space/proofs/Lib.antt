@@ -3,3 +3,4 @@ mod BytePlaces
 pub mod Spots
 pub mod MappedLemmas
 pub mod Placed
+pub mod StretchLemmas

@@ -1,5 +1,5 @@
 -- Where accesses of mapped bytes stand among all bytes.
-use Rattle.std.proofs.Common.{◌≡◌, ◌∙◌, ℕ, ◌+◌, ◌-◌, ◌<◌, ◌≤◌, ◌⊎◌, ◌==◌, inl, inr, nat_le, cond, Bool, true, false, List, [], ◌∷◌, Option, Some, None, Result, Ok, Err, refl, sym, ap, subst, arith, le-leb}
+use Rattle.std.proofs.Common.{◌≡◌, ◌∙◌, ℕ, zero, suc, ◌+◌, ◌-◌, ◌<◌, ◌≤◌, ◌⊎◌, ◌==◌, inl, inr, nat_le, cond, Bool, true, false, List, [], ◌∷◌, length, take, get_or, Option, Some, None, Result, Ok, Err, refl, sym, ap, subst, arith, le-leb}
 use Rattle.std.proofs.lemmas.Bool.{cases_eq, ne_eqb}
 use Rattle.std.proofs.lemmas.Bool.Decides.{nat_tests}
 use Rattle.apei_gas.specs.declared.registers.Place.{Place}
@@ -102,6 +102,29 @@ spot_mapped (window ∷ windows) start at s r k is h = go (cases_eq (room window
       let e = head_is window windows start at s r more is in
       let same = e.1 in
       inl (held window.place window.len at r k same (omega (arith, h)) h)
+
+-- a window among some that holds a place
+mapped_at : (windows : List Window) (at : Place) (i : ℕ) (w : Window) → i < length windows → get_or windows i w ≡ w → Holds w.place w.len at → IsMapped windows at
+mapped_at [] at i w inside is h = absurd (omega (arith, inside))
+mapped_at (window ∷ windows) at zero w inside is h = inl (subst (λ (x : Window). Holds x.place x.len at) (sym is) h)
+mapped_at (window ∷ windows) at (suc i) w inside is h = inr (mapped_at windows at i w (omega (arith, inside)) is h)
+
+-- a window with room is where the place is found, whatever windows stand before it
+pub spot_at : (windows : List Window) (start : ℕ) (at : Place) (i : ℕ) (w : Window) → AreApart windows → i < length windows → get_or windows i w ≡ w → 0 < room w at
+    → spot windows start at ≡ Some (start + total (take i windows) + (w.len - room w at), room w at)
+spot_at [] start at i w apart inside is more = absurd (omega (arith, inside))
+spot_at (window ∷ windows) start at zero w apart inside is more =
+    subst (λ (x : Window). spot (window ∷ windows) start at ≡ Some (start + 0 + (x.len - room x at), room x at)) is
+    (spot_head window windows start at (subst (λ (x : Window). 0 < room x at) (sym is) more)
+    ∙ ap (λ (n : ℕ). Some (n + (window.len - room window at), room window at)) (omega arith))
+spot_at (window ∷ windows) start at (suc i) w apart inside is more = go (cases_eq (room window at) 0) (spot_at windows (start + window.len) at i w apart.2 (omega (arith, inside)) is more) where
+  mapped : IsMapped windows at
+  mapped = mapped_at windows at i w (omega (arith, inside)) is (holds w.place w.len at more)
+
+  go : (room window at ≡ 0) ⊎ (room window at ≡ 0 → ⊥) → spot windows (start + window.len) at ≡ Some (start + window.len + total (take i windows) + (w.len - room w at), room w at)
+      → spot (window ∷ windows) start at ≡ Some (start + (window.len + total (take i windows)) + (w.len - room w at), room w at)
+  go (inl none) later = spot_tail window windows start at none ∙ later ∙ ap (λ (n : ℕ). Some (n + (w.len - room w at), room w at)) (omega arith)
+  go (inr some) later = absurd (unheld_by window windows at apart.1 (holds window.place window.len at (grind arith)) mapped)
 
 pub spot_further : (windows : List Window) (start : ℕ) (at : Place) (s r k : ℕ) → AreApart windows → spot windows start at ≡ Some (s, r) → k < r → spot windows start (further at k) ≡ Some (s + k, r - k)
 spot_further [] start at s r k apart is h = absurd cc

@@ -9,7 +9,7 @@ ghost use Rattle.apei_space.specs.RamState.{RamState, FillsWindows, Allows, loca
 use crate::bytes::{copy_part, get_number, get_part, put_number, put_part};
 use crate::faults::SpaceFault;
 use crate::spaces::Space;
-use crate::windows::{Window, address, spot};
+use crate::windows::{Stretch, Window, address, search, stretches};
 use apei_bytes::Memory;
 use apei_gas::{Place, Width};
 use std::alloc::Global;
@@ -19,21 +19,24 @@ use std::marker::Model;
 #[derive(Drop)]
 pub struct Ram {
     windows: Vec<Window>,
+    /// The windows in the order of their places.
+    table: Vec<Stretch>,
     /// The bytes of the windows, one window after another.
     bytes: Vec<u8>,
     waited: u64,
 }
 
 impl Model for Ram {
-    ghost use Rattle.std.specs.Prelude.{◌≡◌, ◌<◌, ◌^◌, length};
+    ghost use Rattle.std.specs.Prelude.{◌≡◌, ◌<◌, ◌^◌, All, length};
     ghost use Rattle.apei_space.specs.RamState.{RamState};
     ghost use Rattle.apei_space.specs.Windows.{total, AreApart};
+    ghost use Rattle.apei_space.specs.Stretches.{IsStretch};
 
     ghost Value = { RamState };
 
     ghost view = { λ r. record { windows = r.windows.items; bytes = r.bytes.items; waited = r.waited } };
 
-    ghost invariant = { λ r. (total r.windows.items ≡ length r.bytes.items) × (length r.bytes.items < 2 ^ 63) × AreApart r.windows.items };
+    ghost invariant = { λ r. (total r.windows.items ≡ length r.bytes.items) × (length r.bytes.items < 2 ^ 63) × AreApart r.windows.items × All (IsStretch r.windows.items) r.table.items };
 }
 
 impl Ram {
@@ -46,9 +49,11 @@ impl Ram {
             return Err(Memory);
         };
         let bytes = vec![in alloc; 0; len]?;
+        let table = stretches(alloc, windows)?;
         let windows = Vec::from_slice(alloc, windows)?;
         Ok(Ram {
             windows,
+            table,
             bytes,
             waited: 0,
         })
@@ -111,7 +116,7 @@ impl Ram {
             return Ok(0);
         }
         let address = address(at);
-        match spot(windows, at) {
+        match search(&self.table, windows, at) {
             None => Err(SpaceFault::Unmapped { at: address }),
             Some((start, room)) => {
                 if n <= room as usize {

@@ -1,8 +1,11 @@
 // A stretch of plain bytes, and where an access stands in one.
-ghost use Rattle.std.specs.Prelude.{◌≡◌, ◌+◌, ◌<◌, ◌≤◌, ◌^◌, ◌-◌, length, IfSome};
-ghost use Rattle.apei_space.specs.Windows.{address_of, room, room_in, spot, total};
+ghost use Rattle.std.specs.Prelude.{◌≡◌, ◌+◌, ◌<◌, ◌≤◌, ◌^◌, ◌-◌, All, length, IfOk, IfSome};
+ghost use Rattle.apei_space.specs.Windows.{address_of, room, room_in, spot, total, AreApart};
+ghost use Rattle.apei_space.specs.Stretches.{IsStretch};
 
+use apei_bytes::Memory;
 use apei_gas::Place;
+use std::alloc::Global;
 
 /// So many plain bytes from a place on.
 #[derive(Clone, Copy, Debug, PartialEq, Eq)]
@@ -44,7 +47,7 @@ pub fn address(at: Place) -> u64
 }
 
 /// Where the byte of a place stands among the bytes of all windows, and how many its window holds from there on.
-pub fn spot(windows: &[Window], at: Place) -> Option<(usize, u32)>
+fn spot(windows: &[Window], at: Place) -> Option<(usize, u32)>
     requires { total windows.now < 2 ^ 63 }
     ensures { result ≡ spot windows.now 0 at }
 {
@@ -57,4 +60,53 @@ pub fn spot(windows: &[Window], at: Place) -> Option<(usize, u32)>
         start += window.len as usize;
     }
     None
+}
+
+/// A window, and where its first byte stands among the bytes of all windows.
+#[derive(Clone, Copy)]
+pub struct Stretch {
+    window: Window,
+    start: usize,
+}
+
+/// The windows in the order of their addresses.
+pub fn stretches(alloc: Global, windows: &[Window]) -> Result<Vec<Stretch>, Memory>
+    requires { total windows.now < 2 ^ 63 }
+    ensures { IfOk result (λ table. All (IsStretch windows.now) table.items) }
+{
+    let mut table = Vec::with_capacity(alloc, windows.len())?;
+    let mut start: usize = 0;
+    for window in windows {
+        table.push_reserved(Stretch {
+            window: *window,
+            start,
+        });
+        start += window.len as usize;
+    }
+    table.sort_by_key(|stretch| address(stretch.window.place))?;
+    Ok(table)
+}
+
+/// So many windows are looked at one by one as fast as by a search.
+const FEW: usize = 4;
+
+/// The same as `spot`, by a binary search in the order of the addresses. It misses only where memory and I/O are mixed up there.
+pub fn search(table: &[Stretch], windows: &[Window], at: Place) -> Option<(usize, u32)>
+    requires few { total windows.now < 2 ^ 63 }
+    requires apart { AreApart windows.now }
+    requires table { All (IsStretch windows.now) table.now }
+    ensures { result ≡ spot windows.now 0 at }
+{
+    if table.len() > FEW {
+        let first = address(at);
+        let behind = table.partition_point(|stretch| address(stretch.window.place) <= first);
+        if behind > 0 {
+            let stretch = table[behind - 1];
+            let room = stretch.window.room(at);
+            if room > 0 {
+                return Some((stretch.start + (stretch.window.len - room) as usize, room));
+            }
+        }
+    }
+    spot(windows, at)
 }

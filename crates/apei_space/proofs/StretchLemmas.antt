@@ -1,0 +1,32 @@
+-- Windows with the places of their bytes: each is where a place that it holds is found.
+use Rattle.std.proofs.Common.{◌≡◌, ◌∙◌, ℕ, zero, suc, ◌+◌, ◌-◌, ◌<◌, List, [], ◌∷◌, length, take, drop, get_or, Some, sym, ap, subst, arith}
+use Rattle.apei_gas.specs.declared.registers.Place.{Place}
+use Rattle.apei_space.specs.declared.windows.Window.{Window}
+use Rattle.apei_space.specs.declared.windows.Stretch.{Stretch}
+use Rattle.apei_space.specs.Windows.{room, spot, total, AreApart}
+use Rattle.apei_space.specs.Stretches.{IsStretch}
+use Rattle.apei_space.proofs.Placed.{spot_at}
+
+taken : (windows : List Window) (i : ℕ) (d : Window) → i < length windows → total (take (suc i) windows) ≡ total (take i windows) + (get_or windows i d).len
+taken [] i d inside = absurd (omega (arith, inside))
+taken (window ∷ windows) zero d inside = omega arith
+taken (window ∷ windows) (suc i) d inside = let later = taken windows i d (omega (arith, inside)) in omega (arith, later)
+
+left : (windows : List Window) (i : ℕ) (d : Window) → i < length windows → total (drop i windows) ≡ (get_or windows i d).len + total (drop (suc i) windows)
+left [] i d inside = absurd (omega (arith, inside))
+left (window ∷ windows) zero d inside = omega arith
+left (window ∷ windows) (suc i) d inside = left windows i d (omega (arith, inside))
+
+pub total_more : (windows : List Window) (i : ℕ) (d : Window) → i < length windows → total (take (i + 1) windows) ≡ total (take i windows) + (get_or windows i d).len
+total_more windows i d inside = let same : suc i ≡ i + 1 = omega arith in subst (λ (n : ℕ). total (take n windows) ≡ total (take i windows) + (get_or windows i d).len) same (taken windows i d inside)
+
+pub total_rest : (windows : List Window) (i : ℕ) (d : Window) → i < length windows → total (drop i windows) ≡ (get_or windows i d).len + total (drop (i + 1) windows)
+total_rest windows i d inside = let same : suc i ≡ i + 1 = omega arith in subst (λ (n : ℕ). total (drop i windows) ≡ (get_or windows i d).len + total (drop n windows)) same (left windows i d inside)
+
+pub stretch_spot : (windows : List Window) (at : Place) (stretch : Stretch) (r : ℕ) → AreApart windows → IsStretch windows stretch → r ≡ room stretch.window at → 0 < r
+    → Some (stretch.start + (stretch.window.len - r), r) ≡ spot windows 0 at
+stretch_spot windows at stretch r apart is room_is more =
+    let there = spot_at windows 0 at is.number stretch.window apart is.inside is.window_is (subst (λ (n : ℕ). 0 < n) room_is more) in
+    let start = is.start_is in
+    subst (λ (n : ℕ). Some (stretch.start + (stretch.window.len - n), n) ≡ spot windows 0 at) (sym room_is)
+    (ap (λ (n : ℕ). Some (n + (stretch.window.len - room stretch.window at), room stretch.window at)) (omega (arith, start)) ∙ sym there)
