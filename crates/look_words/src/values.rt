@@ -52,16 +52,13 @@ pub(crate) fn show(matches: &ArgMatches<'_>) -> Result<Show, OptionsError>
 {
     let json = wants_json(matches);
     match text(matches, Setting::Record) {
-        Some(digits) => {
-            if json {
-                return Err(OptionsError::BadWords);
-            }
-            match number(digits) {
-                Some(id) => Ok(Show::Record(id)),
-                None => Err(OptionsError::BadWords),
-            }
-        }
-        None => { if json { Ok(Show::Json) } else { Ok(Show::Text) } }
+        Some(_) if json => Err(OptionsError::BadWords),
+        Some(digits) => match number(digits) {
+            Some(id) => Ok(Show::Record(id)),
+            None => Err(OptionsError::BadWords),
+        },
+        None if json => Ok(Show::Json),
+        None => Ok(Show::Text),
     }
 }
 
