@@ -1,4 +1,4 @@
-//! Tests by bytes from outside: tables and their registers, error records, error status blocks, streams, and a listener.
+//! Tests by bytes from outside: tables, error records, error status blocks, streams, and a listener.
 #![tactic(auto)]
 
 #[cfg(test)]
@@ -11,7 +11,5 @@ mod hest;
 mod listeners;
 #[cfg(test)]
 mod records;
-#[cfg(test)]
-mod registers;
 #[cfg(test)]
 mod streams;
