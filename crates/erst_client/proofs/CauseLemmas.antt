@@ -3,7 +3,7 @@ use Rattle.std.proofs.Common.{ℕ, suc, ◌≤◌, ◌==◌, cond, Bool, true, f
 use Rattle.std.proofs.lemmas.Bool.{cases_lt}
 use Rattle.base_model.specs.Faults.{Rose}
 use Rattle.apei_space.specs.declared.faults.SpaceFault.{SpaceFault}
-use Rattle.apei_space.specs.declared.faults.SpaceFault.TheVariants.{Unmapped, BadAccess, NotMemory, Device}
+use Rattle.apei_space.specs.declared.faults.SpaceFault.TheVariants.{Device}
 use Rattle.apei_space.specs.Calls.{Call, HasReason, Leaves}
 use Rattle.apei_space.specs.Accesses.{Reaches, Stays}
 use Rattle.apei_space.proofs.AccessLemmas.{never_falls}
@@ -13,10 +13,10 @@ use Rattle.erst_entries.specs.declared.entries.Entry.{Entry}
 use Rattle.erst_entries.specs.Actions.{code_of}
 use Rattle.erst_entries.specs.Programs.{program_of}
 use Rattle.erst_interp.specs.declared.stops.RunStop.{RunStop}
-use Rattle.erst_interp.specs.declared.stops.RunStop.TheVariants.{Budget, Register, UnknownInstruction, Goto, MoveTooLong, NoAction, Space}
+use Rattle.erst_interp.specs.declared.stops.RunStop.TheVariants.{Space}
 use Rattle.erst_interp.proofs.Consequences.{run_device}
 use Rattle.erst_client.specs.declared.errors.ClientError.{ClientError}
-use Rattle.erst_client.specs.declared.errors.ClientError.TheVariants.{NoSpace, Hardware, Failed, Empty, NotFound, Frame, TooLong, SmallBuffer, BadLength, Status, Stopped, Trailing, Range, Late}
+use Rattle.erst_client.specs.declared.errors.ClientError.TheVariants.{NoSpace, Hardware, Failed, Empty, NotFound, Status, Stopped, Range}
 use Rattle.erst_client.specs.declared.requests.Request.{Request}
 use Rattle.erst_client.specs.Requests.{Performs, Asks, NoneLeft, Answered, StopsLater, StopsHere}
 use Rattle.erst_client.specs.Sequences.{Pauses, Untimed, Timed, TooOften, Waits, IsIdle, IsStopped, IsLate, judged, UntilStatus, NotAsked, NotWaited, NotTold, IsTold, closed, Sequence, end_steps}
@@ -35,35 +35,17 @@ rose_within a b c d before middle rose after = elim rose [
 ]
 
 pub fault_within : (a b c d : ℕ) (fault : SpaceFault) → a ≤ b → b ≤ c → OfFault b c fault → c ≤ d → OfFault a d fault
-fault_within a b c d (Unmapped at) before middle of after = tt
-fault_within a b c d (BadAccess at width) before middle of after = tt
-fault_within a b c d (NotMemory at) before middle of after = tt
 fault_within a b c d Device before middle of after = rose_within a b c d before middle of after
+fault_within a b c d fault before middle of after = tt
 
 pub stop_within : (a b c d : ℕ) (stop : RunStop) → a ≤ b → b ≤ c → OfStop b c stop → c ≤ d → OfStop a d stop
-stop_within a b c d Budget before middle of after = tt
-stop_within a b c d (Register index why) before middle of after = tt
-stop_within a b c d (UnknownInstruction index code) before middle of after = tt
-stop_within a b c d (Goto index to) before middle of after = tt
-stop_within a b c d (MoveTooLong index len) before middle of after = tt
-stop_within a b c d (NoAction code) before middle of after = tt
 stop_within a b c d (Space index fault) before middle of after = fault_within a b c d fault before middle of after
+stop_within a b c d stop before middle of after = tt
 
 pub error_within : (a b c d : ℕ) (error : ClientError) → a ≤ b → b ≤ c → OfError b c error → c ≤ d → OfError a d error
-error_within a b c d NoSpace before middle of after = tt
-error_within a b c d Hardware before middle of after = tt
-error_within a b c d Failed before middle of after = tt
-error_within a b c d Empty before middle of after = tt
-error_within a b c d NotFound before middle of after = tt
-error_within a b c d (Frame error) before middle of after = tt
-error_within a b c d (TooLong len range) before middle of after = tt
-error_within a b c d (SmallBuffer need) before middle of after = tt
-error_within a b c d (BadLength found) before middle of after = tt
-error_within a b c d (Status found) before middle of after = tt
 error_within a b c d (Stopped stop) before middle of after = stop_within a b c d stop before middle of after
-error_within a b c d (Trailing bytes) before middle of after = tt
 error_within a b c d (Range fault) before middle of after = fault_within a b c d fault before middle of after
-error_within a b c d (Late waited) before middle of after = tt
+error_within a b c d error before middle of after = tt
 
 pub answer_within : {T : Type 0} (a b c d : ℕ) (result : Result T ClientError) → a ≤ b → b ≤ c → OfAnswer b c result → c ≤ d → OfAnswer a d result
 answer_within a b c d (Ok value) before middle of after = tt
@@ -104,26 +86,16 @@ pauses_cause allows timings busy old result new a b pauses =
     ]
 
 pub fault_cause : {W : Type 0} (faults : W → ℕ) (old new : W) (fault : SpaceFault) → Leaves faults old new (Some fault) → OfFault (faults old) (faults new) fault
-fault_cause faults old new (Unmapped at) leaves = tt
-fault_cause faults old new (BadAccess at width) leaves = tt
-fault_cause faults old new (NotMemory at) leaves = tt
 fault_cause faults old new Device leaves = leaves
+fault_cause faults old new fault leaves = tt
 
 module _ {W : Type 0} (allows : W → Call → W → Type 0) (faults : W → ℕ) (reasons : (old new : W) (call : Call) → allows old call new → HasReason faults old call new) (entries : List Entry) where
   pub rises : (old new : W) → Reaches allows old new → faults old ≤ faults new
   rises old new so = never_falls allows faults reasons old new so
 
   stop_cause : (action : Action) (given budget : ℕ) (old : W) (stop : RunStop) (left : ℕ) (new : W) → Performs allows entries action given budget old (Err stop) left new → OfStop (faults old) (faults new) stop
-  stop_cause action given budget old Budget left new run = tt
-  stop_cause action given budget old (Register index why) left new run = tt
-  stop_cause action given budget old (UnknownInstruction index code) left new run = tt
-  stop_cause action given budget old (Goto index to) left new run = tt
-  stop_cause action given budget old (MoveTooLong index len) left new run = tt
-  stop_cause action given budget old (NoAction code) left new run = tt
-  stop_cause action given budget old (Space index (Unmapped at)) left new run = tt
-  stop_cause action given budget old (Space index (BadAccess at width)) left new run = tt
-  stop_cause action given budget old (Space index (NotMemory at)) left new run = tt
   stop_cause action given budget old (Space index Device) left new run = run_device allows faults reasons (program_of (code_of action) entries) given budget old index left new run
+  stop_cause action given budget old stop left new run = tt
 
   pub performs_cause : (action : Action) (given budget : ℕ) (old : W) (answer : Result ℕ RunStop) (left : ℕ) (new : W) → Performs allows entries action given budget old answer left new → OfAsked (faults old) (faults new) answer
   performs_cause action given budget old (Ok value) left new run = tt

@@ -1,9 +1,7 @@
 -- A device's fault in a command's answer has its cause.
-use Rattle.std.proofs.Common.{◌≡◌, ℕ, ◌-◌, ◌^◌, ◌==◌, nat_lt, not, ◌||◌, cond, Bool, true, false, List, length, Option, Some, None, Result, Ok, Err, sym, subst, arith, bit_and, slice_index}
+use Rattle.std.proofs.Common.{ℕ, ◌-◌, ◌^◌, ◌==◌, nat_lt, not, cond, Bool, true, false, List, length, Option, Some, None, Result, Ok, Err, sym, subst, arith, bit_and, slice_index}
 use Rattle.apei_space.specs.Calls.{Call, HasReason}
 use Rattle.apei_space.specs.Accesses.{Stays, Goes}
-use Rattle.cper_frame.specs.declared.error.FrameError.{FrameError}
-use Rattle.cper_frame.specs.Reading.{checked}
 use Rattle.erst_entries.specs.declared.actions.Action.TheVariants.{GetRecordCount, GetRecordIdentifier}
 use Rattle.erst_entries.specs.declared.entries.Entry.{Entry}
 use Rattle.erst_entries.specs.Layout.{Erst}
@@ -11,38 +9,16 @@ use Rattle.erst_interp.specs.declared.stops.RunStop.{RunStop}
 use Rattle.erst_client.specs.declared.errors.AttachError.{AttachError}
 use Rattle.erst_client.specs.declared.errors.AttachError.TheVariants.{NonVolatile, NoRange}
 use Rattle.erst_client.specs.declared.errors.ClientError.{ClientError}
-use Rattle.erst_client.specs.declared.errors.ClientError.TheVariants.{Hardware, TooLong, SmallBuffer, BadLength, Trailing}
+use Rattle.erst_client.specs.declared.errors.ClientError.TheVariants.{Hardware}
 use Rattle.erst_client.specs.Sequences.{write_requests, read_requests, Sequence}
-use Rattle.erst_client.specs.Commands.{ClientState, frame_refusal, Puts, NotPut, NotMarked, IsPut, Writes, IsNoRecord, IsNotPut, IsAsked, copy_refusal, copied, CopiesOut, IsFilled, IsNotFilled, Reads, IsNotRead, HasNoLength, IsNotCopied, IsCopied, counted, Counts, named, Names}
+use Rattle.erst_client.specs.Commands.{ClientState, Puts, NotPut, NotMarked, IsPut, Writes, IsNoRecord, IsNotPut, IsAsked, copied, CopiesOut, IsFilled, IsNotFilled, Reads, IsNotRead, HasNoLength, IsNotCopied, IsCopied, counted, Counts, named, Names}
 use Rattle.erst_client.specs.Attaching.{attach_requests, attached, client_of, Attaches}
-use Rattle.erst_client.specs.Causes.{OfError, OfAnswer, OfAttaching, HasDeviceCause, HasAttachCause}
+use Rattle.erst_client.specs.Causes.{OfAnswer, OfAttaching, HasDeviceCause, HasAttachCause}
 use Rattle.erst_client.proofs.SequenceLemmas.{sequence_on}
 use Rattle.erst_client.proofs.CommandLemmas.{puts_on, writes_on, copies_on, reads_on, counts_on, names_on}
 use Rattle.erst_client.proofs.AttachLemmas.{attaches_on}
+use Rattle.erst_client.proofs.RefusalLemmas.{write_own, copy_own, own_cause}
 use Rattle.erst_client.proofs.CauseLemmas.{OfAsked, fault_within, answer_within, fault_cause, rises, performs_cause, asks_cause, sequence_cause}
-
--- a refusal by the arguments or by the length read is no fault
-abbrev OfSome : ℕ → ℕ → Option ClientError → Type 0
-OfSome a b None = Unit {0}
-OfSome a b (Some error) = OfError a b error
-
-of_some : (a b : ℕ) (error : ClientError) (o : Option ClientError) → o ≡ Some error → OfSome a b o → OfError a b error
-of_some a b error o is of = subst (λ (p : Option ClientError). OfSome a b p) is of
-
-write_refusal_cause : (a b : ℕ) (found : Result ℕ FrameError) (have range : ℕ) → OfSome a b (frame_refusal found have range)
-write_refusal_cause a b (Err error) have range = tt
-write_refusal_cause a b (Ok len) have range = go (nat_lt len have) (nat_lt range have) where
-  go : (p q : Bool) → OfSome a b (cond p (Some (Trailing (have - len))) (cond q (Some (TooLong have range)) None))
-  go true q = tt
-  go false true = tt
-  go false false = tt
-
-copy_refusal_cause : (a b len range room : ℕ) → OfSome a b (copy_refusal len range room)
-copy_refusal_cause a b len range room = go (nat_lt len 128 || nat_lt range len) (nat_lt room len) where
-  go : (p q : Bool) → OfSome a b (cond p (Some (BadLength len)) (cond q (Some (SmallBuffer len)) None))
-  go true q = tt
-  go false true = tt
-  go false false = tt
 
 module _ {W : Type 0} (allows : W → Call → W → Type 0) (faults : W → ℕ) (reasons : (old new : W) (call : Call) → allows old call new → HasReason faults old call new) where
   puts_cause : (address : ℕ) (bytes : List ℕ) (old : W) (result : Result (Unit {0}) ClientError) (new : W) → Puts allows address bytes old result new → OfAnswer (faults old) (faults new) result
@@ -60,7 +36,7 @@ module _ {W : Type 0} (allows : W → Call → W → Type 0) (faults : W → ℕ
   writes_cause client bytes budget old result left last writes = record {
     never_falls = rises allows faults reasons client.table.entries old last (writes_on allows client bytes budget old result left last writes);
     of_answer = elim writes as (λ result left last writes. OfAnswer (faults old) (faults last) result) [
-      | IsNoRecord error is ↦ of_some (faults old) (faults old) error _ is (write_refusal_cause (faults old) (faults old) (checked (2 ^ 32 - 1) bytes) (length bytes) client.range)
+      | IsNoRecord error is ↦ own_cause (faults old) (faults old) error (write_own bytes client.range error is)
       | IsNotPut error last fits puts ↦ puts_cause client.address bytes old (Err error) last puts
       | IsAsked mid result left last fits puts sequence ↦
           answer_within (faults old) (faults mid) (faults last) (faults last) result (rises allows faults reasons client.table.entries old mid (puts_on allows client.address bytes old (Ok tt) mid puts))
@@ -86,7 +62,7 @@ module _ {W : Type 0} (allows : W → Call → W → Type 0) (faults : W → ℕ
           fault_within (faults old) (faults mid) (faults last) (faults last) fault
           (rises allows faults reasons client.table.entries old mid (sequence_on allows client.table.entries old client.timings (read_requests id) budget old (Ok tt) left mid Stays sequence))
           (reasons mid last _ size).never_falls (fault_cause faults mid last fault (reasons mid last _ size).leaves) (omega arith)
-      | IsNotCopied left mid field error last sequence size refused ↦ of_some (faults old) (faults last) error _ refused (copy_refusal_cause (faults old) (faults last) _ client.range (length out))
+      | IsNotCopied left mid field error last sequence size refused ↦ own_cause (faults old) (faults last) error (copy_own _ client.range (length out) error refused)
       | IsCopied left mid field next whole answer last sequence size fits copies ↦
           answer_within (faults old) (faults next) (faults last) (faults last) (copied answer _)
           (rises allows faults reasons client.table.entries old next (Goes mid _ next (sequence_on allows client.table.entries old client.timings (read_requests id) budget old (Ok tt) left mid Stays sequence) size))

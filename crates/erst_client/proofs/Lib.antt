@@ -4,4 +4,5 @@ pub mod SequenceLemmas
 pub mod CommandLemmas
 pub mod AttachLemmas
 pub mod CauseLemmas
+pub mod RefusalLemmas
 pub mod CommandCauses

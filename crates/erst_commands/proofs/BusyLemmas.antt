@@ -1,6 +1,6 @@
 -- What a device has begun ends, whatever its flash answers: so it is busy only so often.
-use Rattle.std.proofs.Common.{◌≡◌, ◌⊎◌, ℕ, zero, suc, ◌+◌, ◌*◌, ◌-◌, ◌≤◌, ◌<◌, Bool, true, false, cond, List, length, Option, Some, None, Result, Ok, Err, refl, sym, ap, subst, ◌∙◌, arith, inl, inr}
-use Rattle.std.specs.Prelude.{nat_eq, nat_lt, max, min, if◌then◌else◌}
+use Rattle.std.proofs.Common.{◌≡◌, ◌⊎◌, ℕ, zero, suc, ◌+◌, ◌*◌, ◌≤◌, ◌<◌, Bool, true, false, cond, List, length, Option, Some, None, Result, Ok, Err, refl, sym, ap, subst, ◌∙◌, arith, inl, inr}
+use Rattle.std.specs.Prelude.{nat_eq, nat_lt, max}
 use Rattle.std.proofs.lemmas.Bool.{cond-true, cond-false, eq-eqb, ne_eqb, ltb-false}
 use Rattle.std.proofs.lemmas.Option.{same_Some}
 use Rattle.base_model.specs.Bytes.{part, number_at}
@@ -31,7 +31,7 @@ use Rattle.erst_commands.proofs.LimitLemmas.{changes-most}
 use Rattle.erst_commands.proofs.StartLemmas.{idle_after}
 use Rattle.erst_commands.proofs.ReadLemmas.{value_shown}
 use Rattle.erst_commands.proofs.WayLemmas.{pause_late}
-use Rattle.erst_commands.proofs.SharedLemmas.{idle_busy, same_number, same_stop, no_stop, no_answer}
+use Rattle.erst_commands.proofs.SharedLemmas.{idle_busy, same_number, no_stop, no_answer}
 
 -- so many changes end what is pending
 abbrev pub IsBounded : ℕ → Layout → Pending → Type 0

@@ -1,29 +1,26 @@
 -- Each call of a client over the machine's own table has its cause.
-use Rattle.std.proofs.Common.{◌≡◌, ℕ, ◌-◌, ◌^◌, ◌≤◌, Bool, true, false, cond, List, [], ◌∷◌, length, Option, Some, None, Result, Ok, Err, refl, sym, ap, subst, ◌∙◌, arith}
-use Rattle.std.specs.Prelude.{◌||◌, nat_lt}
+use Rattle.std.proofs.Common.{◌≡◌, ℕ, ◌≤◌, true, List, [], ◌∷◌, length, Option, Result, Ok, Err, refl, sym, ap, subst, ◌∙◌, arith}
 use Rattle.base_model.specs.Faults.{Rose}
 use Rattle.base_model.specs.Bytes.{number_at}
 use Rattle.apei_space.specs.declared.faults.SpaceFault.{SpaceFault}
-use Rattle.cper_frame.specs.declared.error.FrameError.{FrameError}
-use Rattle.cper_frame.specs.Reading.{checked}
 use Rattle.record_store.specs.Store.{StoreView}
 use Rattle.erst_entries.specs.declared.actions.Action.TheVariants.{BeginWriteOperation, BeginReadOperation, BeginClearOperation, BeginDummyWriteOperation, SetRecordOffset, SetRecordIdentifier, ExecuteOperation}
 use Rattle.erst_client.specs.declared.errors.ClientError.{ClientError}
 use Rattle.erst_client.specs.declared.errors.ClientError.TheVariants.{Hardware, Range}
-use Rattle.erst_client.specs.Commands.{ClientState, frame_refusal, write_refusal, copy_refusal, Puts, NotPut, NotMarked, IsPut, Writes, IsNoRecord, IsNotPut, IsAsked, CopiesOut, IsFilled, IsNotFilled, copied, Reads, IsNotRead, HasNoLength, IsNotCopied, IsCopied}
+use Rattle.erst_client.specs.Commands.{ClientState, Writes, IsNoRecord, IsNotPut, IsAsked, CopiesOut, IsFilled, IsNotFilled, copied, Reads, IsNotRead, HasNoLength, IsNotCopied, IsCopied}
 use Rattle.erst_client.specs.Sequences.{write_requests, read_requests, clear_requests, dummy_requests, Sequence}
+use Rattle.erst_client.proofs.RefusalLemmas.{is_own, write_own, copy_own}
 use Rattle.erst_device.specs.declared.registers.Operation.TheVariants as operations
-use Rattle.erst_machine.specs.declared.areas.Spot.{Spot}
-use Rattle.erst_machine.specs.MachineState.{MachineState}
-use Rattle.erst_machine.specs.Allowed.{Allows, bytes_stored}
+use Rattle.erst_machine.specs.MachineState.{MachineState, IsMachine}
+use Rattle.erst_machine.specs.Allowed.{Allows}
 use Rattle.erst_machine.specs.OwnTables.{own_entries}
-use Rattle.erst_machine.proofs.CrashTrail.{stored_store}
 use Rattle.erst_commands.specs.OwnPrograms.{OwnProgramsRun}
 use Rattle.erst_commands.specs.Attached.{own_client}
 use Rattle.erst_commands.specs.Causes.{HasItsCause}
 use Rattle.erst_commands.proofs.SequenceLemmas.{begin_run}
 use Rattle.erst_commands.proofs.OwnProgramLemmas.{steps-begin_write, steps-begin_read, steps-begin_clear, steps-begin_dummy}
 use Rattle.erst_commands.proofs.CauseLemmas.{sequence_cause}
+use Rattle.erst_commands.proofs.PutLemmas.{has_put}
 
 -- The sequences
 
@@ -53,46 +50,16 @@ module _ (tells : Type 0) (own : OwnProgramsRun tells) where
       sequence_cause tells own first BeginDummyWriteOperation operations.Dummy (record { action = SetRecordOffset; given = 0 } ∷ record { action = ExecuteOperation; given = 0 } ∷ [])
       (λ budget result left last run. begin_run tells own first BeginDummyWriteOperation operations.Dummy refl refl refl (λ m. refl) steps-begin_dummy refl budget result left last run) timings budget
 
--- A refusal of the client's own is not `Hardware`
+-- Answers that are not `Hardware`
 
-no_refusal : (test : Bool) (refusal : ClientError) (other : Option ClientError) → (refusal ≡ Hardware → ⊥) → (other ≡ Some Hardware → ⊥) → cond {A = Option ClientError} test (Some refusal) other ≡ Some Hardware → ⊥
-no_refusal true refusal other apart rest e = apart (cc e)
-no_refusal false refusal other apart rest e = rest e
-
-frame_well : (answer : Result ℕ FrameError) (have range : ℕ) → frame_refusal answer have range ≡ Some Hardware → ⊥
-frame_well (Err error) have range e = absurd (cc e)
-frame_well (Ok len) have range e =
-    no_refusal (nat_lt len have) _ _ (λ same. absurd (cc same)) (no_refusal (nat_lt range have) _ None (λ same. absurd (cc same)) (λ none. absurd (cc none))) e
-
-write_well : (bytes : List ℕ) (range : ℕ) → write_refusal bytes range ≡ Some Hardware → ⊥
-write_well bytes range e = frame_well (checked (2 ^ 32 - 1) bytes) (length bytes) range e
-
-copy_well : (len range room : ℕ) → copy_refusal len range room ≡ Some Hardware → ⊥
-copy_well len range room e =
-    no_refusal (nat_lt len 128 || nat_lt range len) _ _ (λ same. absurd (cc same)) (no_refusal (nat_lt room len) _ None (λ same. absurd (cc same)) (λ none. absurd (cc none))) e
+own_not_hardware : (error : ClientError) → is_own error ≡ true → error ≡ Hardware → ⊥
+own_not_hardware error own is = absurd (cc (sym own ∙ ap is_own is))
 
 same_error : {T : Type 0} (error : ClientError) → ◌≡◌ {A = Result T ClientError} (Err error) (Err Hardware) → error ≡ Hardware
 same_error error e = cc
 
 not_range : {T : Type 0} (fault : SpaceFault) → ◌≡◌ {A = Result T ClientError} (Err (Range fault)) (Err Hardware) → ⊥
 not_range fault e = absurd (cc)
-
--- Bytes that are written leave the store alone
-
-module _ (tells : Type 0) where
-  stays : (spot : Spot) (old new : MachineState) (at : ℕ) (bytes : List ℕ) → new ≡ (bytes_stored spot old at bytes).1 → new.device.store ≡ old.device.store
-  stays spot old new at bytes is = ap (λ (m : MachineState). m.device.store) is ∙ stored_store spot old at bytes
-
-  record HasPut (old : MachineState) (result : Result (Unit {0}) ClientError) (new : MachineState) : Type 0 where
-    store : new.device.store ≡ old.device.store
-    well : result ≡ Err Hardware → ⊥
-
-  has_put : (address : ℕ) (bytes : List ℕ) (old : MachineState) (result : Result (Unit {0}) ClientError) (new : MachineState) → Puts (Allows tells) address bytes old result new → HasPut old result new
-  has_put address bytes old result new puts = elim puts as (λ result new puts. HasPut old result new) [
-    | NotPut fault last allowed ↦ record { store = stays _ old last _ _ allowed.1; well = λ e. not_range fault e }
-    | NotMarked mid fault last allowed marks ↦ record { store = stays _ mid last _ _ marks.1 ∙ stays _ old mid _ _ allowed.1; well = λ e. not_range fault e }
-    | IsPut mid last allowed marks ↦ record { store = stays _ mid last _ _ marks.1 ∙ stays _ old mid _ _ allowed.1; well = λ e. absurd (cc e) }
-  ]
 
 -- where the store is the same
 cause_same : {T : Type 0} (first last : MachineState) (result : Result T ClientError) → last.device.store ≡ first.device.store → (result ≡ Err Hardware → ⊥) → HasItsCause first last result
@@ -111,17 +78,19 @@ module _ (tells : Type 0) (client : ClientState) where
   }
 
   pub writes_cause : (bytes : List ℕ) (budget : ℕ) (first : MachineState) (result : Result (Unit {0}) ClientError) (left : ℕ) (last : MachineState)
-      → ((mid : MachineState) (result : Result (Unit {0}) ClientError) (left : ℕ) (last : MachineState)
+      → ((mid : MachineState) (result : Result (Unit {0}) ClientError) (left : ℕ) (last : MachineState) → (IsMachine first → IsMachine mid) → mid.device.store ≡ first.device.store
       → Sequence (Allows tells) client.table.entries client.timings write_requests budget mid result left last → HasItsCause mid last result)
       → Writes (Allows tells) client bytes budget first result left last → HasItsCause first last result
   writes_cause bytes budget first result left last by_sequence writes = elim writes as (λ result left last writes. HasItsCause first last result) [
     | IsNoRecord error is ↦
         cause_same first first (Err error) refl
-        (λ e. write_well bytes client.range (is ∙ ap (λ (x : ClientError). Some x) (same_error error e)))
-    | IsNotPut error last is puts ↦ let put = has_put tells _ bytes first (Err error) last puts in cause_same first last (Err error) put.store put.well
+        (λ e. own_not_hardware error (write_own bytes client.range error is) (same_error error e))
+    | IsNotPut error last is puts ↦
+        let put = has_put tells _ bytes first (Err error) last puts in
+        cause_same first last (Err error) put.store (λ e. let by = put.by_space error refl in not_range by.0 (ap (λ (x : ClientError). Err x) (sym by.1) ∙ e))
     | IsAsked mid result left last is puts sequence ↦
         let put = has_put tells _ bytes first (Ok tt) mid puts in
-        cause_from first mid last result put.store (by_sequence mid result left last sequence)
+        cause_from first mid last result put.store (by_sequence mid result left last put.machine put.store sequence)
   ]
 
   -- behind a read's sequence nothing is changed, and no error is `Hardware`
@@ -153,7 +122,7 @@ module _ (tells : Type 0) (client : ClientState) where
         read_behind first mid last (Err (Range fault)) (by_sequence (Ok tt) left mid sequence) length_at.2 (λ e. not_range fault e)
     | IsNotCopied left mid field error last sequence length_at refused ↦
         read_behind first mid last (Err error) (by_sequence (Ok tt) left mid sequence) length_at.2
-        (λ e. copy_well (number_at field 0 4) client.range (length out) (refused ∙ ap (λ (x : ClientError). Some x) (same_error error e)))
+        (λ e. own_not_hardware error (copy_own (number_at field 0 4) client.range (length out) error refused) (same_error error e))
     | IsCopied left mid field next whole answer last sequence length_at fits copies ↦
         let done = has_copied _ _ whole next answer last copies in
         read_behind first mid last (copied answer (number_at field 0 4)) (by_sequence (Ok tt) left mid sequence) (done.same ∙ length_at.2)
@@ -166,7 +135,7 @@ module _ (tells : Type 0) (own : OwnProgramsRun tells) where
   pub client_write_cause : (bytes : List ℕ) (budget : ℕ) (first : MachineState) (result : Result (Unit {0}) ClientError) (left : ℕ) (last : MachineState)
       → Writes (Allows tells) (own_client first) bytes budget first result left last → HasItsCause first last result
   client_write_cause bytes budget first result left last =
-      writes_cause tells (own_client first) bytes budget first result left last (λ mid result left last. write_cause tells own (own_client first).timings budget mid result left last)
+      writes_cause tells (own_client first) bytes budget first result left last (λ mid result left last kept same. write_cause tells own (own_client first).timings budget mid result left last)
 
   pub client_read_cause : (id : ℕ) (out : List ℕ) (budget : ℕ) (first : MachineState) (result : Result ℕ ClientError) (after : List ℕ) (left : ℕ) (last : MachineState)
       → Reads (Allows tells) (own_client first) id out budget first result after left last → HasItsCause first last result

@@ -1,7 +1,5 @@
 -- A client's read over the machine.
-use Rattle.std.proofs.Common.{◌≡◌, ℕ, ◌^◌, ◌<◌, ◌≤◌, Bool, true, false, cond, List, [], ◌∷◌, ◌++◌, length, take, drop, Option, Some, None, Result, Ok, Err, refl, sym, ap, subst, ◌∙◌, arith}
-use Rattle.std.specs.Prelude.{◌||◌, nat_lt}
-use Rattle.std.proofs.lemmas.Bool.{ltb-false}
+use Rattle.std.proofs.Common.{◌≡◌, ℕ, ◌^◌, ◌<◌, ◌≤◌, List, [], ◌∷◌, ◌++◌, length, take, drop, Some, None, Result, Ok, Err, refl, sym, ap, subst, ◌∙◌, arith}
 use Rattle.std.proofs.lemmas.List.{length-take, take_at}
 use Rattle.base_model.specs.Bytes.{part, little, number_at, put_at}
 use Rattle.base_model.proofs.BytesLemmas.{length-put_at, number_at-part, part-append_left}
@@ -9,6 +7,7 @@ use Rattle.apei_space.specs.declared.faults.SpaceFault.{SpaceFault}
 use Rattle.apei_space.specs.Calls.{ReadBytes}
 use Rattle.erst_client.specs.declared.errors.ClientError.{ClientError}
 use Rattle.erst_client.specs.Commands.{copy_refusal, CopiesOut, IsFilled, IsNotFilled, copied, Reads, IsNotRead as not_read, HasNoLength, IsNotCopied as not_copied, IsCopied as is_copied}
+use Rattle.erst_client.proofs.RefusalLemmas.{copies}
 use Rattle.erst_machine.specs.declared.areas.Spot.{Spot}
 use Rattle.erst_machine.specs.MachineState.{MachineState, IsMachine, reach_in}
 use Rattle.erst_machine.specs.Allowed.{Allows, bytes_read}
@@ -35,23 +34,6 @@ ok_length first last id budget result left command = elim command as (λ result 
   | StopsBehind result made least short ↦ kept_length first last id result made
   | StopsBefore leaves range cursor which short ↦ ap length range
 ]
-
--- bytes that are copied out are those of a record in the range and fit the buffer
-pub record Copies (len range room : ℕ) : Type 0 where
-  pub least : 128 ≤ len
-  pub within : len ≤ range
-  pub fits : len ≤ room
-
-pub copies : (len range room : ℕ) → copy_refusal len range room ≡ None → Copies len range room
-copies len range room is =
-    let tests = by_tests (nat_lt len 128) (nat_lt range len) (nat_lt room len) _ _ is in
-    record { least = ltb-false len 128 tests.0; within = ltb-false range len tests.1; fits = ltb-false room len tests.2 }
-  where
-    by_tests : (a b c : Bool) (first second : ClientError) → cond {A = Option ClientError} (a || b) (Some first) (cond c (Some second) None) ≡ None → (a ≡ false) × (b ≡ false) × (c ≡ false)
-    by_tests true b c first second h = absurd (cc h)
-    by_tests false true c first second h = absurd (cc h)
-    by_tests false false true first second h = absurd (cc h)
-    by_tests false false false first second h = (refl, refl, refl)
 
 module _ (tells : Type 0) (mid : MachineState) (reach : ℕ) (range_is : length mid.memory.range ≡ reach) where
   length_read : 24 ≤ reach → (field : List ℕ) (answer : Result (Unit {0}) SpaceFault) (new : MachineState) → Allows tells mid (ReadBytes 0x100014 (0 ∷ 0 ∷ 0 ∷ 0 ∷ []) field answer) new

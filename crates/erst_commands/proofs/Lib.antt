@@ -17,6 +17,7 @@ pub mod ReadLemmas
 pub mod CopyLemmas
 pub mod EnoughLemmas
 pub mod CauseLemmas
+pub mod PutLemmas
 pub mod CallCauses
 pub mod BusyLemmas
 pub mod ThroughLemmas

@@ -9,8 +9,8 @@ use Rattle.cper_frame.specs.declared.error.FrameError.{FrameError}
 use Rattle.cper_frame.specs.declared.error.FrameError.TheVariants.{Need, Start, End, Length, Limit}
 use Rattle.cper_frame.specs.Reading.{signature, section_count, record_length, misplaced, length_if_placed, head_verdict, checked}
 use Rattle.cper_frame.specs.Grammar.{bodies_from}
-use Rattle.erst_client.specs.declared.errors.ClientError.{ClientError}
 use Rattle.erst_client.specs.Commands.{write_refusal, frame_refusal}
+use Rattle.erst_client.proofs.RefusalLemmas.{length_fits}
 use Rattle.erst_machine.specs.declared.areas.Area.TheVariants.{Scratch, LogRange}
 use Rattle.erst_machine.specs.declared.areas.Spot.{Spot}
 use Rattle.erst_machine.specs.declared.areas.Spot.TheVariants.{Inside, Beyond, Nowhere}
@@ -73,18 +73,12 @@ checked_says bytes len is =
 pub not_refused : (bytes : List ℕ) (range : ℕ) → write_refusal bytes range ≡ None → IsRecord bytes range
 not_refused bytes range is = by_verdict (checked (2 ^ 32 - 1) bytes) refl is
   where
-    by_tests : (len : ℕ) (a b : Bool) (first second : ClientError) → cond {A = Option ClientError} a (Some first) (cond b (Some second) None) ≡ None → (a ≡ false) × (b ≡ false)
-    by_tests len true b first second h = absurd (cc h)
-    by_tests len false true first second h = absurd (cc h)
-    by_tests len false false first second h = (refl, refl)
-
     by_verdict : (verdict : Result ℕ FrameError) → checked (2 ^ 32 - 1) bytes ≡ verdict → frame_refusal verdict (length bytes) range ≡ None → IsRecord bytes range
     by_verdict (Err error) verdict_is refused = absurd (cc refused)
     by_verdict (Ok len) verdict_is refused =
-        let tests = by_tests len (nat_lt len (length bytes)) (nat_lt range (length bytes)) _ _ refused in
+        let fit = length_fits len (length bytes) range refused in
         let says = checked_says bytes len verdict_is in
-        let no_more = false_lt len (length bytes) tests.0 in
-        record { least = says.0; size = omega (arith, says.1, says.2, no_more); fits = false_lt range (length bytes) tests.1 }
+        record { least = says.0; size = omega (arith, says.1, says.2, fit.whole); fits = fit.within }
 
 -- The record in the range
 

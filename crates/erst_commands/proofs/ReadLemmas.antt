@@ -20,7 +20,7 @@ use Rattle.record_store.specs.Answers.{AnswersRead, HasFaultsOf, copies_of}
 use Rattle.record_store.specs.declared.errors.StoreError.{StoreError}
 use Rattle.record_store.specs.declared.errors.StoreError.TheVariants as errors
 use Rattle.record_store.proofs.StoredLemmas.{stored_says, reserved_absent}
-use Rattle.erst_entries.specs.declared.actions.Action.TheVariants.{BeginReadOperation, CheckBusyStatus}
+use Rattle.erst_entries.specs.declared.actions.Action.TheVariants.{CheckBusyStatus}
 use Rattle.erst_entries.specs.Programs.{entries_of}
 use Rattle.erst_interp.specs.declared.stops.RunStop.{RunStop}
 use Rattle.erst_interp.specs.declared.stops.RunStop.TheVariants.{Budget}
@@ -29,7 +29,6 @@ use Rattle.erst_client.specs.declared.errors.ClientError.TheVariants.{Hardware, 
 use Rattle.erst_client.specs.Requests.{Performs, Asks}
 use Rattle.erst_client.specs.Sequences.{Busy, NotYet, Again, Waits, IsIdle, IsStopped, IsLate, judged, read_requests, Sequence}
 use Rattle.erst_client.specs.Steps.{steps_needed}
-use Rattle.erst_device.specs.declared.registers.Operation.TheVariants as operations
 use Rattle.erst_device.specs.declared.status.CommandStatus.{CommandStatus}
 use Rattle.erst_device.specs.declared.status.CommandStatus.TheVariants as statuses
 use Rattle.erst_device.specs.Statuses.{number_of, status_of}
@@ -46,7 +45,7 @@ use Rattle.erst_commands.specs.Changes.{OfEmpty, OfNotFound}
 use Rattle.erst_commands.specs.Reads.{ReadLeaves, ReadAsked, ReadMade, IsRead, IsRefused, IsFailed, steps_to, ReadCommand, Answers, StopsBehind, StopsBefore}
 use Rattle.erst_commands.proofs.ActionCases.{checks_reading}
 use Rattle.erst_commands.proofs.MachineSteps.{on_device, acted_range}
-use Rattle.erst_commands.proofs.OwnProgramLemmas.{steps-begin_read, steps-check}
+use Rattle.erst_commands.proofs.OwnProgramLemmas.{steps-check}
 use Rattle.erst_commands.proofs.LookLemmas.{has_asked, has_failed}
 use Rattle.erst_commands.proofs.RangeLemmas.{at-start}
 use Rattle.erst_commands.proofs.ChangeLemmas.{kept_map, abandoned_idle}

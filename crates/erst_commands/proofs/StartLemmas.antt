@@ -18,7 +18,6 @@ use Rattle.record_store.specs.Answers.{HasFaultsOf, HasDoubtAtStart, RefusesWrit
 use Rattle.record_store.specs.Calls.{OnlyStarts}
 use Rattle.record_store.specs.declared.errors.StoreError.{StoreError}
 use Rattle.record_store.specs.declared.errors.StoreError.TheVariants as errors
-use Rattle.erst_entries.specs.declared.actions.Action.TheVariants.{BeginWriteOperation, BeginClearOperation, BeginDummyWriteOperation}
 use Rattle.erst_entries.specs.Programs.{entries_of}
 use Rattle.erst_interp.specs.declared.stops.RunStop.{RunStop}
 use Rattle.erst_interp.specs.declared.stops.RunStop.TheVariants.{Budget}
@@ -44,7 +43,6 @@ use Rattle.erst_commands.specs.Attached.{own_client}
 use Rattle.erst_commands.specs.Changes.{OfFailed, OfNoSpace, OfNotFound, copies_first, HoldsRecord, ChangeCommand, DummyLeaves, DummyCommand, IsPlayed, IsCut}
 use Rattle.erst_commands.proofs.MachineSteps.{on_device}
 use Rattle.erst_commands.proofs.LimitLemmas.{changes-most}
-use Rattle.erst_commands.proofs.OwnProgramLemmas.{steps-begin_write, steps-begin_clear, steps-begin_dummy}
 use Rattle.erst_commands.proofs.SequenceLemmas.{Untouched, Opened, opened_weaker, opened_ok, opened_short, StillWaited, IsAtOnce, IsShort, wait_still, ended_from, status_in, HasTold, HasNotTold, HasNotWaited, HasNotAsked, sequence_ends}
 use Rattle.erst_commands.proofs.OpenLemmas.{IsOn, offset_device, clearing_device, write_opens, dummy_opens, clear_opens}
 use Rattle.erst_commands.proofs.WayLemmas.{Leads, write_leads, some_changes}

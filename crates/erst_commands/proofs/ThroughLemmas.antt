@@ -1,44 +1,37 @@
 -- With the steps that are enough by the machine's timings every command goes through, whatever the flash tells.
-use Rattle.std.proofs.Common.{◌≡◌, ◌⊎◌, ℕ, ◌+◌, ◌*◌, ◌-◌, ◌^◌, ◌≤◌, ◌<◌, Bool, true, false, cond, List, [], ◌∷◌, length, Option, Some, None, Result, Ok, Err, refl, sym, ap, subst, ◌∙◌, arith, inl, inr}
-use Rattle.std.specs.Prelude.{max, codes, nat_lt, ◌||◌, ◌==◌}
+use Rattle.std.proofs.Common.{◌≡◌, ℕ, ◌+◌, ◌*◌, ◌-◌, ◌^◌, ◌≤◌, ◌<◌, Bool, true, false, cond, List, length, Option, Some, None, Result, Ok, Err, refl, sym, ap, subst, ◌∙◌, arith}
+use Rattle.std.specs.Prelude.{◌==◌}
 use Rattle.base_model.specs.Bytes.{number_at}
 use Rattle.apei_space.specs.declared.faults.SpaceFault.{SpaceFault}
-use Rattle.apei_space.specs.Calls.{WriteBytes}
 use Rattle.flash_words.specs.Layout.{Layout, room_of, reach_of}
 use Rattle.record_store.specs.Store.{StoreView}
-use Rattle.cper_frame.specs.declared.error.FrameError.{FrameError}
-use Rattle.cper_frame.specs.Reading.{checked as framed}
 use Rattle.erst_entries.specs.declared.actions.Action.{Action}
-use Rattle.erst_entries.specs.declared.actions.Action.TheVariants.{BeginWriteOperation, BeginReadOperation, BeginClearOperation, BeginDummyWriteOperation, SetRecordOffset, SetRecordIdentifier, ExecuteOperation, GetRecordCount, GetRecordIdentifier}
+use Rattle.erst_entries.specs.declared.actions.Action.TheVariants.{GetRecordCount, GetRecordIdentifier}
 use Rattle.erst_interp.specs.declared.stops.RunStop.{RunStop}
-use Rattle.erst_interp.specs.declared.stops.RunStop.TheVariants.{Budget}
 use Rattle.erst_client.specs.declared.errors.ClientError.{ClientError}
-use Rattle.erst_client.specs.declared.errors.ClientError.TheVariants.{Hardware, Frame, Trailing, TooLong, BadLength, SmallBuffer, Stopped, Late, Range}
+use Rattle.erst_client.specs.declared.errors.ClientError.TheVariants.{Hardware, Stopped, Late, Range}
 use Rattle.erst_client.specs.declared.requests.Request.{Request}
 use Rattle.erst_client.specs.Timings.{enough_steps}
-use Rattle.erst_client.specs.Requests.{Performs, Asks}
-use Rattle.erst_client.specs.Commands.{ClientState, frame_refusal, copy_refusal, address_in, Puts, NotPut, NotMarked, IsPut, Writes, IsNoRecord, IsNotPut, IsAsked, CopiesOut, IsFilled, IsNotFilled, copied, Reads, IsNotRead, HasNoLength, IsNotCopied, IsCopied, Counts, Names, counted as count_answer, named as next_answer}
+use Rattle.erst_client.specs.Requests.{Asks}
+use Rattle.erst_client.specs.Commands.{ClientState, Writes, IsNoRecord, IsNotPut, IsAsked, CopiesOut, IsFilled, IsNotFilled, copied, Reads, IsNotRead, HasNoLength, IsNotCopied, IsCopied, Counts, Names, counted as count_answer, named as next_answer}
+use Rattle.erst_client.proofs.RefusalLemmas.{is_own, write_own, copy_own}
 use Rattle.erst_client.specs.Sequences.{Waits, write_requests, read_requests, clear_requests, dummy_requests, judged, Sequence}
-use Rattle.erst_device.specs.declared.registers.Operation.{Operation}
 use Rattle.erst_device.specs.declared.registers.Operation.TheVariants as operations
 use Rattle.erst_device.specs.declared.status.CommandStatus.{CommandStatus}
 use Rattle.erst_device.specs.declared.status.CommandStatus.TheVariants as statuses
 use Rattle.erst_device.specs.Statuses.{number_of}
 use Rattle.erst_device.specs.Timings.{most_changes}
 use Rattle.erst_device.specs.DeviceState.{DeviceState, IsStill}
-use Rattle.erst_device.specs.Starts.{Starts}
-use Rattle.erst_machine.specs.MachineState.{MachineState, IsMachine, reach_in, spot_at}
+use Rattle.erst_machine.specs.MachineState.{MachineState, IsMachine, reach_in}
 use Rattle.erst_machine.specs.Allowed.{Allows}
 use Rattle.erst_machine.specs.OwnTables.{own_entries}
-use Rattle.erst_machine.proofs.KeptLemmas.{kept_allowed}
-use Rattle.erst_machine.proofs.CrashTrail.{stored_store}
 use Rattle.erst_commands.specs.OwnPrograms.{OwnRun, IsMade, StopsAtOnce, StopsBefore, StopsBehind, OwnProgramsRun}
 use Rattle.erst_commands.specs.Attached.{own_client}
 use Rattle.erst_commands.specs.Causes.{GoesThrough}
-use Rattle.erst_commands.proofs.MachineSteps.{on_device}
 use Rattle.erst_commands.proofs.SequenceLemmas.{Opened, HasTold, HasNotTold, HasNotWaited, HasNotAsked, sequence_ends, opened_ok, opened_short}
 use Rattle.erst_commands.proofs.OpenLemmas.{IsOn, offset_device, clearing_device, reading_device, write_opens, dummy_opens, clear_opens, read_opens}
 use Rattle.erst_commands.proofs.EnoughLemmas.{HasSteps, has_steps, enough-most}
+use Rattle.erst_commands.proofs.PutLemmas.{has_put}
 use Rattle.erst_commands.proofs.BusyLemmas.{StartsFinite, starts_finite, WaitsThrough, waits_through}
 
 -- Answers that are neither a stop nor late
@@ -158,63 +151,13 @@ module _ (tells : Type 0) (own : OwnProgramsRun tells) (first : MachineState) (b
 
 -- A client's write and read
 
--- a refusal of the client's own is neither
-record IsOwn (refusal : ClientError) : Type 0 where
-  no_stop : (stop : RunStop) → refusal ≡ Stopped stop → ⊥
-  not_late : (waited : ℕ) → refusal ≡ Late waited → ⊥
-
-of_own : {T : Type 0} (refusal : ClientError) → IsOwn refusal → GoesThrough {T = T} (Err refusal)
-of_own {T} refusal is = record { not_stopped = λ stop e. is.no_stop stop (same refusal (Stopped stop) e); in_time = λ waited e. is.not_late waited (same refusal (Late waited) e) }
+pub own_through : {T : Type 0} (error : ClientError) → is_own error ≡ true → GoesThrough {T = T} (Err error)
+own_through {T} error own = record { not_stopped = λ stop e. absurd (cc (sym own ∙ ap is_own (same error (Stopped stop) e))); in_time = λ waited e. absurd (cc (sym own ∙ ap is_own (same error (Late waited) e))) }
   where
     same : (x y : ClientError) → ◌≡◌ {A = Result T ClientError} (Err x) (Err y) → x ≡ y
     same x y e = cc
 
-some_own : (test : Bool) (refusal : ClientError) (other : Option ClientError) (error : ClientError) → IsOwn refusal → (other ≡ Some error → IsOwn error) → cond {A = Option ClientError} test (Some refusal) other ≡ Some error → IsOwn error
-some_own true refusal other error own rest e = subst (λ (x : ClientError). IsOwn x) (cc e) own
-some_own false refusal other error own rest e = rest e
-
-none_own : (error : ClientError) → ◌≡◌ {A = Option ClientError} None (Some error) → IsOwn error
-none_own error e = absurd (cc e)
-
-length_own : (len have range : ℕ) (error : ClientError) → frame_refusal (Ok len) have range ≡ Some error → IsOwn error
-length_own len have range error e =
-    some_own (nat_lt len have) (Trailing (have - len)) _ error (record { no_stop = λ stop e. absurd (cc e); not_late = λ waited e. absurd (cc e) })
-    (some_own (nat_lt range have) (TooLong have range) None error (record { no_stop = λ stop e. absurd (cc e); not_late = λ waited e. absurd (cc e) }) (none_own error)) e
-
-frame_own : (answer : Result ℕ FrameError) (have range : ℕ) (error : ClientError) → frame_refusal answer have range ≡ Some error → IsOwn error
-frame_own (Err why) have range error e = some_own true (Frame why) None error (record { no_stop = λ stop e. absurd (cc e); not_late = λ waited e. absurd (cc e) }) (none_own error) e
-frame_own (Ok len) have range error e = length_own len have range error e
-
-copy_own : (len range room : ℕ) (error : ClientError) → copy_refusal len range room ≡ Some error → IsOwn error
-copy_own len range room error e =
-    some_own (nat_lt len 128 || nat_lt range len) (BadLength len) _ error (record { no_stop = λ stop e. absurd (cc e); not_late = λ waited e. absurd (cc e) })
-    (some_own (nat_lt room len) (SmallBuffer len) None error (record { no_stop = λ stop e. absurd (cc e); not_late = λ waited e. absurd (cc e) }) (none_own error)) e
-
--- bytes that are put leave a machine with the same timings and as long a log range
-record HasPut (tells : Type 0) (old : MachineState) (result : Result (Unit {0}) ClientError) (new : MachineState) : Type 0 where
-  through : GoesThrough result
-  machine : IsMachine old → IsMachine new
-  layout : new.device.store.layout ≡ old.device.store.layout
-
 module _ (tells : Type 0) where
-  put_layout : (old new : MachineState) (at : ℕ) (bytes : List ℕ) (answer : Result (Unit {0}) SpaceFault) → Allows tells old (WriteBytes at bytes answer) new → new.device.store.layout ≡ old.device.store.layout
-  put_layout old new at bytes answer allowed = ap (λ (s : StoreView). s.layout) (ap (λ (m : MachineState). m.device.store) allowed.1 ∙ stored_store (spot_at old at (length bytes)) old at bytes)
-
-  has_put : (address : ℕ) (bytes : List ℕ) (old : MachineState) (result : Result (Unit {0}) ClientError) (new : MachineState) → Puts (Allows tells) address bytes old result new → HasPut tells old result new
-  has_put address bytes old result new puts = elim puts as (λ result new puts. HasPut tells old result new) [
-    | NotPut fault last allowed ↦ record { through = through_range fault; machine = kept_allowed tells old last (WriteBytes address bytes (Err fault)) allowed; layout = put_layout old last address bytes (Err fault) allowed }
-    | NotMarked mid fault last allowed marks ↦ record {
-      through = through_range fault;
-      machine = λ is. kept_allowed tells mid last (WriteBytes (address_in address 108) (codes "ER") (Err fault)) marks (kept_allowed tells old mid (WriteBytes address bytes (Ok tt)) allowed is);
-      layout = put_layout mid last (address_in address 108) (codes "ER") (Err fault) marks ∙ put_layout old mid address bytes (Ok tt) allowed;
-    }
-    | IsPut mid last allowed marks ↦ record {
-      through = through_ok tt;
-      machine = λ is. kept_allowed tells mid last (WriteBytes (address_in address 108) (codes "ER") (Ok tt)) marks (kept_allowed tells old mid (WriteBytes address bytes (Ok tt)) allowed is);
-      layout = put_layout mid last (address_in address 108) (codes "ER") (Ok tt) marks ∙ put_layout old mid address bytes (Ok tt) allowed;
-    }
-  ]
-
   copied_through : (address : ℕ) (before after : List ℕ) (old : MachineState) (answer : Result (Unit {0}) ClientError) (new : MachineState) (len : ℕ) → CopiesOut (Allows tells) address before after old answer new → GoesThrough (copied answer len)
   copied_through address before after old answer new len copies = elim copies as (λ answer new copies. GoesThrough (copied answer len)) [
     | IsFilled new allowed ↦ through_ok len
@@ -235,11 +178,13 @@ module _ (tells : Type 0) (client : ClientState) where
       → Sequence (Allows tells) client.table.entries client.timings write_requests budget mid result left last → GoesThrough result)
       → Writes (Allows tells) client bytes budget first result left last → GoesThrough result
   writes_through bytes budget first machine result left last by_sequence writes = elim writes as (λ result left last writes. GoesThrough result) [
-    | IsNoRecord error is ↦ of_own error (frame_own (framed (2 ^ 32 - 1) bytes) (length bytes) client.range error is)
-    | IsNotPut error last is puts ↦ (has_put tells _ bytes first (Err error) last puts).through
+    | IsNoRecord error is ↦ own_through error (write_own bytes client.range error is)
+    | IsNotPut error last is puts ↦
+        let by = (has_put tells _ bytes first (Err error) last puts).by_space error refl in
+        subst (λ (x : ClientError). GoesThrough {T = Unit {0}} (Err x)) (sym by.1) (through_range by.0)
     | IsAsked mid result left last is puts sequence ↦
         let put = has_put tells _ bytes first (Ok tt) mid puts in
-        by_sequence mid result left last (put.machine machine) put.layout sequence
+        by_sequence mid result left last (put.machine machine) (ap (λ (s : StoreView). s.layout) put.store) sequence
   ]
 
   pub reads_through : (id : ℕ) (out : List ℕ) (budget : ℕ) (first : MachineState) (result : Result ℕ ClientError) (after : List ℕ) (left : ℕ) (last : MachineState)
@@ -249,7 +194,7 @@ module _ (tells : Type 0) (client : ClientState) where
   reads_through id out budget first result after left last by_sequence reads = elim reads as (λ result after left last reads. GoesThrough result) [
     | IsNotRead error left last sequence ↦ error_through error (by_sequence (Err error) left last sequence)
     | HasNoLength left mid field fault last sequence length_at ↦ through_range fault
-    | IsNotCopied left mid field error last sequence length_at refused ↦ of_own error (copy_own (number_at field 0 4) client.range (length out) error refused)
+    | IsNotCopied left mid field error last sequence length_at refused ↦ own_through error (copy_own (number_at field 0 4) client.range (length out) error refused)
     | IsCopied left mid field next whole answer last sequence length_at fits copies ↦ copied_through tells _ _ whole next answer last (number_at field 0 4) copies
   ]
 

@@ -1,5 +1,5 @@
 -- A client's commands by the table.
-use Rattle.std.proofs.Common.{◌≡◌, ◌∙◌, ℕ, ◌+◌, ◌*◌, ◌^◌, ◌≤◌, ◌<◌, List, [], ◌∷◌, ◌++◌, length, take, drop, Some, None, Result, Ok, Err, refl, sym, ap, subst, arith}
+use Rattle.std.proofs.Common.{◌≡◌, ◌∙◌, ℕ, ◌+◌, ◌*◌, ◌^◌, ◌≤◌, ◌<◌, List, [], ◌∷◌, ◌++◌, length, take, drop, Option, Some, None, Result, Ok, Err, refl, sym, ap, subst, arith}
 use Rattle.std.specs.Prelude.{codes}
 use Rattle.std.proofs.lemmas.List.{length-take}
 use Rattle.base_model.specs.Bytes.{part, number_at, put_at}
@@ -8,6 +8,7 @@ use Rattle.apei_space.specs.declared.faults.SpaceFault.{SpaceFault}
 use Rattle.apei_space.specs.Calls.{WriteBytes, ReadBytes}
 use Rattle.record_model.specs.RecordMap.{Write, Clear}
 use Rattle.erst_client.specs.declared.errors.ClientError.{ClientError}
+use Rattle.erst_client.specs.declared.requests.Request.{Request}
 use Rattle.erst_client.specs.Commands.{Puts, NotPut, NotMarked, IsPut, Writes, IsNoRecord as refused, IsNotPut, IsAsked, copy_refusal, CopiesOut, IsFilled, IsNotFilled, copied, Reads, IsNotRead as not_read, HasNoLength, IsNotCopied as not_copied, IsCopied as is_copied}
 use Rattle.erst_client.specs.Sequences.{write_requests, read_requests, clear_requests, dummy_requests, Sequence}
 use Rattle.erst_machine.specs.declared.areas.Area.TheVariants.{Scratch}
@@ -21,12 +22,13 @@ use Rattle.erst_commands.specs.Changes.{HoldsRecord}
 use Rattle.erst_commands.specs.Writes.{marked, id_of}
 use Rattle.erst_commands.proofs.RangeLemmas.{IsRecord, not_refused, marked-put, holds-marked}
 use Rattle.erst_commands.proofs.LimitLemmas.{reach-least}
-use Rattle.erst_commands.proofs.CopyLemmas.{copies}
+use Rattle.erst_client.proofs.RefusalLemmas.{copies}
 use Rattle.erst_commands.proofs.StartLemmas.{write_command, clear_command, dummy_command}
 use Rattle.erst_commands.proofs.ReadLemmas.{read_command}
 use Rattle.erst_shadow.specs.ShadowTables.{shadow_entries}
 use Rattle.erst_shadow.specs.ShadowMoves.{holding, HoldsPieces, range_with_record}
-use Rattle.erst_shadow.specs.ShadowCommands.{pieces_in, shadow_client, ShadowChange, ShadowDummy, ShadowWriteAnswered, IsNoRecord, IsWritten, ShadowRead, ShadowReadAnswered, IsNotRead, IsNotCopied, IsCopied}
+use Rattle.erst_shadow.specs.ShadowSequences.{SequenceAsOwn}
+use Rattle.erst_shadow.specs.ShadowCommands.{pieces_in, shadow_client, AsOwn, ShadowChange, ShadowDummy, ShadowWriteAnswered, IsNoRecord, IsWritten, ShadowRead, ShadowReadAnswered, IsNotRead, IsNotCopied, IsCopied}
 use Rattle.erst_shadow.proofs.SequenceLemmas.{write_as_own, clear_as_own, read_as_own, dummy_as_own}
 
 no_fault : (fault : SpaceFault) → ◌≡◌ {A = Result (Unit {0}) SpaceFault} (Err fault) (Ok tt) → ⊥
@@ -77,43 +79,40 @@ holds_moved state pieces id bytes rooms holds fits =
       name = holds.name;
     }
 
+-- a command by the machine's own table, from its sequence
+as_own : {tells : Type 0} {pieces : ℕ} {timings : Option (ℕ × ℕ)} {requests : List Request} {Own : MachineState → MachineState → ℕ → Result (Unit {0}) ClientError → ℕ → Type 0} (budget : ℕ) (first : MachineState) (result : Result (Unit {0}) ClientError) (left : ℕ) (last : MachineState)
+    (is : SequenceAsOwn tells pieces timings requests budget first result left last) → Own (holding (range_with_record pieces first) is.scratch first) is.own_last is.own_budget result is.own_left → AsOwn pieces first last Own budget result left
+as_own {tells} {pieces} {timings} {requests} {Own} budget first result left last is own = record {
+  own_first = holding (range_with_record pieces first) is.scratch first;
+  own_last = is.own_last;
+  own_budget = is.own_budget;
+  own_left = is.own_left;
+  first_is = refl;
+  last_is = is.last_is;
+  own = own;
+  paid = is.paid;
+  shown = is.shown;
+}
+
 module _ (tells : Type 0) (own : OwnProgramsRun tells) where
   pub shadow_dummy : (first : MachineState) (pieces : ℕ) → HoldsPieces first pieces
       → (budget : ℕ) (result : Result (Unit {0}) ClientError) (left : ℕ) (last : MachineState) → Sequence (Allows tells) (shadow_entries pieces) (own_client first).timings dummy_requests budget first result left last
       → ShadowDummy pieces first last budget result left
   shadow_dummy first pieces rooms budget result left last sequence =
       let is = dummy_as_own tells own pieces (own_client first).timings budget first rooms result left last sequence in
-      record {
-        own_first = holding (range_with_record pieces first) is.scratch first;
-        own_last = is.own_last;
-        own_budget = is.own_budget;
-        own_left = is.own_left;
-        first_is = refl;
-        last_is = is.last_is;
-        paid = is.paid;
-        shown = is.shown;
-        own = dummy_command tells own (holding (range_with_record pieces first) is.scratch first) is.own_budget result is.own_left is.own_last is.sequence;
-      }
+      as_own budget first result left last is (dummy_command tells own (holding (range_with_record pieces first) is.scratch first) is.own_budget result is.own_left is.own_last is.sequence)
 
 module _ (tells : Type 0) (own : OwnProgramsRun tells) (told : tells) where
   -- the sequence of a write from a scratch memory that begins with the record
   pub shadow_write : (first : MachineState) (pieces id : ℕ) (bytes : List ℕ) → HoldsPieces first pieces → HoldsRecord first.memory.scratch id bytes → length bytes ≤ 128 * pieces → 128 * pieces ≤ reach_in first.device
       → (budget : ℕ) (result : Result (Unit {0}) ClientError) (left : ℕ) (last : MachineState) → Sequence (Allows tells) (shadow_entries pieces) (own_client first).timings write_requests budget first result left last
       → (change : ShadowChange pieces first last id (Write id bytes) write_requests budget result left) × (part change.own_first.memory.range 0 (length bytes) ≡ bytes)
+  unfolding as_own
   shadow_write first pieces id bytes rooms holds fits reach budget result left last sequence =
       let is = write_as_own tells own pieces (own_client first).timings budget first rooms result left last sequence in
       let there = holds_moved first pieces id bytes rooms holds fits in (
-        record {
-          own_first = holding (range_with_record pieces first) is.scratch first;
-          own_last = is.own_last;
-          own_budget = is.own_budget;
-          own_left = is.own_left;
-          first_is = refl;
-          last_is = is.last_is;
-          paid = is.paid;
-          shown = is.shown;
-          own = write_command tells own told (holding (range_with_record pieces first) is.scratch first) id bytes there (omega arith) is.own_budget result is.own_left is.own_last is.sequence;
-        },
+        as_own budget first result left last is
+            (write_command tells own told (holding (range_with_record pieces first) is.scratch first) id bytes there (omega arith) is.own_budget result is.own_left is.own_last is.sequence),
         there.stands,
       )
 
@@ -122,17 +121,7 @@ module _ (tells : Type 0) (own : OwnProgramsRun tells) (told : tells) where
       → ShadowChange pieces first last id (Clear id) (clear_requests id) budget result left
   shadow_clear first pieces id rooms small budget result left last sequence =
       let is = clear_as_own tells own pieces (own_client first).timings budget first rooms result left last id sequence in
-      record {
-        own_first = holding (range_with_record pieces first) is.scratch first;
-        own_last = is.own_last;
-        own_budget = is.own_budget;
-        own_left = is.own_left;
-        first_is = refl;
-        last_is = is.last_is;
-        paid = is.paid;
-        shown = is.shown;
-        own = clear_command tells own told (holding (range_with_record pieces first) is.scratch first) id small is.own_budget result is.own_left is.own_last is.sequence;
-      }
+      as_own budget first result left last is (clear_command tells own told (holding (range_with_record pieces first) is.scratch first) id small is.own_budget result is.own_left is.own_last is.sequence)
 
   -- the sequence of a read
   pub shadow_read : (first : MachineState) (pieces id : ℕ) → IsMachine first → HoldsPieces first pieces → id < 2 ^ 64 → (budget : ℕ) (result : Result (Unit {0}) ClientError) (left : ℕ) (last : MachineState)
@@ -141,17 +130,8 @@ module _ (tells : Type 0) (own : OwnProgramsRun tells) (told : tells) where
   shadow_read first pieces id machine rooms small budget result left last sequence =
       let is = read_as_own tells own pieces (own_client first).timings budget first rooms result left last id sequence in
       let there = holding (range_with_record pieces first) is.scratch first in
-      record {
-        own_first = there;
-        own_last = is.own_last;
-        own_budget = is.own_budget;
-        own_left = is.own_left;
-        first_is = refl;
-        last_is = is.last_is;
-        own = read_command tells own told there (is_machine_with first (range_with_record pieces first) is.scratch machine (length_moved first pieces rooms) is.long) id small (own_client first).timings is.own_budget result is.own_left is.own_last is.sequence;
-        paid = is.paid;
-        shown = is.shown;
-      }
+      as_own budget first result left last is
+      (read_command tells own told there (is_machine_with first (range_with_record pieces first) is.scratch machine (length_moved first pieces rooms) is.long) id small (own_client first).timings is.own_budget result is.own_left is.own_last is.sequence)
 
 -- A client's write: the record is put into the scratch memory
 

@@ -17,7 +17,7 @@ use Rattle.erst_commands.proofs.EnoughLemmas.{HasSteps}
 use Rattle.erst_commands.proofs.LimitLemmas.{most-small}
 use Rattle.erst_commands.proofs.ThroughLemmas.{write_through as own_write_through, clear_through as own_clear_through, read_through as own_read_through, dummy_through as own_dummy_through, writes_through, reads_through}
 use Rattle.erst_shadow.specs.ShadowTables.{shadow_entries, pieces_of}
-use Rattle.erst_shadow.specs.ShadowMoves.{holding, range_with_record, HoldsPieces}
+use Rattle.erst_shadow.specs.ShadowMoves.{holding, range_with_record}
 use Rattle.erst_shadow.specs.ShadowSequences.{SequenceAsOwn}
 use Rattle.erst_shadow.specs.ShadowCommands.{pieces_in, shadow_client}
 use Rattle.erst_shadow.proofs.CommandLemmas.{holds_pieces, length_moved}

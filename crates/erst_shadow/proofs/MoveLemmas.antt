@@ -66,6 +66,19 @@ registers_differ Length Offset not = inl (omega arith)
 registers_differ Length Source not = inl (omega arith)
 registers_differ Length Target not = inl (omega arith)
 
+-- bytes that begin with the first pieces of others, and have the next piece put behind them
+piece_behind : (i : ℕ) (old source piece : List ℕ) → length piece ≡ 128 → 128 * i + length piece ≤ length old → part old 0 (128 * i) ≡ part source 0 (128 * i) → piece ≡ part source (128 * i) 128
+    → part (put_at old (128 * i) piece) 0 (128 * suc i) ≡ part source 0 (128 * suc i)
+piece_behind i old source piece size fits begins is =
+    let now = put_at old (128 * i) piece in
+    let next : 128 * i + 128 ≡ 128 * suc i = omega arith in
+    let front : part now 0 (128 * i) ≡ part source 0 (128 * i) = part-beside old piece (128 * i) 0 (128 * i) fits (inl (omega arith)) ∙ begins in
+    let back : part now (0 + 128 * i) 128 ≡ part source (0 + 128 * i) 128 =
+    ap (λ (k : ℕ). part now k 128) (omega arith) ∙ ap (λ (k : ℕ). part now (128 * i) k) (sym size) ∙ part-put_at old (128 * i) piece fits ∙ is ∙ ap (λ (k : ℕ). part source k 128) (omega arith) in
+    ap (λ (k : ℕ). part now 0 k) (sym next) ∙ sym (part-append now 0 (128 * i) 128)
+    ∙ ap (λ (xs : List ℕ). xs ++ part now (0 + 128 * i) 128) front ∙ ap (λ (xs : List ℕ). part source 0 (128 * i) ++ xs) back
+    ∙ part-append source 0 (128 * i) 128 ∙ ap (λ (k : ℕ). part source 0 k) next
+
 -- Registers, whichever way the record is moved
 
 abbrev pub value : MoveRegister → MachineState → ℕ
@@ -179,19 +192,12 @@ module _ (tells : Type 0) (first : MachineState) (count : ℕ) (room : HoldsPiec
       let others = part w.memory.scratch (128 * i) 128 in
       let size = scratch_long w i is.comes less in
       let fits = fits_range w i is.comes less in
-      let next : 128 * i + 128 ≡ 128 * suc i = omega arith in
-      let front : part (put_at w.memory.range (128 * i) others) 0 (128 * i) ≡ part first.memory.scratch 0 (128 * i) = part-beside w.memory.range others (128 * i) 0 (128 * i) fits (inl (omega arith)) ∙ is.there in
-      let back : part (put_at w.memory.range (128 * i) others) (0 + 128 * i) 128 ≡ part first.memory.scratch (0 + 128 * i) 128 =
-      ap (λ (k : ℕ). part (put_at w.memory.range (128 * i) others) k 128) (omega arith) ∙ ap (λ (k : ℕ). part (put_at w.memory.range (128 * i) others) (128 * i) k) (sym size)
-      ∙ part-put_at w.memory.range (128 * i) others fits ∙ piece_kept w i less is.record_kept ∙ ap (λ (k : ℕ). part first.memory.scratch k 128) (omega arith) in
       record {
         comes = space_in.copied_fits w i is.comes less;
         same = SameOutside-then 0 (128 * suc i) first.memory.range w.memory.range (put_at w.memory.range (128 * i) others)
             (SameOutside-wider 0 (128 * i) 0 (128 * suc i) first.memory.range w.memory.range (omega arith) (omega arith) is.same)
             (SameOutside-wider (128 * i) (length others) 0 (128 * suc i) w.memory.range (put_at w.memory.range (128 * i) others) (omega arith) (omega (arith, size)) (SameOutside-put_at w.memory.range (128 * i) others fits));
-        there = ap (λ (k : ℕ). part (put_at w.memory.range (128 * i) others) 0 k) (sym next) ∙ sym (part-append (put_at w.memory.range (128 * i) others) 0 (128 * i) 128)
-            ∙ ap (λ (xs : List ℕ). xs ++ part (put_at w.memory.range (128 * i) others) (0 + 128 * i) 128) front ∙ ap (λ (xs : List ℕ). part first.memory.scratch 0 (128 * i) ++ xs) back
-            ∙ part-append first.memory.scratch 0 (128 * i) 128 ∙ ap (λ (k : ℕ). part first.memory.scratch 0 k) next;
+        there = piece_behind i w.memory.range first.memory.scratch others size fits is.there (piece_kept w i less is.record_kept);
         record_kept = is.record_kept;
       }
 
@@ -280,16 +286,9 @@ module _ (tells : Type 0) (first : MachineState) (count : ℕ) (room : HoldsPiec
       let others = part w.memory.range (128 * i) 128 in
       let size = range_long w i is.comes less in
       let fits = fits_scratch w i is.comes less in
-      let next : 128 * i + 128 ≡ 128 * suc i = omega arith in
-      let front : part (put_at w.memory.scratch (128 * i) others) 0 (128 * i) ≡ part first.memory.range 0 (128 * i) = part-beside w.memory.scratch others (128 * i) 0 (128 * i) fits (inl (omega arith)) ∙ is.there in
-      let back : part (put_at w.memory.scratch (128 * i) others) (0 + 128 * i) 128 ≡ part first.memory.range (0 + 128 * i) 128 =
-      ap (λ (k : ℕ). part (put_at w.memory.scratch (128 * i) others) k 128) (omega arith) ∙ ap (λ (k : ℕ). part (put_at w.memory.scratch (128 * i) others) (128 * i) k) (sym size)
-      ∙ part-put_at w.memory.scratch (128 * i) others fits ∙ ap (λ (xs : List ℕ). part xs (128 * i) 128) is.kept ∙ ap (λ (k : ℕ). part first.memory.range k 128) (omega arith) in
       record {
         comes = (space_out.copied_fits w i (record { comes = is.comes; kept = is.kept }) less).comes;
-        there = ap (λ (k : ℕ). part (put_at w.memory.scratch (128 * i) others) 0 k) (sym next) ∙ sym (part-append (put_at w.memory.scratch (128 * i) others) 0 (128 * i) 128)
-            ∙ ap (λ (xs : List ℕ). xs ++ part (put_at w.memory.scratch (128 * i) others) (0 + 128 * i) 128) front ∙ ap (λ (xs : List ℕ). part first.memory.range 0 (128 * i) ++ xs) back
-            ∙ part-append first.memory.range 0 (128 * i) 128 ∙ ap (λ (k : ℕ). part first.memory.range 0 k) next;
+        there = piece_behind i w.memory.scratch first.memory.range others size fits is.there (ap (λ (xs : List ℕ). part xs (128 * i) 128) is.kept);
         kept = is.kept;
       }
 
