@@ -1,5 +1,5 @@
 // The player.
-ghost use Rattle.std.specs.Prelude.{◌≡◌, ◌≢◌, ◌≤◌, length, true, Ok, Err, OnOk, OnErr, IfOk, IfErr};
+ghost use Rattle.std.specs.Prelude.{◌≡◌, ◌≢◌, ◌≤◌, [], length, true, Ok, Err, OnOk, OnErr, IfOk, IfErr};
 ghost use Rattle.base_model.specs.Faults.{Rose, HasCause};
 ghost use Rattle.script_text.specs.ScriptGrammar.{turns as turns_of};
 ghost use Rattle.script_text.specs.ScriptText.{line_of};
@@ -80,6 +80,7 @@ impl<F: Flash> Player<F> {
     ) -> Result<Player<F>, PlayerRefused<F>>
         ensures state { IfOk result (λ player. state_of player.desk ≡ player_of machine own steps) }
         ensures listeners { IfOk result (λ player. members_of player.chain ≡ members_of chain) }
+        ensures reply { IfOk result (λ player. player.desk.buffers.reply ≡ []) }
         ensures machine_back { IfErr result (λ refused. (refused.machine ≡ machine) × (refused.own ≡ own)) }
         ensures listeners_back { IfErr result (λ refused. members_of refused.chain ≡ members_of chain) }
     {
@@ -163,7 +164,7 @@ impl<F: Flash> Player<F> {
         self.desk.machine.stands();
     }
 
-    /// The reply that was made last.
+    /// The reply that `answer` made last, right behind it; of a player that has played no line yet nothing.
     pub fn reply(&self) -> &[u8]
         ensures { result.now ≡ self.now.desk.buffers.reply }
     {
@@ -198,7 +199,8 @@ impl<F: Flash> Player<F> {
 
 /// The memory of a player: that in which lines are carried out, and that of the bridge, which is off.
 fn take_memory(alloc: Global) -> Result<(Buffers, Bridge), Memory>
-    ensures { IfOk result (λ memory. memory.1 ≡ Off) }
+    ensures reply { IfOk result (λ memory. memory.0.reply ≡ []) }
+    ensures off { IfOk result (λ memory. memory.1 ≡ Off) }
 {
     Ok((Buffers::new(alloc)?, Bridge::new(alloc)?))
 }
