@@ -106,6 +106,7 @@ impl Ram {
     }
 
     /// Where the first of `n` bytes stands among all bytes.
+    #[inline(always)]
     fn locate(&self, at: Place, n: usize) -> Result<usize, SpaceFault>
         ensures value { result ≡ located self.now.windows at n }
         ensures room { IfOk result (λ start. start + n ≤ length self.now.bytes) }

@@ -47,6 +47,7 @@ pub fn address(at: Place) -> u64
 }
 
 /// Where the byte of a place stands among the bytes of all windows, and how many its window holds from there on.
+#[inline(always)]
 fn spot(windows: &[Window], at: Place) -> Option<(usize, u32)>
     requires { total windows.now < 2 ^ 63 }
     ensures { result ≡ spot windows.now 0 at }
@@ -90,22 +91,35 @@ pub fn stretches(alloc: Global, windows: &[Window]) -> Result<Vec<Stretch>, Memo
 /// So many windows are looked at one by one as fast as by a search.
 const FEW: usize = 4;
 
-/// The same as `spot`, by a binary search in the order of the addresses. It misses only where memory and I/O are mixed up there.
+/// The same as `spot`: few windows are looked at one by one.
+#[inline(always)]
 pub fn search(table: &[Stretch], windows: &[Window], at: Place) -> Option<(usize, u32)>
     requires few { total windows.now < 2 ^ 63 }
     requires apart { AreApart windows.now }
     requires table { All (IsStretch windows.now) table.now }
     ensures { result ≡ spot windows.now 0 at }
 {
-    if table.len() > FEW {
-        let first = address(at);
-        let behind = table.partition_point(|stretch| address(stretch.window.place) <= first);
-        if behind > 0 {
-            let stretch = table[behind - 1];
-            let room = stretch.window.room(at);
-            if room > 0 {
-                return Some((stretch.start + (stretch.window.len - room) as usize, room));
-            }
+    if windows.len() > FEW {
+        return search_many(table, windows, at);
+    }
+    spot(windows, at)
+}
+
+/// The same by a binary search in the order of the addresses. It misses only where memory and I/O are mixed up there.
+#[inline(never)]
+fn search_many(table: &[Stretch], windows: &[Window], at: Place) -> Option<(usize, u32)>
+    requires few { total windows.now < 2 ^ 63 }
+    requires apart { AreApart windows.now }
+    requires table { All (IsStretch windows.now) table.now }
+    ensures { result ≡ spot windows.now 0 at }
+{
+    let first = address(at);
+    let behind = table.partition_point(|stretch| address(stretch.window.place) <= first);
+    if behind > 0 {
+        let stretch = table[behind - 1];
+        let room = stretch.window.room(at);
+        if room > 0 {
+            return Some((stretch.start + (stretch.window.len - room) as usize, room));
         }
     }
     spot(windows, at)

@@ -1,7 +1,7 @@
 use Rattle.std.proofs.Common.{◌-◌, sym, arith}
 use Rattle.apei_space.proofs.Spots.{spot_fits}
 use Rattle.apei_space.proofs.StretchLemmas.{stretch_spot}
-use Rattle.apei_space.proofs.windows.search.Goals as goal
+use Rattle.apei_space.proofs.windows.search_many.Goals as goal
 
 pub overflow_add-result : goal.overflow_add-result
 overflow_add-result c =
