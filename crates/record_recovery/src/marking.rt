@@ -1,5 +1,5 @@
 // Which slots the records that were found stand in.
-ghost use Rattle.std.specs.Prelude.{◌≡◌, ℕ, ◌+◌, ◌-◌, ◌<◌, ◌≤◌, ◌==◌, ◌||◌, Bool, length, slice_index_or};
+ghost use Rattle.std.specs.Prelude.{◌≡◌, ℕ, ◌+◌, ◌-◌, ◌<◌, ◌≤◌, ◌==◌, ◌||◌, Bool, false, length, replicate, slice_index_or};
 ghost use Rattle.std.specs.List.{list_any};
 ghost use Rattle.record_recovery.specs.Listed.{AreWithin, IsWithin, takes};
 ghost use Rattle.record_recovery.specs.Looks.{AreMarked};
@@ -23,16 +23,15 @@ pub fn mark_firsts(places: &[SlotOf], geometry: &Geometry) -> [bool; MAX_SLOTS]
     marks
 }
 
-/// A mark for each slot, set where it is one of the slots of one of these records.
-pub fn mark_taken(places: &[SlotOf], geometry: &Geometry) -> [bool; MAX_SLOTS]
+/// Sets the mark of each slot that is one of the slots of one of these records. None is set before.
+pub fn mark_taken(places: &[SlotOf], geometry: &Geometry, marks: &mut [bool; MAX_SLOTS])
     requires within { AreWithin geometry.now.slots geometry.now.slot_size places.now }
-    ensures { AreMarked geometry.now.slots (λ slot. list_any (λ place. takes (geometry.now.slot_size - 64) place slot) places.now) result }
+    requires none { marks.old ≡ replicate MAX_SLOTS false }
+    ensures { AreMarked geometry.now.slots (λ slot. list_any (λ place. takes (geometry.now.slot_size - 64) place slot) places.now) marks.new }
 {
-    let mut marks = [false; MAX_SLOTS];
     for place in places {
-        mark_place(&mut marks, place, geometry);
+        mark_place(marks, place, geometry);
     }
-    marks
 }
 
 // Sets the marks of the slots of a record.

@@ -75,12 +75,12 @@ fn settle_slot<F: Flash>(
     ensures failed { OnErr result (F.tells → ChangesFew geometry.now.slot_size geometry.now.slots (F.state flash.old) (F.state flash.new)) }
     ensures stays { OnlyChanges (F.state flash.old) (F.state flash.new) result }
 {
-    let look = &found.looks[slot as usize];
-    if !is_upright(&look.head, look.tail, geometry) {
-        return Ok(());
-    }
     let is_first = firsts[slot as usize];
     if is_first {
+        return Ok(());
+    }
+    let look = &found.looks[slot as usize];
+    if !is_upright(&look.head, look.tail, geometry) {
         return Ok(());
     }
     kill(flash, geometry, slot)?;
@@ -98,7 +98,8 @@ pub fn list_free(found: &mut Found, geometry: &Geometry)
     ensures looks { found.new.looks ≡ found.old.looks }
     ensures capacity { deque_capacity found.new.free ≡ deque_capacity found.old.free }
 {
-    let taken = mark_taken(&found.places, geometry);
+    let mut taken = [false; MAX_SLOTS];
+    mark_taken(&found.places, geometry, &mut taken);
     for slot in 0..geometry.slots as u32 {
         list_if_free(&mut found.free, taken[slot as usize], slot);
     }

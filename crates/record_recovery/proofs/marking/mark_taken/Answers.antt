@@ -1,4 +1,4 @@
-use Rattle.std.proofs.Common.{◌-◌, false, [], arith}
+use Rattle.std.proofs.Common.{◌≤◌, ◌-◌, false, [], arith}
 use Rattle.std.proofs.lemmas.List.{get_or-replicate}
 use Rattle.record_recovery.specs.declared.found.SlotOf.{SlotOf}
 use Rattle.record_recovery.specs.Listed.{takes}
@@ -6,7 +6,9 @@ use Rattle.record_recovery.proofs.Marks.{marked_more}
 use Rattle.record_recovery.proofs.marking.mark_taken.Goals as goal
 
 pub loop-place-init : goal.loop-place-init
-loop-place-init c k d h = get_or-replicate 1024 k false d (omega arith)
+loop-place-init c k d h =
+    let many : c.args.geometry.now.slots ≤ 1024 = c.args.geometry.now.many_slots in
+    rw c.requires.none (get_or-replicate 1024 k false d (omega arith))
 
 pub loop-place-preserved : goal.loop-place-preserved
 loop-place-preserved c =
