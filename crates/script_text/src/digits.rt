@@ -1,9 +1,9 @@
 // Bytes that a line gives in hexadecimal digits.
-ghost use Rattle.std.specs.Prelude.{◌≡◌, ◌*◌, ◌≤◌, length, take};
+ghost use Rattle.std.specs.Prelude.{◌≡◌, ◌*◌, ◌<◌, ◌≤◌, true, Some, length, take};
 ghost use Rattle.line_grammar.specs.Parts.{IsPairs};
-ghost use Rattle.hex.specs.Hex.{decode_of};
+ghost use Rattle.hex.specs.Hex.{decode_of, hex_digit_value, is_hex_digit};
 
-use hex::decode_to_slice;
+use hex::FromHex;
 
 /// The first bytes of a buffer become those of pairs of hexadecimal digits; their number is answered.
 pub fn decode(hex: &[u8], out: &mut [u8]) -> usize
@@ -14,8 +14,22 @@ pub fn decode(hex: &[u8], out: &mut [u8]) -> usize
     ensures size { length out.new ≡ length out.old }
 {
     let count = hex.len() / 2;
-    match decode_to_slice(hex, &mut out[..count]) {
-        Ok(()) => count,
-        Err(_) => unreachable!(),
+    for at in 0..count {
+        out[at] = value_of(hex[2 * at]) * 16 + value_of(hex[2 * at + 1]);
+    }
+    count
+}
+
+// The value of a digit: that of the byte of a zero and this digit. Since it is one, 0 is never answered for another; with it no digit has
+// a way out of the loop above, and many are read at once.
+#[inline(always)]
+fn value_of(digit: u8) -> u8
+    requires { is_hex_digit digit ≡ true }
+    ensures value { hex_digit_value digit ≡ Some result }
+    ensures small { result < 16 }
+{
+    match <[u8; 1] as FromHex>::from_hex([b'0', digit]) {
+        Ok(bytes) => bytes[0],
+        Err(_) => 0,
     }
 }
