@@ -9,9 +9,10 @@ use Rattle.script_lines.specs.Causes.{HasSourceCause, HasSinkCause}
 use Rattle.script_lines.specs.Lines.{Line, lines_of, IsTooLong}
 use Rattle.apei_check.specs.declared.text.show.Show.{Show}
 use Rattle.apei_check.specs.Texts.{AreInGrammar, AreShownBy, TakesMemory}
-use Rattle.apei_check.specs.Checks.{ChecksScript, fault_of}
-use Rattle.apei_check.specs.declared.ending.CheckEnd.{CheckEnd}
-use Rattle.apei_check.specs.declared.ending.CheckEnd.TheVariants.{Done, BadLine, SourceFault, SinkFault, TooLong, Memory}
+use Rattle.apei_check.specs.Checks.{ChecksScript}
+use Rattle.script_lines.specs.Ends.{fault_of}
+use Rattle.script_lines.specs.declared.ending.ScriptEnd.{ScriptEnd}
+use Rattle.script_lines.specs.declared.ending.ScriptEnd.TheVariants.{Done, BadLine, SourceFault, SinkFault, TooLong, Memory}
 
 -- what a text that was parsed is: the line itself, or a comment, which shows what a blank line shows
 pub record IsRead (text : List ℕ) (line : CheckLine) : Type 0 where
@@ -37,7 +38,7 @@ in_grammar_at [] line behind all = (all.0, all.1)
 in_grammar_at (first ∷ before) line behind all = in_grammar_at before line behind all.2
 
 -- where all lines are in the grammar and no fault was counted, all are read
-pub is_done : (told_source told_sink : Type 0) (show : Show) (script rest written now : List ℕ) (source source_now sink sink_now : ℕ) (ending : CheckEnd)
+pub is_done : (told_source told_sink : Type 0) (show : Show) (script rest written now : List ℕ) (source source_now sink sink_now : ℕ) (ending : ScriptEnd)
     → ChecksScript told_source told_sink show script rest written now ending → HasSourceCause source source_now (fault_of ending) → HasSinkCause sink sink_now (fault_of ending)
     → told_source → AreInGrammar (lines_of 0 script) → (Rose source source_now → ⊥) → (Rose sink sink_now → ⊥) → (ending ≡ Done) ⊎ (ending ≡ Memory)
 is_done told_source told_sink show script rest written now source source_now sink sink_now Done checks in_cause out_cause told all no_source no_sink = inl refl

@@ -1,30 +1,22 @@
 -- Laws of a check of a script so far, and of its ends.
-use Rattle.std.proofs.Common.{◌≡◌, ℕ, ◌≤◌, inl, inr, Bool, true, false, List, [], ◌∷◌, ◌++◌, length, sym, ap, subst, ◌∙◌, arith, append_assoc}
+use Rattle.std.proofs.Common.{◌≡◌, ℕ, ◌≤◌, inl, inr, List, [], ◌∷◌, ◌++◌, length, sym, ap, subst, ◌∙◌, arith, append_assoc}
 use Rattle.std.proofs.lemmas.Bool.{cases_lt}
-use Rattle.std.specs.Prelude.{MatchBool}
 use Rattle.line_grammar.specs.Columns.{BreaksAt}
 use Rattle.line_grammar.specs.declared.lengths.TheConstants.{LONGEST_LINE}
 use Rattle.script_text.specs.CheckGrammar.{IsCheckLine}
 use Rattle.script_text.specs.CheckText.{IsCheckText, checked_line_of}
 use Rattle.script_text.specs.declared.check_line.CheckLine.{CheckLine}
 use Rattle.script_lines.specs.Lines.{Line, Reading, IsTooLong, IsNextLine}
-use Rattle.script_lines.specs.Reads.{HasRead, StandsAt, last_line}
+use Rattle.script_lines.specs.Reads.{HasRead, StandsAt, AreReadInOrder, last_line}
+use Rattle.script_lines.specs.Ends.{EndsReading}
+use Rattle.script_lines.specs.declared.ending.ScriptEnd.{ScriptEnd}
 use Rattle.apei_check.specs.Shown.{Shows, ShowsPart}
 use Rattle.apei_check.specs.declared.text.show.Show.{Show}
 use Rattle.apei_check.specs.Texts.{IsLineOf, AreShownBy, TakesMemory}
 use Rattle.apei_check.specs.Checks.{ChecksScript, WritesAll}
-use Rattle.apei_check.specs.declared.ending.CheckEnd.TheVariants.{BadLine, SinkFault, Memory}
+use Rattle.script_lines.specs.declared.ending.ScriptEnd.TheVariants.{Done, BadLine, SourceFault, SinkFault, TooLong, Memory}
 use Rattle.apei_check.proofs.TextLemmas.{writes_next, writes_part}
 use Rattle.apei_check.proofs.GrammarLemmas.{is_read}
-
--- which of two cases it is
-pub on_true : (b : Bool) (P Q : Type 0) → b ≡ true → MatchBool b P Q → P
-on_true true P Q e p = p
-on_true false P Q e p = absurd (cc e)
-
-pub on_false : (b : Bool) (P Q : Type 0) → b ≡ false → MatchBool b P Q → Q
-on_false true P Q e q = absurd (cc e)
-on_false false P Q e q = q
 
 -- a line within the lengths has no more bytes than are parsed
 pub is_short : (text : List ℕ) (line : Line) → text ≡ line.text → (IsTooLong line → ⊥) → length text ≤ LONGEST_LINE
@@ -76,6 +68,22 @@ module _ (told_source told_sink : Type 0) (show : Show) (script rest rest_now wr
         ends = λ told. (last_line b, b.number, stands told, record { asked = read.asked; is = is_line; takes = read.takes takes });
         writes = subst (WritesAll told_sink show so_far.lines written) (sym left) so_far.writes;
       }
+
+-- there is no next line
+pub ends_none : (told_source told_sink : Type 0) (order : AreReadInOrder told_source) (show : Show) (script rest rest_now written now : List ℕ) (a b : Reading) (ending : ScriptEnd)
+    → SoFar told_source told_sink show script rest written now a → EndsReading told_source a b rest rest_now ending → ChecksScript told_source told_sink show script rest_now written now ending
+ends_none told_source told_sink order show script rest rest_now written now a b Done so_far end =
+    record { lines = so_far.lines; ends = order.at_end script rest rest_now so_far.lines a b so_far.read end; writes = so_far.writes }
+ends_none told_source told_sink order show script rest rest_now written now a b (BadLine number column) so_far end = absurd end
+ends_none told_source told_sink order show script rest rest_now written now a b SourceFault so_far end =
+    record { lines = so_far.lines; ends = order.failed script rest rest_now so_far.lines a b so_far.read end; writes = so_far.writes }
+ends_none told_source told_sink order show script rest rest_now written now a b SinkFault so_far end = absurd end
+ends_none told_source told_sink order show script rest rest_now written now a b (TooLong number) so_far (is, long) = record {
+  lines = so_far.lines;
+  ends = λ told. let at = order.too_long script rest so_far.lines a b so_far.read long told in (at.0, subst (λ (n : ℕ). StandsAt script so_far.lines n at.0) (sym is) at.1, at.2);
+  writes = so_far.writes;
+}
+ends_none told_source told_sink order show script rest rest_now written now a b Memory so_far end = absurd end
 
 -- the line that was read is none
 pub ends_bad : (told_source told_sink : Type 0) (show : Show) (script rest rest_now written now text : List ℕ) (a b : Reading) (number column : ℕ) → (so_far : SoFar told_source told_sink show script rest written now a)

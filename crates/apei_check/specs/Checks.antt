@@ -2,13 +2,12 @@
 use Rattle.std.specs.Prelude.{◌≡◌, ℕ, List, [], ◌∷◌, ◌++◌, take}
 use Rattle.line_grammar.specs.Columns.{BreaksAt}
 use Rattle.script_text.specs.CheckGrammar.{CheckedLine, IsCheckLine}
-use Rattle.script_lines.specs.Causes.{Fault, OfSource, OfSink, NoFault}
 use Rattle.script_lines.specs.Lines.{Line, lines_of, IsTooLong}
 use Rattle.script_lines.specs.Reads.{StandsAt, AreTaken}
 use Rattle.apei_check.specs.declared.text.show.Show.{Show}
 use Rattle.apei_check.specs.Texts.{IsLineOf, IsTextOf, IsTextOfAll, TakesMemory}
-use Rattle.apei_check.specs.declared.ending.CheckEnd.{CheckEnd}
-use Rattle.apei_check.specs.declared.ending.CheckEnd.TheVariants.{Done, BadLine, SourceFault, SinkFault, TooLong, Memory}
+use Rattle.script_lines.specs.declared.ending.ScriptEnd.{ScriptEnd}
+use Rattle.script_lines.specs.declared.ending.ScriptEnd.TheVariants.{Done, BadLine, SourceFault, SinkFault, TooLong, Memory}
 
 -- a line is none, from this column on
 pub record IsBadFrom (column : ℕ) (line : Line) : Type 0 where
@@ -23,7 +22,7 @@ pub record MayWantMemory (line : Line) : Type 0 where
 
 -- which lines of the script were shown, by the end: all of them; those before one that ended it; those whose newline was taken; or, the
 -- last in part, some from the first on
-abbrev pub EndsBehind : List ℕ → List ℕ → List Line → CheckEnd → Type 0
+abbrev pub EndsBehind : List ℕ → List ℕ → List Line → ScriptEnd → Type 0
 EndsBehind script rest lines Done = (lines_of 0 script ≡ lines) × (rest ≡ [])
 EndsBehind script rest lines (BadLine number column) = (line : Line) × StandsAt script lines number line × IsBadFrom column line
 EndsBehind script rest lines SourceFault = AreTaken script rest lines
@@ -49,18 +48,12 @@ pub record WritesUpTo (told : Type 0) (show : Show) (lines : List Line) (written
   pub count : ℕ
   pub wrote : told → written_now ≡ written ++ text ++ take count last_text
 
-abbrev pub WritesByEnd : Type 0 → Show → List Line → List ℕ → List ℕ → CheckEnd → Type 0
+abbrev pub WritesByEnd : Type 0 → Show → List Line → List ℕ → List ℕ → ScriptEnd → Type 0
 WritesByEnd told show lines written written_now SinkFault = WritesUpTo told show lines written written_now
 WritesByEnd told show lines written written_now ending = WritesAll told show lines written written_now
 
 -- lines of a script were shown, each once and in order, and what was written is what they show
-pub record ChecksScript (told_source told_sink : Type 0) (show : Show) (script rest written written_now : List ℕ) (ending : CheckEnd) : Type 0 where
+pub record ChecksScript (told_source told_sink : Type 0) (show : Show) (script rest written written_now : List ℕ) (ending : ScriptEnd) : Type 0 where
   pub lines : List Line
   pub ends : told_source → EndsBehind script rest lines ending
   pub writes : WritesByEnd told_sink show lines written written_now ending
-
--- the fault that an end tells of
-abbrev pub fault_of : CheckEnd → Fault
-fault_of SourceFault = OfSource
-fault_of SinkFault = OfSink
-fault_of ending = NoFault

@@ -2,17 +2,17 @@
 ghost use Rattle.std.specs.Prelude.{◌≡◌, ◌⊎◌, [], false, length};
 ghost use Rattle.base_model.specs.Faults.{Rose};
 ghost use Rattle.script_lines.specs.Causes.{HasSourceCause, HasSinkCause};
+ghost use Rattle.script_lines.specs.Ends.{fault_of};
 ghost use Rattle.script_lines.specs.Lines.{lines_of};
 ghost use Rattle.script_lines.specs.Reads.{first_reading};
 ghost use Rattle.apei_check.specs.Texts.{AreInGrammar};
-ghost use Rattle.apei_check.specs.Checks.{ChecksScript, fault_of};
+ghost use Rattle.apei_check.specs.Checks.{ChecksScript};
 
-use crate::ending::CheckEnd;
 use crate::item::show_line;
 use crate::text::{CheckStop, Show};
 use apei_bytes::{Sink, Source};
 use line_grammar::LONGEST_BYTES;
-use script_lines::{LineReader, LineStop, lines_are_read_in_order};
+use script_lines::{LineReader, ScriptEnd, lines_are_read_in_order};
 use script_text::CheckLine;
 use std::alloc::Global;
 
@@ -24,7 +24,7 @@ fn check_lines<I: Source, O: Sink>(
     buffer: &mut [u8],
     script: &mut I,
     out: &mut O,
-) -> CheckEnd
+) -> ScriptEnd
     requires start { lines.old ≡ first_reading }
     requires room { length buffer.old ≡ LONGEST_BYTES }
     ensures checked { ChecksScript I.tells O.tells show (I.rest script.old) (I.rest script.new) (O.written out.old) (O.written out.new) result }
@@ -33,21 +33,14 @@ fn check_lines<I: Source, O: Sink>(
 {
     lines_are_read_in_order::<I>();
     'lines: loop {
-        match lines.advance(script) {
-            Ok(true) => {}
-            Ok(false) => return CheckEnd::Done,
-            Err(LineStop::TooLong) => {
-                return CheckEnd::TooLong {
-                    line: lines.number() + 1,
-                };
-            }
-            Err(LineStop::SourceFault) => return CheckEnd::SourceFault,
-        }
-        let number = lines.number();
+        let number = match lines.next_line(script) {
+            Ok(number) => number,
+            Err(end) => return end,
+        };
         let line = match CheckLine::parse(lines.line()) {
             Ok(line) => line,
             Err(bad) => {
-                return CheckEnd::BadLine {
+                return ScriptEnd::BadLine {
                     line: number,
                     column: bad.column,
                 };
@@ -55,8 +48,8 @@ fn check_lines<I: Source, O: Sink>(
         };
         match show_line(alloc, show, &line, buffer, out) {
             Ok(()) => {}
-            Err(CheckStop::SinkFault) => return CheckEnd::SinkFault,
-            Err(CheckStop::Memory) => return CheckEnd::Memory,
+            Err(CheckStop::SinkFault) => return ScriptEnd::SinkFault,
+            Err(CheckStop::Memory) => return ScriptEnd::Memory,
         }
     }
 }
@@ -70,21 +63,21 @@ pub fn check_script<I: Source, O: Sink>(
     show: Show,
     script: &mut I,
     out: &mut O,
-) -> CheckEnd
+) -> ScriptEnd
     // Where there is no memory to begin with, nothing was touched.
-    ensures checked { ((result ≡ CheckEnd.Memory) × (script.new ≡ script.old) × (out.new ≡ out.old))
+    ensures checked { ((result ≡ ScriptEnd.Memory) × (script.new ≡ script.old) × (out.new ≡ out.old))
         ⊎ ChecksScript I.tells O.tells show (I.rest script.old) (I.rest script.new) (O.written out.old) (O.written out.new) result }
     ensures source { HasSourceCause (I.faults script.old) (I.faults script.new) (fault_of result) }
     ensures sink { HasSinkCause (O.faults out.old) (O.faults out.new) (fault_of result) }
     // A script whose lines are all in the grammar and within the lengths is read to its end, want of memory aside.
     ensures done { I.tells → AreInGrammar (lines_of 0 (I.rest script.old)) → (Rose (I.faults script.old) (I.faults script.new) → ⊥)
-        → (Rose (O.faults out.old) (O.faults out.new) → ⊥) → (result ≡ CheckEnd.Done) ⊎ (result ≡ CheckEnd.Memory) }
+        → (Rose (O.faults out.old) (O.faults out.new) → ⊥) → (result ≡ ScriptEnd.Done) ⊎ (result ≡ ScriptEnd.Memory) }
 {
     let Ok(mut lines) = LineReader::new(alloc) else {
-        return CheckEnd::Memory;
+        return ScriptEnd::Memory;
     };
     let Ok(mut buffer) = vec![in alloc; 0u8; LONGEST_BYTES] else {
-        return CheckEnd::Memory;
+        return ScriptEnd::Memory;
     };
     check_lines(alloc, show, &mut lines, &mut buffer, script, out)
 }

@@ -5,7 +5,6 @@
 #![tactic(auto)]
 
 mod check;
-mod ending;
 mod frames;
 mod item;
 mod laws;
@@ -13,7 +12,6 @@ mod tables;
 mod text;
 
 pub use check::check_script;
-pub use ending::CheckEnd;
 pub use frames::{check_block, check_record};
 pub use laws::{
     bert_lines_are_one_list, block_lines_are_one_list, erst_lines_are_one_list,

@@ -3,6 +3,7 @@ ghost use Rattle.std.specs.Prelude.{◌≡◌, ◌+◌, ◌≤◌, length, repli
 ghost use Rattle.base_model.specs.Bytes.{put_at};
 
 use crate::Tear;
+use crate::ranges::fill_range;
 use crate::replaced::Replaced;
 
 const ZERO: u8 = 0x00;
@@ -14,14 +15,6 @@ const MARK: u8 = 0xA5;
 pub(crate) enum Content<'a> {
     Bytes(&'a [u8]),
     Fill { byte: u8, len: usize },
-}
-
-// Fills a range of an image with one byte.
-fn fill(image: &mut [u8], at: usize, len: usize, byte: u8)
-    requires { at + len ≤ length image.old }
-    ensures { image.new ≡ put_at image.old at (replicate len byte) }
-{
-    image[at..at + len].fill(byte);
 }
 
 impl Content<'_> {
@@ -56,7 +49,7 @@ impl Content<'_> {
     {
         match self {
             Content::Bytes(bytes) => image[at..at + bytes.len()].copy_from_slice(bytes),
-            Content::Fill { byte, len } => fill(image, at, len, byte),
+            Content::Fill { byte, len } => fill_range(image, at, len, byte),
         }
     }
 
@@ -68,8 +61,8 @@ impl Content<'_> {
         match tear {
             None | Some(Tear::Whole) => self.put(image, at),
             Some(Tear::Nothing) => {}
-            Some(Tear::Zeros) => fill(image, at, self.len(), ZERO),
-            Some(Tear::Marks) => fill(image, at, self.len(), MARK),
+            Some(Tear::Zeros) => fill_range(image, at, self.len(), ZERO),
+            Some(Tear::Marks) => fill_range(image, at, self.len(), MARK),
         }
     }
 }

@@ -2,7 +2,8 @@
 ghost use Rattle.std.specs.Prelude.{◌≡◌};
 ghost use Rattle.flash_words.specs.Flash.{next_count};
 
-pub(crate) fn next_count(count: u64) -> u64
+/// One more than a count, which stands still at the last value of its type.
+pub fn next_count(count: u64) -> u64
     ensures { result ≡ next_count count }
 {
     count.saturating_add(1)

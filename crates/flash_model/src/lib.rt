@@ -8,12 +8,15 @@ mod flash;
 mod geometry;
 mod journal;
 mod power;
+mod ranges;
 mod replaced;
 mod sim_flash;
 mod tear;
 
+pub use counts::next_count;
 pub use cut::Cut;
 pub use flash::{Flash, FlashFailed};
 pub use geometry::{BadGeometry, Geometry, erased};
+pub use ranges::{copy_range, fill_range, put_range};
 pub use sim_flash::SimFlash;
 pub use tear::Tear;

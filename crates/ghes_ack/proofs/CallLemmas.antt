@@ -138,7 +138,7 @@ goes (OthersWrite ∷ calls) first last w len n st (between, does, later) =
     record { stands = rest.stands; events = rest.events; fitting = rest.fitting }
 
 -- a window as long as one that was started
-started_long : (window : List ℕ) (n : ℕ) → length (with_status window (spelled 4 0)) ≡ n → 20 ≤ n → length window ≡ n
+pub started_long : (window : List ℕ) (n : ℕ) → length (with_status window (spelled 4 0)) ≡ n → 20 ≤ n → length window ≡ n
 unfolding put_at
 started_long window n is room =
     let z = length-spelled 4 0 in

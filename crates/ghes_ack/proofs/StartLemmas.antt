@@ -14,7 +14,9 @@ use Rattle.ghes_window.specs.Queues.{IsEmpty}
 use Rattle.ghes_ack.specs.Queues.{Blocks, Adds}
 use Rattle.ghes_ack.specs.Machine.{Machine, Situation, Filling, Published, Reading, Cleared, Acknowledged, Fits, with_status, started, submitted, waiting_in, InSituation, IsState}
 use Rattle.ghes_ack.specs.Maps.{HasAckBits, HasWindows, address_in, ack_read, window, with_ack, with_address, with_set, memory_started, IsSet}
-use Rattle.ghes_ack.specs.Handovers.{HandoverState, fresh, StandsFor, reason, refusal}
+use Rattle.ghes_ack.specs.Handovers.{HandoverState, fresh, StandsFor, reason}
+use Rattle.ghes_ack.specs.Submissions.{refusal_of}
+use Rattle.ghes_ack.specs.declared.submission.SubmitError.{SubmitError}
 use Rattle.ghes_ack.specs.declared.submission.SubmitError.TheVariants.{Long, Trailing, Full}
 use Rattle.std.specs.VecDeque.{deque_len}
 use Rattle.ghes_ack.specs.declared.ends.Ends.{Ends}
@@ -159,12 +161,17 @@ added ends b after block a =
     ap (λ (o : Option (Vec ℕ Global)). state_of (situation_in ends o) after) a.at_work ∙ added_in (situation_in ends b.at_work) b after block a
 
 -- 64 blocks wait
-pub full : (h : HandoverState) (block : List ℕ) (size : ℕ) → length block ≤ h.map.len → checked block ≡ Ok size → length block ≤ size → 64 ≤ length h.waiting → refusal h block ≡ Some Full
-full h block size fits is whole many =
-    let long : nat_lt h.map.len (length block) ≡ false = grind (arith, nat_tests) in
+pub full : (len waiting : ℕ) (block : List ℕ) (size : ℕ) → length block ≤ len → checked block ≡ Ok size → length block ≤ size → 64 ≤ waiting → refusal_of len block waiting ≡ Some Full
+full len waiting block size fits is whole many =
+    let long : nat_lt len (length block) ≡ false = grind (arith, nat_tests) in
     let rest : nat_lt size (length block) ≡ false = grind (arith, nat_tests) in
-    let room : nat_lt (length h.waiting) 64 ≡ false = grind (arith, nat_tests) in
-    ap (λ (b : Bool). cond b (Some (Long (length block))) (reason (checked block) (length block) (length h.waiting))) long
-    ∙ ap (λ (r : Result ℕ BlockError). reason r (length block) (length h.waiting)) is
-    ∙ ap (λ (b : Bool). cond b (Some (Trailing (length block - size))) (cond (nat_lt (length h.waiting) 64) None (Some Full))) rest
+    let room : nat_lt waiting 64 ≡ false = grind (arith, nat_tests) in
+    ap (λ (b : Bool). cond b (Some (Long (length block))) (reason (checked block) (length block) waiting)) long
+    ∙ ap (λ (r : Result ℕ BlockError). reason r (length block) waiting) is
+    ∙ ap (λ (b : Bool). cond b (Some (Trailing (length block - size))) (cond (nat_lt waiting 64) None (Some Full))) rest
     ∙ ap (λ (b : Bool). cond b None (Some Full)) room
+
+-- by another name of the window's length and of how many wait
+pub refused_as : (len other waiting n : ℕ) (block : List ℕ) (r : Option SubmitError) → len ≡ other → n ≡ waiting → refusal_of len block waiting ≡ r → refusal_of other block n ≡ r
+refused_as len other waiting n block r same wait is =
+    subst (λ (k : ℕ). refusal_of k block n ≡ r) same (subst (λ (k : ℕ). refusal_of len block k ≡ r) (sym wait) is)

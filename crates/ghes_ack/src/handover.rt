@@ -11,12 +11,10 @@ use crate::blocks::Blocks;
 use crate::ends::{Ends, FirmwareEnd, ReaderEnd, begin};
 use crate::events::{Event, Side};
 use crate::maps::HandoverMap;
-use crate::submission::SubmitError;
+use crate::submission::{SubmitError, check_block};
 use crate::turns::{all_turns, piece_turn};
 use apei_bytes::Memory;
 use apei_space::Ram;
-use ghes_block::Block;
-use ghes_window::WAITING;
 use std::alloc::Global;
 use std::marker::Model;
 
@@ -69,21 +67,8 @@ impl Handover {
         ensures exact { MatchResult result (λ _. refusal self.old block.now ≡ None) (λ error. refusal self.old block.now ≡ Some error) }
         ensures refused { OnErr result (self.new ≡ self.old) }
     {
-        let len = block.len() as u64;
-        if len > u64::from(self.blocks.map.len) {
-            return Err(SubmitError::Long { len });
-        }
-        match Block::decode(block) {
-            Err(error) => return Err(SubmitError::Malformed(error)),
-            Ok((_, size)) => {
-                if size < block.len() {
-                    let bytes = (block.len() - size) as u64;
-                    return Err(SubmitError::Trailing { bytes });
-                }
-            }
-        }
-        if self.blocks.waiting.len() >= WAITING {
-            return Err(SubmitError::Full);
+        if let Err(error) = check_block(block, self.blocks.map.len, self.blocks.waiting.len()) {
+            return Err(error);
         }
         self.blocks.add(block);
         Ok(self.blocks.waiting.len() as u32)

@@ -21,4 +21,4 @@ pub use laws::{
 pub use maps::HandoverMap;
 pub use states::{AwaitAck, Cleared, FirmBlock, OsBlock, OsIdle, start, stop};
 pub use station::Station;
-pub use submission::SubmitError;
+pub use submission::{SubmitError, check_block};

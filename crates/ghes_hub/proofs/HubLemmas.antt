@@ -9,8 +9,8 @@ use Rattle.ghes_ack.specs.declared.events.Event.{Event}
 use Rattle.ghes_ack.specs.Machine.{Machine, Fits, submitted, started, last_taken, IsState, with_status}
 use Rattle.ghes_ack.specs.Schedules.{Step, Submit, Turn, Watched, from_start, AreFitting}
 use Rattle.ghes_ack.proofs.ScheduleLemmas.{watched_machine}
-use Rattle.base_model.specs.Bytes.{spelled, put_at}
-use Rattle.base_model.proofs.BytesLemmas.{length-spelled}
+use Rattle.ghes_ack.proofs.CallLemmas.{started_long}
+use Rattle.base_model.specs.Bytes.{spelled}
 use Rattle.ghes_hub.specs.declared.source.Source.{Source}
 use Rattle.ghes_hub.specs.declared.source.Source.TheVariants.{Acknowledged, Plain}
 use Rattle.ghes_hub.specs.Kinds.{Kind, turned_by}
@@ -27,16 +27,6 @@ last_fits : (len : ℕ) (blocks : List (List ℕ)) (block : List ℕ) → All (F
 last_fits len blocks block all =
     let n = length-append blocks (block ∷ []) in
     subst (Fits len) (get_or_at blocks block [] [] (length blocks) refl) (all (length blocks) [] (omega (arith, n)))
-
--- a window as long as one that was started
-started_long : (window : List ℕ) (n : ℕ) → length (with_status window (spelled 4 0)) ≡ n → 20 ≤ n → length window ≡ n
-unfolding put_at
-started_long window n is room =
-    let z = length-spelled 4 0 in
-    let a = length-append (take 0 window ++ spelled 4 0) (drop (0 + length (spelled 4 0)) window) in
-    let b = length-append (take 0 window) (spelled 4 0) in
-    let d = length-drop (0 + length (spelled 4 0)) window in
-    omega (arith, z, a, b, d, is, room)
 
 -- a source stands for a state of the machine, over its own window
 pub is_state : (p : Source) (ram : RamState) (m : Machine) → SourceStands p ram m → IsState (length m.window) m

@@ -1,16 +1,14 @@
 -- A handover without a read acknowledgement: its two windows in memory, what it keeps, and the states of the machine that it stands for.
-use Rattle.std.specs.Prelude.{◌≡◌, ℕ, ◌≤◌, nat_lt, if◌then◌else◌, List, [], ◌++◌, length, drop, Option, Some, None, option_to_list}
+use Rattle.std.specs.Prelude.{◌≡◌, ℕ, ◌≤◌, List, [], ◌++◌, length, drop, Option, None, option_to_list}
 use Rattle.base_model.specs.Bytes.{little, number_at, spelled}
 use Rattle.apei_gas.specs.declared.registers.Place.TheVariants.{Memory}
 use Rattle.apei_space.specs.RamState.{RamState, FillsWindows, located, stored}
 use Rattle.apei_space.specs.Mapped.{AreMapped, AreDisjoint}
-use Rattle.ghes_block.specs.Reading.{checked}
 use Rattle.ghes_ack.specs.declared.submission.SubmitError.{SubmitError}
-use Rattle.ghes_ack.specs.declared.submission.SubmitError.TheVariants.{Long}
 use Rattle.ghes_ack.specs.Machine.{Machine, Situation, Filling, with_status, IsState, waiting_in, last_taken}
 use Rattle.ghes_ack.specs.Maps.{bytes_at}
 use Rattle.ghes_window.specs.declared.window.BlockWindow.{BlockWindow}
-use Rattle.ghes_ack.specs.Handovers.{reason}
+use Rattle.ghes_ack.specs.Submissions.{refusal_of}
 use Rattle.ghes_hub.specs.declared.plain.map.PlainMap.{PlainMap}
 use Rattle.ghes_hub.specs.Kinds.{ByStatus, Occurs}
 
@@ -77,4 +75,4 @@ pub record PlainStands (h : PlainState) (ram : RamState) (m : Machine) : Type 0 
 
 -- the first reason why a block is refused
 abbrev pub plain_refusal : PlainState → List ℕ → Option SubmitError
-plain_refusal h block = if nat_lt h.map.len (length block) then Some (Long (length block)) else reason (checked block) (length block) (length h.waiting)
+plain_refusal h block = refusal_of h.map.len block (length h.waiting)

@@ -2,8 +2,6 @@ pub mod LineLemmas
 pub mod TurnLemmas
 pub mod NumberLemmas
 pub mod OneLine
-pub mod ResultLemmas
-pub mod ShownLemmas
 pub mod ServedLemmas
 pub mod PlayLemmas
 pub mod StageLemmas

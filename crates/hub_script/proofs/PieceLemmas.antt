@@ -7,8 +7,8 @@ use Rattle.std.proofs.Math.Seq.{take-add}
 use Rattle.hex.specs.Hex.{encode_lower, encode_with, lower_digits}
 use Rattle.hub_script.specs.Plays.{listed}
 use Rattle.hub_script.specs.Replies.{words_of_heard, reply_line}
-use Rattle.hub_script.specs.Shown.{AreShown, IsPartWritten}
-use Rattle.hub_script.proofs.ShownLemmas.{shown_then, shown_more, shown_all, shown_part, heard-more, flat_map-append}
+use Rattle.script_text.specs.Shown.{AreShown, IsPartWritten}
+use Rattle.script_text.proofs.ShownLemmas.{shown_then, shown_more, shown_all, shown_part, heard-more, flat_map-append}
 use Rattle.hub_script.proofs.StageLemmas.{listed_is}
 
 encode_nil : (t : List ℕ) → encode_with t [] ≡ []

@@ -15,13 +15,13 @@ use Rattle.hub_script.specs.declared.hub_line.HubLine.TheVariants.{Blank, Hest, 
 use Rattle.hub_script.specs.RefusalWords.{words_of_refusal}
 use Rattle.hub_script.specs.declared.refusals.HubRefusal.TheVariants.{NoHub}
 use Rattle.hub_script.specs.Replies.{refused, reply_line, text_of_replies, words_of_block, words_of_turns, word_of}
-use Rattle.hub_script.specs.Shown.{IsPartWritten}
+use Rattle.script_text.specs.Shown.{IsPartWritten}
 use Rattle.hub_script.specs.Stages.{Stage, Waiting, Serving}
 use Rattle.hub_script.specs.Plays.{Plays, IsRefused, source_of, side_of, AllNamed, Turned, NoTurn, OneMore, AllTurned}
 use Rattle.hub_script.specs.Lines.{PlaysLine, PlaysUnheard, TextIs, IsLeft, LeftOfTurns, AtLast, InBlock}
 use Rattle.hub_script.specs.TurnLines.{TakesTurn, TakesUnheard}
 use Rattle.hub_script.specs.Made.{MakesReply}
-use Rattle.hub_script.proofs.ShownLemmas.{flat_map-append}
+use Rattle.script_text.proofs.ShownLemmas.{flat_map-append}
 
 -- what is asked of a hub
 abbrev pub asks_hub : Line → Bool

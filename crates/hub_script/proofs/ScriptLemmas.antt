@@ -8,7 +8,7 @@ use Rattle.line_grammar.specs.declared.lengths.TheConstants.{LONGEST_LINE}
 use Rattle.apei_notify.specs.Telling.{Hearing}
 use Rattle.script_lines.specs.Causes.{HasSourceCause, HasSinkCause}
 use Rattle.script_lines.specs.Lines.{Line as TextLine, Reading, lines_of, IsTooLong, IsNextLine}
-use Rattle.script_lines.specs.Reads.{HasRead, StandsAt, AreTaken, last_line}
+use Rattle.script_lines.specs.Reads.{HasRead, StandsAt, AreReadInOrder, last_line}
 use Rattle.hub_script.specs.HubGrammar.{Line, IsLine, hest}
 use Rattle.hub_script.specs.HubText.{IsWritten}
 use Rattle.hub_script.specs.Replies.{text_of_replies, reply_line}
@@ -16,9 +16,10 @@ use Rattle.hub_script.specs.Stages.{Stage, Waiting, members_in}
 use Rattle.hub_script.specs.Plays.{Plays}
 use Rattle.hub_script.specs.Lines.{PlaysLine, PlaysUnheard, TextIs, GivesTable}
 use Rattle.hub_script.specs.History.{Played, Follows, IsLineOf, ArePlayed, AreInGrammar, text_of_played}
-use Rattle.hub_script.specs.Scripts.{StopsAt, EndsLines, PlaysScript, ServesScript, fault_of}
-use Rattle.hub_script.specs.declared.ending.HubEnd.{HubEnd}
-use Rattle.hub_script.specs.declared.ending.HubEnd.TheVariants.{Done, BadLine, SourceFault, SinkFault, TooLong, Memory}
+use Rattle.hub_script.specs.Scripts.{StopsAt, EndsLines, PlaysScript, ServesScript}
+use Rattle.script_lines.specs.Ends.{EndsReading, fault_of}
+use Rattle.script_lines.specs.declared.ending.ScriptEnd.{ScriptEnd}
+use Rattle.script_lines.specs.declared.ending.ScriptEnd.TheVariants.{Done, BadLine, SourceFault, SinkFault, TooLong, Memory}
 use Rattle.hub_script.proofs.ServedLemmas.{are_served}
 
 -- a line within the lengths has no more bytes than are parsed
@@ -54,28 +55,26 @@ module _ {L : Type 0} (hearing : L → Hearing) (told_source told_sink : Type 0)
   start stage script written reading read = record { lines = []; played = []; read = read; are = tt; follows = refl; text = λ told. sym (append-nil written) }
 
   -- an end behind a line that was read, or where none is
-  ends_by : (old new : Stage L) (script rest rest_now written now : List ℕ) (reading : Reading) (ending : HubEnd) → (so_far : SoFar old new script rest written now reading)
+  ends_by : (old new : Stage L) (script rest rest_now written now : List ℕ) (reading : Reading) (ending : ScriptEnd) → (so_far : SoFar old new script rest written now reading)
       → EndsLines told_source told_sink script rest_now written now so_far.played ending → PlaysScript hearing told_source told_sink old new script rest_now written now ending
   ends_by old new script rest rest_now written now reading ending so_far ends = record { played = so_far.played; follows = so_far.follows; ends = ends }
 
-  pub ends_done : (old new : Stage L) (script rest rest_now written now : List ℕ) (a : Reading) → (so_far : SoFar old new script rest written now a)
-      → (told_source → (lines_of 0 script ≡ so_far.lines) × (rest_now ≡ [])) → PlaysScript hearing told_source told_sink old new script rest_now written now Done
-  ends_done old new script rest rest_now written now a so_far at_end = ends_by old new script rest rest_now written now a Done so_far
-      ((λ told. let end = at_end told in (end.1, subst (λ (lines : List TextLine). ArePlayed lines so_far.played) (sym end.0) so_far.are)), so_far.text)
-
-  pub ends_fault : (old new : Stage L) (script rest rest_now written now : List ℕ) (a : Reading) → (so_far : SoFar old new script rest written now a)
-      → (told_source → AreTaken script rest_now so_far.lines) → PlaysScript hearing told_source told_sink old new script rest_now written now SourceFault
-  ends_fault old new script rest rest_now written now a so_far taken = ends_by old new script rest rest_now written now a SourceFault so_far
-      ((λ told. (so_far.lines, taken told, so_far.are)), so_far.text)
-
-  pub ends_too_long : (old new : Stage L) (script rest rest_now written now : List ℕ) (a : Reading) (number last : ℕ) → number ≡ last → (so_far : SoFar old new script rest written now a)
-      → (told_source → (line : TextLine) × StandsAt script so_far.lines (last + 1) line × IsTooLong line) → PlaysScript hearing told_source told_sink old new script rest_now written now (TooLong (number + 1))
-  ends_too_long old new script rest rest_now written now a number last is so_far stands = ends_by old new script rest rest_now written now a (TooLong (number + 1)) so_far (
+  -- there is no next line
+  pub ends_none : (order : AreReadInOrder told_source) (old new : Stage L) (script rest rest_now written now : List ℕ) (a b : Reading) (ending : ScriptEnd)
+      → SoFar old new script rest written now a → EndsReading told_source a b rest rest_now ending → PlaysScript hearing told_source told_sink old new script rest_now written now ending
+  ends_none order old new script rest rest_now written now a b Done so_far end = ends_by old new script rest rest_now written now a Done so_far
+      ((λ told. let at = order.at_end script rest rest_now so_far.lines a b so_far.read end told in (at.1, subst (λ (lines : List TextLine). ArePlayed lines so_far.played) (sym at.0) so_far.are)), so_far.text)
+  ends_none order old new script rest rest_now written now a b (BadLine number column) so_far end = absurd end
+  ends_none order old new script rest rest_now written now a b SourceFault so_far end = ends_by old new script rest rest_now written now a SourceFault so_far
+      ((λ told. (so_far.lines, order.failed script rest rest_now so_far.lines a b so_far.read end told, so_far.are)), so_far.text)
+  ends_none order old new script rest rest_now written now a b SinkFault so_far end = absurd end
+  ends_none order old new script rest rest_now written now a b (TooLong number) so_far (is, long) = ends_by old new script rest rest_now written now a (TooLong number) so_far (
     (λ told.
-        let at = stands told in
-        (at.0, record { before = so_far.lines; stands = subst (λ (n : ℕ). StandsAt script so_far.lines (n + 1) at.0) (sym is) at.1; are = so_far.are }, at.2)),
+        let at = order.too_long script rest so_far.lines a b so_far.read long told in
+        (at.0, record { before = so_far.lines; stands = subst (λ (n : ℕ). StandsAt script so_far.lines n at.0) (sym is) at.1; are = so_far.are }, at.2)),
     so_far.text,
   )
+  ends_none order old new script rest rest_now written now a b Memory so_far end = absurd end
 
   -- the line that was read last
   module _ (old mid : Stage L) (script rest rest_now written middle : List ℕ) (a b : Reading) (so_far : SoFar old mid script rest written middle a)
@@ -148,7 +147,7 @@ module _ {L : Type 0} (hearing : L → Hearing) (told_source told_sink : Type 0)
     }
 
 -- from listeners that wait on
-pub serves_script : {L : Type 0} (hearing : L → Hearing) (told_source told_sink : Type 0) (old new : Stage L) (script rest written now : List ℕ) (listeners listeners_now : List L) (ending : HubEnd)
+pub serves_script : {L : Type 0} (hearing : L → Hearing) (told_source told_sink : Type 0) (old new : Stage L) (script rest written now : List ℕ) (listeners listeners_now : List L) (ending : ScriptEnd)
     → PlaysScript hearing told_source told_sink old new script rest written now ending → old ≡ Waiting listeners → listeners_now ≡ members_in new
     → ServesScript hearing told_source told_sink script rest written now listeners listeners_now ending
 serves_script {L} hearing told_source told_sink old new script rest written now listeners listeners_now ending plays begins back =
@@ -161,7 +160,7 @@ in_grammar_at [] line behind all = (all.0, all.1)
 in_grammar_at (first ∷ before) line behind all = in_grammar_at before line behind all.2
 
 -- where all lines are in the grammar and no fault was counted, all are read
-pub is_done : {L : Type 0} (hearing : L → Hearing) (told_source told_sink : Type 0) (old new : Stage L) (script rest written now : List ℕ) (source source_now sink sink_now : ℕ) (ending : HubEnd)
+pub is_done : {L : Type 0} (hearing : L → Hearing) (told_source told_sink : Type 0) (old new : Stage L) (script rest written now : List ℕ) (source source_now sink sink_now : ℕ) (ending : ScriptEnd)
     → PlaysScript hearing told_source told_sink old new script rest written now ending → HasSourceCause source source_now (fault_of ending) → HasSinkCause sink sink_now (fault_of ending)
     → told_source → AreInGrammar (lines_of 0 script) → (Rose source source_now → ⊥) → (Rose sink sink_now → ⊥) → (ending ≡ Done) ⊎ (ending ≡ Memory)
 is_done hearing told_source told_sink old new script rest written now source source_now sink sink_now Done plays in_cause out_cause told all no_source no_sink = inl refl

@@ -30,7 +30,7 @@ use Rattle.hub_script.specs.Replies.{refused, reply_line, words_of_opened, words
 use Rattle.hub_script.specs.Stages.{Stage, Waiting, Serving, stage_in}
 use Rattle.hub_script.specs.Plays.{Plays, listed, most_listed, named_at, NoTable, NoOpening, Opened, NoSource, NotTaken, Queued, NotNamed, NoneToCount, Counted, NoneToDrop, NoListener, Dropped}
 use Rattle.hub_script.specs.Made.{MakesReply, OpensFor, NotOpened, IsOpen}
-use Rattle.hub_script.specs.Shown.{IsPartWritten}
+use Rattle.script_text.specs.Shown.{IsPartWritten}
 use Rattle.hub_script.specs.Lines.{PlaysLine, PlaysUnheard}
 use Rattle.hub_script.proofs.PlayLemmas.{asks_hub, no_hub, one_played, one_unheard}
 

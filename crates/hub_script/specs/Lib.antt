@@ -7,7 +7,6 @@ pub mod Replies
 pub mod Stages
 pub mod Plays
 pub mod Lines
-pub mod Shown
 pub mod TurnLines
 pub mod Made
 pub mod History

@@ -2,15 +2,14 @@
 use Rattle.std.specs.Prelude.{◌≡◌, ℕ, List, [], ◌∷◌, ◌++◌}
 use Rattle.line_grammar.specs.Columns.{BreaksAt}
 use Rattle.apei_notify.specs.Telling.{Hearing}
-use Rattle.script_lines.specs.Causes.{Fault, OfSource, OfSink, NoFault}
 use Rattle.script_lines.specs.Lines.{Line as TextLine, lines_of, IsTooLong}
 use Rattle.script_lines.specs.Reads.{StandsAt, AreTaken}
 use Rattle.hub_script.specs.HubGrammar.{Line, IsLine, hest}
 use Rattle.hub_script.specs.Stages.{Stage, Waiting, members_in}
 use Rattle.hub_script.specs.Lines.{IsLeft, ArePartlyWritten}
 use Rattle.hub_script.specs.History.{Played, Follows, IsLineOf, ArePlayed, AreServed, calls_of, text_of_played}
-use Rattle.hub_script.specs.declared.ending.HubEnd.{HubEnd}
-use Rattle.hub_script.specs.declared.ending.HubEnd.TheVariants.{Done, BadLine, SourceFault, SinkFault, TooLong, Memory}
+use Rattle.script_lines.specs.declared.ending.ScriptEnd.{ScriptEnd}
+use Rattle.script_lines.specs.declared.ending.ScriptEnd.TheVariants.{Done, BadLine, SourceFault, SinkFault, TooLong, Memory}
 
 -- the lines before one of the script were played, and what that line is
 pub record StopsAt {L : Type 0} (script : List ℕ) (played : List (Played L)) (number : ℕ) (line : TextLine) : Type 0 where
@@ -25,7 +24,7 @@ pub record IsBadFrom (column : ℕ) (line : TextLine) : Type 0 where
 
 -- the lines that were played: all; those before one that ended the script, which is too long, or none, or a table without memory for it; or
 -- those whose newline was taken from the source
-abbrev pub EndsBy : {L : Type 0} → List ℕ → List ℕ → List (Played L) → HubEnd → Type 0
+abbrev pub EndsBy : {L : Type 0} → List ℕ → List ℕ → List (Played L) → ScriptEnd → Type 0
 EndsBy script rest played Done = (rest ≡ []) × ArePlayed (lines_of 0 script) played
 EndsBy script rest played (BadLine number column) = (line : TextLine) × StopsAt script played number line × IsBadFrom column line
 EndsBy script rest played SourceFault = (lines : List TextLine) × AreTaken script rest lines × ArePlayed lines played
@@ -56,28 +55,22 @@ pub record StopsUnheard {L : Type 0} (told_source told_sink : Type 0) (script : 
   pub text : told_sink → ArePartlyWritten before unheard (written ++ text_of_played first) written_now
 
 -- which lines were played and what was written, by the end
-abbrev pub EndsLines : {L : Type 0} → Type 0 → Type 0 → List ℕ → List ℕ → List ℕ → List ℕ → List (Played L) → HubEnd → Type 0
+abbrev pub EndsLines : {L : Type 0} → Type 0 → Type 0 → List ℕ → List ℕ → List ℕ → List ℕ → List (Played L) → ScriptEnd → Type 0
 EndsLines told_source told_sink script rest written written_now played SinkFault = StopsUnheard told_source told_sink script played written written_now
 EndsLines told_source told_sink script rest written written_now played ending =
     (told_source → EndsBy script rest played ending) × (told_sink → written_now ≡ written ++ text_of_played played)
 
 -- lines of a script were played from a stage on
-pub record PlaysScript {L : Type 0} (hearing : L → Hearing) (told_source told_sink : Type 0) (old new : Stage L) (script rest written written_now : List ℕ) (ending : HubEnd) : Type 0 where
+pub record PlaysScript {L : Type 0} (hearing : L → Hearing) (told_source told_sink : Type 0) (old new : Stage L) (script rest written written_now : List ℕ) (ending : ScriptEnd) : Type 0 where
   pub played : List (Played L)
   pub follows : Follows hearing old played new
   pub ends : EndsLines told_source told_sink script rest written written_now played ending
 
 -- a script was played from its start on, and its listeners came back
-pub record ServesScript {L : Type 0} (hearing : L → Hearing) (told_source told_sink : Type 0) (script rest written written_now : List ℕ) (listeners listeners_now : List L) (ending : HubEnd) : Type 0 where
+pub record ServesScript {L : Type 0} (hearing : L → Hearing) (told_source told_sink : Type 0) (script rest written written_now : List ℕ) (listeners listeners_now : List L) (ending : ScriptEnd) : Type 0 where
   pub played : List (Played L)
   pub last : Stage L
   pub follows : Follows hearing (Waiting listeners) played last
   pub ends : EndsLines told_source told_sink script rest written written_now played ending
   pub members : listeners_now ≡ members_in last
   pub served : AreServed hearing listeners (calls_of played) last
-
--- the fault that an end tells of
-abbrev pub fault_of : HubEnd → Fault
-fault_of SourceFault = OfSource
-fault_of SinkFault = OfSink
-fault_of ending = NoFault

@@ -7,7 +7,7 @@ use Rattle.ghes_ack.specs.declared.events.Side.{Side}
 use Rattle.ghes_hub.specs.Hubs.{HubState, HubTurns, last_in}
 use Rattle.ghes_hub.specs.Runs.{told_at}
 use Rattle.hub_script.specs.Replies.{word_of, words_of_block, text_of_replies, reply_line}
-use Rattle.hub_script.specs.Shown.{IsPartWritten}
+use Rattle.script_text.specs.Shown.{IsPartWritten}
 
 -- a turn was made, its event said behind those before it, and a block that it took shown
 pub record TakesTurn {L : Type 0} (hearing : L → Hearing) (told_sink : Type 0) (source : ℕ) (side : Side) (old new : HubState L) (events events_now written written_now : List ℕ) : Type 0 where

@@ -2,10 +2,11 @@
 ghost use Rattle.std.specs.Prelude.{◌≡◌, ◌≤◌, length, OnOk, OnErr, ◌++◌};
 ghost use Rattle.base_model.specs.Faults.{HasCause};
 ghost use Rattle.hub_script.specs.Replies.{words_of_block, words_before_digits, reply_line};
-ghost use Rattle.hub_script.specs.Shown.{IsPartWritten};
+ghost use Rattle.script_text.specs.Shown.{IsPartWritten};
 
-use crate::reply::Reply;
+use crate::reply::end_line;
 use apei_bytes::{Sink, SinkFault, get_u32, write_all};
+use script_text::Reply;
 
 /// The offset of a block's severity.
 const SEVERITY: usize = 16;
@@ -33,7 +34,7 @@ pub fn show_block<O: Sink>(
         reply.add_hex(&block[at..end]);
         at = end;
     }
-    reply.end();
+    end_line(reply);
     write_all(out, reply.text())
 }
 

@@ -4,10 +4,9 @@ ghost use Rattle.hex.specs.Hex.{decode_of};
 ghost use Rattle.line_grammar.specs.declared.lengths.TheConstants.{LONGEST_LINE, LONGEST_BYTES};
 ghost use Rattle.line_grammar.specs.Parts.{IsPairs};
 
-use crate::reply::Reply;
 use apei_bytes::Memory;
 use line_grammar::LONGEST_BYTES;
-use script_text::decode;
+use script_text::{Reply, decode};
 use std::alloc::Global;
 
 /// The bytes that a line stands for, its reply, and the events of its turns.

@@ -7,12 +7,13 @@ ghost use Rattle.ghes_hub.specs.Hubs.{sources_in};
 ghost use Rattle.ghes_hub.specs.Seen.{seen};
 ghost use Rattle.hub_script.specs.Plays.{listed};
 ghost use Rattle.hub_script.specs.Replies.{words_of_heard, reply_line};
-ghost use Rattle.hub_script.specs.Shown.{IsPartWritten};
+ghost use Rattle.script_text.specs.Shown.{IsPartWritten};
 
-use crate::reply::Reply;
+use crate::reply::end_line;
 use apei_bytes::{Sink, SinkFault, write_all};
 use apei_notify::Listener;
 use ghes_hub::Hub;
+use script_text::Reply;
 
 /// Shows how often each listener of a source has heard of an error. However many they are, their counts take no memory.
 pub fn show_heard<O: Sink>(
@@ -34,6 +35,6 @@ pub fn show_heard<O: Sink>(
         reply.add(b" ");
         reply.add_number(hub.heard(source, at));
     }
-    reply.end();
+    end_line(reply);
     write_all(out, reply.text())
 }

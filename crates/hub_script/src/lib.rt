@@ -4,7 +4,6 @@
 
 mod blocks;
 mod desk;
-mod ending;
 mod heard;
 mod hub_line;
 mod laws;
@@ -15,7 +14,6 @@ mod reply;
 mod script;
 mod turns;
 
-pub use ending::HubEnd;
 pub use hub_line::HubLine;
 pub use laws::{one_column, one_line};
 pub use player::{HubPlayer, HubStop};

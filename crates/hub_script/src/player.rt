@@ -16,6 +16,7 @@ use crate::desk::Desk;
 use crate::heard::show_heard;
 use crate::hub_line::HubLine;
 use crate::refusals::HubRefusal;
+use crate::reply::{end_line, refuse};
 use crate::turns::{are_named, take_turns};
 use apei_bytes::{Memory, Sink, SinkFault, write_all};
 use apei_notify::Listener;
@@ -136,7 +137,7 @@ impl HubPlayer {
         ensures stays { OnErr result (stage_of self.new ≡ stage_of self.old) }
     {
         if self.hub.is_some() {
-            self.desk.reply.refuse(&HubRefusal::Open);
+            refuse(&mut self.desk.reply, &HubRefusal::Open);
             return Ok(());
         }
         let len = self.desk.decode(hex);
@@ -144,7 +145,7 @@ impl HubPlayer {
             Ok((table, _)) => self.serve(&table),
             Err(HestError::Memory) => Err(Memory),
             Err(why) => {
-                self.desk.reply.refuse(&HubRefusal::Table(why));
+                refuse(&mut self.desk.reply, &HubRefusal::Table(why));
                 Ok(())
             }
         }
@@ -161,7 +162,7 @@ impl HubPlayer {
             Ok(hub) => {
                 self.desk.reply.begin(b"hub ");
                 self.desk.reply.add_number(u64::from(hub.sources()));
-                self.desk.reply.end();
+                end_line(&mut self.desk.reply);
                 put(&mut self.hub, hub);
                 Ok(())
             }
@@ -170,7 +171,7 @@ impl HubPlayer {
                 match why {
                     HubError::Memory => Err(Memory),
                     why => {
-                        self.desk.reply.refuse(&HubRefusal::Hub(why));
+                        refuse(&mut self.desk.reply, &HubRefusal::Hub(why));
                         Ok(())
                     }
                 }
@@ -185,11 +186,11 @@ impl HubPlayer {
         ensures { MakesReply hearing (stage_of self.old) (error source hex.now) (stage_of self.new) self.new.desk.reply }
     {
         let Some(hub) = &mut self.hub else {
-            self.desk.reply.refuse(&HubRefusal::NoHub);
+            refuse(&mut self.desk.reply, &HubRefusal::NoHub);
             return;
         };
         if source >= u64::from(hub.sources()) {
-            self.desk.reply.refuse(&HubRefusal::Nobody);
+            refuse(&mut self.desk.reply, &HubRefusal::Nobody);
             return;
         }
         let len = self.desk.decode(hex);
@@ -197,9 +198,9 @@ impl HubPlayer {
             Ok(waiting) => {
                 self.desk.reply.begin(b"queued ");
                 self.desk.reply.add_number(u64::from(waiting));
-                self.desk.reply.end();
+                end_line(&mut self.desk.reply);
             }
-            Err(why) => self.desk.reply.refuse(&HubRefusal::Submit(why)),
+            Err(why) => refuse(&mut self.desk.reply, &HubRefusal::Submit(why)),
         }
     }
 
@@ -211,11 +212,11 @@ impl HubPlayer {
         ensures cause { HasCause (O.faults out.old) (O.faults out.new) result }
     {
         let Some(hub) = &mut self.hub else {
-            self.desk.reply.refuse(&HubRefusal::NoHub);
+            refuse(&mut self.desk.reply, &HubRefusal::NoHub);
             return write_all(out, self.desk.reply.text());
         };
         if !are_named(hub, pairs) {
-            self.desk.reply.refuse(&HubRefusal::Nobody);
+            refuse(&mut self.desk.reply, &HubRefusal::Nobody);
             return write_all(out, self.desk.reply.text());
         }
         take_turns(hub, pairs, &mut self.desk, out)
@@ -228,11 +229,11 @@ impl HubPlayer {
         ensures cause { HasCause (O.faults out.old) (O.faults out.new) result }
     {
         let Some(hub) = &self.hub else {
-            self.desk.reply.refuse(&HubRefusal::NoHub);
+            refuse(&mut self.desk.reply, &HubRefusal::NoHub);
             return write_all(out, self.desk.reply.text());
         };
         if source >= u64::from(hub.sources()) {
-            self.desk.reply.refuse(&HubRefusal::Nobody);
+            refuse(&mut self.desk.reply, &HubRefusal::Nobody);
             return write_all(out, self.desk.reply.text());
         }
         show_heard(hub, source as u32, &mut self.desk.reply, out)
@@ -243,17 +244,17 @@ impl HubPlayer {
         ensures { MakesReply hearing (stage_of self.old) (removal source at) (stage_of self.new) self.new.desk.reply }
     {
         let Some(hub) = &mut self.hub else {
-            self.desk.reply.refuse(&HubRefusal::NoHub);
+            refuse(&mut self.desk.reply, &HubRefusal::NoHub);
             return;
         };
         let sources = u64::from(hub.sources());
         if source >= sources {
-            self.desk.reply.refuse(&HubRefusal::Nobody);
+            refuse(&mut self.desk.reply, &HubRefusal::Nobody);
             return;
         }
         let listeners = u64::from(hub.listeners(source as u32));
         if at >= listeners {
-            self.desk.reply.refuse(&HubRefusal::Nobody);
+            refuse(&mut self.desk.reply, &HubRefusal::Nobody);
             return;
         }
         hub.remove(source as u32, at as u32);
@@ -261,7 +262,7 @@ impl HubPlayer {
         self.desk.reply.add_number(source);
         self.desk.reply.add(b" ");
         self.desk.reply.add_number(at);
-        self.desk.reply.end();
+        end_line(&mut self.desk.reply);
     }
 
     /// The listeners that are left: source by source where a hub was opened, and else in their order.

@@ -2,17 +2,17 @@
 ghost use Rattle.std.specs.Prelude.{◌≡◌, ◌⊎◌, ⊤};
 ghost use Rattle.base_model.specs.Faults.{Rose};
 ghost use Rattle.script_lines.specs.Causes.{HasSourceCause, HasSinkCause};
+ghost use Rattle.script_lines.specs.Ends.{fault_of};
 ghost use Rattle.script_lines.specs.Lines.{lines_of};
 ghost use Rattle.script_lines.specs.Reads.{first_reading};
 ghost use Rattle.hub_script.specs.History.{AreInGrammar};
 ghost use Rattle.hub_script.specs.Made.{stage_of};
-ghost use Rattle.hub_script.specs.Scripts.{PlaysScript, ServesScript, fault_of};
+ghost use Rattle.hub_script.specs.Scripts.{PlaysScript, ServesScript};
 
-use crate::ending::HubEnd;
 use crate::player::{HubPlayer, HubStop};
 use apei_bytes::{Sink, Source};
 use apei_notify::Listener;
-use script_lines::{LineReader, LineStop, lines_are_read_in_order};
+use script_lines::{LineReader, ScriptEnd, lines_are_read_in_order};
 use std::alloc::Global;
 
 /// Plays the lines of a script, one after another, until it ends or a line stops it.
@@ -21,7 +21,7 @@ fn play_lines<I: Source, O: Sink>(
     player: &mut HubPlayer,
     script: &mut I,
     out: &mut O,
-) -> HubEnd
+) -> ScriptEnd
     requires { lines.old ≡ first_reading }
     ensures played { PlaysScript hearing I.tells O.tells (stage_of player.old) (stage_of player.new) (I.rest script.old) (I.rest script.new) (O.written out.old) (O.written out.new) result }
     ensures source { HasSourceCause (I.faults script.old) (I.faults script.new) (fault_of result) }
@@ -29,27 +29,20 @@ fn play_lines<I: Source, O: Sink>(
 {
     lines_are_read_in_order::<I>();
     'lines: loop {
-        match lines.advance(script) {
-            Ok(true) => {}
-            Ok(false) => return HubEnd::Done,
-            Err(LineStop::TooLong) => {
-                return HubEnd::TooLong {
-                    line: lines.number() + 1,
-                };
-            }
-            Err(LineStop::SourceFault) => return HubEnd::SourceFault,
-        }
-        let number = lines.number();
+        let number = match lines.next_line(script) {
+            Ok(number) => number,
+            Err(end) => return end,
+        };
         match player.play(lines.line(), out) {
             Ok(()) => {}
             Err(HubStop::BadLine { column }) => {
-                return HubEnd::BadLine {
+                return ScriptEnd::BadLine {
                     line: number,
                     column,
                 };
             }
-            Err(HubStop::SinkFault) => return HubEnd::SinkFault,
-            Err(HubStop::Memory) => return HubEnd::Memory,
+            Err(HubStop::SinkFault) => return ScriptEnd::SinkFault,
+            Err(HubStop::Memory) => return ScriptEnd::Memory,
         }
     }
 }
@@ -63,23 +56,23 @@ pub fn serve_script<I: Source, O: Sink>(
     listeners: Vec<Box<dyn Listener>>,
     script: &mut I,
     out: &mut O,
-) -> (HubEnd, Vec<Box<dyn Listener>>)
+) -> (ScriptEnd, Vec<Box<dyn Listener>>)
     requires { ⊤ }
     // Where there is no memory to begin with, nothing was touched.
-    ensures served { ((result.0 ≡ HubEnd.Memory) × ((script.new ≡ script.old) × (out.new ≡ out.old)) × (result.1.items ≡ listeners.items))
+    ensures served { ((result.0 ≡ ScriptEnd.Memory) × ((script.new ≡ script.old) × (out.new ≡ out.old)) × (result.1.items ≡ listeners.items))
         ⊎ ServesScript hearing I.tells O.tells (I.rest script.old) (I.rest script.new) (O.written out.old) (O.written out.new) listeners.items result.1.items result.0 }
     ensures source { HasSourceCause (I.faults script.old) (I.faults script.new) (fault_of result.0) }
     ensures sink { HasSinkCause (O.faults out.old) (O.faults out.new) (fault_of result.0) }
     // A script whose lines are all in the grammar and within the lengths is read to its end, want of memory aside.
     ensures done { I.tells → AreInGrammar (lines_of 0 (I.rest script.old)) → (Rose (I.faults script.old) (I.faults script.new) → ⊥)
-        → (Rose (O.faults out.old) (O.faults out.new) → ⊥) → (result.0 ≡ HubEnd.Done) ⊎ (result.0 ≡ HubEnd.Memory) }
+        → (Rose (O.faults out.old) (O.faults out.new) → ⊥) → (result.0 ≡ ScriptEnd.Done) ⊎ (result.0 ≡ ScriptEnd.Memory) }
 {
     let Ok(mut lines) = LineReader::new(alloc) else {
-        return (HubEnd::Memory, listeners);
+        return (ScriptEnd::Memory, listeners);
     };
     let mut player = match HubPlayer::new(alloc, listeners) {
         Ok(player) => player,
-        Err(listeners) => return (HubEnd::Memory, listeners),
+        Err(listeners) => return (ScriptEnd::Memory, listeners),
     };
     let end = play_lines(&mut lines, &mut player, script, out);
     (end, player.into_members())

@@ -7,7 +7,6 @@ ghost use Rattle.ghes_hub.specs.Runs.{takes};
 ghost use Rattle.ghes_hub.specs.Seen.{seen};
 ghost use Rattle.hub_script.specs.HubGrammar.{turns};
 ghost use Rattle.hub_script.specs.Turns.{AreTurns};
-ghost use Rattle.hub_script.specs.Replies.{word_of};
 ghost use Rattle.hub_script.specs.Stages.{Serving};
 ghost use Rattle.hub_script.specs.Plays.{source_of, side_of, named_at, AllNamed};
 ghost use Rattle.hub_script.specs.Lines.{PlaysLine, PlaysUnheard};
@@ -15,9 +14,11 @@ ghost use Rattle.hub_script.specs.TurnLines.{TakesTurn, TakesUnheard};
 
 use crate::blocks::show_block;
 use crate::desk::Desk;
+use crate::reply::end_line;
 use apei_bytes::{Sink, SinkFault, write_all};
 use ghes_ack::{Event, Side};
 use ghes_hub::Hub;
+use script_text::word_of;
 
 /// What is behind the digit 9 is 10 from the letter `a` on.
 const BEFORE_LETTERS: u8 = b'a' - 10;
@@ -78,7 +79,7 @@ pub fn take_turns<O: Sink>(
         let side = side_of(pairs[2 * at + 1]);
         take_turn(hub, source, side, desk, out)?;
     }
-    desk.events.end();
+    end_line(&mut desk.events);
     write_all(out, desk.events.text())
 }
 
@@ -91,7 +92,7 @@ fn take_turn<O: Sink>(
     out: &mut O,
 ) -> Result<(), SinkFault>
     requires source { source < sources_in (seen hub.old) }
-    requires room { length desk.old.events + 8 ≤ 16640 }
+    requires room { length desk.old.events + 8 ≤ 131264 }
     ensures turned { OnOk result (TakesTurn (boxed hearing) O.tells source side (seen hub.old) (seen hub.new) desk.old.events desk.new.events (O.written out.old) (O.written out.new)) }
     ensures unheard { OnErr result (TakesUnheard (boxed hearing) O.tells source side (seen hub.old) (seen hub.new) (O.written out.old) (O.written out.new)) }
     ensures cause { HasCause (O.faults out.old) (O.faults out.new) result }
@@ -110,24 +111,4 @@ fn is_taking(event: Event) -> bool
     ensures { result ≡ takes event }
 {
     matches!(event, Event::Took)
-}
-
-/// The word of an event.
-fn word_of(event: Event) -> &'static [u8]
-    ensures word { result.now ≡ word_of event }
-    ensures short { length result.now ≤ 7 }
-{
-    match event {
-        Event::Idle => b"idle",
-        Event::Fill => b"fill",
-        Event::Publish => b"publish",
-        Event::Free => b"free",
-        Event::Wait => b"wait",
-        Event::Nothing => b"nothing",
-        Event::Found => b"found",
-        Event::Copied => b"copy",
-        Event::Took => b"took",
-        Event::Clear => b"clear",
-        Event::Ack => b"ack",
-    }
 }

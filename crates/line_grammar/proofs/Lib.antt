@@ -5,4 +5,5 @@ pub mod KeywordLemmas
 pub mod NumberLemmas
 pub mod NumberThenLemmas
 pub mod OneKeyword
+pub mod OneLine
 pub mod PairLemmas

@@ -1,3 +1,4 @@
+pub mod EndLemmas
 pub mod LineLemmas
 pub mod ReadLemmas
 pub mod OrderLemmas

@@ -1,8 +1,11 @@
 // The lines of a script, cut from a source in memory that is taken once.
-ghost use Rattle.std.specs.Prelude.{◌≡◌, ◌≢◌, ◌⊎◌, ◌↔◌, ℕ, ◌+◌, ◌-◌, ◌^◌, ◌<◌, ◌≤◌, true, false, List, [], ◌∷◌, ◌++◌, length, take, drop, slice_index, IsTrue, IfSome, IfOk, OnOk, OnErr, MatchOption, MatchResult, MatchBool, vec_len};
+ghost use Rattle.std.specs.Prelude.{◌≡◌, ◌≢◌, ◌⊎◌, ◌↔◌, ℕ, ◌+◌, ◌-◌, ◌^◌, ◌<◌, ◌≤◌, true, false, List, [], ◌∷◌, ◌++◌, length, take, drop, slice_index, IsTrue, IfSome, IfOk, IfErr, OnOk, OnErr, MatchOption, MatchResult, MatchBool, vec_len};
 ghost use Rattle.base_model.specs.Faults.{HasCause, Rose};
+ghost use Rattle.script_lines.specs.Causes.{HasSourceCause};
+ghost use Rattle.script_lines.specs.Ends.{EndsReading, fault_of};
 ghost use Rattle.script_lines.specs.Lines.{Line, Reading, lines_of, ended_lines_of, lines_ahead, IsNextLine, IsAtEnd, NextIsTooLong, HasNoLine, IsOneLine, IsFirstLine, StaysAt, TakesMore, TakesLine, SamePlace, PastLimits, IsTooLong};
 
+use crate::ending::ScriptEnd;
 use apei_bytes::{Memory, ReadFailed, Source};
 use line_grammar::LONGEST_LINE;
 use memchr::memchr;
@@ -124,6 +127,26 @@ impl LineReader {
                 Ok(_) => {}
                 Err(ReadFailed) => return Err(LineStop::SourceFault),
             }
+        }
+    }
+
+    /// Reads the next line, and answers its number, from 1; where there is none, how the script ends.
+    pub fn next_line<I: Source>(&mut self, script: &mut I) -> Result<u64, ScriptEnd>
+        requires { I.tells → self.old.at_end ≡ true → I.rest script.old ≡ [] }
+        ensures number { IfOk result (λ number. number ≡ self.new.number) }
+        ensures line { OnOk result (IsNextLine I.tells self.old self.new (I.rest script.old) (I.rest script.new)) }
+        ensures end { IfErr result (EndsReading I.tells self.old self.new (I.rest script.old) (I.rest script.new)) }
+        ensures at_end { I.tells → self.new.at_end ≡ true → I.rest script.new ≡ [] }
+        ensures no_fault { OnOk result (I.faults script.new ≡ I.faults script.old) }
+        ensures cause { IfErr result (λ end. HasSourceCause (I.faults script.old) (I.faults script.new) (fault_of end)) }
+    {
+        match self.advance(script) {
+            Ok(true) => Ok(self.number()),
+            Ok(false) => Err(ScriptEnd::Done),
+            Err(LineStop::TooLong) => Err(ScriptEnd::TooLong {
+                line: self.number() + 1,
+            }),
+            Err(LineStop::SourceFault) => Err(ScriptEnd::SourceFault),
         }
     }
 

@@ -1,34 +1,17 @@
 -- Lines with one text are one line.
-use Rattle.std.proofs.Common.{◌≡◌, ℕ, ◌+◌, ◌^◌, ◌<◌, ◌≤◌, ◌⊎◌, inl, inr, true, false, List, [], ◌∷◌, ◌++◌, length, refl, sym, ap, subst, ◌∙◌, arith}
-use Rattle.std.specs.Prelude.{All, IsTrue, decimal, codes}
+use Rattle.std.proofs.Common.{◌≡◌, ℕ, ◌^◌, ◌<◌, ◌⊎◌, inl, inr, true, false, List, [], ◌∷◌, ◌++◌, refl, sym, ap, subst, ◌∙◌, arith}
+use Rattle.std.specs.Prelude.{IsTrue, decimal, codes}
 use Rattle.std.specs.Char.{is_ascii_hexdigit}
 use Rattle.std.proofs.lemmas.Fmt.{decimal_injective}
-use Rattle.std.proofs.lemmas.List.{append_assoc, length-append}
-use Rattle.std.proofs.lemmas.List.Elements.{All-head, All-tail}
+use Rattle.std.proofs.lemmas.List.{append_assoc}
+use Rattle.std.proofs.lemmas.List.Elements.{All-head}
 use Rattle.line_grammar.specs.Parts.{IsPairs}
 use Rattle.script_text.specs.ScriptGrammar.{Line, IsValid, text_of, blank, comment, write, read, clear, count, next, dummy, action, table, own_table, shadow_table, error, turns, peek, fatal, bert, heard, reset, power, bridge}
 use Rattle.script_text.specs.ScriptWords.{codes_of, all_words}
 use Rattle.script_text.specs.declared.script_word.ScriptWord.{ScriptWord}
 use Rattle.script_text.specs.declared.script_word.ScriptWord.TheVariants.{Comment, Write, Read, Clear, Count, Next, Dummy, Action, Table, Error, Turns, Peek, Fatal, Bert, Heard, Reset, Power, Bridge}
-use Rattle.line_grammar.proofs.OneKeyword.{one_keyword}
+use Rattle.line_grammar.proofs.OneLine.{IsReading as IsReadingOf, one_line as one_line_of, same_then}
 use Rattle.script_text.proofs.ScriptLemmas.{alone}
-use Rattle.line_grammar.proofs.NumberLemmas.{all_digits}
-
--- two lists of digits with a space behind them
-cut : (xs ys a b : List ℕ) → All (λ c. 48 ≤ c) xs → All (λ c. 48 ≤ c) ys → xs ++ 32 ∷ a ≡ ys ++ 32 ∷ b → (xs ≡ ys) × (a ≡ b)
-cut [] [] a b in_xs in_ys e = (refl, cc e)
-cut [] (y ∷ ys) a b in_xs in_ys e = let h : 48 ≤ y = All-head (λ c. 48 ≤ c) y ys in_ys in let same : 32 ≡ y = cc e in absurd (omega arith)
-cut (x ∷ xs) [] a b in_xs in_ys e = let h : 48 ≤ x = All-head (λ c. 48 ≤ c) x xs in_xs in let same : x ≡ 32 = cc e in absurd (omega arith)
-cut (x ∷ xs) (y ∷ ys) a b in_xs in_ys e = more (cut xs ys a b (All-tail (λ c. 48 ≤ c) x xs in_xs) (All-tail (λ c. 48 ≤ c) y ys in_ys) (tails e))
-  where
-    tails : x ∷ xs ++ 32 ∷ a ≡ y ∷ ys ++ 32 ∷ b → xs ++ 32 ∷ a ≡ ys ++ 32 ∷ b
-    tails e = cc e
-
-    more : (xs ≡ ys) × (a ≡ b) → (x ∷ xs ≡ y ∷ ys) × (a ≡ b)
-    more (same, rest) = (let h : x ≡ y = cc e in cc (h, same), rest)
-
-same_two : (m n m' n' : ℕ) → m < 2 ^ 64 → n < 2 ^ 64 → m' < 2 ^ 64 → n' < 2 ^ 64 → decimal m ++ 32 ∷ decimal n ≡ decimal m' ++ 32 ∷ decimal n' → (m ≡ m') × (n ≡ n')
-same_two m n m' n' h1 h2 h3 h4 e = let parts = cut (decimal m) (decimal m') (decimal n) (decimal n') (all_digits m h1) (all_digits m' h3) e in (decimal_injective m m' h1 h3 parts.0, decimal_injective n n' h2 h4 parts.1)
 
 -- what a line is that a word begins
 abbrev IsReadAs : ScriptWord → List ℕ → Line → Type 0
@@ -78,8 +61,8 @@ same_pair : (make : ℕ → ℕ → Line) (rest : List ℕ) (a b : Line)
     → (m : ℕ) × (n : ℕ) × (m < 2 ^ 64) × (n < 2 ^ 64) × (rest ≡ decimal m ++ 32 ∷ decimal n) × (a ≡ make m n)
     → (m : ℕ) × (n : ℕ) × (m < 2 ^ 64) × (n < 2 ^ 64) × (rest ≡ decimal m ++ 32 ∷ decimal n) × (b ≡ make m n) → a ≡ b
 same_pair make rest a b x y =
-    let parts = same_two x.0 x.1 y.0 y.1 x.2 x.3 y.2 y.3 (sym x.4 ∙ y.4) in
-    x.5 ∙ ap (λ (m : ℕ). make m x.1) parts.0 ∙ ap (make y.0) parts.1 ∙ sym y.5
+    let parts = same_then x.0 y.0 (decimal x.1) (decimal y.1) x.2 y.2 (sym x.4 ∙ y.4) in
+    x.5 ∙ ap (λ (m : ℕ). make m x.1) parts.0 ∙ ap (make y.0) (decimal_injective x.1 y.1 x.3 y.3 parts.1) ∙ sym y.5
 
 -- a word and what is behind it make one line
 same_read : (word : ScriptWord) (rest : List ℕ) (a b : Line) → IsReadAs word rest a → IsReadAs word rest b → a ≡ b
@@ -103,11 +86,8 @@ same_read Power rest a b x y = x ∙ sym y
 same_read Bridge rest a b x y = same_number bridge rest a b x y
 
 -- how a line begins
-record IsReading (line : Line) : Type 0 where
-  word : ScriptWord
-  rest : List ℕ
-  is : text_of line ≡ codes_of word ++ rest
-  reads : IsReadAs word rest line
+abbrev IsReading : Line → Type 0
+IsReading line = IsReadingOf codes_of text_of IsReadAs line
 
 reading : (line : Line) → IsValid line → (line ≡ blank) ⊎ IsReading line
 reading blank valid = inl refl
@@ -132,40 +112,5 @@ reading (table hex) valid = inr (record { word = Table; rest = hex; is = refl; r
 reading own_table valid = inr (record { word = Table; rest = codes "own"; is = refl; reads = inr (inl (refl, refl)) })
 reading shadow_table valid = inr (record { word = Table; rest = codes "shadow"; is = refl; reads = inr (inr (refl, refl)) })
 
-some_codes : (word : ScriptWord) → 0 < length (codes_of word)
-some_codes Comment = omega arith
-some_codes Write = omega arith
-some_codes Read = omega arith
-some_codes Clear = omega arith
-some_codes Count = omega arith
-some_codes Next = omega arith
-some_codes Dummy = omega arith
-some_codes Action = omega arith
-some_codes Table = omega arith
-some_codes Error = omega arith
-some_codes Turns = omega arith
-some_codes Peek = omega arith
-some_codes Fatal = omega arith
-some_codes Bert = omega arith
-some_codes Heard = omega arith
-some_codes Reset = omega arith
-some_codes Power = omega arith
-some_codes Bridge = omega arith
-
-not_blank : (line : Line) → IsReading line → text_of line ≡ [] → ⊥
-not_blank line reads e =
-    let some : 0 < length (codes_of reads.word) = some_codes reads.word in
-    let l : length (codes_of reads.word ++ reads.rest) ≡ length (codes_of reads.word) + length reads.rest = length-append (codes_of reads.word) reads.rest in
-    let l' : length (codes_of reads.word ++ reads.rest) ≡ 0 = ap length (sym reads.is ∙ e) in
-    omega arith
-
 pub one_line : (a b : Line) → IsValid a → IsValid b → text_of a ≡ text_of b → a ≡ b
-one_line a b in_a in_b e = choose (reading a in_a) (reading b in_b)
-  where
-    choose : (a ≡ blank) ⊎ IsReading a → (b ≡ blank) ⊎ IsReading b → a ≡ b
-    choose (inl x) (inl y) = x ∙ sym y
-    choose (inl x) (inr y) = absurd (not_blank b y (sym e ∙ ap text_of x))
-    choose (inr x) (inl y) = absurd (not_blank a x (e ∙ ap text_of y))
-    choose (inr x) (inr y) =
-        let same = one_keyword codes_of all_words alone x.word y.word x.rest y.rest (sym x.is ∙ e ∙ y.is) in
-        same_read x.word x.rest a b x.reads (subst (λ (w : ScriptWord). IsReadAs w x.rest b) same.0 (subst (λ (r : List ℕ). IsReadAs y.word r b) (sym same.1) y.reads))
+one_line a b in_a in_b e = one_line_of codes_of all_words alone (omega arith) text_of blank refl IsReadAs same_read a b (reading a in_a) (reading b in_b) e

@@ -3,10 +3,12 @@ pub mod CheckText
 pub mod CheckWords
 pub mod ClientWords
 pub mod FrameWords
+pub mod ReplyWords
 pub mod RunWords
 pub mod ScriptGrammar
 pub mod ScriptText
 pub mod ScriptWords
+pub mod Shown
 pub mod TableWords
 pub mod SubmitWords
 pub mod Turns

@@ -7,6 +7,7 @@ mod digits;
 mod frame_refusals;
 mod laws;
 mod refusal;
+mod reply;
 mod run_refusals;
 mod script_line;
 mod script_word;
@@ -21,4 +22,5 @@ pub use laws::{
     words_tell_the_refusal,
 };
 pub use refusal::Refusal;
+pub use reply::{Reply, word_of};
 pub use script_line::{BadLine, ScriptLine};

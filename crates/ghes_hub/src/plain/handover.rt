@@ -10,9 +10,8 @@ use crate::plain::map::PlainMap;
 use crate::plain::turns::one_turn;
 use apei_bytes::Memory;
 use apei_space::Ram;
-use ghes_ack::{Event, Side, SubmitError};
-use ghes_block::Block;
-use ghes_window::{Blocks, WAITING};
+use ghes_ack::{Event, Side, SubmitError, check_block};
+use ghes_window::Blocks;
 use std::alloc::Global;
 use std::marker::Model;
 
@@ -62,21 +61,8 @@ impl PlainHandover {
         ensures exact { MatchResult result (λ _. plain_refusal self.old block.now ≡ None) (λ error. plain_refusal self.old block.now ≡ Some error) }
         ensures refused { OnErr result (self.new ≡ self.old) }
     {
-        let len = block.len() as u64;
-        if len > u64::from(self.blocks.map.len) {
-            return Err(SubmitError::Long { len });
-        }
-        match Block::decode(block) {
-            Err(error) => return Err(SubmitError::Malformed(error)),
-            Ok((_, size)) => {
-                if size < block.len() {
-                    let bytes = (block.len() - size) as u64;
-                    return Err(SubmitError::Trailing { bytes });
-                }
-            }
-        }
-        if self.blocks.waiting.len() >= WAITING {
-            return Err(SubmitError::Full);
+        if let Err(error) = check_block(block, self.blocks.map.len, self.blocks.waiting.len()) {
+            return Err(error);
         }
         self.blocks.add(block);
         Ok(self.blocks.waiting.len() as u32)

@@ -3,8 +3,8 @@ use Rattle.std.proofs.lemmas.List.{append-nil}
 use Rattle.std.proofs.lemmas.Result.{err_from_is_err_and, on_ok_weaker, on_err_weaker}
 use Rattle.hex.specs.Hex.{encode_lower}
 use Rattle.hub_script.specs.Replies.{reply_line, words_before_digits, words_of_block}
-use Rattle.hub_script.proofs.ResultLemmas.{on_err, has_cause, same_cause}
-use Rattle.hub_script.proofs.ShownLemmas.{shown_none, shown_then, shown_more, shown_all, shown_part}
+use Rattle.base_model.proofs.FaultLemmas.{on_err, has_cause, same_cause}
+use Rattle.script_text.proofs.ShownLemmas.{shown_none, shown_then, shown_more, shown_all, shown_part}
 use Rattle.hub_script.proofs.PieceLemmas.{no_digits, more_digits, digits_short, digits_rest, all_digits}
 use Rattle.hub_script.proofs.blocks.show_block.Goals as goal
 
@@ -51,8 +51,8 @@ pub returns-clause-all : goal.returns-clause-all
 returns-clause-all g c =
     let words = words_before_digits c.args.source c.args.block.now in
     on_ok_weaker c.write_all.result
-    (λ h. shown_all g.O.Sink.tells (g.O.Sink.written c.args.out.now) (g.O.Sink.written c.showing.out) (g.O.Sink.written c.write_all.new.sink) c.end.new.self (reply_line (words_of_block c.args.source c.args.block.now))
-    (shown_more _ _ _ c.showing.reply c.end.new.self (words ++ encode_lower (take c.showing.at c.args.block.now)) (reply_line (words_of_block c.args.source c.args.block.now)) (10 ∷ []) c.showing.invariant.so c.end.ensures
+    (λ h. shown_all g.O.Sink.tells (g.O.Sink.written c.args.out.now) (g.O.Sink.written c.showing.out) (g.O.Sink.written c.write_all.new.sink) c.end_line.new.reply (reply_line (words_of_block c.args.source c.args.block.now))
+    (shown_more _ _ _ c.showing.reply c.end_line.new.reply (words ++ encode_lower (take c.showing.at c.args.block.now)) (reply_line (words_of_block c.args.source c.args.block.now)) (10 ∷ []) c.showing.invariant.so c.end_line.ensures
     (all_digits words c.args.block.now c.showing.at c.showing-test.false))
     (λ t. h t ∙ ap (λ (xs : List ℕ). g.O.Sink.written c.showing.out ++ xs) c.text.ensures)) c.write_all.ensures.all
 
@@ -61,8 +61,8 @@ returns-clause-part g c =
     let words = words_before_digits c.args.source c.args.block.now in
     let whole = reply_line (words_of_block c.args.source c.args.block.now) in
     on_err_weaker c.write_all.result
-    (λ h. shown_part g.O.Sink.tells (g.O.Sink.written c.args.out.now) (g.O.Sink.written c.showing.out) (g.O.Sink.written c.write_all.new.sink) c.end.new.self whole [] whole
-    (shown_more _ _ _ c.showing.reply c.end.new.self (words ++ encode_lower (take c.showing.at c.args.block.now)) whole (10 ∷ []) c.showing.invariant.so c.end.ensures
+    (λ h. shown_part g.O.Sink.tells (g.O.Sink.written c.args.out.now) (g.O.Sink.written c.showing.out) (g.O.Sink.written c.write_all.new.sink) c.end_line.new.reply whole [] whole
+    (shown_more _ _ _ c.showing.reply c.end_line.new.reply (words ++ encode_lower (take c.showing.at c.args.block.now)) whole (10 ∷ []) c.showing.invariant.so c.end_line.ensures
     (all_digits words c.args.block.now c.showing.at c.showing-test.false)) (sym (append-nil whole))
     (λ t. let part = h t in (part.0, part.1 ∙ ap (λ (xs : List ℕ). g.O.Sink.written c.showing.out ++ take part.0 xs) c.text.ensures))) c.write_all.ensures.part
 

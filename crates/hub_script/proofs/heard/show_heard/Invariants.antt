@@ -2,7 +2,7 @@ use Rattle.std.proofs.Common.{◌≡◌, ◌≤◌, length, take, map}
 use Rattle.std.specs.Prelude.{IfSome, slice_get}
 use Rattle.ghes_hub.specs.Seen.{seen}
 use Rattle.hub_script.specs.Replies.{words_of_heard}
-use Rattle.hub_script.specs.Shown.{AreShown}
+use Rattle.script_text.specs.Shown.{AreShown}
 use Rattle.hub_script.proofs.heard.show_heard.Given as goal
 
 abbrev pub invariant-hearing : goal.invariant-hearing

@@ -1,7 +1,7 @@
 use Rattle.std.proofs.Common.{◌≡◌, ◌∙◌, length, refl, ap, arith}
 use Rattle.std.proofs.lemmas.Result.{err_from_is_err_and, on_ok_weaker, on_err_weaker}
 use Rattle.ghes_hub.specs.Seen.{seen}
-use Rattle.hub_script.proofs.ResultLemmas.{on_err, has_cause, same_cause}
+use Rattle.base_model.proofs.FaultLemmas.{on_err, has_cause, same_cause}
 use Rattle.hub_script.proofs.PlayLemmas.{no_turn, turn_more, turn_cut, all_turned, all_unheard, lent_text, lent_part, said_longer, is_named}
 use Rattle.hub_script.proofs.turns.take_turns.Goals as goal
 
@@ -49,8 +49,8 @@ turning-preserved g c =
       faults = c.in_ok-take_turn.ensures.cause.ok ∙ c.turning.invariant.faults;
     }
 
-pub end-requires : goal.end-requires
-end-requires g c =
+pub end_line-requires : goal.end_line-requires
+end_line-requires g c =
     let short = c.turning.invariant.short in
     let most = c.requires.valid.most in
     let end = c.turning.auto.at-end in
@@ -61,14 +61,14 @@ returns-clause-played g c =
     let test = c.turning-test.false in
     let even = c.requires.valid.even.1 in
     on_ok_weaker c.write_all.result
-    (λ h. all_turned _ _ _ _ c.args.pairs.now c.turning.at _ _ _ _ (omega (arith, test, even)) c.requires.named c.turning.invariant.so (lent_text _ _ _ _ _ c.text.ensures c.end.ensures h)) c.write_all.ensures.all
+    (λ h. all_turned _ _ _ _ c.args.pairs.now c.turning.at _ _ _ _ (omega (arith, test, even)) c.requires.named c.turning.invariant.so (lent_text _ _ _ _ _ c.text.ensures c.end_line.ensures h)) c.write_all.ensures.all
 
 pub returns-clause-unheard : goal.returns-clause-unheard
 returns-clause-unheard g c =
     let test = c.turning-test.false in
     let even = c.requires.valid.even.1 in
     on_err_weaker c.write_all.result
-    (λ h. all_unheard _ _ _ _ c.args.pairs.now c.turning.at _ _ _ _ (omega (arith, test, even)) c.requires.named c.turning.invariant.so (lent_part _ _ _ _ _ c.text.ensures c.end.ensures h)) c.write_all.ensures.part
+    (λ h. all_unheard _ _ _ _ c.args.pairs.now c.turning.at _ _ _ _ (omega (arith, test, even)) c.requires.named c.turning.invariant.so (lent_part _ _ _ _ _ c.text.ensures c.end_line.ensures h)) c.write_all.ensures.part
 
 pub returns-clause-cause : goal.returns-clause-cause
 returns-clause-cause g c = same_cause _ _ _ c.write_all.result c.turning.invariant.faults c.write_all.ensures.cause

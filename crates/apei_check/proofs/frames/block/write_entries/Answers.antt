@@ -4,7 +4,8 @@ use Rattle.ghes_block.specs.Entries.{value_of}
 use Rattle.apei_check.specs.Frames.{entry_lines}
 use Rattle.apei_check.proofs.PartLemmas.{length-entry_lines, entry_line_at}
 use Rattle.apei_check.proofs.PlaceLemmas.{place_none, is_here, same_place}
-use Rattle.apei_check.proofs.AnswerLemmas.{on_err, wrote_all}
+use Rattle.base_model.proofs.FaultLemmas.{on_err}
+use Rattle.apei_check.proofs.AnswerLemmas.{wrote_all}
 use Rattle.apei_check.proofs.frames.block.write_entries.Goals as goal
 
 pub loop-entry-init : goal.loop-entry-init

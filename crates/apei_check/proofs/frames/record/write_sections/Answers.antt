@@ -3,7 +3,8 @@ use Rattle.apei_check.proofs.WrittenLemmas.{wrote_nothing, wrote_next, wrote_par
 use Rattle.cper_frame.specs.Sections.{value_of}
 use Rattle.apei_check.specs.Frames.{section_lines}
 use Rattle.apei_check.proofs.PartLemmas.{length-section_lines, section_line_at}
-use Rattle.apei_check.proofs.AnswerLemmas.{on_err, wrote_all}
+use Rattle.base_model.proofs.FaultLemmas.{on_err}
+use Rattle.apei_check.proofs.AnswerLemmas.{wrote_all}
 use Rattle.apei_check.proofs.frames.record.write_sections.Goals as goal
 
 pub loop-index-init : goal.loop-index-init

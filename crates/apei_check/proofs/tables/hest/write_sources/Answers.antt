@@ -5,7 +5,7 @@ use Rattle.apei_check.specs.Written.{Writes}
 use Rattle.apei_check.proofs.WrittenLemmas.{wrote_nothing, wrote_next, wrote_part_of_next}
 use Rattle.apei_check.specs.TableLines.{source_line, source_lines}
 use Rattle.apei_check.proofs.PartLemmas.{length_numbered, numbered_at}
-use Rattle.apei_check.proofs.AnswerLemmas.{on_err, failed}
+use Rattle.base_model.proofs.FaultLemmas.{on_err, has_cause}
 use Rattle.apei_check.proofs.tables.hest.write_sources.Goals as goal
 
 pub loop-index-init : goal.loop-index-init
@@ -23,7 +23,7 @@ returns-in_err-write_line-clause-part g c =
 pub returns-in_err-write_line-clause-cause : goal.returns-in_err-write_line-clause-cause
 returns-in_err-write_line-clause-cause g c =
     let p = err_from_is_err_and c.from_residual.result c.from_residual.ensures.1 in
-    failed _ _ _ c.from_residual.result p.0 _ c.loop-index.invariant.faults p.1 c.in_err-write_line.ensures.cause
+    has_cause _ _ _ c.from_residual.result p.0 _ c.loop-index.invariant.faults p.1 c.in_err-write_line.ensures.cause
 
 pub loop-index-preserved : goal.loop-index-preserved
 loop-index-preserved g c =

@@ -21,7 +21,7 @@ returns-then-at-listeners g c =
 pub returns : goal.returns
 returns g c =
     let front = c.add_number.ensures.text ∙ ap (λ (xs : List ℕ). xs ++ decimal c.args.source) c.begin.ensures in
-    let text = c.end.ensures ∙ ap reply_line (c.add_number-2.ensures.text ∙ ap (λ (xs : List ℕ). xs ++ decimal c.args.at) (c.add.ensures ∙ ap (λ (xs : List ℕ). xs ++ codes " ") front)) in
+    let text = c.end_line.ensures ∙ ap reply_line (c.add_number-2.ensures.text ∙ ap (λ (xs : List ℕ). xs ++ decimal c.args.at) (c.add.ensures ∙ ap (λ (xs : List ℕ). xs ++ codes " ") front)) in
     at_hub _ c.args.self.now.listeners.items c.args.self.now.hub c.in-Some.hub _ _ _ c.in-Some.is
     (dropped _ _ _ _ _ c.listeners.result _ (hub_chains c.in-Some.hub) (is_below _ _ _ _ c.from-sources.ensures c.sources.ensures c.if-source-sources.false) c.listeners.ensures
     (is_below _ _ _ _ c.from-listeners.ensures refl c.if-at-listeners.false) c.remove.ensures text)

@@ -6,7 +6,7 @@ use Rattle.hub_script.proofs.player.HubPlayer.serve.Goals as goal
 
 pub returns-in-Ok-clause-made : goal.returns-in-Ok-clause-made
 returns-in-Ok-clause-made g c =
-    let text = c.end.ensures ∙ ap reply_line (c.add_number.ensures.text ∙ ap (λ (xs : List ℕ). xs ++ decimal c.from.result) c.begin.ensures ∙ ap words_of_opened c.from.ensures) in
+    let text = c.end_line.ensures ∙ ap reply_line (c.add_number.ensures.text ∙ ap (λ (xs : List ℕ). xs ++ decimal c.from.result) c.begin.ensures ∙ ap words_of_opened c.from.ensures) in
     opened_for _ _ _ c.replace-listeners.ensures.value _ _ c.in-Ok.hub _ _ c.put.ensures c.in-Ok.ensures.exact c.in-Ok.ensures.opened c.sources.ensures text
 
 pub returns-in_default-clause-made : goal.returns-in_default-clause-made

@@ -12,7 +12,7 @@ returns-then-source-from g c =
 
 pub returns-in-Ok : goal.returns-in-Ok
 returns-in-Ok g c =
-    let text = c.end.ensures ∙ ap reply_line (c.add_number.ensures.text ∙ ap (λ xs. xs ++ decimal c.from-in-Ok.result) c.begin.ensures ∙ ap words_of_queued c.from-in-Ok.ensures) in
+    let text = c.end_line.ensures ∙ ap reply_line (c.add_number.ensures.text ∙ ap (λ xs. xs ++ decimal c.from-in-Ok.result) c.begin.ensures ∙ ap words_of_queued c.from-in-Ok.ensures) in
     at_hub _ _ _ c.in-Some.hub _ _ _ c.in-Some.is
     (queued _ _ _ _ _ _ _ _ (is_below _ _ _ _ c.from.ensures c.sources.ensures c.if-source-from.false) (as_lent _ _ c.deref.result.now _ c.decode-len.ensures.bytes c.deref.ensures.value)
     c.in-Ok.ensures.exact c.in-Ok.ensures.submitted c.in-Ok.ensures.number text)

@@ -1,7 +1,7 @@
 use Rattle.std.proofs.Common.{refl}
 use Rattle.std.proofs.lemmas.Result.{on_ok_weaker, on_err_weaker}
 use Rattle.hub_script.proofs.PlayLemmas.{reply_played, reply_unheard}
-use Rattle.hub_script.proofs.ResultLemmas.{on_true, on_false}
+use Rattle.std.proofs.lemmas.Bool.{MatchBool-at_true, MatchBool-at_false}
 use Rattle.hub_script.proofs.StageLemmas.{refused_waiting, at_hub, nobody_turned, line_at_hub, unheard_at_hub}
 use Rattle.hub_script.proofs.player.HubPlayer.turn.Goals as goal
 
@@ -17,7 +17,7 @@ returns-in_default-clause-unheard g c =
 
 pub returns-then-not-are_named-clause-played : goal.returns-then-not-are_named-clause-played
 returns-then-not-are_named-clause-played g c =
-    let none = on_false c.are_named.result _ _ c.if-not-are_named.true c.are_named.ensures in
+    let none = MatchBool-at_false _ _ c.if-not-are_named.true c.are_named.ensures in
     on_ok_weaker c.write_all-then-not-are_named.result
     (reply_played _ _ _ _ _ _ _ _ _
     (at_hub _ c.args.self.now.listeners.items c.args.self.now.hub c.in-Some.hub _ _ _ c.in-Some.is (nobody_turned _ _ _ _ none.0 none.1 none.2 c.refuse-then-not-are_named.ensures))
@@ -25,14 +25,14 @@ returns-then-not-are_named-clause-played g c =
 
 pub returns-then-not-are_named-clause-unheard : goal.returns-then-not-are_named-clause-unheard
 returns-then-not-are_named-clause-unheard g c =
-    let none = on_false c.are_named.result _ _ c.if-not-are_named.true c.are_named.ensures in
+    let none = MatchBool-at_false _ _ c.if-not-are_named.true c.are_named.ensures in
     on_err_weaker c.write_all-then-not-are_named.result
     (reply_unheard _ _ _ _ _ _ _ _ _
     (at_hub _ c.args.self.now.listeners.items c.args.self.now.hub c.in-Some.hub _ _ _ c.in-Some.is (nobody_turned _ _ _ _ none.0 none.1 none.2 c.refuse-then-not-are_named.ensures))
     c.text-then-not-are_named.ensures) c.write_all-then-not-are_named.ensures.part
 
 pub take_turns-requires : goal.take_turns-requires
-take_turns-requires g c = record { valid = c.requires; named = on_true c.are_named.result _ _ c.if-not-are_named.false c.are_named.ensures }
+take_turns-requires g c = record { valid = c.requires; named = MatchBool-at_true _ _ c.if-not-are_named.false c.are_named.ensures }
 
 pub returns-clause-played : goal.returns-clause-played
 returns-clause-played g c = on_ok_weaker c.take_turns.result (line_at_hub _ c.args.self.now.listeners.items _ c.args.self.now.hub c.in-Some.hub c.in-Some.is _ _ _ _) c.take_turns.ensures.played

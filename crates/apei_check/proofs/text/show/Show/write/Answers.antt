@@ -1,7 +1,7 @@
 use Rattle.std.proofs.Common.{refl}
 use Rattle.std.proofs.lemmas.Result.{on_ok_weaker, on_err_weaker}
 use Rattle.apei_check.proofs.WrittenLemmas.{wrote_item, wrote_item_part, wrote_head_broken}
-use Rattle.apei_check.proofs.AnswerLemmas.{on_err}
+use Rattle.base_model.proofs.FaultLemmas.{on_err}
 use Rattle.apei_check.proofs.text.show.Show.write.Goals as goal
 
 pub returns-in_err-write_head-clause-part : goal.returns-in_err-write_head-clause-part

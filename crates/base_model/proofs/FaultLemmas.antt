@@ -1,4 +1,4 @@
--- What is said of an answer.
+-- Laws of answers and of what causes a failure.
 use Rattle.std.proofs.Common.{◌≡◌, ℕ, ◌≤◌, Result, Ok, Err, OnErr, sym, subst}
 use Rattle.base_model.specs.Faults.{Rose, HasCause}
 

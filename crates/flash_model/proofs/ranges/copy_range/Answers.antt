@@ -1,6 +1,6 @@
 use Rattle.std.proofs.Common.{length, refl, ◌∙◌}
 use Rattle.flash_model.proofs.Telling.{part-range}
-use Rattle.driver_example.proofs.driver.copy.Goals as goal
+use Rattle.flash_model.proofs.ranges.copy_range.Goals as goal
 
 pub returns : goal.returns
 returns c =

@@ -1,6 +1,6 @@
 use Rattle.std.proofs.Common.{length, refl}
 use Rattle.flash_model.proofs.Telling.{put_mid-put_at}
-use Rattle.driver_example.proofs.driver.put.Goals as goal
+use Rattle.flash_model.proofs.ranges.put_range.Goals as goal
 
 pub returns : goal.returns
 returns c =

@@ -1,10 +1,10 @@
 -- Words that are written in pieces.
-use Rattle.std.proofs.Common.{◌≡◌, ◌∙◌, ℕ, ◌+◌, min, suc, List, [], ◌∷◌, ◌++◌, length, take, drop, map, refl, sym, ap, append_assoc, arith, add-one, zero, ◌<◌}
+use Rattle.std.proofs.Common.{◌≡◌, ◌∙◌, ℕ, ◌+◌, min, suc, List, [], ◌∷◌, ◌++◌, length, take, map, refl, sym, ap, append_assoc, arith, add-one, zero, ◌<◌}
 use Rattle.std.specs.Prelude.{codes, decimal, IfSome, slice_get}
 use Rattle.std.specs.List.{flat_map}
-use Rattle.std.proofs.lemmas.List.{append-nil, map-append, take-append-drop, flat_map_more, take_min, take-append-le}
-use Rattle.hub_script.specs.Replies.{words_of_heard}
-use Rattle.hub_script.specs.Shown.{AreShown, IsPartWritten}
+use Rattle.std.proofs.lemmas.List.{append-nil, flat_map_more, take_min, take-append-le}
+use Rattle.script_text.specs.ReplyWords.{words_of_heard}
+use Rattle.script_text.specs.Shown.{AreShown, IsPartWritten}
 
 pub shown_none : (told_sink : Type 0) (written reply words : List ℕ) → reply ≡ words → AreShown told_sink written written reply words
 shown_none told_sink written reply words is = record { shown = []; text = λ _. sym (append-nil written); words_are = is }
@@ -68,13 +68,3 @@ heard-more {X} f xs k n h is =
 pub flat_map-append : {X A : Type 0} (f : X → List A) (xs ys : List X) → flat_map f (xs ++ ys) ≡ flat_map f xs ++ flat_map f ys
 flat_map-append f [] ys = refl
 flat_map-append {X} {A} f (x ∷ xs) ys = ap (λ (zs : List A). f x ++ zs) (flat_map-append f xs ys) ∙ sym (append_assoc (f x) (flat_map f xs) (flat_map f ys))
-
--- the words of all counts begin with those of the first
-pub heard-rest : {X : Type 0} (f : X → ℕ) (xs : List X) (k : ℕ)
-    → words_of_heard (map f xs) ≡ words_of_heard (map f (take k xs)) ++ flat_map (λ (n : ℕ). codes " " ++ decimal n) (map f (drop k xs))
-heard-rest {X} f xs k =
-    let g : ℕ → List ℕ = λ n. codes " " ++ decimal n in
-    let e : map f xs ≡ map f (take k xs) ++ map f (drop k xs) = ap (λ (ys : List X). map f ys) (sym (take-append-drop k xs)) ∙ map-append f (take k xs) (drop k xs) in
-    ap words_of_heard e
-    ∙ ap (λ (ys : List ℕ). codes "heard" ++ ys) (flat_map-append g (map f (take k xs)) (map f (drop k xs)))
-    ∙ sym (append_assoc (codes "heard") (flat_map g (map f (take k xs))) (flat_map g (map f (drop k xs))))
