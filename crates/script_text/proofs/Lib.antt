@@ -4,4 +4,5 @@ pub mod OneCheckLine
 pub mod OneLine
 pub mod RefusalLemmas
 pub mod ScriptLemmas
+pub mod TwoNumbers
 pub mod TurnLemmas

@@ -6,7 +6,6 @@ pub mod FrameWords
 pub mod RunWords
 pub mod ScriptGrammar
 pub mod ScriptText
-pub mod ScriptWords
 pub mod TableWords
 pub mod SubmitWords
 pub mod Turns

@@ -9,7 +9,6 @@ mod laws;
 mod refusal;
 mod run_refusals;
 mod script_line;
-mod script_word;
 mod submit_refusals;
 mod table_refusals;
 mod turns;
