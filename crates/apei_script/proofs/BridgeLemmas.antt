@@ -36,7 +36,7 @@ use Rattle.apei_script.specs.Players.{PlayerState, budget_of}
 use Rattle.apei_script.specs.Words.{Reply, at_step, said_at, words_of_block, text_of_reply, text_of_replies, reply_at}
 use Rattle.apei_script.specs.Happened.{side_of}
 use Rattle.apei_script.specs.Bridged.{words_of_turn, words_of_step, words_of_steps, words_of_made, HasTaken, block_of, blocks_in, block_replies, replies_of, ByBridge, Enters, StaysAs, BridgesTurns, TurnsShown}
-use Rattle.apei_script.specs.Plays.{Plays, Blank, ByClient, GivenTable, OwnTable, GivenShadow, OnMachine, ByTheBridge, Heard, Reset, Power, Told, changes_in, LinePlayed, PlaysLine, PlaysUnheard, LeftIn, AtLast, InBridged}
+use Rattle.apei_script.specs.Plays.{Plays, Blank, ByClient, GivenTable, OwnTable, GivenShadow, OnMachine, ByTheBridge, OnlyTells, Reset, Power, Told, changes_in, LinePlayed, PlaysLine, PlaysUnheard, LeftIn, AtLast, InBridged}
 use Rattle.apei_script.specs.History.{ShowsLine}
 use Rattle.apei_script.specs.declared.desk.Desk.{Desk}
 use Rattle.apei_script.specs.Desks.{state_of, SameClients}
@@ -67,7 +67,7 @@ line_turned tells programs told counts old line said blocks steps new plays mach
       | GivenShadow machine gives ↦ shows_none old.bridge old.machine machine
       | OnMachine line said blocks machine alone happened ↦ shows_none old.bridge old.machine machine
       | ByTheBridge line said blocks steps next machine by ↦ of_bridge line said blocks steps next machine by
-      | Heard ↦ shows_none old.bridge old.machine old.machine
+      | OnlyTells line words told ↦ shows_none old.bridge old.machine old.machine
       | Reset n machine warms ↦ shows_none old.bridge old.machine machine
       | Power n machine powers ↦ shows_none old.bridge old.machine machine
     ]
@@ -396,7 +396,7 @@ shows_at_first tells told counts old line said blocks steps now plays s shown be
     | StaysAs id why refuses ↦ inl same
     | BridgesTurns letters steps next machine on are sides counted ↦ shows_at_start tells told old.own (budget_of old) old (turns letters) steps next machine are s shown before same
   ]
-  | Heard ↦ inl same
+  | OnlyTells line words told ↦ inl same
   | Reset n machine warms ↦ inl same
   | Power n machine powers ↦ inl same
 ]

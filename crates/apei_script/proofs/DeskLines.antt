@@ -14,14 +14,14 @@ use Rattle.erst_machine.specs.declared.errors.BootError.{BootError}
 use Rattle.erst_machine.specs.MachineState.{MachineState}
 use Rattle.ghes_ack.specs.declared.submission.SubmitError.{SubmitError}
 use Rattle.erst_machine.specs.declared.errors.FatalError.{FatalError}
-use Rattle.erst_machine.specs.Events.{Event, Warmed, Powered, Submits, LaysFatal, Warms, Powers, Happens}
+use Rattle.erst_machine.specs.Events.{Event, Warmed, Powered, Submitted, Laid, Submits, LaysFatal, Warms, Powers, Happens}
 use Rattle.script_text.specs.ScriptGrammar.{Line, table, own_table, shadow_table, error, fatal, reset, power, bridge}
 use Rattle.apei_script.specs.declared.player.PlayStop.TheVariants.{FlashFault}
 use Rattle.apei_script.specs.Replies.{IsMade}
 use Rattle.apei_script.specs.Players.{PlayerState, budget_by}
 use Rattle.apei_script.specs.Words.{refused, words_of_table, words_of_submission, words_of_laid, words_of_reset, words_of_power}
 use Rattle.apei_script.specs.Asked.{Answers}
-use Rattle.apei_script.specs.Happened.{Happened, IsGiven, IsLaid}
+use Rattle.apei_script.specs.Happened.{Happened, Once}
 use Rattle.apei_script.specs.Tables.{GivesTable}
 use Rattle.apei_script.specs.Bridged.{is_on, bridge_refusal, words_of_bridge, NeedsNoBridge, Enters, StaysAs}
 use Rattle.apei_script.specs.Plays.{ByTheBridge, ByClient, GivenTable, OwnTable, GivenShadow, OnMachine, Reset, Power, ResetFails, PowerFails, HasHappened, Stops}
@@ -71,13 +71,15 @@ module _ (tells : Type 0) (old : MachineState) (own : ClientState) (steps : Opti
       → lent ≡ items → Submits old (take len lent) result new → IsMade reply (words_of_submission result)
       → MakesReply tells (player old own other steps state) (error hex) (player new own other steps state) reply
   by_block other hex items lent len result new reply decoded is submits made =
-      by_machine other (error hex) (words_of_submission result) new reply tt (IsGiven hex (take len lent) result new (as_lent hex items lent len decoded is) submits) made
+      by_machine other (error hex) (words_of_submission result) new reply tt
+      (Once (error hex) (Submitted (take len lent) result) (words_of_submission result) new (as_lent hex items lent len decoded is, refl) submits) made
 
   pub by_fatal : (other : Option ClientState) (hex items lent : List ℕ) (len : ℕ) (result : Result ℕ FatalError) (new : MachineState) (reply : List ℕ) → decode_of hex ≡ Ok (take len items)
       → lent ≡ items → LaysFatal old (take len lent) result new → IsMade reply (words_of_laid result)
       → MakesReply tells (player old own other steps state) (fatal hex) (player new own other steps state) reply
   by_fatal other hex items lent len result new reply decoded is lays made =
-      by_machine other (fatal hex) (words_of_laid result) new reply tt (IsLaid hex (take len lent) result new (as_lent hex items lent len decoded is) lays) made
+      by_machine other (fatal hex) (words_of_laid result) new reply tt
+      (Once (fatal hex) (Laid (take len lent) result) (words_of_laid result) new (as_lent hex items lent len decoded is, refl) lays) made
 
   pub by_table : (other : Option ClientState) (hex bytes words : List ℕ) (new : MachineState) (new_other : Option ClientState) (reply : List ℕ) → decode_of hex ≡ Ok bytes
       → GivesTable tells old other bytes words new new_other → IsMade reply words → MakesReply tells (player old own other steps state) (table hex) (player new own new_other steps state) reply

@@ -23,7 +23,7 @@ use Rattle.apei_script.specs.Words.{Reply}
 use Rattle.erst_client.specs.Commands.{ClientState}
 use Rattle.erst_shadow.specs.ShadowCommands.{shadow_client}
 use Rattle.apei_script.specs.Players.{PlayerState, in_use, UsesOwn, UsesShadow, UsesEither, GivenNoOther}
-use Rattle.apei_script.specs.Plays.{Plays, Blank, ByClient, GivenTable, OwnTable, GivenShadow, OnMachine, ByTheBridge, Heard, Reset, Power, HasHappened, LinePlayed, names_command, IsOwnLine}
+use Rattle.apei_script.specs.Plays.{Plays, Blank, ByClient, GivenTable, OwnTable, GivenShadow, OnMachine, ByTheBridge, OnlyTells, Reset, Power, HasHappened, LinePlayed, names_command, IsOwnLine}
 use Rattle.apei_script.specs.History.{Played, heard_after, Follows, EndInOrder, ShowsLine, ShowsLines, ShowsEachLine, AreOwnLines, IsMapped, IsShadowMapped, AreMapped, NoneSaysHardware, AllGoThrough, AlwaysUsesEither}
 use Rattle.apei_script.proofs.EventChanges.{along}
 use Rattle.apei_script.proofs.LineLemmas.{line_divides, line_own}
@@ -72,7 +72,7 @@ module _ (tells : Type 0) where
         | GivenShadow machine gives ↦ λ same own. inr (ap (λ (client : ClientState). Some client) (sym (shadow_client-kept old.machine machine same)))
         | OnMachine line said blocks machine alone happened ↦ λ same own. stays_given old.other old.machine machine same given
         | ByTheBridge line said blocks steps next machine by ↦ λ same own. stays_given old.other old.machine machine same given
-        | Heard ↦ λ same own. given
+        | OnlyTells line words told ↦ λ same own. given
         | Reset n machine warms ↦ λ same own. inl refl
         | Power n machine powers ↦ λ same own. inl refl
       ] (line_divides tells counts old line said blocks steps new plays) own

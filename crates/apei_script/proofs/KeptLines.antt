@@ -26,12 +26,12 @@ use Rattle.bridge_durability.specs.Turns.{Step, AreTurns}
 use Rattle.bridge_durability.specs.Shown.{IsStoredAs}
 use Rattle.bridge_durability.proofs.RecordLemmas.{stored_after}
 use Rattle.bridge_durability.proofs.ShownLemmas.{one_of}
-use Rattle.script_text.specs.ScriptGrammar.{Line, blank, comment, write, read, clear, count, next as next_line, dummy, action, table, own_table, shadow_table, error as error_line, turns, peek, fatal, bert, heard, reset, power, bridge}
+use Rattle.script_text.specs.ScriptGrammar.{Line, write, clear}
 use Rattle.apei_script.specs.Players.{PlayerState, client_of, budget_of, GivenNoOther}
 use Rattle.apei_script.specs.Words.{Reply}
 use Rattle.apei_script.specs.Mapped.{after_write, after_line}
 use Rattle.apei_script.specs.Bridged.{ByBridge, Enters, StaysAs, BridgesTurns, KeepsBlocks}
-use Rattle.apei_script.specs.Plays.{Plays, Blank, ByClient, GivenTable, OwnTable, GivenShadow, OnMachine, ByTheBridge, Heard, Reset, Power, LinePlayed, IsOwnLine}
+use Rattle.apei_script.specs.Plays.{Plays, Blank, ByClient, GivenTable, OwnTable, GivenShadow, OnMachine, ByTheBridge, OnlyTells, Reset, Power, LinePlayed, IsOwnLine}
 use Rattle.apei_script.specs.History.{Played, heard_after, Follows, ShowsLine, ShowsLines, AreOwnLines}
 use Rattle.apei_script.specs.Spares.{Spares, SpareTurns, SpareLines, KeepsAll}
 use Rattle.apei_script.proofs.KeptTurns.{kept_turns, blocks_kept}
@@ -66,25 +66,7 @@ kept_written range state (Ok written) id bytes spares is = by_test (is_none (wri
 kept_line : (range : ℕ) (state : MachineState) (line : Line) (id : ℕ) (bytes : List ℕ) → Spares id line → IsStoredAs id bytes (records_of state) → IsStoredAs id bytes (after_line range state line)
 kept_line range state (write hex) id bytes spares is = kept_written range state (decode_of hex) id bytes spares is
 kept_line range state (clear n) id bytes spares is = kept_cleared state.device.store.layout n (records_of state) id bytes spares is
-kept_line range state blank id bytes spares is = is
-kept_line range state (comment rest) id bytes spares is = is
-kept_line range state (read n) id bytes spares is = is
-kept_line range state count id bytes spares is = is
-kept_line range state next_line id bytes spares is = is
-kept_line range state dummy id bytes spares is = is
-kept_line range state (action code value) id bytes spares is = is
-kept_line range state (table hex) id bytes spares is = is
-kept_line range state own_table id bytes spares is = is
-kept_line range state shadow_table id bytes spares is = is
-kept_line range state (error_line hex) id bytes spares is = is
-kept_line range state (turns letters) id bytes spares is = is
-kept_line range state (peek at len) id bytes spares is = is
-kept_line range state (fatal hex) id bytes spares is = is
-kept_line range state bert id bytes spares is = is
-kept_line range state heard id bytes spares is = is
-kept_line range state reset id bytes spares is = is
-kept_line range state power id bytes spares is = is
-kept_line range state (bridge n) id bytes spares is = is
+kept_line range state line id bytes spares is = is
 
 on_behind : (b : Bool) (P Q : Type 0) → b ≡ true → MatchBool b P Q → P
 on_behind true P Q e h = h
@@ -107,7 +89,7 @@ module _ (tells : Type 0) where
         | GivenShadow machine gives ↦ inl refl
         | OnMachine line said blocks machine alone happened ↦ inl refl
         | ByTheBridge line said blocks steps state machine by ↦ of_bridge line said blocks steps state machine by
-        | Heard ↦ inl refl
+        | OnlyTells line words told ↦ inl refl
         | Reset n machine warms ↦ inl refl
         | Power n machine powers ↦ inl refl
       ]

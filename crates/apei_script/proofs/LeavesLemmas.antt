@@ -4,6 +4,7 @@ use Rattle.std.specs.Prelude.{is_none, if◌then◌else◌}
 use Rattle.flash_words.specs.Flash.{Told, Leaves}
 use Rattle.flash_words.proofs.CrashLemmas.{Leaves-none, Leaves-weaker}
 use Rattle.hex.specs.Hex.{decode_of}
+use Rattle.apei_space.specs.Calls.{ReadBytes}
 use Rattle.record_model.specs.Records.{Stored}
 use Rattle.record_model.specs.RecordMap.{Command, Write, Clear, after}
 use Rattle.record_store.specs.Store.{StoreView, KeepsMap, IsBeforeOrAfter}
@@ -16,7 +17,7 @@ use Rattle.erst_client.specs.Commands.{ClientState, write_refusal}
 use Rattle.erst_client.specs.Sequences.{dummy_requests}
 use Rattle.erst_machine.specs.MachineState.{MachineState, reach_in, records_of, told_of}
 use Rattle.erst_machine.specs.Shown.{shown_by}
-use Rattle.erst_machine.specs.Events.{Submits}
+use Rattle.erst_machine.specs.Events.{Submits, Event, Accessed, Submitted, Laid, Happens}
 use Rattle.erst_commands.specs.Changes.{ChangeCommand, IsTaken, IsRefused, IsFailed, IsStopped, DummyCommand, IsPlayed, IsCut}
 use Rattle.erst_commands.specs.Looks.{AsksOnce, Answers, StopsBehind, StopsAtOnce, CountMade, IsCounted, IsNotCounted, NextMade, IsFound, IsAtEnd, IsNotFound}
 use Rattle.erst_commands.specs.Reads.{ReadMade, IsRead as read_made, IsRefused as read_refused, IsFailed as read_failed, ReadCommand, Answers as read_answers, StopsBehind as read_behind, StopsBefore as read_before, ReadAnswered, IsNotRead, IsNotCopied, IsCopied}
@@ -25,15 +26,16 @@ use Rattle.erst_bridge.specs.Bridges.{BridgeState}
 use Rattle.bridge_durability.specs.Turns.{Step, AreTurns}
 use Rattle.erst_shadow.specs.ShadowCommands.{pieces_in, ShadowWriteAnswered, IsNoRecord as IsNoShadowRecord, IsWritten as IsShadowWritten, ShadowReadAnswered, IsNotRead as IsNotShadowRead, IsNotCopied as IsNotShadowCopied, IsCopied as IsShadowCopied}
 use Rattle.erst_shadow.proofs.CrashLemmas.{change_crash, read_crash, dummy_store}
-use Rattle.script_text.specs.ScriptGrammar.{Line, blank, write, read, clear, count, next, dummy, own_table, shadow_table, heard, reset, power}
+use Rattle.script_text.specs.ScriptGrammar.{Line, blank, write, read, clear, count, next, dummy, own_table, shadow_table, reset, power}
 use Rattle.apei_script.specs.Words.{Reply}
 use Rattle.apei_script.specs.Players.{PlayerState, budget_of, client_of}
 use Rattle.apei_script.specs.Asked.{Asked, WritesRecord, ReadsRecord, ClearsRecord, CountsRecords, FindsNext, WritesDummy, RunsAction}
-use Rattle.apei_script.specs.Happened.{Turned, NoTurn, OneMore, Happened, IsGiven, Turn, IsPeeked, IsLaid, IsListed}
+use Rattle.apei_script.specs.Happened.{Turned, NoTurn, OneMore, Happened, Once, Turn, IsListed}
 use Rattle.apei_script.specs.Mapped.{Mapped, IsWrite, IsRead, IsClear, IsCount, IsNext, IsDummy, after_write, after_line, LineLeaves}
 use Rattle.apei_script.specs.ShadowMapped.{ShadowMapped, ShadowWrite, ShadowRead, ShadowClear, ShadowCount, ShadowNext, ShadowPlayed}
 use Rattle.apei_script.specs.Bridged.{ByBridge, Enters, StaysAs, BridgesTurns}
-use Rattle.apei_script.specs.Plays.{Plays, Blank, ByClient, GivenTable, OwnTable, GivenShadow, OnMachine, ByTheBridge, Heard, Reset, Power, names_command, IsOwnLine}
+use Rattle.apei_script.proofs.OneEvent.{IsQuiet, once}
+use Rattle.apei_script.specs.Plays.{Plays, Blank, ByClient, GivenTable, OwnTable, GivenShadow, OnMachine, ByTheBridge, OnlyTells, Reset, Power, names_command, IsOwnLine}
 
 -- the flash tells what it told
 stays : (range : ℕ) (old : MachineState) (line : Line) (new : MachineState) → told_of new ≡ told_of old → LineLeaves range old line new
@@ -180,6 +182,12 @@ submits_told : (old : MachineState) (block : List ℕ) (result : Result ℕ Subm
 submits_told old block (Ok n) new submits = ap told_of submits.added
 submits_told old block (Err error) new submits = ap told_of submits.refused
 
+event_told : (tells : Type 0) (old : MachineState) (event : Event) (new : MachineState) → IsQuiet event → Happens tells old event new → told_of new ≡ told_of old
+event_told tells old (Accessed (ReadBytes at before after answer)) new quiet allowed = ap told_of allowed.2
+event_told tells old (Submitted block result) new quiet submits = submits_told old block result new submits
+event_told tells old (Laid block result) new quiet lays = ap told_of lays.others
+event_told tells old event new quiet happens = absurd quiet
+
 turned_told : (old : MachineState) (letters : List ℕ) (events : List TurnEvent) (blocks : List (List ℕ)) (new : MachineState) → Turned old letters events blocks new → told_of new ≡ told_of old
 turned_told old letters events blocks new turns = elim turns as (λ letters events blocks new turns. told_of new ≡ told_of old) [
   | NoTurn ↦ refl
@@ -188,10 +196,8 @@ turned_told old letters events blocks new turns = elim turns as (λ letters even
 
 happened_told : (tells : Type 0) (old : MachineState) (line : Line) (said blocks : List (List ℕ)) (new : MachineState) → Happened tells old line said blocks new → told_of new ≡ told_of old
 happened_told tells old line said blocks new happened = elim happened as (λ line said blocks new happened. told_of new ≡ told_of old) [
-  | IsGiven hex block result new decoded submits ↦ submits_told old block result new submits
+  | Once line event words new asks happens ↦ event_told tells old event new (once line event words asks).quiet happens
   | Turn letters events blocks new turns ↦ turned_told old letters events blocks new turns
-  | IsPeeked at len before after answer new long allowed ↦ ap told_of allowed.2
-  | IsLaid hex block result new decoded lays ↦ ap told_of lays.others
   | IsListed blocks left laid ↦ refl
 ]
 
@@ -231,7 +237,7 @@ line_leaves tells told range counts old line said blocks steps new plays =
       | GivenShadow machine gives ↦ λ unmade maps own. stays range old.machine shadow_table machine (ap told_of gives.attached.last_is)
       | OnMachine line said blocks machine alone happened ↦ λ unmade maps own. stays range old.machine line machine (happened_told tells old.machine line said blocks machine happened)
       | ByTheBridge line said blocks steps bridge_now machine by ↦ λ unmade maps own. stays range old.machine line machine (bridge_told tells old line said blocks steps bridge_now machine by unmade)
-      | Heard ↦ λ unmade maps own. stays range old.machine heard old.machine refl
+      | OnlyTells line words told ↦ λ unmade maps own. stays range old.machine line old.machine refl
       | Reset n machine warms ↦ λ unmade maps own. keeps range old.machine reset machine (warms.leaves.kept told)
       | Power n machine powers ↦ λ unmade maps own. keeps range old.machine power machine (powers.restarts.leaves.kept told)
     ]

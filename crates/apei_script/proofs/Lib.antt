@@ -1,4 +1,5 @@
 pub mod HistoryLemmas
+pub mod OneEvent
 pub mod LineKinds
 pub mod TurnsAlike
 pub mod TwinLemmas

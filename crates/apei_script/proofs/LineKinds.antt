@@ -1,11 +1,8 @@
 -- What was played, by the line.
-use Rattle.std.proofs.Common.{◌≡◌, ◌⊎◌, inl, inr, ℕ, List, [], ◌∷◌, ◌++◌, length, map, Option, Some, None, Result, Ok, Err, refl}
+use Rattle.std.proofs.Common.{◌≡◌, ◌⊎◌, inl, inr, ℕ, Bool, true, false, List, [], ◌∷◌, ◌++◌, length, map, Option, Some, None, Result, Ok, Err, refl, sym, subst}
 use Rattle.hex.specs.Hex.{decode_of}
-use Rattle.apei_space.specs.declared.faults.SpaceFault.{SpaceFault}
-use Rattle.apei_space.specs.Calls.{ReadBytes}
 use Rattle.bert_region.specs.Region.{IsLaidOut}
-use Rattle.ghes_ack.specs.declared.events.Event.{Event}
-use Rattle.ghes_ack.specs.declared.submission.SubmitError.{SubmitError}
+use Rattle.ghes_ack.specs.declared.events.Event.{Event as TurnEvent}
 use Rattle.erst_entries.specs.declared.tables.ErstError.{ErstError}
 use Rattle.erst_entries.specs.Layout.{Erst}
 use Rattle.erst_entries.specs.Programs.{program_of}
@@ -17,23 +14,23 @@ use Rattle.erst_client.specs.declared.errors.ClientError.{ClientError}
 use Rattle.erst_client.specs.Attaching.{Attaches}
 use Rattle.erst_client.specs.Commands.{ClientState, Writes, Reads, Counts, Names}
 use Rattle.erst_client.specs.Sequences.{Sequence, clear_requests, dummy_requests}
-use Rattle.erst_machine.specs.declared.errors.FatalError.{FatalError}
 use Rattle.erst_machine.specs.MachineState.{MachineState}
 use Rattle.erst_machine.specs.Allowed.{Allows}
-use Rattle.erst_machine.specs.Events.{Submits, LaysFatal, Warms, Powers}
+use Rattle.erst_machine.specs.Events.{Event, Warms, Powers, Happens}
 use Rattle.erst_bridge.specs.Bridges.{BridgeState, Off, Awaits}
 use Rattle.bridge_durability.specs.Turns.{Step, AreTurns}
 use Rattle.bridge_turns.specs.Made.{sides_in}
-use Rattle.script_text.specs.ScriptGrammar.{Line, blank, write, read, clear, count, next, dummy, action, table, own_table, shadow_table, error, turns, peek, fatal, bert, heard, reset, power, bridge}
+use Rattle.script_text.specs.ScriptGrammar.{Line, blank, write, read, clear, count, next, dummy, action, table, own_table, shadow_table, turns, bert, reset, power, bridge}
 use Rattle.erst_shadow.specs.ShadowCommands.{shadow_client}
 use Rattle.apei_script.specs.Players.{PlayerState, client_of, budget_of, with_machine}
-use Rattle.apei_script.specs.Words.{Reply, said_at, refused, words_of_write, words_of_read, words_of_clear, words_of_count, words_of_next, words_of_dummy, words_of_action, words_of_table, words_of_no_table, words_of_no_client, words_of_submission, words_of_turns, words_of_block, words_of_peek, words_of_laid, words_of_bert, words_of_heard, words_of_reset, words_of_power}
+use Rattle.apei_script.specs.Words.{Reply, said_at, refused, words_of_write, words_of_read, words_of_clear, words_of_count, words_of_next, words_of_dummy, words_of_action, words_of_table, words_of_no_table, words_of_no_client, words_of_turns, words_of_block, words_of_bert, words_of_reset, words_of_power}
 use Rattle.apei_script.specs.Asked.{READ_BUFFER, Asked, WritesRecord, ReadsRecord, ClearsRecord, CountsRecords, FindsNext, WritesDummy, RunsAction}
 use Rattle.apei_script.specs.Tables.{ATTACH_STEPS, BeginsWith, GivesTable, IsNoTable, IsNotAttached, IsAttached, GivesShadow}
-use Rattle.apei_script.specs.Happened.{side_of, Happened, IsGiven, Turn, IsPeeked, IsLaid, IsListed}
+use Rattle.apei_script.specs.Happened.{side_of, AsksFor, Happened, Once, Turn, IsListed}
 use Rattle.apei_script.specs.Bridged.{bridge_refusal, words_of_bridge, replies_of, blocks_in, NeedsNoBridge, ByBridge, Enters, StaysAs, BridgesTurns}
-use Rattle.apei_script.specs.Plays.{Plays, Blank, ByClient, GivenTable, OwnTable, GivenShadow, OnMachine, ByTheBridge, Heard, Reset, Power, restarted, changes_in, step_of}
+use Rattle.apei_script.specs.Plays.{words_told, Plays, Blank, ByClient, GivenTable, OwnTable, GivenShadow, OnMachine, ByTheBridge, OnlyTells, Reset, Power, restarted, changes_in, step_of}
 use Rattle.apei_script.proofs.TurnsAlike.{TurnsBy, turns_by}
+use Rattle.apei_script.proofs.OneEvent.{asks_once, once}
 
 -- what a line left
 pub record Left (said : List Reply) (blocks : List (List ℕ)) (new : PlayerState) (replies : List Reply) (taken : List (List ℕ)) (player : PlayerState) : Type 0 where
@@ -60,17 +57,10 @@ module _ (tells : Type 0) where
       (answer : Result ℕ RunStop) × (left : ℕ) × (words ≡ words_of_action answer) × Run (Allows tells) (program_of code client.table.entries) value steps old answer left new
   AskedBy client steps old line words new = ⊥
 
-  -- what happened to the machine
+  -- what happened to the machine, where it was more than one thing that a line asks for
   abbrev pub HappenedBy : MachineState → Line → List (List ℕ) → List (List ℕ) → MachineState → Type 0
-  HappenedBy old (error hex) said blocks new =
-      (block : List ℕ) × (result : Result ℕ SubmitError) × (decode_of hex ≡ Ok block) × (said ≡ words_of_submission result ∷ []) × (blocks ≡ []) × Submits old block result new
   HappenedBy old (turns letters) said blocks new =
-      (events : List Event) × (said ≡ map words_of_block blocks ++ words_of_turns events ∷ []) × TurnsBy old letters events blocks new
-  HappenedBy old (peek at len) said blocks new =
-      (before : List ℕ) × (after : List ℕ) × (answer : Result (Unit {0}) SpaceFault) × (length before ≡ len) × (said ≡ words_of_peek after answer ∷ []) × (blocks ≡ [])
-      × Allows tells old (ReadBytes at before after answer) new
-  HappenedBy old (fatal hex) said blocks new =
-      (block : List ℕ) × (result : Result ℕ FatalError) × (decode_of hex ≡ Ok block) × (said ≡ words_of_laid result ∷ []) × (blocks ≡ []) × LaysFatal old block result new
+      (events : List TurnEvent) × (said ≡ map words_of_block blocks ++ words_of_turns events ∷ []) × TurnsBy old letters events blocks new
   HappenedBy old bert said blocks new =
       (listed : List (List ℕ)) × (left : ℕ) × (said ≡ map words_of_block listed ++ words_of_bert (length listed) ∷ []) × (blocks ≡ []) × (new ≡ old) × IsLaidOut listed left old.memory.region
   HappenedBy old line said blocks new = ⊥
@@ -122,33 +112,44 @@ module _ (tells : Type 0) where
     TurnedOn : bridge_refusal old id ≡ None → Left said blocks new (said_at (changes_in old.machine) (words_of_bridge id ∷ [])) [] (record old { bridge = Awaits id }) → Entered old id said blocks new
     NotOn : (why : List ℕ) → bridge_refusal old id ≡ Some why → Left said blocks new (said_at (changes_in old.machine) (refused why ∷ [])) [] old → Entered old id said blocks new
 
-  abbrev pub PlaysBy : List ℕ → PlayerState → Line → List Reply → List (List ℕ) → PlayerState → Type 0
-  PlaysBy counts old blank said blocks new = Left said blocks new [] [] old
-  PlaysBy counts old (write hex) said blocks new = ByItsClient old (write hex) said blocks new
-  PlaysBy counts old (read id) said blocks new = ByItsClient old (read id) said blocks new
-  PlaysBy counts old (clear id) said blocks new = ByItsClient old (clear id) said blocks new
-  PlaysBy counts old count said blocks new = ByItsClient old count said blocks new
-  PlaysBy counts old next said blocks new = ByItsClient old next said blocks new
-  PlaysBy counts old dummy said blocks new = ByItsClient old dummy said blocks new
-  PlaysBy counts old (action code value) said blocks new = ByItsClient old (action code value) said blocks new
-  PlaysBy counts old (table hex) said blocks new =
+  abbrev pub ByOneEvent : PlayerState → Line → List Reply → List (List ℕ) → PlayerState → Type 0
+  ByOneEvent old line said blocks new =
+      (event : Event) × (words : List ℕ) × (machine : MachineState) × AsksFor line event words × Happens tells old.machine event machine
+      × Left said blocks new (said_at (changes_in machine) (words ∷ [])) [] (with_machine machine old)
+
+  -- a line that does more than to tell something or to ask for one thing that happens
+  abbrev pub PlaysOther : PlayerState → Line → List Reply → List (List ℕ) → PlayerState → Type 0
+  PlaysOther old blank said blocks new = Left said blocks new [] [] old
+  PlaysOther old (write hex) said blocks new = ByItsClient old (write hex) said blocks new
+  PlaysOther old (read id) said blocks new = ByItsClient old (read id) said blocks new
+  PlaysOther old (clear id) said blocks new = ByItsClient old (clear id) said blocks new
+  PlaysOther old count said blocks new = ByItsClient old count said blocks new
+  PlaysOther old next said blocks new = ByItsClient old next said blocks new
+  PlaysOther old dummy said blocks new = ByItsClient old dummy said blocks new
+  PlaysOther old (action code value) said blocks new = ByItsClient old (action code value) said blocks new
+  PlaysOther old (table hex) said blocks new =
       (bytes : List ℕ) × (words : List ℕ) × (machine : MachineState) × (other : Option ClientState) × (decode_of hex ≡ Ok bytes) × Given old.machine old.other bytes words machine other
       × Left said blocks new (said_at (changes_in machine) (words ∷ [])) [] (record old { machine = machine; other = other })
-  PlaysBy counts old own_table said blocks new = Left said blocks new (said_at (step_of old) (words_of_table (length old.own.table.entries) ∷ [])) [] (record old { other = None })
-  PlaysBy counts old shadow_table said blocks new = (machine : MachineState) × GivesShadow tells old.machine machine
+  PlaysOther old own_table said blocks new = Left said blocks new (said_at (step_of old) (words_of_table (length old.own.table.entries) ∷ [])) [] (record old { other = None })
+  PlaysOther old shadow_table said blocks new = (machine : MachineState) × GivesShadow tells old.machine machine
       × Left said blocks new (said_at (changes_in machine) (words_of_table 52 ∷ [])) [] (record old { machine = machine; other = Some (shadow_client old.machine) })
-  PlaysBy counts old (error hex) said blocks new = ByItself old (error hex) said blocks new
-  PlaysBy counts old (turns letters) said blocks new = ((old.bridge ≡ Off) × ByItself old (turns letters) said blocks new) ⊎ ByBridgeTurns old letters said blocks new
-  PlaysBy counts old (peek at len) said blocks new = ByItself old (peek at len) said blocks new
-  PlaysBy counts old (fatal hex) said blocks new = ByItself old (fatal hex) said blocks new
-  PlaysBy counts old bert said blocks new = ByItself old bert said blocks new
-  PlaysBy counts old heard said blocks new = Left said blocks new (said_at (step_of old) (words_of_heard counts ∷ [])) [] old
-  PlaysBy counts old reset said blocks new = (n : ℕ) × (machine : MachineState) × Warms tells old.machine (Ok n) machine
+  PlaysOther old (turns letters) said blocks new = ((old.bridge ≡ Off) × ByItself old (turns letters) said blocks new) ⊎ ByBridgeTurns old letters said blocks new
+  PlaysOther old bert said blocks new = ByItself old bert said blocks new
+  PlaysOther old reset said blocks new = (n : ℕ) × (machine : MachineState) × Warms tells old.machine (Ok n) machine
       × Left said blocks new (said_at (changes_in machine) (words_of_reset n ∷ [])) [] (restarted machine old)
-  PlaysBy counts old power said blocks new = (n : ℕ) × (machine : MachineState) × Powers tells old.machine (Ok n) machine
+  PlaysOther old power said blocks new = (n : ℕ) × (machine : MachineState) × Powers tells old.machine (Ok n) machine
       × Left said blocks new (said_at (changes_in machine) (words_of_power n ∷ [])) [] (restarted machine old)
-  PlaysBy counts old (bridge id) said blocks new = Entered old id said blocks new
-  PlaysBy counts old line said blocks new = ⊥
+  PlaysOther old (bridge id) said blocks new = Entered old id said blocks new
+  PlaysOther old line said blocks new = ⊥
+
+  -- by what it tells, and whether it asks for one thing that happens
+  abbrev pub PlaysAs : Option (List ℕ) → Bool → PlayerState → Line → List Reply → List (List ℕ) → PlayerState → Type 0
+  PlaysAs (Some words) asks old line said blocks new = Left said blocks new (said_at (step_of old) (words ∷ [])) [] old
+  PlaysAs None true old line said blocks new = ByOneEvent old line said blocks new
+  PlaysAs None false old line said blocks new = PlaysOther old line said blocks new
+
+  abbrev pub PlaysBy : List ℕ → PlayerState → Line → List Reply → List (List ℕ) → PlayerState → Type 0
+  PlaysBy counts old line said blocks new = PlaysAs (words_told counts old line) (asks_once line) old line said blocks new
 
   as_it_is : (said : List Reply) (blocks : List (List ℕ)) (new : PlayerState) → Left said blocks new said blocks new
   as_it_is said blocks new = record { said_is = refl; blocks_are = refl; new_is = refl }
@@ -165,14 +166,24 @@ module _ (tells : Type 0) where
     | RunsAction code value answer left new ran ↦ (words_of_action answer, new, (answer, left, refl, ran), as_it_is _ _ _)
   ]
 
+  by_event : (counts : List ℕ) (old : PlayerState) (line : Line) (event : Event) (words : List ℕ) (machine : MachineState) → AsksFor line event words → Happens tells old.machine event machine
+      → PlaysBy counts old line (said_at (changes_in machine) (words ∷ [])) [] (with_machine machine old)
+  by_event counts old line event words machine asks happens =
+      let one = once line event words asks in
+      subst (λ (told : Option (List ℕ)). PlaysAs told (asks_once line) old line (said_at (changes_in machine) (words ∷ [])) [] (with_machine machine old)) (sym (one.untold counts old))
+      (subst (λ (asks_for : Bool). PlaysAs None asks_for old line (said_at (changes_in machine) (words ∷ [])) [] (with_machine machine old)) (sym one.alone)
+      (event, words, machine, asks, happens, as_it_is _ _ _))
+
+  by_telling : (counts : List ℕ) (old : PlayerState) (line : Line) (words : List ℕ) → words_told counts old line ≡ Some words → PlaysBy counts old line (said_at (step_of old) (words ∷ [])) [] old
+  by_telling counts old line words told =
+      subst (λ (words_now : Option (List ℕ)). PlaysAs words_now (asks_once line) old line (said_at (step_of old) (words ∷ [])) [] old) (sym told) (as_it_is _ _ _)
+
   by_itself : (counts : List ℕ) (old : PlayerState) (line : Line) (words blocks : List (List ℕ)) (machine : MachineState) → NeedsNoBridge old.bridge line → Happened tells old.machine line words blocks machine
       → PlaysBy counts old line (said_at (changes_in machine) words) blocks (with_machine machine old)
   by_itself counts old line words blocks machine alone happened = elim happened as (λ line words blocks machine happened. NeedsNoBridge old.bridge line → PlaysBy counts old line (said_at (changes_in machine) words) blocks (with_machine machine old)) [
-    | IsGiven hex block result new decoded submits ↦ λ alone. (words_of_submission result ∷ [], [], new, (block, result, decoded, refl, refl, submits), as_it_is _ _ _)
+    | Once line event words new asks happens ↦ λ alone. by_event counts old line event words new asks happens
     | Turn letters events blocks new turned ↦ λ alone.
         inl (alone, (map words_of_block blocks ++ words_of_turns events ∷ [], blocks, new, (events, refl, turns_by old.machine letters events blocks new turned), as_it_is _ _ _))
-    | IsPeeked at len before after answer new long allowed ↦ λ alone. (words_of_peek after answer ∷ [], [], new, (before, after, answer, long, refl, refl, allowed), as_it_is _ _ _)
-    | IsLaid hex block result new decoded lays ↦ λ alone. (words_of_laid result ∷ [], [], new, (block, result, decoded, refl, refl, lays), as_it_is _ _ _)
     | IsListed blocks left laid ↦ λ alone. (map words_of_block blocks ++ words_of_bert (length blocks) ∷ [], [], old.machine, (blocks, left, refl, refl, refl, laid), as_it_is _ _ _)
   ] alone
 
@@ -194,7 +205,7 @@ module _ (tells : Type 0) where
     | GivenShadow machine gives ↦ (machine, gives, as_it_is _ _ _)
     | OnMachine line said blocks machine alone happened ↦ by_itself counts old line said blocks machine alone happened
     | ByTheBridge line said blocks steps bridge_now machine by ↦ by_bridge counts old line said blocks steps bridge_now machine by
-    | Heard ↦ as_it_is _ _ _
+    | OnlyTells line words told ↦ by_telling counts old line words told
     | Reset n machine warms ↦ (n, machine, warms, as_it_is _ _ _)
     | Power n machine powers ↦ (n, machine, powers, as_it_is _ _ _)
   ]

@@ -1,12 +1,11 @@
 -- What one line did to the machine, as one list of what happens.
 use Rattle.std.proofs.Common.{◌≡◌, ℕ, List, [], ◌∷◌, ◌++◌, Option, Ok, Err, refl}
 use Rattle.base_model.specs.Faults.{Rose}
-use Rattle.apei_space.specs.Calls.{ReadBytes}
 use Rattle.apei_space.specs.Accesses.{Move, Trail}
 use Rattle.ghes_ack.specs.declared.events.Event.{Event as TurnEvent}
 use Rattle.erst_client.specs.Commands.{ClientState}
 use Rattle.erst_machine.specs.MachineState.{MachineState, IsMachine}
-use Rattle.erst_machine.specs.Events.{Event, Accessed, Warmed, Powered, Submitted, Turned as OneTurn, Laid, Happens}
+use Rattle.erst_machine.specs.Events.{Event, Warmed, Powered, Turned as OneTurn, Happens}
 use Rattle.erst_machine.proofs.CrashTrail.{events_are_shown, happens_then, reached_happens}
 use Rattle.erst_machine.proofs.EventLemmas.{events_keep}
 use Rattle.erst_bridge.specs.Bridges.{BridgeState}
@@ -16,9 +15,9 @@ use Rattle.script_text.specs.ScriptGrammar.{Line}
 use Rattle.apei_script.specs.Words.{Reply}
 use Rattle.apei_script.specs.Players.{PlayerState, budget_of}
 use Rattle.apei_script.specs.Tables.{GivesTable, IsNoTable, IsNotAttached, IsAttached}
-use Rattle.apei_script.specs.Happened.{side_of, Turned, NoTurn, OneMore, Happened, IsGiven, Turn, IsPeeked, IsLaid, IsListed}
+use Rattle.apei_script.specs.Happened.{side_of, Turned, NoTurn, OneMore, Happened, Once, Turn, IsListed}
 use Rattle.apei_script.specs.Bridged.{ByBridge, Enters, StaysAs, BridgesTurns}
-use Rattle.apei_script.specs.Plays.{Plays, Blank, ByClient, GivenTable, OwnTable, GivenShadow, OnMachine, ByTheBridge, Heard, Reset, Power, FailsRestart, ResetFails, PowerFails, HasHappened}
+use Rattle.apei_script.specs.Plays.{Plays, Blank, ByClient, GivenTable, OwnTable, GivenShadow, OnMachine, ByTheBridge, OnlyTells, Reset, Power, FailsRestart, ResetFails, PowerFails, HasHappened}
 use Rattle.apei_script.proofs.EventChanges.{along}
 
 abbrev Trails : Type 0 → MachineState → MachineState → Type 0
@@ -42,10 +41,8 @@ module _ (tells : Type 0) where
 
   of_happened : (old : MachineState) (line : Line) (said blocks : List (List ℕ)) (new : MachineState) → Happened tells old line said blocks new → Trails tells old new
   of_happened old line said blocks new happened = elim happened as (λ line said blocks new happened. Trails tells old new) [
-    | IsGiven hex block result new decoded submits ↦ one old (Submitted block result) new submits
+    | Once line event words new asks happens ↦ one old event new happens
     | Turn letters events blocks new turns ↦ turned old letters events blocks new turns
-    | IsPeeked at len before after answer new long allowed ↦ one old (Accessed (ReadBytes at before after answer)) new allowed
-    | IsLaid hex block result new decoded lays ↦ one old (Laid block result) new lays
     | IsListed blocks left laid ↦ none old
   ]
 
@@ -75,7 +72,7 @@ module _ (tells : Type 0) where
     | GivenShadow machine gives ↦ reached_happens tells old.machine machine gives.reaches
     | OnMachine line said blocks machine alone happened ↦ of_happened old.machine line said blocks machine happened
     | ByTheBridge line said blocks steps next machine by ↦ of_bridge old line said blocks steps next machine by
-    | Heard ↦ none old.machine
+    | OnlyTells line words told ↦ none old.machine
     | Reset n machine warms ↦ one old.machine (Warmed (Ok n)) machine warms
     | Power n machine powers ↦ one old.machine (Powered (Ok n)) machine powers
   ]
@@ -120,7 +117,7 @@ module _ (tells : Type 0) where
     | GivenShadow machine gives ↦ (refl, refl)
     | OnMachine line said blocks machine alone happened ↦ (refl, refl)
     | ByTheBridge line said blocks steps next machine by ↦ (refl, refl)
-    | Heard ↦ (refl, refl)
+    | OnlyTells line words told ↦ (refl, refl)
     | Reset n machine warms ↦ (refl, refl)
     | Power n machine powers ↦ (refl, refl)
   ]

@@ -12,7 +12,7 @@ use Rattle.erst_client.specs.Commands.{ClientState}
 use Rattle.erst_machine.specs.Memories.{MemoryState}
 use Rattle.erst_machine.specs.MachineState.{MachineState, IsMachine}
 use Rattle.erst_machine.specs.Allowed.{Allows}
-use Rattle.erst_machine.specs.Events.{Submits}
+use Rattle.erst_machine.specs.Events.{Submits, Event, Accessed, Submitted, Laid, Happens}
 use Rattle.erst_machine.specs.Stations.{apart}
 use Rattle.erst_machine.proofs.EventLemmas.{events_keep}
 use Rattle.erst_bridge.specs.Bridges.{BridgeState, Off, Awaits, Holds, Releases}
@@ -24,11 +24,12 @@ use Rattle.script_text.specs.ScriptGrammar.{Line}
 use Rattle.apei_script.specs.Players.{PlayerState, budget_of}
 use Rattle.apei_script.specs.Words.{Reply}
 use Rattle.apei_script.specs.Tables.{GivesTable, IsNoTable, IsNotAttached, IsAttached}
-use Rattle.apei_script.specs.Happened.{Happened, IsGiven, Turn as TurnLine, IsPeeked, IsLaid, IsListed}
+use Rattle.apei_script.specs.Happened.{Happened, Once, Turn as TurnLine, IsListed}
 use Rattle.apei_script.specs.Bridged.{is_on, bridge_refusal, NeedsNoBridge, ByBridge, Enters, StaysAs, BridgesTurns}
-use Rattle.apei_script.specs.Plays.{Plays, Blank, ByClient, GivenTable, OwnTable, GivenShadow, OnMachine, ByTheBridge, Heard, Reset, Power}
+use Rattle.apei_script.specs.Plays.{Plays, Blank, ByClient, GivenTable, OwnTable, GivenShadow, OnMachine, ByTheBridge, OnlyTells, Reset, Power}
 use Rattle.apei_script.specs.History.{Played, heard_after, Follows}
 use Rattle.apei_script.specs.Orders.{IsInStep, AlwaysInStep}
+use Rattle.apei_script.proofs.OneEvent.{IsQuiet, once}
 
 -- off, or in step
 abbrev InStep : BridgeState → MachineState → Type 0
@@ -90,19 +91,20 @@ module _ (tells : Type 0) where
   reached state old new reaches (inl off) = inl off
   reached state old new reaches (inr pair) = inr (pair.0, record { stands = apart tells old new pair.0 reaches pair.1.stands; step = pair.1.step })
 
+  event_step : (state : BridgeState) (old : MachineState) (event : Event) (new : MachineState) → IsQuiet event → Happens tells old event new → InStep state old → InStep state new
+  event_step state old (Accessed (ReadBytes at before after answer)) new quiet allowed step = reached state old new (Goes old (ReadBytes at before after answer) new Stays allowed) step
+  event_step state old (Submitted block result) new quiet submits (inl off) = inl off
+  event_step state old (Submitted block result) new quiet submits (inr pair) = inr (submits_step state old block result new pair.0 submits pair.1)
+  event_step state old (Laid block result) new quiet lays (inl off) = inl off
+  event_step state old (Laid block result) new quiet lays (inr pair) =
+      inr (pair.0, subst (λ (s : MachineState). StandsInStep state s pair.0) (sym lays.others) (record { stands = pair.1.stands; step = pair.1.step }))
+  event_step state old event new quiet happens step = absurd quiet
+
   happened_step : (state : BridgeState) (old : MachineState) (line : Line) (words blocks : List (List ℕ)) (new : MachineState) → Happened tells old line words blocks new → NeedsNoBridge state line → InStep state old
       → InStep state new
   happened_step state old line words blocks new happened = elim happened as (λ line words blocks new happened. NeedsNoBridge state line → InStep state old → InStep state new) [
-    | IsGiven hex block result new decoded submits ↦ λ alone step. elim step [
-      | inl off ↦ inl off
-      | inr pair ↦ inr (submits_step state old block result new pair.0 submits pair.1)
-    ]
+    | Once line event words new asks happens ↦ λ alone step. event_step state old event new (once line event words asks).quiet happens step
     | TurnLine letters events blocks new turned ↦ λ alone step. inl alone
-    | IsPeeked at len before after answer new long allowed ↦ λ alone step. reached state old new (Goes old (ReadBytes at before after answer) new Stays allowed) step
-    | IsLaid hex block result new decoded lays ↦ λ alone step. elim step [
-      | inl off ↦ inl off
-      | inr pair ↦ inr (pair.0, subst (λ (s : MachineState). StandsInStep state s pair.0) (sym lays.others) (record { stands = pair.1.stands; step = pair.1.step }))
-    ]
     | IsListed blocks left laid ↦ λ alone step. step
   ]
 
@@ -135,7 +137,7 @@ module _ (tells : Type 0) where
     | GivenShadow now gives ↦ (tt, reached old.bridge old.machine now gives.reaches step)
     | OnMachine line words blocks now alone happened ↦ (tt, happened_step old.bridge old.machine line words blocks now happened alone step)
     | ByTheBridge line said blocks steps next now by ↦ bridge_step old line said blocks steps next now machine by step
-    | Heard ↦ (tt, step)
+    | OnlyTells line words told ↦ (tt, step)
     | Reset n now warms ↦ (tt, inl refl)
     | Power n now powers ↦ (tt, inl refl)
   ]

@@ -13,7 +13,7 @@ use Rattle.apei_script.specs.declared.desk.Desk.{Desk}
 use Rattle.apei_script.specs.Players.{PlayerState, client_of, with_machine}
 use Rattle.apei_script.specs.Words.{Reply, at_step, said_at, words_of_heard, reply_at, replies_at}
 use Rattle.apei_script.specs.Bridged.{NeedsNoBridge, TurnsShown}
-use Rattle.apei_script.specs.Plays.{Plays, Blank, OnMachine, Heard, LinePlayed, PlaysLine, PlaysUnheard, Occurred, OccurredUnheard, LeftIn, AtLast, InList, InTurns, InBridged, names_command, step_of}
+use Rattle.apei_script.specs.Plays.{Plays, Blank, OnMachine, OnlyTells, LinePlayed, PlaysLine, PlaysUnheard, Occurred, OccurredUnheard, LeftIn, AtLast, InList, InTurns, InBridged, names_command, step_of}
 use Rattle.apei_script.specs.Desks.{state_of, SameClients, Lists, ListsUnheard, LineAnswered, MakesReply}
 use Rattle.apei_script.proofs.LineLemmas.{line_happened}
 use Rattle.apei_script.proofs.LeavesLemmas.{line_leaves}
@@ -205,7 +205,7 @@ module _ {L : Type 0} (hearing : L → Hearing) (tells told_sink : Type 0) where
 
   heard_line : (old new : PlayerState) (members : List L) → new ≡ old → LinePlayed tells (counts_of hearing members) old heard (said_at (step_of new) (words_of_heard (counts_of hearing members) ∷ [])) [] [] new
   heard_line old new members same = quiet tells (counts_of hearing members) old heard (said_at (step_of new) (words_of_heard (counts_of hearing members) ∷ [])) [] new refl
-      (subst (λ (s : PlayerState). Plays tells (counts_of hearing members) old heard (said_at (step_of s) (words_of_heard (counts_of hearing members) ∷ [])) [] [] s) (sym same) Heard)
+      (subst (λ (s : PlayerState). Plays tells (counts_of hearing members) old heard (said_at (step_of s) (words_of_heard (counts_of hearing members) ∷ [])) [] [] s) (sym same) (OnlyTells heard (words_of_heard (counts_of hearing members)) refl))
 
   pub heard_played : (old new : PlayerState) (members : List L) (written written_now : List ℕ) → new ≡ old
       → (told_sink → written_now ≡ written ++ reply_at (step_of old) (words_of_heard (counts_of hearing members)))

@@ -1,5 +1,7 @@
 -- One line that was played.
-use Rattle.std.proofs.Common.{◌≡◌, inl, inr, ℕ, ◌≤◌, true, List, [], ◌∷◌, refl, sym, ap, subst, ◌∙◌}
+use Rattle.std.proofs.Common.{◌≡◌, inl, inr, ℕ, ◌≤◌, true, List, [], ◌∷◌, Some, refl, sym, ap, subst, ◌∙◌}
+use Rattle.std.proofs.lemmas.Bool.{false≢true}
+use Rattle.std.proofs.lemmas.Option.{none-some}
 use Rattle.erst_client.specs.Commands.{ClientState}
 use Rattle.erst_client.specs.Timings.{enough_steps}
 use Rattle.erst_machine.specs.MachineState.{MachineState, IsMachine}
@@ -8,15 +10,16 @@ use Rattle.erst_commands.specs.Attached.{own_client}
 use Rattle.erst_shadow.specs.ShadowCommands.{shadow_client}
 use Rattle.erst_bridge.specs.Bridges.{BridgeState}
 use Rattle.bridge_durability.specs.Turns.{Step}
-use Rattle.script_text.specs.ScriptGrammar.{Line, IsValid}
+use Rattle.script_text.specs.ScriptGrammar.{Line, IsValid, write, read, clear, count, next as next_line, dummy}
 use Rattle.base_model.specs.Faults.{Rose}
 use Rattle.apei_script.specs.Players.{PlayerState, client_of, budget_of, UsesOwn, UsesShadow, UsesEither}
 use Rattle.apei_script.specs.Mapped.{LineLeaves}
 use Rattle.apei_script.specs.Words.{Reply, said_at, words_in}
 use Rattle.apei_script.specs.Asked.{Asked}
-use Rattle.apei_script.specs.Happened.{Happened, IsGiven, Turn, IsPeeked, IsLaid, IsListed}
+use Rattle.apei_script.specs.Happened.{Happened, Once, Turn, IsListed}
 use Rattle.apei_script.specs.Bridged.{ByBridge, Enters, StaysAs, BridgesTurns}
-use Rattle.apei_script.specs.Plays.{Plays, Blank, ByClient, GivenTable, OwnTable, GivenShadow, OnMachine, ByTheBridge, Heard, Reset, Power, names_command, SaysHardware, LinePlayed, step_of}
+use Rattle.apei_script.specs.Plays.{Plays, Blank, ByClient, GivenTable, OwnTable, GivenShadow, OnMachine, ByTheBridge, OnlyTells, Reset, Power, words_told, names_command, SaysHardware, LinePlayed, step_of}
+use Rattle.apei_script.proofs.OneEvent.{once}
 use Rattle.apei_script.proofs.LineLemmas.{line_happened}
 use Rattle.apei_script.proofs.OwnClientLemmas.{no_command, asked_by_map, asked_cause}
 use Rattle.apei_script.proofs.EnoughSteps.{SaysNeither, asked_through}
@@ -35,13 +38,21 @@ record AsksClient (tells : Type 0) (old : PlayerState) (line : Line) (said : Lis
   said_is : said ≡ said_at (step_of new) (words ∷ [])
   asked : Asked tells (client_of old) (budget_of old) old.machine line words new.machine
 
+-- a line that only tells is none
+no_telling : {Goal : Type 0} (counts : List ℕ) (old : PlayerState) (line : Line) (words : List ℕ) → words_told counts old line ≡ Some words → names_command line ≡ true → Goal
+no_telling counts old (write hex) words told names = absurd (none-some words told)
+no_telling counts old (read id) words told names = absurd (none-some words told)
+no_telling counts old (clear id) words told names = absurd (none-some words told)
+no_telling counts old count words told names = absurd (none-some words told)
+no_telling counts old next_line words told names = absurd (none-some words told)
+no_telling counts old dummy words told names = absurd (none-some words told)
+no_telling counts old line words told names = no_command names
+
 module _ (tells : Type 0) where
   no_happening : {Goal : Type 0} (old : MachineState) (line : Line) (said blocks : List (List ℕ)) (new : MachineState) → Happened tells old line said blocks new → names_command line ≡ true → Goal
   no_happening {Goal} old line said blocks new happened = elim happened as (λ line said blocks new happened. names_command line ≡ true → Goal) [
-    | IsGiven hex block result new decoded submits ↦ λ names. no_command names
+    | Once line event words new asks happens ↦ λ names. absurd (false≢true (sym (once line event words asks).unnamed ∙ names))
     | Turn letters events blocks new turns ↦ λ names. no_command names
-    | IsPeeked at len before after answer new long allowed ↦ λ names. no_command names
-    | IsLaid hex block result new decoded lays ↦ λ names. no_command names
     | IsListed blocks left laid ↦ λ names. no_command names
   ]
 
@@ -63,7 +74,7 @@ module _ (tells : Type 0) where
     | GivenShadow machine gives ↦ λ names. no_command names
     | OnMachine line said blocks machine alone happened ↦ λ names. no_happening old.machine line said blocks machine happened names
     | ByTheBridge line said blocks steps next machine by ↦ λ names. no_bridging old line said blocks steps next machine by names
-    | Heard ↦ λ names. no_command names
+    | OnlyTells line words told ↦ λ names. no_telling counts old line words told names
     | Reset n machine warms ↦ λ names. no_command names
     | Power n machine powers ↦ λ names. no_command names
   ]

@@ -1,7 +1,7 @@
 -- The same lines of two players that are alike.
 use Rattle.std.specs.Prelude.{not, if◌then◌else◌, codes}
 use Rattle.std.specs.List.{flat_map}
-use Rattle.std.proofs.Common.{◌≡◌, inl, inr, ℕ, ◌+◌, ◌*◌, Bool, List, [], ◌∷◌, ◌++◌, length, map, Option, Some, None, Result, Ok, Err, refl, sym, ap, subst, ◌∙◌}
+use Rattle.std.proofs.Common.{◌≡◌, inl, inr, ℕ, ◌+◌, ◌*◌, Bool, true, false, List, [], ◌∷◌, ◌++◌, length, map, Option, Some, None, Result, Ok, Err, refl, sym, ap, subst, ◌∙◌}
 use Rattle.std.proofs.lemmas.Option.{none-some, same_Some}
 use Rattle.base_model.specs.Faults.{Rose}
 use Rattle.hex.specs.Hex.{decode_of}
@@ -13,12 +13,9 @@ use Rattle.record_model.specs.Records.{second_copies}
 use Rattle.record_store.specs.Store.{records_of as records_in}
 use Rattle.erst_device.specs.declared.device.TheConstants.{LOG_RANGE}
 use Rattle.erst_device.specs.Timings.{most_changes, timings_of}
-use Rattle.hex.specs.declared.error.FromHexError.{FromHexError}
 use Rattle.apei_notify.specs.Telling.{wanted}
-use Rattle.apei_space.specs.declared.faults.SpaceFault.{SpaceFault}
 use Rattle.bert_region.specs.Region.{IsLaidOut}
 use Rattle.ghes_ack.specs.declared.events.Event.{Event}
-use Rattle.ghes_ack.specs.declared.submission.SubmitError.{SubmitError}
 use Rattle.erst_entries.specs.declared.tables.ErstError.{ErstError}
 use Rattle.erst_entries.specs.Layout.{Erst}
 use Rattle.erst_entries.specs.Programs.{program_of}
@@ -27,12 +24,11 @@ use Rattle.erst_client.specs.declared.errors.ClientError.{ClientError}
 use Rattle.erst_client.specs.Attaching.{Attaches}
 use Rattle.erst_client.specs.Commands.{ClientState, Writes}
 use Rattle.erst_client.specs.Sequences.{clear_requests, dummy_requests}
-use Rattle.erst_machine.specs.declared.errors.FatalError.{FatalError}
 use Rattle.erst_machine.specs.MachineState.{MachineState, IsMachine}
 use Rattle.erst_machine.specs.Allowed.{Allows}
-use Rattle.erst_machine.specs.Events.{Submits, LaysFatal, Warmed, Powered}
+use Rattle.erst_machine.specs.Events.{Warmed, Powered}
 use Rattle.erst_machine.proofs.EventLemmas.{events_keep}
-use Rattle.erst_twins.specs.Alike.{MachineOutline, machine_outline, AlikeMachines, FailedNothing, BootsFrom, record_in, bytes_shown}
+use Rattle.erst_twins.specs.Alike.{MachineOutline, machine_outline, AlikeMachines, FailedNothing, BootsFrom, record_in}
 use Rattle.erst_machine.specs.OwnTables.{own_erst}
 use Rattle.erst_commands.specs.OwnPrograms.{with_value}
 use Rattle.erst_twins.proofs.TrailOutlines.{boots_from_alike}
@@ -41,8 +37,7 @@ use Rattle.erst_twins.proofs.MachineDialogues.{done_alike}
 use Rattle.erst_twins.proofs.RunDialogues.{run_of, run_held}
 use Rattle.erst_twins.proofs.ClientDialogues as dialogues
 use Rattle.erst_twins.proofs.ReadLemmas.{record_alike}
-use Rattle.erst_twins.proofs.MachineOutlines.{fill_both}
-use Rattle.erst_twins.proofs.EventOutlines.{submits_alike, lays_alike, happens_alike}
+use Rattle.erst_twins.proofs.EventOutlines.{happens_alike}
 use Rattle.erst_twins.proofs.OneLemmas.{one_list}
 use Rattle.record_model.specs.Records.{is_reserved}
 use Rattle.ghes_ack.specs.Machine.{Situation, is_idle}
@@ -50,39 +45,31 @@ use Rattle.erst_bridge.specs.Bridges.{BridgeState, Awaits}
 use Rattle.bridge_durability.specs.Turns.{last_of, Turn, Step, AreTurns}
 use Rattle.bridge_turns.specs.Made.{sides_in}
 use Rattle.bridge_twins.specs.AlikeSteps.{StepOutline, step_outline, AlikeSteps}
-use Rattle.script_text.specs.ScriptGrammar.{Line, blank, write, read, clear, count, next, dummy, action, table, own_table, shadow_table, error, turns, peek, fatal, bert, heard, reset, power, bridge}
+use Rattle.script_text.specs.ScriptGrammar.{Line, blank, write, read, clear, count, next, dummy, action, table, own_table, shadow_table, turns, bert, heard, reset, power, bridge}
 use Rattle.erst_shadow.specs.ShadowTables.{scratch_at, pieces_of, shadow_erst}
 use Rattle.erst_shadow.specs.ShadowCommands.{pieces_in, shadow_client}
 use Rattle.apei_script.specs.Players.{PlayerState, client_of, budget_of, with_machine}
-use Rattle.apei_script.specs.Words.{Reply, at_step, said_at, text_of_replies, refused, words_of_write, words_of_read, words_of_clear, words_of_count, words_of_next, words_of_dummy, words_of_action, words_of_table, words_of_no_table, words_of_record, words_of_submission, words_of_turns, words_of_block, words_of_peek, words_of_laid, words_of_bert, words_of_heard, words_of_reset, words_of_power}
+use Rattle.apei_script.specs.Words.{Reply, at_step, said_at, text_of_replies, refused, words_of_write, words_of_read, words_of_clear, words_of_count, words_of_next, words_of_dummy, words_of_action, words_of_table, words_of_no_table, words_of_record, words_of_turns, words_of_block, words_of_bert, words_of_reset, words_of_power}
 use Rattle.apei_script.specs.Tables.{ATTACH_STEPS, BeginsWith, GivesShadow}
 use Rattle.apei_script.specs.Bridged.{is_on, bridge_refusal, words_of_bridge, words_of_turn, words_of_steps, block_of, blocks_in, block_replies, replies_of}
-use Rattle.apei_script.specs.Plays.{Plays, restarted, changes_in, step_of}
+use Rattle.apei_script.specs.Plays.{words_told, Plays, restarted, changes_in, step_of}
 use Rattle.apei_script.specs.History.{Played, heard_of, heard_after, Follows, text_of, reply_of}
 use Rattle.apei_script.specs.Alike.{AlikePlayers, own_player, WantAlike, lines_in, said_in, taken_in, PlayedAlike}
 use Rattle.apei_script.proofs.HistoryLemmas.{history_goes_on}
 use Rattle.apei_script.proofs.TurnsAlike.{turned_alike}
-use Rattle.apei_script.proofs.LineKinds.{Left, AskedBy, HappenedBy, words_of_given, other_after, Given, NoTable, Tried, ByItsClient, ByItself, ByBridgeTurns, Entered, TurnedOn, NotOn, PlaysBy, plays_by}
+use Rattle.apei_script.proofs.LineKinds.{Left, AskedBy, HappenedBy, words_of_given, other_after, Given, NoTable, Tried, ByItsClient, ByItself, ByOneEvent, ByBridgeTurns, Entered, TurnedOn, NotOn, PlaysOther, PlaysAs, PlaysBy, plays_by}
+use Rattle.apei_script.proofs.OneEvent.{asks_once, same_bytes, once}
 
 abbrev faults_of : MachineState → ℕ
 faults_of state = state.device.store.flash.faults
 
 -- The same words
 
-same_bytes : (hex bytes others : List ℕ) → decode_of hex ≡ Ok bytes → decode_of hex ≡ Ok others → bytes ≡ others
-same_bytes hex bytes others first second = let both : ◌≡◌ {A = Result (List ℕ) FromHexError} (Ok bytes) (Ok others) = sym first ∙ second in cc
-
 same_read_words : (result also : Result ℕ ClientError) (after afterwards : List ℕ) → result ≡ also → record_in result after ≡ record_in also afterwards → words_of_read after result ≡ words_of_read afterwards also
 same_read_words (Ok size) (Ok len) after afterwards same bytes = ap words_of_record bytes
 same_read_words (Ok size) (Err why) after afterwards same bytes = absurd (cc)
 same_read_words (Err found) (Ok len) after afterwards same bytes = absurd (cc)
 same_read_words (Err found) (Err why) after afterwards same bytes = ap (words_of_read after) same
-
-same_peek_words : (answer also : Result (Unit {0}) SpaceFault) (after afterwards : List ℕ) → answer ≡ also → bytes_shown answer after ≡ bytes_shown also afterwards → words_of_peek after answer ≡ words_of_peek afterwards also
-same_peek_words (Ok done) (Ok well) after afterwards same bytes = ap (λ (bs : List ℕ). words_of_peek bs (Ok done)) bytes
-same_peek_words (Ok done) (Err why) after afterwards same bytes = absurd (cc)
-same_peek_words (Err fault) (Ok well) after afterwards same bytes = absurd (cc)
-same_peek_words (Err fault) (Err why) after afterwards same bytes = ap (words_of_peek after) same
 
 -- the table that some bytes begin with is one
 begins_once : (a b : Erst) (bytes : List ℕ) → BeginsWith a bytes → BeginsWith b bytes → a ≡ b
@@ -188,11 +175,6 @@ module _ (tells : Type 0) (told : tells) where
 
   happened_alike : (one also : MachineState) → AlikeMachines one also → IsMachine one → (line : Line) (said also_said blocks also_blocks : List (List ℕ)) (new also_new : MachineState)
       → HappenedBy tells one line said blocks new → HappenedBy tells also line also_said also_blocks also_new → EndsAll said also_said blocks also_blocks new also_new
-  happened_alike one also alike machine (error hex) said also_said blocks also_blocks new also_new first second =
-      let block : second.0 ≡ first.0 = same_bytes hex second.0 first.0 second.2 first.2 in
-      let submits = subst (λ (bs : List ℕ). Submits also bs second.1 also_new) block second.5 in
-      let both = submits_alike one also alike first.0 first.1 second.1 new also_new first.5 submits in
-      record { same = first.3 ∙ ap (λ (r : Result ℕ SubmitError). words_of_submission r ∷ []) both.0 ∙ sym second.3; taken = first.4 ∙ sym second.4; alike = both.1 }
   happened_alike one also alike machine (turns letters) said also_said blocks also_blocks new also_new first second =
       let both = turned_alike letters one also first.0 second.0 blocks also_blocks new also_new alike first.2 second.2 in
       record {
@@ -201,18 +183,6 @@ module _ (tells : Type 0) (told : tells) where
         taken = both.blocks_are;
         alike = both.alike;
       }
-  happened_alike one also alike machine (peek at len) said also_said blocks also_blocks new also_new first second =
-      let both = fill_both tells told one also alike at first.0 second.0 first.1 second.1 first.2 second.2 new also_new (first.3 ∙ sym second.3) first.6 second.6 in
-      record {
-        same = first.4 ∙ ap (λ (ws : List ℕ). ws ∷ []) (same_peek_words first.2 second.2 first.1 second.1 both.0 both.1) ∙ sym second.4;
-        taken = first.5 ∙ sym second.5;
-        alike = both.2;
-      }
-  happened_alike one also alike machine (fatal hex) said also_said blocks also_blocks new also_new first second =
-      let block : second.0 ≡ first.0 = same_bytes hex second.0 first.0 second.2 first.2 in
-      let lays = subst (λ (bs : List ℕ). LaysFatal also bs second.1 also_new) block second.5 in
-      let both = lays_alike one also alike machine first.0 first.1 second.1 new also_new first.5 lays in
-      record { same = first.3 ∙ ap (λ (r : Result ℕ FatalError). words_of_laid r ∷ []) both.0 ∙ sym second.3; taken = first.4 ∙ sym second.4; alike = both.1 }
   happened_alike one also alike machine bert said also_said blocks also_blocks new also_new first second =
       let bytes : also.memory.region ≡ one.memory.region = sym (ap (λ (o : MachineOutline). o.memory.region) alike) in
       let laid = subst (λ (r : List ℕ). IsLaidOut second.0 second.1 r) bytes second.5 in
@@ -355,18 +325,18 @@ module _ (tells : Type 0) (told : tells) where
         (with_machine first.2 old) (with_machine second.2 twin) first.4 second.4
         (same_said first.2 second.2 first.0 second.0 ends.alike ends.same) ends.taken (players_with old.other old.other first.2 second.2 ends.alike refl)
 
-    line_alike : (line : Line) (said also_said : List Reply) (blocks also_blocks : List (List ℕ)) (new also_new : PlayerState) → PlaysBy tells counts old line said blocks new → FailedNothing old.machine new.machine
-        → PlaysBy tells counts twin line also_said also_blocks also_new → FailedNothing machine_too also_new.machine → LineAlike said also_said blocks also_blocks new also_new
-    line_alike blank said also_said blocks also_blocks new also_new first quiet second also_quiet =
+    other_alike : (line : Line) (said also_said : List Reply) (blocks also_blocks : List (List ℕ)) (new also_new : PlayerState) → PlaysOther tells old line said blocks new → FailedNothing old.machine new.machine
+        → PlaysOther tells twin line also_said also_blocks also_new → FailedNothing machine_too also_new.machine → LineAlike said also_said blocks also_blocks new also_new
+    other_alike blank said also_said blocks also_blocks new also_new first quiet second also_quiet =
         close said also_said blocks also_blocks [] [] [] [] new also_new old twin first second refl refl (players_with old.other old.other old.machine machine_too alike refl)
-    line_alike (write hex) said also_said blocks also_blocks new also_new first quiet second also_quiet = by_client_alike (write hex) said also_said blocks also_blocks new also_new first quiet second also_quiet
-    line_alike (read id) said also_said blocks also_blocks new also_new first quiet second also_quiet = by_client_alike (read id) said also_said blocks also_blocks new also_new first quiet second also_quiet
-    line_alike (clear id) said also_said blocks also_blocks new also_new first quiet second also_quiet = by_client_alike (clear id) said also_said blocks also_blocks new also_new first quiet second also_quiet
-    line_alike count said also_said blocks also_blocks new also_new first quiet second also_quiet = by_client_alike count said also_said blocks also_blocks new also_new first quiet second also_quiet
-    line_alike next said also_said blocks also_blocks new also_new first quiet second also_quiet = by_client_alike next said also_said blocks also_blocks new also_new first quiet second also_quiet
-    line_alike dummy said also_said blocks also_blocks new also_new first quiet second also_quiet = by_client_alike dummy said also_said blocks also_blocks new also_new first quiet second also_quiet
-    line_alike (action code value) said also_said blocks also_blocks new also_new first quiet second also_quiet = by_client_alike (action code value) said also_said blocks also_blocks new also_new first quiet second also_quiet
-    line_alike (table hex) said also_said blocks also_blocks new also_new first quiet second also_quiet =
+    other_alike (write hex) said also_said blocks also_blocks new also_new first quiet second also_quiet = by_client_alike (write hex) said also_said blocks also_blocks new also_new first quiet second also_quiet
+    other_alike (read id) said also_said blocks also_blocks new also_new first quiet second also_quiet = by_client_alike (read id) said also_said blocks also_blocks new also_new first quiet second also_quiet
+    other_alike (clear id) said also_said blocks also_blocks new also_new first quiet second also_quiet = by_client_alike (clear id) said also_said blocks also_blocks new also_new first quiet second also_quiet
+    other_alike count said also_said blocks also_blocks new also_new first quiet second also_quiet = by_client_alike count said also_said blocks also_blocks new also_new first quiet second also_quiet
+    other_alike next said also_said blocks also_blocks new also_new first quiet second also_quiet = by_client_alike next said also_said blocks also_blocks new also_new first quiet second also_quiet
+    other_alike dummy said also_said blocks also_blocks new also_new first quiet second also_quiet = by_client_alike dummy said also_said blocks also_blocks new also_new first quiet second also_quiet
+    other_alike (action code value) said also_said blocks also_blocks new also_new first quiet second also_quiet = by_client_alike (action code value) said also_said blocks also_blocks new also_new first quiet second also_quiet
+    other_alike (table hex) said also_said blocks also_blocks new also_new first quiet second also_quiet =
         let bytes : second.0 ≡ first.0 = same_bytes hex second.0 first.0 second.4 first.4 in
         let given = subst (λ (bs : List ℕ). Given tells machine_too old.other bs second.1 second.2 second.3) bytes second.5 in
         let ends = given_alike old.machine machine_too alike old.other first.0 first.1 second.1 first.2 second.2 first.3 second.3
@@ -375,11 +345,11 @@ module _ (tells : Type 0) (told : tells) where
         close said also_said blocks also_blocks (said_at (changes_in first.2) (first.1 ∷ [])) (said_at (changes_in second.2) (second.1 ∷ [])) [] [] new also_new
         (record old { machine = first.2; other = first.3 }) (record twin { machine = second.2; other = second.3 })
         first.6 second.6 (same_said first.2 second.2 (first.1 ∷ []) (second.1 ∷ []) ends.alike (ap (λ (ws : List ℕ). ws ∷ []) ends.same)) refl (players_with first.3 second.3 first.2 second.2 ends.alike ends.others)
-    line_alike own_table said also_said blocks also_blocks new also_new first quiet second also_quiet =
+    other_alike own_table said also_said blocks also_blocks new also_new first quiet second also_quiet =
         close said also_said blocks also_blocks (said_at (step_of old) (words_of_table (length old.own.table.entries) ∷ [])) (said_at (changes_in machine_too) (words_of_table (length old.own.table.entries) ∷ [])) [] []
         new also_new (record old { other = None }) (record twin { other = None }) first second
         (same_said old.machine machine_too (words_of_table (length old.own.table.entries) ∷ []) (words_of_table (length old.own.table.entries) ∷ []) alike refl) refl (players_with None None old.machine machine_too alike refl)
-    line_alike shadow_table said also_said blocks also_blocks new also_new first quiet second also_quiet =
+    other_alike shadow_table said also_said blocks also_blocks new also_new first quiet second also_quiet =
         let client_is : shadow_client old.machine ≡ shadow_client machine_too = ap (λ (o : MachineOutline). shadow_by o.device.store.layout) alike in
         let now = shadow_alike old.machine machine_too alike first.0 second.0
         first.1 (quiet_at old.machine first.0 new (record old { machine = first.0; other = Some (shadow_client old.machine) }) refl first.2.new_is quiet)
@@ -388,19 +358,13 @@ module _ (tells : Type 0) (told : tells) where
         (record old { machine = first.0; other = Some (shadow_client old.machine) }) (record twin { machine = second.0; other = Some (shadow_client machine_too) }) first.2 second.2
         (same_said first.0 second.0 (words_of_table 52 ∷ []) (words_of_table 52 ∷ []) now refl) refl
         (players_with (Some (shadow_client old.machine)) (Some (shadow_client machine_too)) first.0 second.0 now (ap (λ (client : ClientState). Some client) client_is))
-    line_alike (error hex) said also_said blocks also_blocks new also_new first quiet second also_quiet = by_itself_alike (error hex) said also_said blocks also_blocks new also_new first second
-    line_alike (turns letters) said also_said blocks also_blocks new also_new (inl first) quiet (inl second) also_quiet = by_itself_alike (turns letters) said also_said blocks also_blocks new also_new first.1 second.1
-    line_alike (turns letters) said also_said blocks also_blocks new also_new (inl first) quiet (inr second) also_quiet = absurd (second.on first.0)
-    line_alike (turns letters) said also_said blocks also_blocks new also_new (inr first) quiet (inl second) also_quiet = absurd (first.on second.0)
-    line_alike (turns letters) said also_said blocks also_blocks new also_new (inr first) quiet (inr second) also_quiet = bridged_alike letters said also_said blocks also_blocks new also_new first quiet second also_quiet
-    line_alike (bridge id) said also_said blocks also_blocks new also_new first quiet second also_quiet = entered_alike id said also_said blocks also_blocks new also_new first second
-    line_alike (peek at len) said also_said blocks also_blocks new also_new first quiet second also_quiet = by_itself_alike (peek at len) said also_said blocks also_blocks new also_new first second
-    line_alike (fatal hex) said also_said blocks also_blocks new also_new first quiet second also_quiet = by_itself_alike (fatal hex) said also_said blocks also_blocks new also_new first second
-    line_alike bert said also_said blocks also_blocks new also_new first quiet second also_quiet = by_itself_alike bert said also_said blocks also_blocks new also_new first second
-    line_alike heard said also_said blocks also_blocks new also_new first quiet second also_quiet =
-        close said also_said blocks also_blocks (said_at (step_of old) (words_of_heard counts ∷ [])) (said_at (changes_in machine_too) (words_of_heard counts ∷ [])) [] [] new also_new old twin first second
-        (same_said old.machine machine_too (words_of_heard counts ∷ []) (words_of_heard counts ∷ []) alike refl) refl (players_with old.other old.other old.machine machine_too alike refl)
-    line_alike reset said also_said blocks also_blocks new also_new first quiet second also_quiet =
+    other_alike (turns letters) said also_said blocks also_blocks new also_new (inl first) quiet (inl second) also_quiet = by_itself_alike (turns letters) said also_said blocks also_blocks new also_new first.1 second.1
+    other_alike (turns letters) said also_said blocks also_blocks new also_new (inl first) quiet (inr second) also_quiet = absurd (second.on first.0)
+    other_alike (turns letters) said also_said blocks also_blocks new also_new (inr first) quiet (inl second) also_quiet = absurd (first.on second.0)
+    other_alike (turns letters) said also_said blocks also_blocks new also_new (inr first) quiet (inr second) also_quiet = bridged_alike letters said also_said blocks also_blocks new also_new first quiet second also_quiet
+    other_alike (bridge id) said also_said blocks also_blocks new also_new first quiet second also_quiet = entered_alike id said also_said blocks also_blocks new also_new first second
+    other_alike bert said also_said blocks also_blocks new also_new first quiet second also_quiet = by_itself_alike bert said also_said blocks also_blocks new also_new first second
+    other_alike reset said also_said blocks also_blocks new also_new first quiet second also_quiet =
         let both = happens_alike old.machine machine_too alike tells told machine (Warmed (Ok first.0)) (Warmed (Ok second.0)) first.1 second.1 refl
         first.2 (quiet_at old.machine first.1 new (restarted first.1 old) refl first.3.new_is quiet)
         second.2 (quiet_at machine_too second.1 also_new (restarted second.1 twin) refl second.3.new_is also_quiet) in
@@ -408,7 +372,7 @@ module _ (tells : Type 0) (told : tells) where
         close said also_said blocks also_blocks (said_at (changes_in first.1) (words_of_reset first.0 ∷ [])) (said_at (changes_in second.1) (words_of_reset second.0 ∷ [])) [] [] new also_new
         (restarted first.1 old) (restarted second.1 twin) first.3 second.3
         (same_said first.1 second.1 (words_of_reset first.0 ∷ []) (words_of_reset second.0 ∷ []) both.1 (ap (λ (k : ℕ). words_of_reset k ∷ []) n)) refl (restarts_alike first.1 second.1 both.1)
-    line_alike power said also_said blocks also_blocks new also_new first quiet second also_quiet =
+    other_alike power said also_said blocks also_blocks new also_new first quiet second also_quiet =
         let both = happens_alike old.machine machine_too alike tells told machine (Powered (Ok first.0)) (Powered (Ok second.0)) first.1 second.1 refl
         first.2 (quiet_at old.machine first.1 new (restarted first.1 old) refl first.3.new_is quiet)
         second.2 (quiet_at machine_too second.1 also_new (restarted second.1 twin) refl second.3.new_is also_quiet) in
@@ -416,7 +380,39 @@ module _ (tells : Type 0) (told : tells) where
         close said also_said blocks also_blocks (said_at (changes_in first.1) (words_of_power first.0 ∷ [])) (said_at (changes_in second.1) (words_of_power second.0 ∷ [])) [] [] new also_new
         (restarted first.1 old) (restarted second.1 twin) first.3 second.3
         (same_said first.1 second.1 (words_of_power first.0 ∷ []) (words_of_power second.0 ∷ []) both.1 (ap (λ (k : ℕ). words_of_power k ∷ []) n)) refl (restarts_alike first.1 second.1 both.1)
-    line_alike line said also_said blocks also_blocks new also_new first quiet second also_quiet = absurd first
+    other_alike line said also_said blocks also_blocks new also_new first quiet second also_quiet = absurd first
+
+    by_event_alike : (line : Line) (said also_said : List Reply) (blocks also_blocks : List (List ℕ)) (new also_new : PlayerState) → ByOneEvent tells old line said blocks new → FailedNothing old.machine new.machine
+        → ByOneEvent tells twin line also_said also_blocks also_new → FailedNothing machine_too also_new.machine → LineAlike said also_said blocks also_blocks new also_new
+    by_event_alike line said also_said blocks also_blocks new also_new first quiet second also_quiet =
+        let asked = (once line first.0 first.1 first.3).alike second.0 second.1 second.3 in
+        let both = happens_alike old.machine machine_too alike tells told machine first.0 second.0 first.2 second.2 asked.question
+        first.4 (quiet_at old.machine first.2 new (with_machine first.2 old) refl first.5.new_is quiet)
+        second.4 (quiet_at machine_too second.2 also_new (with_machine second.2 twin) refl second.5.new_is also_quiet) in
+        close said also_said blocks also_blocks (said_at (changes_in first.2) (first.1 ∷ [])) (said_at (changes_in second.2) (second.1 ∷ [])) [] [] new also_new
+        (with_machine first.2 old) (with_machine second.2 twin) first.5 second.5
+        (same_said first.2 second.2 (first.1 ∷ []) (second.1 ∷ []) both.1 (ap (λ (ws : List ℕ). ws ∷ []) (asked.words_are both.0))) refl (players_with old.other old.other first.2 second.2 both.1 refl)
+
+    -- what a line only tells is the same of both
+    told_alike : (line : Line) → words_told counts old line ≡ words_told counts twin line
+    told_alike heard = refl
+    told_alike line = refl
+
+    as_alike : (line : Line) (words also_words : Option (List ℕ)) (asks : Bool) (said also_said : List Reply) (blocks also_blocks : List (List ℕ)) (new also_new : PlayerState) → words ≡ also_words
+        → PlaysAs tells words asks old line said blocks new → FailedNothing old.machine new.machine → PlaysAs tells also_words asks twin line also_said also_blocks also_new → FailedNothing machine_too also_new.machine
+        → LineAlike said also_said blocks also_blocks new also_new
+    as_alike line (Some words) (Some others) asks said also_said blocks also_blocks new also_new same first quiet second also_quiet =
+        close said also_said blocks also_blocks (said_at (step_of old) (words ∷ [])) (said_at (changes_in machine_too) (others ∷ [])) [] [] new also_new old twin first second
+        (same_said old.machine machine_too (words ∷ []) (others ∷ []) alike (ap (λ (ws : List ℕ). ws ∷ []) (same_Some words others same))) refl (players_with old.other old.other old.machine machine_too alike refl)
+    as_alike line None None true said also_said blocks also_blocks new also_new same first quiet second also_quiet = by_event_alike line said also_said blocks also_blocks new also_new first quiet second also_quiet
+    as_alike line None None false said also_said blocks also_blocks new also_new same first quiet second also_quiet = other_alike line said also_said blocks also_blocks new also_new first quiet second also_quiet
+    as_alike line None (Some others) asks said also_said blocks also_blocks new also_new same first quiet second also_quiet = absurd (none-some others same)
+    as_alike line (Some words) None asks said also_said blocks also_blocks new also_new same first quiet second also_quiet = absurd (none-some words (sym same))
+
+    line_alike : (line : Line) (said also_said : List Reply) (blocks also_blocks : List (List ℕ)) (new also_new : PlayerState) → PlaysBy tells counts old line said blocks new → FailedNothing old.machine new.machine
+        → PlaysBy tells counts twin line also_said also_blocks also_new → FailedNothing machine_too also_new.machine → LineAlike said also_said blocks also_blocks new also_new
+    line_alike line said also_said blocks also_blocks new also_new first quiet second also_quiet =
+        as_alike line (words_told counts old line) (words_told counts twin line) (asks_once line) said also_said blocks also_blocks new also_new (told_alike line) first quiet second also_quiet
 
   -- two players that are alike, as one player with two machines
   is_twin : (one also : PlayerState) → AlikePlayers one also → also ≡ with_machine also.machine one

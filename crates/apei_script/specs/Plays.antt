@@ -42,6 +42,11 @@ step_of state = changes_in state.machine
 abbrev pub restarted : MachineState → PlayerState → PlayerState
 restarted machine old = record old { machine = machine; other = None; bridge = Off }
 
+-- the words of a line that only tells something of the player or of its listeners
+abbrev pub words_told : List ℕ → PlayerState → Line → Option (List ℕ)
+words_told counts old heard = Some (words_of_heard counts)
+words_told counts old line = None
+
 -- A line, its replies, the blocks of which the listeners are told, the turns of the bridge and of the firmware beside it, and the player
 -- afterwards. `counts` says how often each listener has heard of an error before it
 pub data Plays (tells : Type 0) (counts : List ℕ) (old : PlayerState) : Line → List Reply → List (List ℕ) → List Step → PlayerState → Type 0 where
@@ -58,7 +63,7 @@ pub data Plays (tells : Type 0) (counts : List ℕ) (old : PlayerState) : Line �
       → Plays tells counts old line (said_at (changes_in machine) words) blocks [] (with_machine machine old)
   ByTheBridge : (line : Line) (said : List Reply) (blocks : List (List ℕ)) (steps : List Step) (next : BridgeState) (machine : MachineState) → ByBridge tells old line said blocks steps next machine
       → Plays tells counts old line said blocks steps (record old { machine = machine; bridge = next })
-  Heard : Plays tells counts old heard (said_at (step_of old) (words_of_heard counts ∷ [])) [] [] old
+  OnlyTells : (line : Line) (words : List ℕ) → words_told counts old line ≡ Some words → Plays tells counts old line (said_at (step_of old) (words ∷ [])) [] [] old
   Reset : (n : ℕ) (machine : MachineState) → Warms tells old.machine (Ok n) machine
       → Plays tells counts old reset (said_at (changes_in machine) (words_of_reset n ∷ [])) [] [] (restarted machine old)
   Power : (n : ℕ) (machine : MachineState) → Powers tells old.machine (Ok n) machine

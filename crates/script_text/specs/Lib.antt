@@ -7,7 +7,6 @@ pub mod ReplyWords
 pub mod RunWords
 pub mod ScriptGrammar
 pub mod ScriptText
-pub mod ScriptWords
 pub mod Shown
 pub mod TableWords
 pub mod SubmitWords

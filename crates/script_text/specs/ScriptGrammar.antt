@@ -27,29 +27,19 @@ pub data Line : Type 0 where
   power : Line
   bridge : (id : ℕ) → Line
 
--- what may stand in a line
+-- what may stand in a line: anything in a comment, and in those that are not named here there is nothing
 abbrev pub IsValid : Line → Type 0
-IsValid blank = Unit {0}
-IsValid (comment rest) = Unit {0}
 IsValid (write hex) = IsPairs hex
 IsValid (read id) = id < 2 ^ 64
 IsValid (clear id) = id < 2 ^ 64
-IsValid count = Unit {0}
-IsValid next = Unit {0}
-IsValid dummy = Unit {0}
 IsValid (action code value) = (code < 256) × (value < 2 ^ 64)
 IsValid (table hex) = IsPairs hex
-IsValid own_table = Unit {0}
-IsValid shadow_table = Unit {0}
 IsValid (error hex) = IsPairs hex
 IsValid (turns letters) = IsTurns letters
 IsValid (peek at len) = (at < 2 ^ 64) × (1 ≤ len) × (len ≤ 4096)
 IsValid (fatal hex) = IsPairs hex
-IsValid bert = Unit {0}
-IsValid heard = Unit {0}
-IsValid reset = Unit {0}
-IsValid power = Unit {0}
 IsValid (bridge id) = id < 2 ^ 64
+IsValid line = Unit {0}
 
 -- how a line is written
 abbrev pub text_of : Line → List ℕ

@@ -1,10 +1,57 @@
--- What a text is read as.
-use Rattle.std.specs.Prelude.{◌≡◌, ℕ, ◌⊎◌, List, ◌++◌}
+-- What a text is read as: the keywords of script lines, what may follow each, and the lines that are read.
+use Rattle.std.specs.Prelude.{◌≡◌, ℕ, ◌⊎◌, List, [], ◌∷◌, ◌++◌, codes}
+use Rattle.line_grammar.specs.Parts.{IsEnd, IsPairs, IsNumber, AreTwoNumbers}
+use Rattle.script_text.specs.Turns.{IsTurns}
 use Rattle.script_text.specs.ScriptGrammar.{Line, IsValid, text_of, blank, comment, write, read, clear, count, next, dummy, action, table, own_table, shadow_table, error, turns, peek, fatal, bert, heard, reset, power, bridge}
-use Rattle.script_text.specs.ScriptWords.{codes_of}
 use Rattle.script_text.specs.declared.script_line.ScriptLine.{ScriptLine}
 use Rattle.script_text.specs.declared.script_line.ScriptLine.TheVariants.{Blank, Write, Read, Clear, Count, Next, Dummy, Action, Table, TableOwn, TableShadow, Error, Turns, Peek, Fatal, Bert, Heard, Reset, Power, Bridge}
-use Rattle.script_text.specs.declared.script_word.ScriptWord.{ScriptWord}
+use Rattle.script_text.specs.declared.script_line.ScriptWord.{ScriptWord}
+use Rattle.script_text.specs.declared.script_line.ScriptWord.TheVariants as keyword
+
+-- a keyword, with the space behind it where something follows
+abbrev pub codes_of : ScriptWord → List ℕ
+codes_of keyword.Comment = codes "#"
+codes_of keyword.Write = codes "write "
+codes_of keyword.Read = codes "read "
+codes_of keyword.Clear = codes "clear "
+codes_of keyword.Count = codes "count"
+codes_of keyword.Next = codes "next"
+codes_of keyword.Dummy = codes "dummy"
+codes_of keyword.Action = codes "action "
+codes_of keyword.Table = codes "table "
+codes_of keyword.Error = codes "error "
+codes_of keyword.Turns = codes "turns "
+codes_of keyword.Peek = codes "peek "
+codes_of keyword.Fatal = codes "fatal "
+codes_of keyword.Bert = codes "bert"
+codes_of keyword.Heard = codes "heard"
+codes_of keyword.Reset = codes "reset"
+codes_of keyword.Power = codes "power"
+codes_of keyword.Bridge = codes "bridge "
+
+-- all keywords
+abbrev pub all_words : List ScriptWord
+all_words = keyword.Comment ∷ keyword.Write ∷ keyword.Read ∷ keyword.Clear ∷ keyword.Count ∷ keyword.Next ∷ keyword.Dummy ∷ keyword.Action ∷ keyword.Table ∷ keyword.Error ∷ keyword.Turns ∷ keyword.Peek ∷ keyword.Fatal ∷ keyword.Bert
+    ∷ keyword.Heard ∷ keyword.Reset ∷ keyword.Power ∷ keyword.Bridge ∷ []
+
+-- a table in digits, the machine's own, or its shadow
+abbrev pub IsTable : List ℕ → Type 0
+IsTable text = IsPairs text ⊎ ((text ≡ codes "own") ⊎ (text ≡ codes "shadow"))
+
+-- what may follow a keyword: anything behind that of a comment, and nothing behind those that are not named here
+abbrev pub Follows : ScriptWord → List ℕ → Type 0
+Follows keyword.Comment = λ text. Unit {0}
+Follows keyword.Write = IsPairs
+Follows keyword.Read = IsNumber 0 0xFFFF_FFFF_FFFF_FFFF
+Follows keyword.Clear = IsNumber 0 0xFFFF_FFFF_FFFF_FFFF
+Follows keyword.Action = AreTwoNumbers 255 0 0xFFFF_FFFF_FFFF_FFFF
+Follows keyword.Table = IsTable
+Follows keyword.Error = IsPairs
+Follows keyword.Turns = IsTurns
+Follows keyword.Peek = AreTwoNumbers 0xFFFF_FFFF_FFFF_FFFF 1 4096
+Follows keyword.Fatal = IsPairs
+Follows keyword.Bridge = IsNumber 0 0xFFFF_FFFF_FFFF_FFFF
+Follows word = IsEnd
 
 -- the line that is meant
 abbrev pub line_of : ScriptLine → Line

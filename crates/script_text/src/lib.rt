@@ -10,7 +10,6 @@ mod refusal;
 mod reply;
 mod run_refusals;
 mod script_line;
-mod script_word;
 mod submit_refusals;
 mod table_refusals;
 mod turns;

@@ -4,10 +4,8 @@ ghost use Rattle.line_grammar.specs.Columns.{Breaks, BreaksAt};
 ghost use Rattle.line_grammar.specs.declared.lengths.TheConstants.{LONGEST_LINE};
 ghost use Rattle.line_grammar.specs.Parts.{IsEnd, IsNumber};
 ghost use Rattle.script_text.specs.ScriptGrammar.{IsLine};
-ghost use Rattle.script_text.specs.ScriptText.{IsText, IsTextBehind};
-ghost use Rattle.script_text.specs.ScriptWords.{Follows, IsTable, codes_of};
+ghost use Rattle.script_text.specs.ScriptText.{IsText, IsTextBehind, Follows, IsTable, codes_of};
 
-use crate::script_word::{SCRIPT_WORDS, ScriptWord};
 use crate::turns::turns;
 use line_grammar::{Keyword, common_len, end, keyword_of, number, pairs, two_numbers};
 
@@ -38,6 +36,77 @@ pub enum ScriptLine<'a> {
     Reset,
     Power,
     Bridge { id: u64 },
+}
+
+/// A word that a script line begins with, together with the space behind it where something follows.
+#[derive(Clone, Copy)]
+pub(crate) enum ScriptWord {
+    Comment,
+    Write,
+    Read,
+    Clear,
+    Count,
+    Next,
+    Dummy,
+    Action,
+    Table,
+    Error,
+    Turns,
+    Peek,
+    Fatal,
+    Bert,
+    Heard,
+    Reset,
+    Power,
+    Bridge,
+}
+
+const SCRIPT_WORDS: [ScriptWord; 18] = [
+    ScriptWord::Comment,
+    ScriptWord::Write,
+    ScriptWord::Read,
+    ScriptWord::Clear,
+    ScriptWord::Count,
+    ScriptWord::Next,
+    ScriptWord::Dummy,
+    ScriptWord::Action,
+    ScriptWord::Table,
+    ScriptWord::Error,
+    ScriptWord::Turns,
+    ScriptWord::Peek,
+    ScriptWord::Fatal,
+    ScriptWord::Bert,
+    ScriptWord::Heard,
+    ScriptWord::Reset,
+    ScriptWord::Power,
+    ScriptWord::Bridge,
+];
+
+impl Keyword for ScriptWord {
+    ghost codes = { codes_of };
+
+    fn bytes(self) -> &'static [u8] {
+        match self {
+            ScriptWord::Comment => b"#",
+            ScriptWord::Write => b"write ",
+            ScriptWord::Read => b"read ",
+            ScriptWord::Clear => b"clear ",
+            ScriptWord::Count => b"count",
+            ScriptWord::Next => b"next",
+            ScriptWord::Dummy => b"dummy",
+            ScriptWord::Action => b"action ",
+            ScriptWord::Table => b"table ",
+            ScriptWord::Error => b"error ",
+            ScriptWord::Turns => b"turns ",
+            ScriptWord::Peek => b"peek ",
+            ScriptWord::Fatal => b"fatal ",
+            ScriptWord::Bert => b"bert",
+            ScriptWord::Heard => b"heard",
+            ScriptWord::Reset => b"reset",
+            ScriptWord::Power => b"power",
+            ScriptWord::Bridge => b"bridge ",
+        }
+    }
 }
 
 /// A text that is no line.
