@@ -318,7 +318,7 @@ module _ {L : Type 0} (hearing : L → Hearing) (told_source told_sink tells : T
             stops = stops_at script rest rest_now written middle first members old mid a b b.number so_far next refl told;
             asked = line;
             is = is;
-            gives_table = left.1;
+            brings_table = left.1;
           }),
           λ told. said ∙ so_far.text told,
         );

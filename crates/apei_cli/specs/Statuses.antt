@@ -1,10 +1,10 @@
 -- What each status of a run says of its script.
-use Rattle.std.specs.Prelude.{◌≡◌, ◌⊎◌, ℕ, ◌+◌, List, [], ◌∷◌, ◌++◌, length}
+use Rattle.std.specs.Prelude.{◌≡◌, ℕ, ◌+◌, List, [], ◌∷◌, ◌++◌, length}
 use Rattle.line_grammar.specs.Columns.{BreaksAt}
 use Rattle.erst_machine.specs.MachineState.{MachineState}
-use Rattle.script_text.specs.ScriptGrammar.{Line as ScriptLine, IsLine, table, shadow_table}
+use Rattle.script_text.specs.ScriptGrammar.{Line as ScriptLine, IsLine}
 use Rattle.apei_script.specs.Words.{Reply}
-use Rattle.apei_script.specs.Plays.{LeftIn, FailsRestart, PartlyWritten}
+use Rattle.apei_script.specs.Plays.{LeftIn, FailsRestart, BringsTable, PartlyWritten}
 use Rattle.apei_script.specs.History.{Played, text_of}
 use Rattle.script_lines.specs.Lines.{Line, lines_of, IsTooLong}
 use Rattle.script_lines.specs.Reads.{StandsAt, AreTaken}
@@ -67,7 +67,7 @@ pub record StopsAtTable (script : List ℕ) (played : List Played) : Type 0 wher
   pub stops : StopsAt script played number line
   pub asked : ScriptLine
   pub is : CanPlay line asked
-  pub gives_table : ((hex : List ℕ) × (asked ≡ table hex)) ⊎ (asked ≡ shadow_table)
+  pub brings_table : BringsTable asked
 
 -- the lines of the script that were played once the machine was booted, by a status that the sink has no part in; `last` is the machine after
 -- them, and `final` the one that is left

@@ -1,6 +1,7 @@
 -- What a line that gives a table comes to.
 use Rattle.std.proofs.Common.{◌≡◌, ℕ, List, ◌++◌, length, take, drop, Option, Some, None, Ok, Err, sym, subst}
 use Rattle.std.proofs.lemmas.List.{take-append-drop}
+use Rattle.hex.specs.Hex.{decode_of}
 use Rattle.apei_space.specs.Accesses.{Reaches}
 use Rattle.erst_entries.specs.declared.tables.ErstError.{ErstError}
 use Rattle.erst_entries.specs.declared.tables.ErstError.TheVariants.{Table, HeaderSize, Count, Memory}
@@ -12,7 +13,9 @@ use Rattle.erst_client.specs.Commands.{ClientState}
 use Rattle.erst_machine.specs.MachineState.{MachineState}
 use Rattle.erst_machine.specs.Allowed.{Allows}
 use Rattle.script_text.specs.TableWords.{ErstHasWords}
+use Rattle.script_text.specs.ScriptGrammar.{table}
 use Rattle.apei_script.specs.Words.{words_of_table, words_of_no_client}
+use Rattle.apei_script.specs.Plays.{BringsTable, Given}
 use Rattle.apei_script.specs.Tables.{ATTACH_STEPS, BeginsWith, GivesTable, IsNotAttached, IsAttached}
 
 -- the reason of a refusal that is not want of memory
@@ -21,6 +24,10 @@ refused_for bytes (Table error) has is = is
 refused_for bytes (HeaderSize found) has is = is
 refused_for bytes (Count found size) has is = is
 refused_for bytes Memory has is = absurd has
+
+-- memory is wanting only where a table stands first
+pub wants_memory : (hex bytes : List ℕ) (why : ErstError) → decode_of hex ≡ Ok bytes → why ≡ Memory → IsRefusal bytes why → BringsTable (table hex)
+wants_memory hex bytes why decoded is refuses = Given hex bytes decoded (subst (IsRefusal bytes) is refuses)
 
 -- a table that was read stands first, and no other one does
 pub begins_with : (erst : Erst) (bytes : List ℕ) (size : ℕ) → IsErst erst (take size bytes) → FitsErst erst → refusal bytes ≡ None

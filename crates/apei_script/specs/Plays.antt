@@ -1,5 +1,5 @@
 -- The playing of one line. `tells` says whether the flash tells its content.
-use Rattle.std.specs.Prelude.{◌≡◌, ◌⊎◌, ℕ, ◌+◌, ◌≤◌, Bool, true, false, List, [], ◌∷◌, ◌++◌, codes, decimal, length, take, Option, Some, None, Ok, Err}
+use Rattle.std.specs.Prelude.{◌≡◌, ℕ, ◌+◌, ◌≤◌, Bool, true, false, List, [], ◌∷◌, ◌++◌, codes, decimal, length, take, Option, Some, None, Ok, Err}
 use Rattle.std.specs.List.{AllZip}
 use Rattle.hex.specs.Hex.{decode_of}
 use Rattle.base_model.specs.Faults.{Rose}
@@ -8,6 +8,7 @@ use Rattle.line_grammar.specs.declared.lengths.TheConstants.{LONGEST_LINE}
 use Rattle.apei_notify.specs.Telling.{IsToldOfAll, Hearing, counts_of}
 use Rattle.ghes_ack.specs.declared.events.Event.{Event as TurnEvent}
 use Rattle.ghes_ack.specs.declared.events.Event.TheVariants.{Took}
+use Rattle.erst_entries.specs.Tables.{refusal as table_refusal}
 use Rattle.erst_interp.specs.declared.stops.RunStop.{RunStop}
 use Rattle.erst_client.specs.Commands.{ClientState}
 use Rattle.erst_client.specs.Timings.{enough_steps}
@@ -160,12 +161,17 @@ pub record LinePlayed (tells : Type 0) (counts : List ℕ) (old : PlayerState) (
   -- but where it made turns of the bridge, each of these is shown, and each block that they stored stays stored
   pub turned : tells → old.own ≡ own_client old.machine → TurnsShown old.bridge old.machine steps new.machine
 
+-- a line with a table to be kept: its bytes begin with one, or it names the machine's second
+pub data BringsTable : Line → Type 0 where
+  Given : (hex bytes : List ℕ) → decode_of hex ≡ Ok bytes → table_refusal bytes ≡ None → BringsTable (table hex)
+  Named : BringsTable shadow_table
+
 -- why a line was stopped, and what it left: a restart that the flash failed, or want of memory for a table, which leaves all as it was
 abbrev pub Stops : Type 0 → PlayerState → Line → PlayerState → PlayStop → Type 0
 Stops tells old line new SinkFault = ⊥
 Stops tells old line new FlashFault = (machine : MachineState) × FailsRestart tells old.machine line machine × HasHappened tells old.machine machine
     × Rose old.machine.device.store.flash.faults machine.device.store.flash.faults × (new ≡ with_machine machine old)
-Stops tells old line new Memory = (new ≡ old) × (((hex : List ℕ) × (line ≡ table hex)) ⊎ (line ≡ shadow_table))
+Stops tells old line new Memory = (new ≡ old) × BringsTable line
 
 -- the listeners, before and after they were told of some blocks, each in its place
 abbrev pub Told : {L : Type 0} → (L → Hearing) → List (List ℕ) → List L → List L → Type 0

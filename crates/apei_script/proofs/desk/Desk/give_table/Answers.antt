@@ -1,10 +1,15 @@
-use Rattle.std.proofs.Common.{take, arith, rules}
+use Rattle.std.proofs.Common.{take, refl, arith, rules}
 use Rattle.script_text.specs.TableWords.{ErstHasWords}
 use Rattle.apei_script.specs.Tables.{IsNoTable}
 use Rattle.apei_script.proofs.Made.{made_number}
-use Rattle.apei_script.proofs.Giving.{refused_for, begins_with, not_attached, attached}
+use Rattle.apei_script.proofs.Giving.{refused_for, wants_memory, begins_with, not_attached, attached}
 use Rattle.apei_script.proofs.DeskLines.{as_lent, by_table}
 use Rattle.apei_script.proofs.desk.Desk.give_table.Goals as goal
+
+pub returns-in-Err-Memory-clause-stopped : goal.returns-in-Err-Memory-clause-stopped
+returns-in-Err-Memory-clause-stopped g c =
+    let decoded = as_lent c.args.hex.now _ c.deref.result.now c.decode-len.result c.decode-len.ensures.bytes c.deref.ensures.value in
+    (refl, wants_memory _ _ _ decoded c.in-Err-Memory.field-0-is c.in-Err-Memory.ensures.refused)
 
 pub returns-in-Err-clause-made : goal.returns-in-Err-clause-made
 returns-in-Err-clause-made g c =

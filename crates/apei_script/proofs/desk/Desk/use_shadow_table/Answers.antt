@@ -1,7 +1,9 @@
-use Rattle.std.proofs.Common.{ℕ, ap, ◌∙◌, arith}
+use Rattle.std.proofs.Common.{ℕ, refl, ap, ◌∙◌, arith}
+use Rattle.std.proofs.lemmas.Result.{err_from_is_err_and}
 use Rattle.erst_entries.specs.Layout.{Erst}
 use Rattle.erst_shadow.specs.ShadowTables.{pieces_of, shadow_erst}
 use Rattle.erst_commands.proofs.LimitLemmas.{reach-least}
+use Rattle.apei_script.specs.Plays.{Named}
 use Rattle.apei_script.proofs.Made.{made_number}
 use Rattle.apei_script.proofs.ShadowGiving.{is_given}
 use Rattle.apei_script.proofs.DeskLines.{by_shadow_table}
@@ -18,3 +20,8 @@ returns-clause-made g c =
     (is_given g.F.Flash.tells c.attaching_never_fails.ensures _ _ _ _ _ _ c.stands.ensures.machine (table_is ∙ ap (λ (n : ℕ). shadow_erst (pieces_of n)) c.reach.ensures.value) c.new-budget.ensures
     c.in-Ok.ensures.attaches c.in-Ok.ensures.reaches)
     (made_number _ _ _ _ (omega arith) c.begin.ensures c.add_number.ensures.text c.add_number.ensures.short)
+
+pub returns-in_err-table-clause-stopped : goal.returns-in_err-table-clause-stopped
+returns-in_err-table-clause-stopped g c =
+    let p = err_from_is_err_and c.from_residual.result c.from_residual.ensures.1 in
+    rw (p.1, p.2) (refl, Named)
