@@ -2,6 +2,7 @@
 use Rattle.std.proofs.Common.{◌≡◌, ◌≢◌, ℕ, ◌+◌, ◌<◌, ◌≤◌, List, [], ◌∷◌, length, drop, get_or, Some, None, Result, Ok, refl, sym, ap, ◌∙◌, arith, add-one, drop-cons}
 use Rattle.std.specs.Prelude.{unwrap_or, Option}
 use Rattle.std.proofs.lemmas.Bool.Decides.{nat_tests}
+use Rattle.std.proofs.lemmas.List.{length-replicate}
 use Rattle.base_model.specs.Bytes.{part}
 use Rattle.apei_gas.specs.declared.registers.Place.TheVariants.{Memory}
 use Rattle.apei_space.specs.RamState.{RamState, located, filled}
@@ -48,3 +49,7 @@ shared_filled bytes start (byte ∷ before) within = ap (λ (r : Result ℕ _). 
 pub all_zeros : (reach : ℕ) (range scratch ports region : List ℕ) (shared : RamState) → range ≡ zeros reach → scratch ≡ zeros 4096 → ports ≡ zeros 16 → region ≡ zeros 16384 →
     (let all : MemoryState = record { range = range; scratch = scratch; ports = ports; region = region; shared = shared } in all) ≡ cleared reach shared
 all_zeros reach range scratch ports region shared e f g h = cc
+
+-- zeros are as many as there are
+pub blank_of : (xs : List ℕ) (n : ℕ) → xs ≡ zeros n → xs ≡ zeros (length xs)
+blank_of xs n is = is ∙ ap zeros (sym (ap length is ∙ length-replicate n 0))

@@ -84,6 +84,7 @@ fn write_register<F: Flash>(
 {
     match register {
         Register::Action => {
+            contents.range_written = true;
             device.action((value % (1 << 32)) as u32, &mut contents.range);
             Ok(())
         }

@@ -1,9 +1,8 @@
 // The bytes of the machine's areas but for the device's registers.
-ghost use Rattle.std.specs.Prelude.{◌≡◌, ℕ, true, ◌+◌, ◌/◌, ◌<◌, ◌≤◌, ◌^◌, length, IfOk};
+ghost use Rattle.std.specs.Prelude.{◌≡◌, ℕ, true, false, ◌+◌, ◌/◌, ◌<◌, ◌≤◌, ◌^◌, length, replicate, IfOk};
 ghost use Rattle.base_model.specs.Bytes.{part, number_at, spelled, put_at};
 ghost use Rattle.apei_gas.specs.Access.{bits};
 ghost use Rattle.erst_machine.specs.Areas.{size_of, is_plain};
-ghost use Rattle.erst_machine.specs.Memories.{memory_of, bytes_in, with_bytes, IsReadable, IsWritable, HasSizes, shared_windows, cleared, zeros};
 
 use crate::areas::{Area, BOOT_ERRORS_LEN, HANDOVER_LEN, PORTS_LEN, SCRATCH_LEN, STATUS};
 use apei_bytes::Memory;
@@ -11,7 +10,7 @@ use apei_gas::{Place, Width};
 use apei_space::{Ram, Window, copy_part, get_number, get_part, put_number, put_part};
 use std::alloc::Global;
 
-/// The bytes of the machine's areas.
+/// The bytes of the machine's areas, and whether each of the long ones was written since its bytes were zeros.
 #[derive(Drop)]
 pub struct Contents {
     pub range: Vec<u8>,
@@ -20,6 +19,12 @@ pub struct Contents {
     pub region: Vec<u8>,
     /// The handover's window. Its two sides write here.
     pub shared: Ram,
+    pub range_written: bool,
+    pub scratch_written: bool,
+    pub region_written: bool,
+    ghost range_blank: { range_written ≡ false → range.items ≡ replicate (length range.items) 0 },
+    ghost scratch_blank: { scratch_written ≡ false → scratch.items ≡ replicate (length scratch.items) 0 },
+    ghost region_blank: { region_written ≡ false → region.items ≡ replicate (length region.items) 0 },
 }
 
 /// The handover's window.
@@ -29,6 +34,8 @@ const SHARED: [Window; 1] = [Window {
 }];
 
 impl Contents {
+    ghost use Rattle.erst_machine.specs.Memories.{memory_of, bytes_in, with_bytes, IsReadable, IsWritable, HasSizes, shared_windows, cleared, zeros};
+
     /// Zeros, and a log range of so many.
     pub fn new(alloc: Global, reach: usize) -> Result<Contents, Memory>
         requires { reach ≤ 65536 }
@@ -42,6 +49,9 @@ impl Contents {
             ports: vec![in alloc; 0; PORTS_LEN]?,
             region: vec![in alloc; 0; BOOT_ERRORS_LEN]?,
             shared: Ram::new(alloc, &SHARED)?,
+            range_written: false,
+            scratch_written: false,
+            region_written: false,
         })
     }
 
@@ -50,10 +60,13 @@ impl Contents {
         requires { (reach : ℕ) × HasSizes reach (memory_of self.old) }
         ensures { memory_of self.new ≡ cleared (length self.old.range.items) self.old.shared }
     {
-        fill_zeros(&mut self.range);
-        fill_zeros(&mut self.scratch);
-        fill_zeros(&mut self.ports);
-        fill_zeros(&mut self.region);
+        make_zeros(&mut self.range, self.range_written);
+        self.range_written = false;
+        make_zeros(&mut self.scratch, self.scratch_written);
+        self.scratch_written = false;
+        make_zeros(&mut self.region, self.region_written);
+        self.region_written = false;
+        make_zeros(&mut self.ports, true);
     }
 
     /// The number at a byte of an area.
@@ -68,7 +81,7 @@ impl Contents {
             Area::LogRange => get_number(&self.range, start, width),
             Area::BootErrors => get_number(&self.region, start, width),
             Area::Ports => get_number(&self.ports, start, width),
-            Area::Handover => shared_number(&self.shared, start, width),
+            Area::Handover => Contents::shared_number(&self.shared, start, width),
             Area::Device => unreachable!(),
         }
     }
@@ -84,7 +97,7 @@ impl Contents {
             Area::LogRange => get_part(&self.range, start, out),
             Area::BootErrors => get_part(&self.region, start, out),
             Area::Ports => get_part(&self.ports, start, out),
-            Area::Handover => shared_part(&self.shared, start, out),
+            Area::Handover => Contents::shared_part(&self.shared, start, out),
             Area::Device => unreachable!(),
         }
     }
@@ -97,8 +110,14 @@ impl Contents {
             memory_of self.new ≡ with_bytes area (memory_of self.old) bytes }
     {
         match area {
-            Area::Scratch => put_number(&mut self.scratch, start, width, value),
-            Area::LogRange => put_number(&mut self.range, start, width, value),
+            Area::Scratch => {
+                self.scratch_written = true;
+                put_number(&mut self.scratch, start, width, value);
+            }
+            Area::LogRange => {
+                self.range_written = true;
+                put_number(&mut self.range, start, width, value);
+            }
             Area::Ports => put_number(&mut self.ports, start, width, value),
             Area::Device | Area::Handover | Area::BootErrors => unreachable!(),
         }
@@ -111,8 +130,14 @@ impl Contents {
         ensures { memory_of self.new ≡ with_bytes area (memory_of self.old) (put_at (bytes_in area (memory_of self.old)) start bytes.now) }
     {
         match area {
-            Area::Scratch => put_part(&mut self.scratch, start, bytes),
-            Area::LogRange => put_part(&mut self.range, start, bytes),
+            Area::Scratch => {
+                self.scratch_written = true;
+                put_part(&mut self.scratch, start, bytes);
+            }
+            Area::LogRange => {
+                self.range_written = true;
+                put_part(&mut self.range, start, bytes);
+            }
             Area::Ports => put_part(&mut self.ports, start, bytes),
             Area::Device | Area::Handover | Area::BootErrors => unreachable!(),
         }
@@ -128,24 +153,59 @@ impl Contents {
     {
         match source {
             Area::Scratch => match target {
-                Area::Scratch => copy_part(&mut self.scratch, start, place, n),
-                Area::LogRange => put_from(&mut self.range, place, &self.scratch, start, n),
+                Area::Scratch => {
+                    self.scratch_written = true;
+                    copy_part(&mut self.scratch, start, place, n);
+                }
+                Area::LogRange => {
+                    self.range_written = true;
+                    put_from(&mut self.range, place, &self.scratch, start, n);
+                }
                 _ => unreachable!(),
             },
             Area::LogRange => match target {
-                Area::Scratch => put_from(&mut self.scratch, place, &self.range, start, n),
-                Area::LogRange => copy_part(&mut self.range, start, place, n),
+                Area::Scratch => {
+                    self.scratch_written = true;
+                    put_from(&mut self.scratch, place, &self.range, start, n);
+                }
+                Area::LogRange => {
+                    self.range_written = true;
+                    copy_part(&mut self.range, start, place, n);
+                }
                 _ => unreachable!(),
             },
             _ => unreachable!(),
         }
     }
+
+    fn shared_number(shared: &Ram, start: usize, width: Width) -> u64
+        requires windows { shared.now.windows ≡ shared_windows }
+        requires within { start + bits width / 8 ≤ HANDOVER_LEN }
+        ensures value { result ≡ number_at shared.now.bytes start (bits width / 8) }
+        ensures small { result < 2 ^ bits width }
+    {
+        let at = STATUS + start as u64;
+        shared.look(Place::Memory(at), width).unwrap_or(0)
+    }
+
+    fn shared_part(shared: &Ram, start: usize, out: &mut [u8])
+        requires windows { shared.now.windows ≡ shared_windows }
+        requires within { start + length out.old ≤ HANDOVER_LEN }
+        ensures { out.new ≡ part shared.now.bytes start (length out.old) }
+    {
+        let at = STATUS + start as u64;
+        let _ = shared.look_bytes(at, out);
+    }
 }
 
-fn fill_zeros(bytes: &mut [u8])
-    ensures { bytes.new ≡ zeros (length bytes.old) }
+/// Makes bytes zeros, which they are already where they were not written.
+fn make_zeros(bytes: &mut [u8], were_written: bool)
+    requires { were_written ≡ false → bytes.old ≡ replicate (length bytes.old) 0 }
+    ensures { bytes.new ≡ replicate (length bytes.old) 0 }
 {
-    bytes.fill(0);
+    if were_written {
+        bytes.fill(0);
+    }
 }
 
 /// Writes a part of other bytes.
@@ -155,23 +215,4 @@ fn put_from(bytes: &mut [u8], place: usize, others: &[u8], start: usize, n: usiz
     ensures { bytes.new ≡ put_at bytes.old place (part others.now start n) }
 {
     put_part(bytes, place, &others[start..start + n]);
-}
-
-fn shared_number(shared: &Ram, start: usize, width: Width) -> u64
-    requires windows { shared.now.windows ≡ shared_windows }
-    requires within { start + bits width / 8 ≤ HANDOVER_LEN }
-    ensures value { result ≡ number_at shared.now.bytes start (bits width / 8) }
-    ensures small { result < 2 ^ bits width }
-{
-    let at = STATUS + start as u64;
-    shared.look(Place::Memory(at), width).unwrap_or(0)
-}
-
-fn shared_part(shared: &Ram, start: usize, out: &mut [u8])
-    requires windows { shared.now.windows ≡ shared_windows }
-    requires within { start + length out.old ≤ HANDOVER_LEN }
-    ensures { out.new ≡ part shared.now.bytes start (length out.old) }
-{
-    let at = STATUS + start as u64;
-    let _ = shared.look_bytes(at, out);
 }

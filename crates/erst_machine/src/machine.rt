@@ -222,6 +222,7 @@ impl<F: Flash> Machine<F> {
     pub fn lay_fatal(&mut self, block: &[u8]) -> Result<u32, FatalError>
         ensures { LaysFatal self.old block.now result self.new }
     {
+        self.contents.region_written = true;
         lay_block(&mut self.contents.region, block)
     }
 
