@@ -16,6 +16,7 @@ use Rattle.ghes_ack.specs.declared.submission.SubmitError.{SubmitError}
 use Rattle.erst_machine.specs.declared.errors.FatalError.{FatalError}
 use Rattle.erst_machine.specs.Events.{Event, Warmed, Powered, Submitted, Laid, Submits, LaysFatal, Warms, Powers, Happens}
 use Rattle.script_text.specs.ScriptGrammar.{Line, table, own_table, shadow_table, error, fatal, reset, power, bridge}
+use Rattle.erst_shadow.specs.ShadowTables.{shadow_count}
 use Rattle.apei_script.specs.declared.player.PlayStop.TheVariants.{FlashFault}
 use Rattle.apei_script.specs.Replies.{IsMade}
 use Rattle.apei_script.specs.Players.{PlayerState, budget_by}
@@ -94,12 +95,12 @@ module _ (tells : Type 0) (old : MachineState) (own : ClientState) (steps : Opti
     made = subst (λ (k : ℕ). IsMade reply (words_of_table k)) many made;
   }
 
-  pub by_shadow_table : (other : Option ClientState) (n : ℕ) (client : ClientState) (new : MachineState) (reply : List ℕ) → n ≡ 52 → IsShadowGiven tells old new client
+  pub by_shadow_table : (other : Option ClientState) (n : ℕ) (client : ClientState) (new : MachineState) (reply : List ℕ) → n ≡ shadow_count → IsShadowGiven tells old new client
       → IsMade reply (words_of_table n) → MakesReply tells (player old own other steps state) shadow_table (player new own (Some client) steps state) reply
   by_shadow_table other n client new reply many given made =
       subst (λ (c : ClientState). MakesReply tells (player old own other steps state) shadow_table (player new own (Some c) steps state) reply) (sym given.client_is)
       (record {
-        words = words_of_table 52;
+        words = words_of_table shadow_count;
         plays = λ counts. GivenShadow new given.gives;
         made = subst (λ (k : ℕ). IsMade reply (words_of_table k)) many made;
       })

@@ -1,13 +1,12 @@
 -- How long the records are that a client's calls succeed on.
-use Rattle.std.proofs.Common.{◌≡◌, ℕ, ◌≤◌, Bool, true, false, ◌||◌, cond, List, length, take, Option, Some, None, Result, Ok, Err, refl, arith}
-use Rattle.std.specs.Prelude.{nat_lt, IfOk, OnOk}
-use Rattle.std.proofs.lemmas.Bool.{ltb-false}
+use Rattle.std.proofs.Common.{◌≡◌, ℕ, ◌≤◌, List, length, take, None, Result, Ok, Err, arith}
+use Rattle.std.specs.Prelude.{IfOk, OnOk}
 use Rattle.std.proofs.lemmas.List.{length-take-le}
 use Rattle.apei_space.specs.Calls.{Call}
 use Rattle.base_model.specs.Bytes.{number_at}
 use Rattle.erst_client.specs.declared.errors.ClientError.{ClientError}
-use Rattle.erst_client.specs.declared.errors.ClientError.TheVariants.{SmallBuffer, BadLength}
 use Rattle.erst_client.specs.Commands.{ClientState, Writes, IsNoRecord, IsNotPut, IsAsked, Reads, IsNotRead, HasNoLength, IsNotCopied, IsCopied, copied, copy_refusal}
+use Rattle.erst_client.proofs.RefusalLemmas.{copies}
 use Rattle.erst_commands.proofs.RangeLemmas.{not_refused}
 
 -- a length is that of a record, and within the room
@@ -16,14 +15,7 @@ pub record IsRecordLength (len room : ℕ) : Type 0 where
   pub most : len ≤ room
 
 admitted : (len range room : ℕ) → copy_refusal len range room ≡ None → IsRecordLength len room
-admitted len range room h = by_tests (nat_lt len 128) (nat_lt range len) (nat_lt room len) refl refl h
-  where
-    by_tests : (short far long : Bool) → nat_lt len 128 ≡ short → nat_lt room len ≡ long
-        → cond {A = Option ClientError} (short || far) (Some (BadLength len)) (cond long (Some (SmallBuffer len)) None) ≡ None → IsRecordLength len room
-    by_tests true far long a b e = absurd (cc e)
-    by_tests false true long a b e = absurd (cc e)
-    by_tests false false true a b e = absurd (cc e)
-    by_tests false false false a b e = record { least = ltb-false len 128 a; most = ltb-false room len b }
+admitted len range room none = let is = copies len range room none in record { least = is.least; most = is.fits }
 
 -- a read answers the length of a record that the buffer has room for
 pub read_length : {W : Type 0} (allows : W → Call → W → Type 0) (client : ClientState) (id : ℕ) (out : List ℕ) (steps : ℕ) (old : W) (result : Result ℕ ClientError) (after : List ℕ) (left : ℕ) (last : W)

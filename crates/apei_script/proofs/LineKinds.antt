@@ -21,6 +21,7 @@ use Rattle.erst_bridge.specs.Bridges.{BridgeState, Off, Awaits}
 use Rattle.bridge_durability.specs.Turns.{Step, AreTurns}
 use Rattle.bridge_turns.specs.Made.{sides_in}
 use Rattle.script_text.specs.ScriptGrammar.{Line, blank, write, read, clear, count, next, dummy, action, table, own_table, shadow_table, turns, bert, reset, power, bridge}
+use Rattle.erst_shadow.specs.ShadowTables.{shadow_count}
 use Rattle.erst_shadow.specs.ShadowCommands.{shadow_client}
 use Rattle.apei_script.specs.Players.{PlayerState, client_of, budget_of, with_machine}
 use Rattle.apei_script.specs.Words.{Reply, said_at, refused, words_of_write, words_of_read, words_of_clear, words_of_count, words_of_next, words_of_dummy, words_of_action, words_of_table, words_of_no_table, words_of_no_client, words_of_turns, words_of_block, words_of_bert, words_of_reset, words_of_power}
@@ -132,7 +133,7 @@ module _ (tells : Type 0) where
       × Left said blocks new (said_at (changes_in machine) (words ∷ [])) [] (record old { machine = machine; other = other })
   PlaysOther old own_table said blocks new = Left said blocks new (said_at (step_of old) (words_of_table (length old.own.table.entries) ∷ [])) [] (record old { other = None })
   PlaysOther old shadow_table said blocks new = (machine : MachineState) × GivesShadow tells old.machine machine
-      × Left said blocks new (said_at (changes_in machine) (words_of_table 52 ∷ [])) [] (record old { machine = machine; other = Some (shadow_client old.machine) })
+      × Left said blocks new (said_at (changes_in machine) (words_of_table shadow_count ∷ [])) [] (record old { machine = machine; other = Some (shadow_client old.machine) })
   PlaysOther old (turns letters) said blocks new = ((old.bridge ≡ Off) × ByItself old (turns letters) said blocks new) ⊎ ByBridgeTurns old letters said blocks new
   PlaysOther old bert said blocks new = ByItself old bert said blocks new
   PlaysOther old reset said blocks new = (n : ℕ) × (machine : MachineState) × Warms tells old.machine (Ok n) machine

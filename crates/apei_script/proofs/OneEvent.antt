@@ -1,9 +1,9 @@
 -- Lines that ask for one thing that happens to the machine.
-use Rattle.std.proofs.Common.{◌≡◌, ℕ, Bool, true, false, List, [], length, replicate, Option, None, Result, Ok, Err, refl, sym, ap, ◌∙◌}
+use Rattle.std.proofs.Common.{◌≡◌, ℕ, Bool, true, false, List, [], length, replicate, None, Result, Ok, Err, refl, sym, ap, ◌∙◌}
 use Rattle.hex.specs.Hex.{decode_of}
 use Rattle.hex.specs.declared.error.FromHexError.{FromHexError}
 use Rattle.apei_space.specs.declared.faults.SpaceFault.{SpaceFault}
-use Rattle.apei_space.specs.Calls.{Call, ReadBytes}
+use Rattle.apei_space.specs.Calls.{ReadBytes}
 use Rattle.ghes_ack.specs.declared.submission.SubmitError.{SubmitError}
 use Rattle.erst_machine.specs.declared.errors.FatalError.{FatalError}
 use Rattle.erst_machine.specs.Events.{Event, Accessed, Submitted, Laid}

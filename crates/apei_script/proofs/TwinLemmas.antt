@@ -4,7 +4,6 @@ use Rattle.std.specs.List.{flat_map}
 use Rattle.std.proofs.Common.{◌≡◌, inl, inr, ℕ, ◌+◌, ◌*◌, Bool, true, false, List, [], ◌∷◌, ◌++◌, length, map, Option, Some, None, Result, Ok, Err, refl, sym, ap, subst, ◌∙◌}
 use Rattle.std.proofs.lemmas.Option.{none-some, same_Some}
 use Rattle.base_model.specs.Faults.{Rose}
-use Rattle.hex.specs.Hex.{decode_of}
 use Rattle.flash_words.specs.Flash.{FlashState}
 use Rattle.flash_words.specs.Layout.{Layout, room_of, reach_of}
 use Rattle.flash_model.specs.declared.geometry.Geometry.{Geometry}
@@ -46,7 +45,7 @@ use Rattle.bridge_durability.specs.Turns.{last_of, Turn, Step, AreTurns}
 use Rattle.bridge_turns.specs.Made.{sides_in}
 use Rattle.bridge_twins.specs.AlikeSteps.{StepOutline, step_outline, AlikeSteps}
 use Rattle.script_text.specs.ScriptGrammar.{Line, blank, write, read, clear, count, next, dummy, action, table, own_table, shadow_table, turns, bert, heard, reset, power, bridge}
-use Rattle.erst_shadow.specs.ShadowTables.{scratch_at, pieces_of, shadow_erst}
+use Rattle.erst_shadow.specs.ShadowTables.{scratch_at, pieces_of, shadow_count, shadow_erst}
 use Rattle.erst_shadow.specs.ShadowCommands.{pieces_in, shadow_client}
 use Rattle.apei_script.specs.Players.{PlayerState, client_of, budget_of, with_machine}
 use Rattle.apei_script.specs.Words.{Reply, at_step, said_at, text_of_replies, refused, words_of_write, words_of_read, words_of_clear, words_of_count, words_of_next, words_of_dummy, words_of_action, words_of_table, words_of_no_table, words_of_record, words_of_turns, words_of_block, words_of_bert, words_of_reset, words_of_power}
@@ -354,9 +353,9 @@ module _ (tells : Type 0) (told : tells) where
         let now = shadow_alike old.machine machine_too alike first.0 second.0
         first.1 (quiet_at old.machine first.0 new (record old { machine = first.0; other = Some (shadow_client old.machine) }) refl first.2.new_is quiet)
         second.1 (quiet_at machine_too second.0 also_new (record twin { machine = second.0; other = Some (shadow_client machine_too) }) refl second.2.new_is also_quiet) in
-        close said also_said blocks also_blocks (said_at (changes_in first.0) (words_of_table 52 ∷ [])) (said_at (changes_in second.0) (words_of_table 52 ∷ [])) [] [] new also_new
+        close said also_said blocks also_blocks (said_at (changes_in first.0) (words_of_table shadow_count ∷ [])) (said_at (changes_in second.0) (words_of_table shadow_count ∷ [])) [] [] new also_new
         (record old { machine = first.0; other = Some (shadow_client old.machine) }) (record twin { machine = second.0; other = Some (shadow_client machine_too) }) first.2 second.2
-        (same_said first.0 second.0 (words_of_table 52 ∷ []) (words_of_table 52 ∷ []) now refl) refl
+        (same_said first.0 second.0 (words_of_table shadow_count ∷ []) (words_of_table shadow_count ∷ []) now refl) refl
         (players_with (Some (shadow_client old.machine)) (Some (shadow_client machine_too)) first.0 second.0 now (ap (λ (client : ClientState). Some client) client_is))
     other_alike (turns letters) said also_said blocks also_blocks new also_new (inl first) quiet (inl second) also_quiet = by_itself_alike (turns letters) said also_said blocks also_blocks new also_new first.1 second.1
     other_alike (turns letters) said also_said blocks also_blocks new also_new (inl first) quiet (inr second) also_quiet = absurd (second.on first.0)

@@ -24,6 +24,7 @@ use Rattle.script_text.specs.RunWords.{words_of_stop}
 use Rattle.script_text.specs.ScriptGrammar.{Line, IsValid, blank, comment, write, read, clear, count, next, dummy, action, table, own_table, shadow_table, error, turns, fatal, bert, heard, reset, power}
 use Rattle.apei_script.specs.declared.player.PlayStop.{PlayStop}
 use Rattle.apei_script.specs.declared.player.PlayStop.TheVariants.{SinkFault, FlashFault, Memory}
+use Rattle.erst_shadow.specs.ShadowTables.{shadow_count}
 use Rattle.erst_shadow.specs.ShadowCommands.{shadow_client}
 use Rattle.apei_script.specs.Players.{PlayerState, client_of, budget_of, with_machine, UsesOwn, UsesShadow, UsesEither}
 use Rattle.apei_script.specs.Words.{Reply, at_step, said_at, words_in, text_of_reply, text_of_replies, replies_at, refused, words_of_table, words_of_turns, words_of_heard, words_of_reset, words_of_power}
@@ -59,7 +60,7 @@ pub data Plays (tells : Type 0) (counts : List ℕ) (old : PlayerState) : Line �
       → Plays tells counts old (table hex) (said_at (changes_in machine) (words ∷ [])) [] [] (record old { machine = machine; other = other })
   OwnTable : Plays tells counts old own_table (said_at (step_of old) (words_of_table (length old.own.table.entries) ∷ [])) [] [] (record old { other = None })
   GivenShadow : (machine : MachineState) → GivesShadow tells old.machine machine
-      → Plays tells counts old shadow_table (said_at (changes_in machine) (words_of_table 52 ∷ [])) [] [] (record old { machine = machine; other = Some (shadow_client old.machine) })
+      → Plays tells counts old shadow_table (said_at (changes_in machine) (words_of_table shadow_count ∷ [])) [] [] (record old { machine = machine; other = Some (shadow_client old.machine) })
   OnMachine : (line : Line) (words blocks : List (List ℕ)) (machine : MachineState) → NeedsNoBridge old.bridge line → Happened tells old.machine line words blocks machine
       → Plays tells counts old line (said_at (changes_in machine) words) blocks [] (with_machine machine old)
   ByTheBridge : (line : Line) (said : List Reply) (blocks : List (List ℕ)) (steps : List Step) (next : BridgeState) (machine : MachineState) → ByBridge tells old line said blocks steps next machine

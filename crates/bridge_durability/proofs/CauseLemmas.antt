@@ -6,10 +6,11 @@ use Rattle.base_model.specs.Faults.{Rose}
 use Rattle.cper_frame.specs.declared.error.FrameError.{FrameError}
 use Rattle.record_model.specs.RecordMap.{Refusal, Command}
 use Rattle.erst_client.specs.declared.errors.ClientError.{ClientError}
-use Rattle.erst_client.specs.declared.errors.ClientError.TheVariants.{Hardware, TooLong, Trailing}
+use Rattle.erst_client.specs.declared.errors.ClientError.TheVariants.{Hardware, TooLong}
 use Rattle.erst_client.specs.declared.requests.Request.{Request}
 use Rattle.erst_client.specs.Commands.{ClientState, Writes, IsNoRecord as NotWritten, IsNotPut, IsAsked, frame_refusal, write_refusal}
 use Rattle.erst_client.specs.Timings.{enough_steps}
+use Rattle.erst_client.proofs.RefusalLemmas.{whole_refused}
 use Rattle.erst_machine.specs.MachineState.{MachineState, IsMachine, reach_in}
 use Rattle.erst_machine.specs.Allowed.{Allows}
 use Rattle.erst_commands.specs.OwnPrograms.{OwnProgramsRun}
@@ -32,15 +33,8 @@ bridged_refusal : (block : List ℕ) (id range : ℕ) → id < 2 ^ 64 → length
     → write_refusal (bridged block id) range ≡ (if nat_lt range (200 + length block) then Some (TooLong (200 + length block) range) else None)
 bridged_refusal block id range fits short =
     ap (λ (r : Result ℕ FrameError). frame_refusal r (length (bridged block id)) range) (whole block id fits short)
-    ∙ none_behind (nat_lt (length (bridged block id)) (length (bridged block id))) (grind (arith, nat_tests))
+    ∙ whole_refused (length (bridged block id)) range (let long = length-bridged block id fits in omega arith)
     ∙ ap (λ (n : ℕ). if nat_lt range n then Some (TooLong n range) else None) (length-bridged block id fits)
-  where
-    rest : Option ClientError
-    rest = if nat_lt range (length (bridged block id)) then Some (TooLong (length (bridged block id)) range) else None
-
-    none_behind : (b : Bool) → b ≡ false → (if b then Some (Trailing (length (bridged block id) - length (bridged block id))) else rest) ≡ rest
-    none_behind true e = absurd (cc e)
-    none_behind false e = refl
 
 refused_long : (block : List ℕ) (id range : ℕ) → id < 2 ^ 64 → length block ≤ 4096 → range < 200 + length block → write_refusal (bridged block id) range ≡ Some (TooLong (200 + length block) range)
 refused_long block id range fits short long = bridged_refusal block id range fits short ∙ by_test (nat_lt range (200 + length block)) (grind (arith, nat_tests))

@@ -2,9 +2,8 @@
 use Rattle.std.specs.Prelude.{ℕ, zero, suc, if◌then◌else◌, List, [], ◌++◌, Option, Some, None, option_map, option_and_then, codes, bytes_eq, decimal}
 use Rattle.cper_frame.specs.Names as cper
 use Rattle.ghes_block.specs.Names as ghes
-use Rattle.erst_entries.specs.Actions.{action_of}
-use Rattle.erst_entries.specs.Instructions.{instruction_of}
-use Rattle.erst_entries.specs.Names.{action_name, instruction_name}
+use Rattle.erst_entries.specs.Actions.{action_name, action_of}
+use Rattle.erst_entries.specs.Instructions.{instruction_name, instruction_of}
 use Rattle.check_names.specs.declared.values.Value.{Value}
 use Rattle.check_names.specs.declared.values.Value.TheVariants.{Action, Instruction, RecordSeverity, BlockSeverity, SectionType}
 

@@ -1,10 +1,11 @@
 -- What a client refuses by the bytes and the lengths alone, and what it has where it refuses none.
 use Rattle.std.proofs.Common.{◌≡◌, ℕ, ◌-◌, ◌^◌, ◌≤◌, Bool, true, false, List, length, Option, Some, None, Result, Ok, Err, refl, subst, arith}
+use Rattle.std.specs.Prelude.{nat_lt, if◌then◌else◌}
 use Rattle.std.proofs.lemmas.Bool.Decides.{nat_tests}
 use Rattle.cper_frame.specs.declared.error.FrameError.{FrameError}
 use Rattle.cper_frame.specs.Reading.{checked}
 use Rattle.erst_client.specs.declared.errors.ClientError.{ClientError}
-use Rattle.erst_client.specs.declared.errors.ClientError.TheVariants.{NoSpace, Hardware, Failed, Empty, NotFound, Status, Stopped, Range, Late}
+use Rattle.erst_client.specs.declared.errors.ClientError.TheVariants.{NoSpace, Hardware, Failed, Empty, NotFound, TooLong, Status, Stopped, Range, Late}
 use Rattle.erst_client.specs.Commands.{length_refusal, frame_refusal, write_refusal, copy_refusal}
 use Rattle.erst_client.specs.Causes.{OfError}
 
@@ -54,6 +55,10 @@ pub record Fits (len have range : ℕ) : Type 0 where
 
 pub length_fits : (len have range : ℕ) → length_refusal len have range ≡ None → Fits len have range
 length_fits len have range is = record { whole = grind (arith, nat_tests); within = grind (arith, nat_tests) }
+
+-- the bytes of a record of at most 4,296 are refused only where they go beyond the range
+pub whole_refused : (len range : ℕ) → len ≤ 4296 → length_refusal len len range ≡ (if nat_lt range len then Some (TooLong len range) else None)
+whole_refused len range few = grind (arith, nat_tests)
 
 -- and bytes that are copied out are those of a record in the range, and fit the buffer
 pub record Copies (len range room : ℕ) : Type 0 where

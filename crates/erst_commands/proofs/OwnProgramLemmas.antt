@@ -8,7 +8,7 @@ use Rattle.apei_gas.specs.declared.widths.Width.TheVariants.{B32, B64}
 use Rattle.apei_gas.specs.Fields.{field, stored}
 use Rattle.apei_space.specs.declared.faults.SpaceFault.{SpaceFault}
 use Rattle.erst_entries.specs.declared.actions.Action.{Action}
-use Rattle.erst_entries.specs.declared.actions.Action.TheVariants.{BeginWriteOperation, BeginReadOperation, BeginClearOperation, EndOperation, SetRecordOffset, ExecuteOperation, CheckBusyStatus, GetCommandStatus, GetRecordIdentifier, SetRecordIdentifier, GetRecordCount, BeginDummyWriteOperation, GetErrorLogAddressRange, GetErrorLogAddressRangeLength, GetErrorLogAddressRangeAttributes, GetExecuteOperationTimings}
+use Rattle.erst_entries.specs.declared.actions.Action.TheVariants.{BeginWriteOperation, BeginReadOperation, BeginClearOperation, EndOperation, SetRecordOffset, ExecuteOperation, CheckBusyStatus, GetCommandStatus, GetRecordIdentifier, SetRecordIdentifier, GetRecordCount, BeginDummyWriteOperation}
 use Rattle.erst_entries.specs.declared.entries.Entry.{Entry}
 use Rattle.erst_entries.specs.declared.instructions.Instruction.TheVariants.{ReadRegister, ReadRegisterValue, WriteRegister, WriteRegisterValue}
 use Rattle.erst_entries.specs.Actions.{code_of}
@@ -233,12 +233,8 @@ own_programs_run tells law CheckBusyStatus given budget first result left last r
     tell_run tells law CheckBusyStatus given first (is_one CheckBusyStatus) (asks_one CheckBusyStatus) (serves_one tells CheckBusyStatus) refl refl budget result left last refl
     (reads_one tells CheckBusyStatus given (λ value. refl)) refl refl run
 own_programs_run tells law GetCommandStatus given budget first result left last run = tell_bits tells law GetCommandStatus given first 8 refl refl budget result left last refl (λ value. refl) refl refl run
-own_programs_run tells law GetRecordIdentifier given budget first result left last run = tell_bits tells law GetRecordIdentifier given first 64 refl refl budget result left last refl (λ value. refl) refl refl run
 own_programs_run tells law GetRecordCount given budget first result left last run = tell_bits tells law GetRecordCount given first 32 refl refl budget result left last refl (λ value. refl) refl refl run
-own_programs_run tells law GetErrorLogAddressRange given budget first result left last run = tell_bits tells law GetErrorLogAddressRange given first 64 refl refl budget result left last refl (λ value. refl) refl refl run
-own_programs_run tells law GetErrorLogAddressRangeLength given budget first result left last run = tell_bits tells law GetErrorLogAddressRangeLength given first 64 refl refl budget result left last refl (λ value. refl) refl refl run
-own_programs_run tells law GetErrorLogAddressRangeAttributes given budget first result left last run = tell_bits tells law GetErrorLogAddressRangeAttributes given first 64 refl refl budget result left last refl (λ value. refl) refl refl run
-own_programs_run tells law GetExecuteOperationTimings given budget first result left last run = tell_bits tells law GetExecuteOperationTimings given first 64 refl refl budget result left last refl (λ value. refl) refl refl run
+own_programs_run tells law action given budget first result left last run = tell_bits tells law action given first 64 refl refl budget result left last refl (λ value. refl) refl refl run
 
 -- How many steps each takes
 

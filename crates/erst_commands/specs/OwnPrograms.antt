@@ -1,7 +1,7 @@
 -- The programs of the machine's own table over the machine: what a run of each does. `tells` says whether the flash tells its content.
 use Rattle.std.specs.Prelude.{◌≡◌, ℕ, ◌+◌, ◌%◌, ◌^◌, Bool, true, false, ◌==◌, if◌then◌else◌, Result, Ok, Err}
 use Rattle.erst_entries.specs.declared.actions.Action.{Action}
-use Rattle.erst_entries.specs.declared.actions.Action.TheVariants.{SetRecordOffset, SetRecordIdentifier, CheckBusyStatus, GetCommandStatus, GetRecordIdentifier, GetRecordCount, GetErrorLogAddressRange, GetErrorLogAddressRangeLength, GetErrorLogAddressRangeAttributes, GetExecuteOperationTimings}
+use Rattle.erst_entries.specs.declared.actions.Action.TheVariants.{BeginWriteOperation, BeginReadOperation, BeginClearOperation, BeginDummyWriteOperation, EndOperation, SetRecordOffset, SetRecordIdentifier, ExecuteOperation, CheckBusyStatus, GetCommandStatus, GetRecordCount}
 use Rattle.erst_entries.specs.Actions.{code_of}
 use Rattle.erst_interp.specs.declared.stops.RunStop.{RunStop}
 use Rattle.erst_interp.specs.declared.stops.RunStop.TheVariants.{Budget}
@@ -21,17 +21,17 @@ takes_value SetRecordOffset = true
 takes_value SetRecordIdentifier = true
 takes_value action = false
 
--- those whose programs read VALUE at their end
+-- those whose programs read VALUE at their end: all but those that begin, end, set or execute something
 abbrev pub tells_value : Action → Bool
-tells_value CheckBusyStatus = true
-tells_value GetCommandStatus = true
-tells_value GetRecordIdentifier = true
-tells_value GetRecordCount = true
-tells_value GetErrorLogAddressRange = true
-tells_value GetErrorLogAddressRangeLength = true
-tells_value GetErrorLogAddressRangeAttributes = true
-tells_value GetExecuteOperationTimings = true
-tells_value action = false
+tells_value BeginWriteOperation = false
+tells_value BeginReadOperation = false
+tells_value BeginClearOperation = false
+tells_value BeginDummyWriteOperation = false
+tells_value EndOperation = false
+tells_value SetRecordOffset = false
+tells_value SetRecordIdentifier = false
+tells_value ExecuteOperation = false
+tells_value action = true
 
 -- the machine in which an action is made
 abbrev pub given_to : Action → ℕ → MachineState → MachineState
@@ -41,13 +41,8 @@ given_to action given state = if takes_value action then with_value (given % 2 ^
 abbrev pub answer_of : Action → ℕ → ℕ → ℕ
 answer_of CheckBusyStatus given value = if value % 2 ^ 64 == 1 then 1 else 0
 answer_of GetCommandStatus given value = value % 2 ^ 8
-answer_of GetRecordIdentifier given value = value % 2 ^ 64
 answer_of GetRecordCount given value = value % 2 ^ 32
-answer_of GetErrorLogAddressRange given value = value % 2 ^ 64
-answer_of GetErrorLogAddressRangeLength given value = value % 2 ^ 64
-answer_of GetErrorLogAddressRangeAttributes given value = value % 2 ^ 64
-answer_of GetExecuteOperationTimings given value = value % 2 ^ 64
-answer_of action given value = given
+answer_of action given value = if tells_value action then value % 2 ^ 64 else given
 
 -- a run of an action's program: the action is made in the machine with its value given, one step an entry, or the budget ran out
 -- before the first entry, or between the two

@@ -29,7 +29,7 @@ use Rattle.erst_device.specs.Statuses.{status_of}
 use Rattle.erst_device.specs.StoreCalls.{Stepped, ReadOut, FoundNext, Counted}
 use Rattle.erst_device.specs.DeviceState.{DeviceState, IsStill, IsRunning, Reads, Changes, given_up}
 use Rattle.erst_device.specs.Starts.{Starts, HasLength, FindsNone, Misses, GoesBeyond, Finds, named}
-use Rattle.erst_device.specs.Actions.{Acts, Begins, Ends, Steps, Shows, Tells, FindsNext, Counts, told_by, begun_by, IsAllowed, found, counted, shown}
+use Rattle.erst_device.specs.Actions.{Acts, Begins, Ends, Steps, Shows, FindsNext, Counts, begun_by, IsAllowed, found, counted, shown}
 use Rattle.erst_device.specs.Registers.{reading_of, is_nothing, seen, StandsWithin, IsReading, Runs, started}
 
 -- What runs
@@ -59,11 +59,6 @@ runs_of tells registers store runs some = running_of tells registers registers.r
 -- the action that a code names
 pub of_action : (tells : Type 0) (old new : DeviceState) (range after : List ℕ) (action known : Action) → action ≡ known → Acts tells old range (Some known) new after → Acts tells old range (Some action) new after
 of_action tells old new range after action known is acts = subst (λ (a : Action). Acts tells old range (Some a) new after) (sym is) acts
-
--- the number that it tells
-pub tells_from : (tells : Type 0) (state : DeviceState) (range : List ℕ) (action : Action) (value known : ℕ) → told_by action state.status state.store.layout ≡ Some known → value ≡ known
-    → Acts tells state range (Some action) (record state { value = value }) range
-tells_from tells state range action value known told is = Tells action value (told ∙ ap (λ (n : ℕ). Some n) (sym is))
 
 -- Actions that abandon an execution
 

@@ -1,5 +1,5 @@
--- The codes of the serialization actions (ACPI 6.4, section 18.5.1.1); 0xC has none.
-use Rattle.std.specs.Prelude.{ℕ, List, [], ◌∷◌, Option, Some, None, slice_get}
+-- The serialization actions (ACPI 6.4, section 18.5.1.1): their codes, of which 0xC has none, and the standard's names.
+use Rattle.std.specs.Prelude.{ℕ, List, [], ◌∷◌, Option, Some, None, slice_get, codes}
 use Rattle.erst_entries.specs.declared.actions.Action.{Action}
 use Rattle.erst_entries.specs.declared.actions.Action.TheVariants.{BeginWriteOperation, BeginReadOperation, BeginClearOperation, EndOperation, SetRecordOffset, ExecuteOperation, CheckBusyStatus, GetCommandStatus, GetRecordIdentifier, SetRecordIdentifier, GetRecordCount, BeginDummyWriteOperation, GetErrorLogAddressRange, GetErrorLogAddressRangeLength, GetErrorLogAddressRangeAttributes, GetExecuteOperationTimings}
 
@@ -35,3 +35,21 @@ listed (Some place) = place
 
 abbrev pub action_of : ℕ → Option Action
 action_of code = listed (slice_get actions code)
+
+abbrev pub action_name : Action → List ℕ
+action_name BeginWriteOperation = codes "BEGIN_WRITE_OPERATION"
+action_name BeginReadOperation = codes "BEGIN_READ_OPERATION"
+action_name BeginClearOperation = codes "BEGIN_CLEAR_OPERATION"
+action_name EndOperation = codes "END_OPERATION"
+action_name SetRecordOffset = codes "SET_RECORD_OFFSET"
+action_name ExecuteOperation = codes "EXECUTE_OPERATION"
+action_name CheckBusyStatus = codes "CHECK_BUSY_STATUS"
+action_name GetCommandStatus = codes "GET_COMMAND_STATUS"
+action_name GetRecordIdentifier = codes "GET_RECORD_IDENTIFIER"
+action_name SetRecordIdentifier = codes "SET_RECORD_IDENTIFIER"
+action_name GetRecordCount = codes "GET_RECORD_COUNT"
+action_name BeginDummyWriteOperation = codes "BEGIN_DUMMY_WRITE_OPERATION"
+action_name GetErrorLogAddressRange = codes "GET_ERROR_LOG_ADDRESS_RANGE"
+action_name GetErrorLogAddressRangeLength = codes "GET_ERROR_LOG_ADDRESS_RANGE_LENGTH"
+action_name GetErrorLogAddressRangeAttributes = codes "GET_ERROR_LOG_ADDRESS_RANGE_ATTRIBUTES"
+action_name GetExecuteOperationTimings = codes "GET_EXECUTE_OPERATION_TIMINGS"

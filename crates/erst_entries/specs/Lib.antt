@@ -1,7 +1,6 @@
 pub mod Layout
 pub mod Actions
 pub mod Instructions
-pub mod Names
 pub mod Programs
 pub mod Groups
 pub mod Tables

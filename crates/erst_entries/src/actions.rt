@@ -1,7 +1,6 @@
 // The serialization actions by name.
 ghost use Rattle.std.specs.Prelude.{◌≡◌, Some};
-ghost use Rattle.erst_entries.specs.Actions.{action_of, code_of};
-ghost use Rattle.erst_entries.specs.Names.{action_name};
+ghost use Rattle.erst_entries.specs.Actions.{action_name, action_of, code_of};
 
 /// A serialization action (ACPI 6.4, section 18.5.1.1).
 #[derive(Clone, Copy, Debug, PartialEq, Eq)]

@@ -1,7 +1,6 @@
 // The serialization instructions by name.
 ghost use Rattle.std.specs.Prelude.{◌≡◌, Some};
-ghost use Rattle.erst_entries.specs.Instructions.{instruction_of};
-ghost use Rattle.erst_entries.specs.Names.{instruction_name};
+ghost use Rattle.erst_entries.specs.Instructions.{instruction_name, instruction_of};
 
 /// A serialization instruction (ACPI 6.4, section 18.5.1.2).
 #[derive(Clone, Copy, Debug, PartialEq, Eq)]

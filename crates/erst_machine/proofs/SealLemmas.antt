@@ -11,7 +11,7 @@ use Rattle.erst_entries.specs.Layout.{Erst, entry_spelling, front_spelling, spel
 use Rattle.erst_entries.specs.Tables.{Finished}
 use Rattle.hest_sources.specs.Layout.{ghes_bytes}
 use Rattle.erst_machine.specs.Memories.{zeros}
-use Rattle.erst_machine.specs.OwnTables.{own_header, own_entries, own_erst, own_source, own_hest, own_bert_bytes}
+use Rattle.erst_machine.specs.OwnTables.{own_header, own_entries, own_count, own_size, own_checksum, own_erst, own_source, own_hest, own_bert_bytes}
 
 sum-byte : (front rest : List ℕ) (x : ℕ) → sum (front ++ x ∷ rest) ≡ sum front + (x + sum rest)
 sum-byte front rest x = sum_by-append (λ (n : ℕ). n) front (x ∷ rest) ∙ ap (λ (n : ℕ). sum front + n) (sum_by-cons (λ (n : ℕ). n) x rest)
@@ -101,7 +101,7 @@ sealed_hest after outside sums fits =
 
 -- the Error Record Serialization Table, with any checksum
 erst_with : ℕ → Erst
-erst_with checksum = record own_erst { header = own_header (codes "ERST") 880 checksum }
+erst_with checksum = record own_erst { header = own_header (codes "ERST") own_size checksum }
 
 erst_front : List ℕ
 erst_front = take 9 (spelling own_erst)
@@ -113,13 +113,13 @@ erst_around : (checksum : ℕ) → spelling (erst_with checksum) ≡ erst_front 
 unfolding erst_with erst_front erst_rest spelling front_spelling header_spelling entry_spelling spelled own_entries
 erst_around checksum = refl
 
-erst_sum : sum (erst_front ++ 0x83 ∷ erst_rest) % 256 ≡ 0
+erst_sum : sum (erst_front ++ own_checksum ∷ erst_rest) % 256 ≡ 0
 unfolding erst_front erst_rest spelling front_spelling header_spelling entry_spelling spelled own_entries
 erst_sum = refl
 
-pub own_count : length own_entries ≡ 26
+pub count_is : length own_entries ≡ own_count
 unfolding own_entries
-own_count = refl
+count_is = refl
 
 -- a table before its end is set
 abbrev pub blank_erst : List Entry → Erst
@@ -130,9 +130,9 @@ unfolding erst_with
 finished_is new finished =
     let sum : ℕ = new.header.checksum in
     let made : Header → ℕ → Erst = λ header count. record { header = header; header_size = 48; reserved = 0; count = count; entries = own_entries } in
-    let size : new.header.length ≡ 880 = finished.size ∙ ap (λ (n : ℕ). 48 + 32 * n) own_count in
+    let size : new.header.length ≡ own_size = finished.size ∙ ap (λ (n : ℕ). 48 + 32 * n) count_is in
     finished.others ∙ ap (λ (h : Header). made h new.count) finished.header
-    ∙ ap (λ (n : ℕ). made (own_header (codes "ERST") n sum) new.count) size ∙ ap (λ (n : ℕ). made (own_header (codes "ERST") 880 sum) n) (finished.counted ∙ own_count)
+    ∙ ap (λ (n : ℕ). made (own_header (codes "ERST") n sum) new.count) size ∙ ap (λ (n : ℕ). made (own_header (codes "ERST") own_size sum) n) (finished.counted ∙ count_is)
 
 pub sealed_erst : (entries : List Entry) (new : Erst) (bytes : List ℕ) → entries ≡ own_entries → IsSealed (spelling new) → Finished (blank_erst entries) new → bytes ≡ spelling new → new.header.checksum < 256 →
     bytes ≡ spelling own_erst
@@ -141,5 +141,5 @@ sealed_erst entries new bytes all sealed finished spelled_is fits =
     let c : ℕ = new.header.checksum in
     let is : spelling new ≡ erst_front ++ c ∷ erst_rest =
     ap spelling (finished_is new (subst (λ (es : List Entry). Finished (blank_erst es) new) all finished)) ∙ erst_around c in
-    let same : c ≡ 0x83 = same_byte erst_front erst_rest c 0x83 fits (lit< tt) (sym (ap (λ (xs : List ℕ). sum xs % 256) is) ∙ sealed.sum) erst_sum in
-    spelled_is ∙ is ∙ ap (λ (x : ℕ). erst_front ++ x ∷ erst_rest) same ∙ sym (erst_around 0x83)
+    let same : c ≡ own_checksum = same_byte erst_front erst_rest c own_checksum fits (lit< tt) (sym (ap (λ (xs : List ℕ). sum xs % 256) is) ∙ sealed.sum) erst_sum in
+    spelled_is ∙ is ∙ ap (λ (x : ℕ). erst_front ++ x ∷ erst_rest) same ∙ sym (erst_around own_checksum)

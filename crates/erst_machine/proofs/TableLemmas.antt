@@ -7,7 +7,7 @@ use Rattle.apei_gas.specs.Layout.{IsGas}
 use Rattle.apei_tables.specs.Layout.{spelling as header_spelling, IsHeader}
 use Rattle.apei_tables.specs.Tables.{IsSealed, IsTable}
 use Rattle.erst_entries.specs.declared.actions.Action.{Action}
-use Rattle.erst_entries.specs.declared.actions.Action.TheVariants.{BeginWriteOperation, BeginReadOperation, BeginClearOperation, EndOperation, SetRecordOffset, ExecuteOperation, CheckBusyStatus, GetCommandStatus, GetRecordIdentifier, SetRecordIdentifier, GetRecordCount, BeginDummyWriteOperation, GetErrorLogAddressRange, GetErrorLogAddressRangeLength, GetErrorLogAddressRangeAttributes, GetExecuteOperationTimings}
+use Rattle.erst_entries.specs.declared.actions.Action.TheVariants.{BeginWriteOperation, BeginReadOperation, BeginClearOperation, EndOperation, SetRecordOffset, ExecuteOperation, CheckBusyStatus, GetCommandStatus, GetRecordIdentifier, SetRecordIdentifier, GetRecordCount, BeginDummyWriteOperation, GetErrorLogAddressRange, GetErrorLogAddressRangeLength, GetErrorLogAddressRangeAttributes}
 use Rattle.erst_entries.specs.Actions.{code_of}
 use Rattle.erst_entries.specs.Layout.{IsEntry, AreEntries, entry_spelling, front_spelling, spelling, FitsErst}
 use Rattle.erst_entries.specs.Tables.{IsErst}
@@ -15,27 +15,13 @@ use Rattle.hest_sources.specs.declared.sources.HestSource.TheVariants.{Ghes as G
 use Rattle.hest_sources.specs.Layout.{ghes_bytes, IsGhes}
 use Rattle.hest_sources.specs.Tables.{IsHest}
 use Rattle.bert_region.specs.Table.{IsBert}
-use Rattle.erst_machine.specs.OwnTables.{own_header, action_register, value_register, entry_of, act, give, is_one, answer, own_entries, own_erst, own_source, own_hest, own_bert, own_bert_bytes}
-use Rattle.erst_machine.proofs.SealLemmas.{own_count}
+use Rattle.erst_machine.specs.OwnTables.{own_header, action_register, value_register, entry_of, act, give, is_one, answer, tell, told_actions, own_entries, own_size, own_checksum, own_erst, own_source, own_hest, own_bert, own_bert_bytes}
+use Rattle.erst_machine.proofs.SealLemmas.{count_is}
 
 -- entries fit their fields
 pub code_fits : (action : Action) → code_of action < 256
 code_fits BeginWriteOperation = lit< tt
-code_fits BeginReadOperation = lit< tt
-code_fits BeginClearOperation = lit< tt
-code_fits EndOperation = lit< tt
-code_fits SetRecordOffset = lit< tt
-code_fits ExecuteOperation = lit< tt
-code_fits CheckBusyStatus = lit< tt
-code_fits GetCommandStatus = lit< tt
-code_fits GetRecordIdentifier = lit< tt
-code_fits SetRecordIdentifier = lit< tt
-code_fits GetRecordCount = lit< tt
-code_fits BeginDummyWriteOperation = lit< tt
-code_fits GetErrorLogAddressRange = lit< tt
-code_fits GetErrorLogAddressRangeLength = lit< tt
-code_fits GetErrorLogAddressRangeAttributes = lit< tt
-code_fits GetExecuteOperationTimings = lit< tt
+code_fits action = lit< tt
 
 pub action_gas : IsGas action_register
 action_gas = record { space = lit< tt; width = lit< tt; offset = lit< tt; access = lit< tt; address = lit< tt }
@@ -66,10 +52,15 @@ is_one_fits action = entry_fits action 1 value_register _ _ (lit< tt) value_gas 
 pub answer_fits : (action : Action) (mask : ℕ) → mask < 2 ^ 64 → IsEntry (answer action mask)
 answer_fits action mask fits = entry_fits action 0 value_register 0 mask (lit< tt) value_gas (lit< tt) fits
 
+-- and those of actions that tell a number
+pub tell_fits : (actions : List Action) → AreEntries (tell actions)
+tell_fits [] = tt
+tell_fits (action ∷ rest) = (act_fits action, (answer_fits action _ (lit< tt), tell_fits rest))
+
 entries_fit : AreEntries own_entries
 unfolding own_entries
 entries_fit =
-    (act_fits BeginWriteOperation, (act_fits BeginReadOperation, (act_fits BeginClearOperation, (act_fits EndOperation, (give_fits SetRecordOffset, (act_fits SetRecordOffset, (act_fits ExecuteOperation, (act_fits CheckBusyStatus, (is_one_fits CheckBusyStatus, (act_fits GetCommandStatus, (answer_fits GetCommandStatus _ (lit< tt), (act_fits GetRecordIdentifier, (answer_fits GetRecordIdentifier _ (lit< tt), (give_fits SetRecordIdentifier, (act_fits SetRecordIdentifier, (act_fits GetRecordCount, (answer_fits GetRecordCount _ (lit< tt), (act_fits BeginDummyWriteOperation, (act_fits GetErrorLogAddressRange, (answer_fits GetErrorLogAddressRange _ (lit< tt), (act_fits GetErrorLogAddressRangeLength, (answer_fits GetErrorLogAddressRangeLength _ (lit< tt), (act_fits GetErrorLogAddressRangeAttributes, (answer_fits GetErrorLogAddressRangeAttributes _ (lit< tt), (act_fits GetExecuteOperationTimings, (answer_fits GetExecuteOperationTimings _ (lit< tt), tt))))))))))))))))))))))))))
+    (act_fits BeginWriteOperation, (act_fits BeginReadOperation, (act_fits BeginClearOperation, (act_fits EndOperation, (give_fits SetRecordOffset, (act_fits SetRecordOffset, (act_fits ExecuteOperation, (act_fits CheckBusyStatus, (is_one_fits CheckBusyStatus, (act_fits GetCommandStatus, (answer_fits GetCommandStatus _ (lit< tt), (act_fits GetRecordIdentifier, (answer_fits GetRecordIdentifier _ (lit< tt), (give_fits SetRecordIdentifier, (act_fits SetRecordIdentifier, (act_fits GetRecordCount, (answer_fits GetRecordCount _ (lit< tt), (act_fits BeginDummyWriteOperation, tell_fits (GetErrorLogAddressRange ∷ GetErrorLogAddressRangeLength ∷ GetErrorLogAddressRangeAttributes ∷ told_actions)))))))))))))))))))
 
 header_fits : (signature : List ℕ) (size checksum : ℕ) → length signature ≡ 4 → size < 2 ^ 32 → checksum < 256 → IsHeader (own_header signature size checksum)
 header_fits signature size checksum four small byte = record {
@@ -85,21 +76,21 @@ header_fits signature size checksum four small byte = record {
 }
 
 pub erst_fits : FitsErst own_erst
-erst_fits = record { header = header_fits (codes "ERST") 880 0x83 refl (lit< tt) (lit< tt); header_size = lit< tt; reserved = lit< tt; count = lit< tt; entries = entries_fit }
+erst_fits = record { header = header_fits (codes "ERST") own_size own_checksum refl (lit< tt) (lit< tt); header_size = lit< tt; reserved = lit< tt; count = lit< tt; entries = entries_fit }
 
-own_erst_size : length (spelling own_erst) ≡ 880
+own_erst_size : length (spelling own_erst) ≡ own_size
 unfolding spelling front_spelling header_spelling entry_spelling spelled own_entries
 own_erst_size = refl
 
-pub erst_size : (bytes : List ℕ) → bytes ≡ spelling own_erst → length bytes ≡ 880
-erst_size bytes is = subst (λ (xs : List ℕ). length xs ≡ 880) (sym is) own_erst_size
+pub erst_size : (bytes : List ℕ) → bytes ≡ spelling own_erst → length bytes ≡ own_size
+erst_size bytes is = subst (λ (xs : List ℕ). length xs ≡ own_size) (sym is) own_erst_size
 
 erst_sealed : IsSealed (spelling own_erst)
 unfolding spelling front_spelling header_spelling entry_spelling spelled own_entries number_at part
 erst_sealed = record { size = lit≤ tt; length_field = refl; sum = refl }
 
 pub erst_is : (bytes : List ℕ) → bytes ≡ spelling own_erst → IsErst own_erst bytes
-erst_is bytes is = subst (λ (xs : List ℕ). IsErst own_erst xs) (sym is) (record { sealed = erst_sealed; spelled = refl; named = refl; size = inl refl; counted = own_count })
+erst_is bytes is = subst (λ (xs : List ℕ). IsErst own_erst xs) (sym is) (record { sealed = erst_sealed; spelled = refl; named = refl; size = inl refl; counted = count_is })
 
 own_hest_size : length own_hest ≡ 132
 unfolding own_hest header_spelling spelled ghes_bytes

@@ -1,5 +1,5 @@
 -- The machine's own tables (ACPI 6.4, sections 18.5.1, 18.3.2 and 18.3.1).
-use Rattle.std.specs.Prelude.{ℕ, ◌-◌, ◌^◌, List, [], ◌∷◌, ◌++◌, codes, Some, replicate}
+use Rattle.std.specs.Prelude.{ℕ, ◌+◌, ◌-◌, ◌*◌, ◌^◌, List, [], ◌∷◌, ◌++◌, length, codes, Some, replicate}
 use Rattle.base_model.specs.Bytes.{spelled}
 use Rattle.apei_gas.specs.declared.structure.Gas.{Gas}
 use Rattle.apei_tables.specs.declared.headers.Header.{Header}
@@ -58,7 +58,16 @@ is_one action = entry_of action 0x1 value_register 1 (2 ^ 64 - 1)
 abbrev pub answer : Action → ℕ → Entry
 answer action mask = entry_of action 0x0 value_register 0 mask
 
--- 26 entries, in the order of the actions
+-- the entries of actions that leave a number of 64 bits in VALUE, two of each
+abbrev pub tell : List Action → List Entry
+tell [] = []
+tell (action ∷ rest) = act action ∷ answer action (2 ^ 64 - 1) ∷ tell rest
+
+-- the actions of each of the machine's tables that only tell a number, but for the three of the log range
+abbrev pub told_actions : List Action
+told_actions = GetExecuteOperationTimings ∷ []
+
+-- in the order of the actions
 unfoldable pub own_entries : List Entry
 own_entries =
     act BeginWriteOperation ∷ act BeginReadOperation ∷ act BeginClearOperation ∷ act EndOperation
@@ -70,15 +79,20 @@ own_entries =
     ∷ give SetRecordIdentifier ∷ act SetRecordIdentifier
     ∷ act GetRecordCount ∷ answer GetRecordCount (2 ^ 32 - 1)
     ∷ act BeginDummyWriteOperation
-    ∷ act GetErrorLogAddressRange ∷ answer GetErrorLogAddressRange (2 ^ 64 - 1)
-    ∷ act GetErrorLogAddressRangeLength ∷ answer GetErrorLogAddressRangeLength (2 ^ 64 - 1)
-    ∷ act GetErrorLogAddressRangeAttributes ∷ answer GetErrorLogAddressRangeAttributes (2 ^ 64 - 1)
-    ∷ act GetExecuteOperationTimings ∷ answer GetExecuteOperationTimings (2 ^ 64 - 1)
-    ∷ []
+    ∷ tell (GetErrorLogAddressRange ∷ GetErrorLogAddressRangeLength ∷ GetErrorLogAddressRangeAttributes ∷ told_actions)
 
--- 880 bytes, with the checksum that makes them add to 0
+abbrev pub own_count : ℕ
+own_count = 24 + length (tell told_actions)
+
+abbrev pub own_size : ℕ
+own_size = 48 + 32 * own_count
+
+-- the checksum that makes its bytes add to 0
+abbrev pub own_checksum : ℕ
+own_checksum = 0x83
+
 abbrev pub own_erst : Erst
-own_erst = record { header = own_header (codes "ERST") 880 0x83; header_size = 48; reserved = 0; count = 26; entries = own_entries }
+own_erst = record { header = own_header (codes "ERST") own_size own_checksum; header_size = 48; reserved = 0; count = own_count; entries = own_entries }
 
 -- the one error source: the handover's, with a read acknowledgement, polled every second
 abbrev pub own_ack : Ack

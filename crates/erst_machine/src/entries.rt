@@ -1,7 +1,7 @@
 // Instruction entries over the device's registers, and those of the machine's own table.
 ghost use Rattle.std.specs.Prelude.{◌≡◌, ℕ, Some};
 ghost use Rattle.erst_entries.specs.Instructions.{instruction_of};
-ghost use Rattle.erst_machine.specs.OwnTables.{register_of, action_register, value_register, entry_of, act, give, is_one, answer, own_entries};
+ghost use Rattle.erst_machine.specs.OwnTables.{register_of, action_register, value_register, entry_of, act, give, is_one, answer, tell, told_actions, own_entries};
 
 use crate::areas::{ACTION, VALUE};
 use apei_gas::Gas;
@@ -123,6 +123,16 @@ pub(crate) fn own_entries() -> [Entry; 26]
         answer(Action::GetErrorLogAddressRangeLength, u64::MAX),
         act(Action::GetErrorLogAddressRangeAttributes),
         answer(Action::GetErrorLogAddressRangeAttributes, u64::MAX),
+        act(Action::GetExecuteOperationTimings),
+        answer(Action::GetExecuteOperationTimings, u64::MAX),
+    ]
+}
+
+/// The last of them, those of the actions that each of the machine's tables tells alike.
+pub fn told_entries() -> [Entry; 2]
+    ensures { result ≡ tell told_actions }
+{
+    [
         act(Action::GetExecuteOperationTimings),
         answer(Action::GetExecuteOperationTimings, u64::MAX),
     ]

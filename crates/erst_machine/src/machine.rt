@@ -20,7 +20,7 @@ ghost use Rattle.bert_region.specs.Region.{IsLaidOut, next_from};
 ghost use Rattle.erst_machine.specs.Areas.{place_spot, IsPlaced};
 ghost use Rattle.erst_machine.specs.Memories.{IsLaid};
 ghost use Rattle.erst_machine.specs.MachineState.{MachineState, IsMachine, reach_in, spot_of};
-ghost use Rattle.erst_machine.specs.OwnTables.{own_erst, own_source, own_hest, own_bert, own_bert_bytes};
+ghost use Rattle.erst_machine.specs.OwnTables.{own_size, own_erst, own_source, own_hest, own_bert, own_bert_bytes};
 ghost use Rattle.erst_machine.specs.Shown.{changes_of};
 ghost use Rattle.erst_machine.specs.Boots.{FitsGeometry, RefusesBoot, IsBooted};
 ghost use Rattle.erst_machine.specs.Events.{Warms, Powers, Submits, Turns, LaysFatal, fatal_refusal};
@@ -117,10 +117,10 @@ impl<F: Flash> Machine<F> {
         }
     }
 
-    /// The Error Record Serialization Table (ACPI 6.4, section 18.5.1): 880 bytes, 26 entries, checksum 0x83.
+    /// The Error Record Serialization Table (ACPI 6.4, section 18.5.1).
     pub fn erst_table(&self, alloc: Global) -> Result<Vec<u8>, Memory>
         ensures bytes { IfOk result (λ bytes. bytes.items ≡ spelling own_erst) }
-        ensures size { IfOk result (λ bytes. length bytes.items ≡ 880) }
+        ensures size { IfOk result (λ bytes. length bytes.items ≡ own_size) }
         ensures table { IfOk result (λ bytes. IsErst own_erst bytes.items) }
         ensures fits { OnOk result (FitsErst own_erst) }
     {

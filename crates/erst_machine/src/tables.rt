@@ -6,7 +6,7 @@ ghost use Rattle.hest_sources.specs.declared.sources.HestSource.TheVariants.{Ghe
 ghost use Rattle.hest_sources.specs.Tables.{IsHest};
 ghost use Rattle.bert_region.specs.Table.{IsBert};
 ghost use Rattle.erst_machine.specs.Memories.{zeros};
-ghost use Rattle.erst_machine.specs.OwnTables.{own_header, own_source, own_erst, own_hest, own_bert, own_bert_bytes};
+ghost use Rattle.erst_machine.specs.OwnTables.{own_header, own_source, own_size, own_erst, own_hest, own_bert, own_bert_bytes};
 
 use crate::areas::{ACKNOWLEDGE, BLOCK_LEN, BOOT_ERRORS, BOOT_ERRORS_LEN, STATUS};
 use crate::entries::{own_entries, register_of};
@@ -37,7 +37,7 @@ pub fn own_header(signature: [u8; 4], length: u32) -> Header
 /// The Error Record Serialization Table.
 pub fn erst(alloc: Global) -> Result<Vec<u8>, Memory>
     ensures bytes { IfOk result (λ bytes. bytes.items ≡ spelling own_erst) }
-    ensures size { IfOk result (λ bytes. length bytes.items ≡ 880) }
+    ensures size { IfOk result (λ bytes. length bytes.items ≡ own_size) }
     ensures table { IfOk result (λ bytes. IsErst own_erst bytes.items) }
     ensures fits { OnOk result (FitsErst own_erst) }
 {

@@ -9,7 +9,7 @@ use Rattle.apei_gas.specs.declared.registers.Place.TheVariants.{Memory}
 use Rattle.apei_gas.specs.declared.widths.Width.TheVariants.{B32, B64}
 use Rattle.apei_gas.specs.Check.{checked}
 use Rattle.erst_entries.specs.declared.actions.Action.{Action}
-use Rattle.erst_entries.specs.declared.actions.Action.TheVariants.{BeginWriteOperation, BeginReadOperation, BeginClearOperation, EndOperation, SetRecordOffset, ExecuteOperation, CheckBusyStatus, GetCommandStatus, GetRecordIdentifier, SetRecordIdentifier, GetRecordCount, BeginDummyWriteOperation, GetErrorLogAddressRange, GetErrorLogAddressRangeLength, GetErrorLogAddressRangeAttributes, GetExecuteOperationTimings}
+use Rattle.erst_entries.specs.declared.actions.Action.TheVariants.{ExecuteOperation, GetCommandStatus, GetRecordIdentifier, GetRecordCount, GetErrorLogAddressRange, GetErrorLogAddressRangeLength, GetErrorLogAddressRangeAttributes}
 use Rattle.erst_entries.specs.declared.entries.Entry.{Entry}
 use Rattle.erst_entries.specs.declared.instructions.Instruction.TheVariants.{ReadRegister, WriteRegisterValue}
 use Rattle.erst_entries.specs.Actions.{code_of}
@@ -154,22 +154,12 @@ IsCommon action = Unit {0}
 
 pub common_program : (pieces : ℕ) (action : Action) → IsCommon action → program_of (code_of action) (shadow_entries pieces) ≡ program_of (code_of action) own_entries
 unfolding shadow_entries own_entries entries_of move_entries
-common_program pieces BeginWriteOperation is = refl
-common_program pieces BeginReadOperation is = refl
-common_program pieces BeginClearOperation is = refl
-common_program pieces EndOperation is = refl
-common_program pieces SetRecordOffset is = refl
 common_program pieces ExecuteOperation is = absurd is
-common_program pieces CheckBusyStatus is = refl
 common_program pieces GetCommandStatus is = absurd is
-common_program pieces GetRecordIdentifier is = refl
-common_program pieces SetRecordIdentifier is = refl
-common_program pieces GetRecordCount is = refl
-common_program pieces BeginDummyWriteOperation is = refl
 common_program pieces GetErrorLogAddressRange is = absurd is
 common_program pieces GetErrorLogAddressRangeLength is = absurd is
 common_program pieces GetErrorLogAddressRangeAttributes is = absurd is
-common_program pieces GetExecuteOperationTimings is = refl
+common_program pieces action is = refl
 
 pub performs_own : (tells : Type 0) (pieces : ℕ) (action : Action) → IsCommon action → (given budget : ℕ) (first : MachineState) (result : Result ℕ RunStop) (left : ℕ) (last : MachineState)
     → Performs (Allows tells) (shadow_entries pieces) action given budget first result left last → Performs (Allows tells) own_entries action given budget first result left last

@@ -1,8 +1,8 @@
 -- Actions that leave the log range alone do the same whatever it holds.
-use Rattle.std.proofs.Common.{◌≡◌, ◌∙◌, ℕ, ◌+◌, ◌%◌, ◌^◌, Bool, true, false, List, Option, Some, None, Result, Ok, Err, refl, sym, ap, subst}
+use Rattle.std.proofs.Common.{◌≡◌, ◌∙◌, ℕ, ◌+◌, ◌%◌, ◌^◌, Bool, true, false, List, Option, Some, Result, Ok, Err, refl, sym, ap, subst}
 use Rattle.std.specs.Prelude.{if◌then◌else◌}
 use Rattle.erst_entries.specs.declared.actions.Action.{Action}
-use Rattle.erst_entries.specs.declared.actions.Action.TheVariants.{BeginWriteOperation, BeginReadOperation, BeginClearOperation, EndOperation, SetRecordOffset, ExecuteOperation, CheckBusyStatus, GetCommandStatus, GetRecordIdentifier, SetRecordIdentifier, GetRecordCount, BeginDummyWriteOperation, GetErrorLogAddressRange, GetErrorLogAddressRangeLength, GetErrorLogAddressRangeAttributes, GetExecuteOperationTimings}
+use Rattle.erst_entries.specs.declared.actions.Action.TheVariants.{ExecuteOperation, CheckBusyStatus}
 use Rattle.erst_entries.specs.Actions.{code_of, action_of}
 use Rattle.erst_interp.specs.declared.stops.RunStop.{RunStop}
 use Rattle.erst_interp.specs.declared.stops.RunStop.TheVariants.{Budget}
@@ -41,23 +41,9 @@ quiet_acts tells old range other action new after quiet acts = (elim acts as (λ
 ]) quiet
 
 quiet_changes : (action : Option Action) (old : DeviceState) (range other : List ℕ) → IsQuiet action → changes_of_action action old range ≡ changes_of_action action old other
-quiet_changes (Some BeginWriteOperation) old range other quiet = refl
-quiet_changes (Some BeginReadOperation) old range other quiet = refl
-quiet_changes (Some BeginClearOperation) old range other quiet = refl
-quiet_changes (Some EndOperation) old range other quiet = refl
-quiet_changes (Some SetRecordOffset) old range other quiet = refl
 quiet_changes (Some ExecuteOperation) old range other quiet = absurd quiet
 quiet_changes (Some CheckBusyStatus) old range other quiet = absurd quiet
-quiet_changes (Some GetCommandStatus) old range other quiet = refl
-quiet_changes (Some GetRecordIdentifier) old range other quiet = refl
-quiet_changes (Some SetRecordIdentifier) old range other quiet = refl
-quiet_changes (Some GetRecordCount) old range other quiet = refl
-quiet_changes (Some BeginDummyWriteOperation) old range other quiet = refl
-quiet_changes (Some GetErrorLogAddressRange) old range other quiet = refl
-quiet_changes (Some GetErrorLogAddressRangeLength) old range other quiet = refl
-quiet_changes (Some GetErrorLogAddressRangeAttributes) old range other quiet = refl
-quiet_changes (Some GetExecuteOperationTimings) old range other quiet = refl
-quiet_changes None old range other quiet = refl
+quiet_changes action old range other quiet = refl
 
 quiet_effect : (tells : Type 0) (old : DeviceState) (range other : List ℕ) (action : Option Action) (new : DeviceState) → IsQuiet action → Effect tells old range action new → Effect tells old other action new
 quiet_effect tells old range other action new quiet effect = record {

@@ -8,15 +8,15 @@ use Rattle.apei_tables.specs.declared.headers.Header.{Header}
 use Rattle.apei_tables.specs.Layout.{spelling as header_spelling}
 use Rattle.apei_tables.specs.Tables.{IsSealed}
 use Rattle.erst_entries.specs.declared.actions.Action.{Action}
-use Rattle.erst_entries.specs.declared.actions.Action.TheVariants.{BeginWriteOperation, BeginReadOperation, BeginClearOperation, EndOperation, SetRecordOffset, ExecuteOperation, CheckBusyStatus, GetCommandStatus, GetRecordIdentifier, SetRecordIdentifier, GetRecordCount, BeginDummyWriteOperation, GetErrorLogAddressRange, GetErrorLogAddressRangeLength, GetErrorLogAddressRangeAttributes, GetExecuteOperationTimings}
+use Rattle.erst_entries.specs.declared.actions.Action.TheVariants.{BeginWriteOperation, BeginReadOperation, BeginClearOperation, EndOperation, SetRecordOffset, ExecuteOperation, CheckBusyStatus, GetCommandStatus, GetRecordIdentifier, SetRecordIdentifier, GetRecordCount, BeginDummyWriteOperation, GetErrorLogAddressRange, GetErrorLogAddressRangeLength, GetErrorLogAddressRangeAttributes}
 use Rattle.erst_entries.specs.declared.entries.Entry.{Entry}
 use Rattle.erst_entries.specs.Layout.{Erst, IsEntry, AreEntries, entry_spelling, front_spelling, spelling, FitsErst}
 use Rattle.erst_entries.specs.Tables.{IsErst, Finished}
 use Rattle.erst_device.specs.declared.device.TheConstants.{LOG_RANGE}
-use Rattle.erst_machine.specs.OwnTables.{own_header}
-use Rattle.erst_machine.proofs.TableLemmas.{entry_fits, act_fits, give_fits, is_one_fits, answer_fits}
+use Rattle.erst_machine.specs.OwnTables.{own_header, tell, told_actions}
+use Rattle.erst_machine.proofs.TableLemmas.{entry_fits, act_fits, give_fits, is_one_fits, answer_fits, tell_fits}
 use Rattle.erst_moves.specs.MoveEntries.{MoveRegister, Offset, Source, Target, Length, region_of, no_region, put_number, use_register, move_entries}
-use Rattle.erst_shadow.specs.ShadowTables.{scratch_at, entries_before, entries_between, entries_behind, shadow_entries, table_with, shadow_checksum, shadow_erst}
+use Rattle.erst_shadow.specs.ShadowTables.{scratch_at, entries_before, entries_between, entries_behind, shadow_entries, shadow_count, shadow_size, table_with, shadow_checksum, shadow_erst}
 
 -- Entries fit their fields
 
@@ -53,7 +53,7 @@ between_fit = (act_fits ExecuteOperation, (act_fits CheckBusyStatus, (is_one_fit
 
 behind_fit : (size : ℕ) → size < 2 ^ 64 → AreEntries (entries_behind size)
 behind_fit size fits =
-    (act_fits GetCommandStatus, (answer_fits GetCommandStatus 0xFF (lit< tt), (act_fits GetRecordIdentifier, (answer_fits GetRecordIdentifier _ (lit< tt), (give_fits SetRecordIdentifier, (act_fits SetRecordIdentifier, (act_fits GetRecordCount, (answer_fits GetRecordCount _ (lit< tt), (act_fits BeginDummyWriteOperation, (number_fits GetErrorLogAddressRange Source scratch_at (lit< tt), (register_fits GetErrorLogAddressRange 0x0 Source (lit< tt), (number_fits GetErrorLogAddressRangeLength Length size fits, (register_fits GetErrorLogAddressRangeLength 0x0 Length (lit< tt), (number_fits GetErrorLogAddressRangeAttributes Offset 0 (lit< tt), (register_fits GetErrorLogAddressRangeAttributes 0x0 Offset (lit< tt), (act_fits GetExecuteOperationTimings, (answer_fits GetExecuteOperationTimings _ (lit< tt), tt)))))))))))))))))
+    (act_fits GetCommandStatus, (answer_fits GetCommandStatus 0xFF (lit< tt), (act_fits GetRecordIdentifier, (answer_fits GetRecordIdentifier _ (lit< tt), (give_fits SetRecordIdentifier, (act_fits SetRecordIdentifier, (act_fits GetRecordCount, (answer_fits GetRecordCount _ (lit< tt), (act_fits BeginDummyWriteOperation, (number_fits GetErrorLogAddressRange Source scratch_at (lit< tt), (register_fits GetErrorLogAddressRange 0x0 Source (lit< tt), (number_fits GetErrorLogAddressRangeLength Length size fits, (register_fits GetErrorLogAddressRangeLength 0x0 Length (lit< tt), (number_fits GetErrorLogAddressRangeAttributes Offset 0 (lit< tt), (register_fits GetErrorLogAddressRangeAttributes 0x0 Offset (lit< tt), tt)))))))))))))))
 
 entries_fit : (pieces : ℕ) → pieces ≤ 31 → AreEntries (shadow_entries pieces)
 unfolding shadow_entries
@@ -63,9 +63,9 @@ entries_fit pieces few =
     (AreEntries-append (move_entries ExecuteOperation scratch_at LOG_RANGE (128 * pieces)) _ (move_fits ExecuteOperation scratch_at LOG_RANGE (128 * pieces) (lit< tt) (lit< tt) size)
     (AreEntries-append entries_between _ between_fit
     (AreEntries-append (move_entries GetCommandStatus LOG_RANGE scratch_at (128 * pieces)) _ (move_fits GetCommandStatus LOG_RANGE scratch_at (128 * pieces) (lit< tt) (lit< tt) size)
-    (behind_fit (128 * pieces) size))))
+    (AreEntries-append (entries_behind (128 * pieces)) (tell told_actions) (behind_fit (128 * pieces) size) (tell_fits told_actions)))))
 
-count_is : (pieces : ℕ) → length (shadow_entries pieces) ≡ 52
+count_is : (pieces : ℕ) → length (shadow_entries pieces) ≡ shadow_count
 unfolding shadow_entries move_entries
 count_is pieces = refl
 
@@ -122,7 +122,7 @@ erst_fits pieces few = record {
   entries = entries_fit pieces few;
 }
 
-pub erst_size : (pieces checksum : ℕ) → length (spelling (table_with pieces checksum)) ≡ 1712
+pub erst_size : (pieces checksum : ℕ) → length (spelling (table_with pieces checksum)) ≡ shadow_size
 unfolding spelling front_spelling header_spelling entry_spelling spelled shadow_entries move_entries
 erst_size pieces checksum = refl
 
@@ -139,27 +139,27 @@ blank_with entries = record { header = own_header (codes "ERST") 0 0; header_siz
 pub put_behind : (before after : Erst) (there more others : List Entry) → before ≡ blank_with there → after ≡ record before { entries = before.entries ++ more } → more ≡ others → after ≡ blank_with (there ++ others)
 put_behind before after there more others is put same = put ∙ ap (λ (t : Erst). record t { entries = t.entries ++ more }) is ∙ ap (λ (es : List Entry). blank_with (there ++ es)) same
 
--- the five lists together
+-- the lists together
 pub all_entries : (pieces : ℕ)
-    → (((([] ++ entries_before) ++ move_entries ExecuteOperation scratch_at LOG_RANGE (128 * pieces)) ++ entries_between) ++ move_entries GetCommandStatus LOG_RANGE scratch_at (128 * pieces)) ++ entries_behind (128 * pieces)
+    → ((((([] ++ entries_before) ++ move_entries ExecuteOperation scratch_at LOG_RANGE (128 * pieces)) ++ entries_between) ++ move_entries GetCommandStatus LOG_RANGE scratch_at (128 * pieces)) ++ entries_behind (128 * pieces)) ++ tell told_actions
     ≡ shadow_entries pieces
 unfolding move_entries shadow_entries
 all_entries pieces = refl
 
 finished_is : (pieces : ℕ) (before after : Erst) → before ≡ blank_with (shadow_entries pieces) → Finished before after → after ≡ table_with pieces after.header.checksum
 finished_is pieces before after is finished =
-    let size : after.header.length ≡ 1712 = finished.size ∙ ap (λ (t : Erst). 48 + 32 * length t.entries) is ∙ ap (λ (n : ℕ). 48 + 32 * n) (count_is pieces) in
-    let count : after.count ≡ 52 = finished.counted ∙ ap (λ (t : Erst). length t.entries) is ∙ count_is pieces in
-    let header : after.header ≡ own_header (codes "ERST") 1712 after.header.checksum =
+    let size : after.header.length ≡ shadow_size = finished.size ∙ ap (λ (t : Erst). 48 + 32 * length t.entries) is ∙ ap (λ (n : ℕ). 48 + 32 * n) (count_is pieces) in
+    let count : after.count ≡ shadow_count = finished.counted ∙ ap (λ (t : Erst). length t.entries) is ∙ count_is pieces in
+    let header : after.header ≡ own_header (codes "ERST") shadow_size after.header.checksum =
     finished.header ∙ ap (λ (t : Erst). record t.header { length = after.header.length; checksum = after.header.checksum }) is ∙ ap (λ (n : ℕ). own_header (codes "ERST") n after.header.checksum) size in
     finished.others ∙ ap (λ (t : Erst). record t { header = after.header; count = after.count }) is
     ∙ ap (λ (h : Header). record { header = h; header_size = 48; reserved = 0; count = after.count; entries = shadow_entries pieces }) header
-    ∙ ap (λ (n : ℕ). record { header = own_header (codes "ERST") 1712 after.header.checksum; header_size = 48; reserved = 0; count = n; entries = shadow_entries pieces }) count
+    ∙ ap (λ (n : ℕ). record { header = own_header (codes "ERST") shadow_size after.header.checksum; header_size = 48; reserved = 0; count = n; entries = shadow_entries pieces }) count
 
 -- what was put together, sealed
 pub record IsShadow (pieces : ℕ) (table : Erst) : Type 0 where
   pub table_is : table ≡ shadow_erst pieces
-  pub size : length (spelling table) ≡ 1712
+  pub size : length (spelling table) ≡ shadow_size
   pub erst : IsErst table (spelling table)
 
 pub is_shadow : (pieces : ℕ) (before after : Erst) → before ≡ blank_with (shadow_entries pieces) → Finished before after → IsSealed (spelling after) → after.header.checksum < 256 → IsShadow pieces after

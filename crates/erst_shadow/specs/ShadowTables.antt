@@ -1,12 +1,12 @@
 -- A second table for the machine: the error log address range is its scratch memory, and the programs of the table itself move the record
 -- between that memory and the machine's own log range.
-use Rattle.std.specs.Prelude.{ℕ, ◌-◌, ◌*◌, ◌/◌, ◌%◌, ◌^◌, min, sum, List, [], ◌∷◌, ◌++◌, codes}
-use Rattle.erst_entries.specs.declared.actions.Action.TheVariants.{BeginWriteOperation, BeginReadOperation, BeginClearOperation, EndOperation, SetRecordOffset, ExecuteOperation, CheckBusyStatus, GetCommandStatus, GetRecordIdentifier, SetRecordIdentifier, GetRecordCount, BeginDummyWriteOperation, GetErrorLogAddressRange, GetErrorLogAddressRangeLength, GetErrorLogAddressRangeAttributes, GetExecuteOperationTimings}
+use Rattle.std.specs.Prelude.{ℕ, ◌+◌, ◌-◌, ◌*◌, ◌/◌, ◌%◌, ◌^◌, min, sum, List, [], ◌∷◌, ◌++◌, length, codes}
+use Rattle.erst_entries.specs.declared.actions.Action.TheVariants.{BeginWriteOperation, BeginReadOperation, BeginClearOperation, EndOperation, SetRecordOffset, ExecuteOperation, CheckBusyStatus, GetCommandStatus, GetRecordIdentifier, SetRecordIdentifier, GetRecordCount, BeginDummyWriteOperation, GetErrorLogAddressRange, GetErrorLogAddressRangeLength, GetErrorLogAddressRangeAttributes}
 use Rattle.erst_entries.specs.declared.entries.Entry.{Entry}
 use Rattle.erst_entries.specs.Layout.{Erst, spelling}
 use Rattle.erst_device.specs.declared.device.TheConstants.{LOG_RANGE}
 use Rattle.erst_moves.specs.MoveEntries.{Offset, Source, Length, put_number, use_register, move_entries}
-use Rattle.erst_machine.specs.OwnTables.{own_header, act, give, is_one, answer}
+use Rattle.erst_machine.specs.OwnTables.{own_header, act, give, is_one, answer, tell, told_actions}
 
 -- where the scratch memory begins
 abbrev pub scratch_at : ℕ
@@ -25,7 +25,7 @@ abbrev pub entries_between : List Entry
 entries_between = act ExecuteOperation ∷ act CheckBusyStatus ∷ is_one CheckBusyStatus ∷ []
 
 -- and those behind the second, with which GET_COMMAND_STATUS goes on. The log range is told by numbers that are put into a register
--- first; all else is the machine's own table
+-- first; all else, and what follows, is the machine's own table
 abbrev pub entries_behind : (size : ℕ) → List Entry
 entries_behind size =
     act GetCommandStatus ∷ answer GetCommandStatus 0xFF
@@ -36,25 +36,30 @@ entries_behind size =
     ∷ put_number GetErrorLogAddressRange Source scratch_at ∷ use_register GetErrorLogAddressRange 0x0 Source
     ∷ put_number GetErrorLogAddressRangeLength Length size ∷ use_register GetErrorLogAddressRangeLength 0x0 Length
     ∷ put_number GetErrorLogAddressRangeAttributes Offset 0 ∷ use_register GetErrorLogAddressRangeAttributes 0x0 Offset
-    ∷ act GetExecuteOperationTimings ∷ answer GetExecuteOperationTimings (2 ^ 64 - 1)
     ∷ []
 
--- 52 entries, in the order of the actions: EXECUTE_OPERATION first moves the record into the machine's log range, and
+-- in the order of the actions: EXECUTE_OPERATION first moves the record into the machine's log range, and
 -- GET_COMMAND_STATUS first moves the one that stands there back
 unfoldable pub shadow_entries : (pieces : ℕ) → List Entry
 shadow_entries pieces =
     entries_before ++ (move_entries ExecuteOperation scratch_at LOG_RANGE (128 * pieces)
     ++ (entries_between ++ (move_entries GetCommandStatus LOG_RANGE scratch_at (128 * pieces)
-    ++ entries_behind (128 * pieces))))
+    ++ (entries_behind (128 * pieces) ++ tell told_actions))))
+
+abbrev pub shadow_count : ℕ
+shadow_count = 50 + length (tell told_actions)
+
+abbrev pub shadow_size : ℕ
+shadow_size = 48 + 32 * shadow_count
 
 -- the table with a checksum
 abbrev pub table_with : (pieces checksum : ℕ) → Erst
-table_with pieces checksum = record { header = own_header (codes "ERST") 1712 checksum; header_size = 48; reserved = 0; count = 52; entries = shadow_entries pieces }
+table_with pieces checksum = record { header = own_header (codes "ERST") shadow_size checksum; header_size = 48; reserved = 0; count = shadow_count; entries = shadow_entries pieces }
 
 -- the checksum with which the bytes add to 0
 unfoldable pub shadow_checksum : (pieces : ℕ) → ℕ
 shadow_checksum pieces = (256 - sum (spelling (table_with pieces 0)) % 256) % 256
 
--- 1,712 bytes
+-- the table
 abbrev pub shadow_erst : (pieces : ℕ) → Erst
 shadow_erst pieces = table_with pieces (shadow_checksum pieces)

@@ -94,7 +94,7 @@ pub fn entries_between() -> [Entry; 3]
 }
 
 /// And those behind them.
-pub fn entries_behind(size: u64) -> [Entry; 17]
+pub fn entries_behind(size: u64) -> [Entry; 15]
     ensures { result ≡ entries_behind size }
 {
     [
@@ -125,7 +125,5 @@ pub fn entries_behind(size: u64) -> [Entry; 17]
             Instruction::ReadRegister,
             OFFSET,
         ),
-        act(Action::GetExecuteOperationTimings),
-        answer(Action::GetExecuteOperationTimings, u64::MAX),
     ]
 }

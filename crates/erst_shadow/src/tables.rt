@@ -2,13 +2,14 @@
 ghost use Rattle.std.specs.Prelude.{◌≡◌, ◌+◌, ◌≤◌, ◌<◌, ◌^◌, ◌++◌, ◌∷◌, [], length, IfOk, OnOk};
 ghost use Rattle.erst_entries.specs.Layout.{spelling, FitsErst};
 ghost use Rattle.erst_entries.specs.Tables.{IsErst};
-ghost use Rattle.erst_shadow.specs.ShadowTables.{pieces_of, shadow_erst};
+ghost use Rattle.erst_shadow.specs.ShadowTables.{pieces_of, shadow_erst, shadow_size};
 
 use crate::entries::{SCRATCH, entries_before, entries_behind, entries_between, move_entries};
 use apei_bytes::Memory;
 use erst_device::LOG_RANGE;
 use erst_entries::{Action, Entry, ErstTable};
 use erst_machine::own_header;
+use erst_machine::entries::told_entries;
 use std::alloc::Global;
 
 /// Puts entries behind those of a table.
@@ -27,7 +28,7 @@ fn append(table: &mut ErstTable, entries: &[Entry]) -> Result<(), Memory>
 pub fn shadow_table(alloc: Global, reach: u32) -> Result<ErstTable, Memory>
     requires { 128 ≤ reach }
     ensures table { IfOk result (λ table. table ≡ shadow_erst (pieces_of reach)) }
-    ensures size { IfOk result (λ table. length (spelling table) ≡ 1712) }
+    ensures size { IfOk result (λ table. length (spelling table) ≡ shadow_size) }
     ensures erst { IfOk result (λ table. IsErst table (spelling table)) }
     ensures fits { OnOk result (FitsErst (shadow_erst (pieces_of reach))) }
 {
@@ -44,6 +45,7 @@ pub fn shadow_table(alloc: Global, reach: u32) -> Result<ErstTable, Memory>
         &move_entries(Action::GetCommandStatus, LOG_RANGE, SCRATCH, size),
     )?;
     append(&mut table, &entries_behind(size))?;
+    append(&mut table, &told_entries())?;
     table.finish();
     Ok(table)
 }

@@ -1,7 +1,7 @@
 -- A client's commands as dialogues.
-use Rattle.std.proofs.Common.{◌∙◌, cond, ◌≡◌, ℕ, zero, suc, ◌-◌, ◌*◌, ◌<◌, ◌≤◌, Bool, true, false, List, [], ◌∷◌, ◌++◌, length, take, drop, Option, Some, None, Result, Ok, Err, refl, sym, ap, subst, arith}
-use Rattle.std.specs.Prelude.{◌||◌, replicate, IfOk, ◌==◌, nat_lt, codes}
-use Rattle.std.proofs.lemmas.Bool.{ne_eqb, ltb-false}
+use Rattle.std.proofs.Common.{◌∙◌, ◌≡◌, ℕ, zero, suc, ◌-◌, ◌*◌, ◌<◌, ◌≤◌, Bool, true, false, List, [], ◌∷◌, ◌++◌, length, take, drop, Option, Some, None, Result, Ok, Err, refl, sym, ap, subst, arith}
+use Rattle.std.specs.Prelude.{replicate, IfOk, ◌==◌, nat_lt, codes}
+use Rattle.std.proofs.lemmas.Bool.{ne_eqb}
 use Rattle.std.proofs.lemmas.List.{length-replicate, length-take-le}
 use Rattle.std.proofs.lemmas.Bool.Decides.{nat_tests}
 use Rattle.base_model.specs.Bytes.{number_at}
@@ -17,6 +17,7 @@ use Rattle.erst_interp.specs.declared.stops.RunStop.{RunStop}
 use Rattle.erst_interp.proofs.Consequences.{run_spends_some}
 use Rattle.erst_client.specs.declared.errors.AttachError.{AttachError}
 use Rattle.erst_client.specs.declared.errors.ClientError.{ClientError}
+use Rattle.erst_client.proofs.RefusalLemmas.{copies}
 use Rattle.erst_client.specs.declared.errors.ClientError.TheVariants.{Stopped, Late, Range}
 use Rattle.erst_client.specs.declared.requests.Request.{Request}
 use Rattle.erst_client.specs.Requests.{Performs, Asks, NoneLeft, Answered as asked_one, StopsLater, StopsHere}
@@ -160,13 +161,7 @@ less_false a b less = grind (arith, nat_tests)
 
 -- a record that is copied out fits the buffer
 pub copy_fits : (len range room : ℕ) → copy_refusal len range room ≡ None → len ≤ room
-copy_fits len range room is = ltb-false room len (by_tests (nat_lt len 128) (nat_lt range len) (nat_lt room len) _ _ is)
-  where
-    by_tests : (a b c : Bool) (first second : ClientError) → cond {A = Option ClientError} (a || b) (Some first) (cond c (Some second) None) ≡ None → c ≡ false
-    by_tests true b c first second h = absurd (cc h)
-    by_tests false true c first second h = absurd (cc h)
-    by_tests false false true first second h = absurd (cc h)
-    by_tests false false false first second h = refl
+copy_fits len range room is = (copies len range room is).fits
 
 module _ {W : Type 0} (allows : W → Call → W → Type 0) where
   module _ (entries : List Entry) where

@@ -4,7 +4,7 @@ use Rattle.std.specs.Prelude.{codes, decimal, ◌==◌}
 use Rattle.std.proofs.lemmas.Bool.Decides.{nat_tests}
 use Rattle.erst_interp.specs.declared.stops.RunStop.{RunStop}
 use Rattle.erst_client.specs.declared.errors.ClientError.{ClientError}
-use Rattle.erst_client.specs.declared.errors.ClientError.TheVariants.{NoSpace, Hardware, Failed, Empty, NotFound, Frame, TooLong, SmallBuffer, BadLength, Status, Stopped, Trailing, Range, Late}
+use Rattle.erst_client.specs.declared.errors.ClientError.TheVariants.{Hardware, Stopped, Late}
 use Rattle.script_text.specs.ClientWords.{words_of_client}
 use Rattle.script_text.specs.RunWords.{words_of_stop}
 
@@ -42,29 +42,19 @@ other error not_hardware not_stopped not_late = record {
 }
 
 pub told : (error : ClientError) → IsTold error
-told NoSpace = other NoSpace refl refl refl
 told Hardware = record {
   hardware = λ e. refl;
   stopped = λ stop e. absurd (apart of_hardware (codes "stopped " ++ words_of_stop stop) e refl);
   late = λ time e. absurd (apart of_hardware (codes "late " ++ decimal time) e refl);
 }
-told Failed = other Failed refl refl refl
-told Empty = other Empty refl refl refl
-told NotFound = other NotFound refl refl refl
-told (Frame why) = other (Frame why) refl refl refl
-told (TooLong len range) = other (TooLong len range) refl refl refl
-told (SmallBuffer need) = other (SmallBuffer need) refl refl refl
-told (BadLength found) = other (BadLength found) refl refl refl
-told (Status found) = other (Status found) refl refl refl
 told (Stopped why) = record {
   hardware = λ e. absurd (apart (words_of_client (Stopped why)) of_hardware e refl);
   stopped = λ stop e. (why, refl);
   late = λ time e. absurd (apart (words_of_client (Stopped why)) (codes "late " ++ decimal time) e refl);
 }
-told (Trailing bytes) = other (Trailing bytes) refl refl refl
-told (Range fault) = other (Range fault) refl refl refl
 told (Late waited) = record {
   hardware = λ e. absurd (apart (words_of_client (Late waited)) of_hardware e refl);
   stopped = λ stop e. absurd (apart (words_of_client (Late waited)) (codes "stopped " ++ words_of_stop stop) e refl);
   late = λ time e. (waited, refl);
 }
+told error = other error refl refl refl

@@ -16,7 +16,8 @@ is c =
     let three = put_behind c.append-2.new.table c.append-3.new.table _ _ _ two c.in_ok-append-3.ensures c.entries_between.ensures in
     let four = put_behind c.append-3.new.table c.append-4.new.table _ _ _ three c.in_ok-append-4.ensures (c.move_entries-2.ensures ∙ ap (λ (n : ℕ). move_entries GetCommandStatus LOG_RANGE scratch_at n) size) in
     let five = put_behind c.append-4.new.table c.append-5.new.table _ _ _ four c.in_ok-append-5.ensures (c.entries_behind.ensures ∙ ap entries_behind size) in
-    is_shadow (pieces_of c.args.reach) c.append-5.new.table c.finish.new.self (five ∙ ap blank_with (all_entries (pieces_of c.args.reach))) c.finish.ensures.finished c.finish.ensures.sealed c.finish.ensures.byte
+    let six = put_behind c.append-5.new.table c.append-6.new.table _ _ _ five c.in_ok-append-6.ensures c.told_entries.ensures in
+    is_shadow (pieces_of c.args.reach) c.append-6.new.table c.finish.new.self (six ∙ ap blank_with (all_entries (pieces_of c.args.reach))) c.finish.ensures.finished c.finish.ensures.sealed c.finish.ensures.byte
 
 pub returns-clause-table : goal.returns-clause-table
 returns-clause-table c = (is c).table_is

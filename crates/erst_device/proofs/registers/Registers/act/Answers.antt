@@ -1,9 +1,7 @@
-use Rattle.std.proofs.Common.{length, refl, sym, ap, ◌∙◌}
-use Rattle.erst_entries.specs.declared.actions.Action.TheVariants.{SetRecordOffset, SetRecordIdentifier, GetCommandStatus, GetErrorLogAddressRange, GetErrorLogAddressRangeLength, GetErrorLogAddressRangeAttributes, GetExecuteOperationTimings}
+use Rattle.std.proofs.Common.{refl, sym, ◌∙◌}
+use Rattle.erst_entries.specs.declared.actions.Action.TheVariants.{SetRecordOffset, SetRecordIdentifier}
 use Rattle.erst_device.specs.Actions.{SetsOffset, SetsId, Waits, Tells}
-use Rattle.erst_device.specs.Timings.{timings_of}
-use Rattle.erst_device.specs.Registers.{seen}
-use Rattle.erst_device.proofs.ActionLemmas.{still_of, still_nothing, runs_of, of_action, tells_from}
+use Rattle.erst_device.proofs.ActionLemmas.{still_of, still_nothing, runs_of, of_action}
 use Rattle.erst_device.proofs.registers.Registers.act.Goals as goal
 
 pub returns-then-is_still-clause-does : goal.returns-then-is_still-clause-does
@@ -18,20 +16,5 @@ returns-then-is_still-2-clause-does g c = of_action g.F.Flash.tells _ _ _ _ c.ar
 pub returns-else-is_still-2-clause-does : goal.returns-else-is_still-2-clause-does
 returns-else-is_still-2-clause-does g c = of_action g.F.Flash.tells _ _ _ _ c.args.action SetRecordIdentifier c.in-SetRecordIdentifier.is (Waits SetRecordIdentifier refl (runs_of g.F.Flash.tells c.args.self.now c.args.store.now c.requires.runs (sym c.is_still-in-SetRecordIdentifier.ensures ∙ c.if-is_still-2.false)))
 
-pub returns-in-GetCommandStatus-clause-does : goal.returns-in-GetCommandStatus-clause-does
-returns-in-GetCommandStatus-clause-does g c = of_action g.F.Flash.tells _ _ _ _ c.args.action GetCommandStatus c.in-GetCommandStatus.is
-    (tells_from g.F.Flash.tells (seen c.args.self.now c.args.store.now) c.args.range.now GetCommandStatus c.number-self.result _ refl c.number-self.ensures)
-
-pub returns-in-GetErrorLogAddressRange-clause-does : goal.returns-in-GetErrorLogAddressRange-clause-does
-returns-in-GetErrorLogAddressRange-clause-does g c = of_action g.F.Flash.tells _ _ _ _ c.args.action GetErrorLogAddressRange c.in-GetErrorLogAddressRange.is (Tells GetErrorLogAddressRange _ refl)
-
-pub returns-in-GetErrorLogAddressRangeLength-clause-does : goal.returns-in-GetErrorLogAddressRangeLength-clause-does
-returns-in-GetErrorLogAddressRangeLength-clause-does g c = of_action g.F.Flash.tells _ _ _ _ c.args.action GetErrorLogAddressRangeLength c.in-GetErrorLogAddressRangeLength.is
-    (tells_from g.F.Flash.tells (seen c.args.self.now c.args.store.now) c.args.range.now GetErrorLogAddressRangeLength (length c.args.range.now) _ refl c.requires.room)
-
-pub returns-in-GetErrorLogAddressRangeAttributes-clause-does : goal.returns-in-GetErrorLogAddressRangeAttributes-clause-does
-returns-in-GetErrorLogAddressRangeAttributes-clause-does g c = of_action g.F.Flash.tells _ _ _ _ c.args.action GetErrorLogAddressRangeAttributes c.in-GetErrorLogAddressRangeAttributes.is (Tells GetErrorLogAddressRangeAttributes _ refl)
-
-pub returns-in-GetExecuteOperationTimings-clause-does : goal.returns-in-GetExecuteOperationTimings-clause-does
-returns-in-GetExecuteOperationTimings-clause-does g c = of_action g.F.Flash.tells _ _ _ _ c.args.action GetExecuteOperationTimings c.in-GetExecuteOperationTimings.is
-    (tells_from g.F.Flash.tells (seen c.args.self.now c.args.store.now) c.args.range.now GetExecuteOperationTimings c.execution_timings-self.result _ refl (c.execution_timings-self.ensures ∙ ap timings_of c.geometry.ensures))
+pub returns-in-Some-clause-does : goal.returns-in-Some-clause-does
+returns-in-Some-clause-does g c = Tells c.args.action c.in-Some.number (sym c.number_told.ensures ∙ c.in-Some.is)
