@@ -1,15 +1,13 @@
 -- What power lost at any step of turns shows; a record that is stored stays.
 use Rattle.std.proofs.Common.{◌≡◌, ◌⊎◌, inl, inr, ℕ, ◌+◌, ◌<◌, ◌≤◌, nat_le, Bool, true, false, List, [], ◌∷◌, Ok, refl, sym, ap, subst, arith}
 use Rattle.std.specs.Prelude.{MatchBool}
-use Rattle.std.proofs.lemmas.Bool.{cases_lt, le-leb, lt-leb}
 use Rattle.flash_words.specs.Flash.{CrashImage}
-use Rattle.flash_words.specs.Layout.{Layout}
 use Rattle.flash_words.proofs.CrashLemmas.{CrashImage-earlier, CrashImage-now}
 use Rattle.record_model.specs.Records.{Stored as Records}
-use Rattle.record_store.specs.Store.{DividesAlike, records_of as records_in}
 use Rattle.erst_client.specs.Commands.{ClientState}
 use Rattle.erst_machine.specs.MachineState.{MachineState, IsMachine, records_of, told_of}
 use Rattle.erst_machine.specs.Shown.{shown_by, changes_of}
+use Rattle.erst_machine.proofs.CrashTrail.{shown_alike, by_step}
 use Rattle.erst_commands.specs.OwnPrograms.{OwnProgramsRun}
 use Rattle.erst_commands.specs.Attached.{own_client}
 use Rattle.erst_bridge.specs.declared.events.BridgeEvent.{BridgeEvent}
@@ -22,17 +20,6 @@ use Rattle.bridge_durability.specs.Shown.{stored_record, after_turn, ShowsTurns,
 use Rattle.bridge_durability.proofs.TrailLemmas.{turn_keeps, turn_goes_on, turns_go_on, own_on}
 use Rattle.bridge_durability.proofs.CrashLemmas.{own_write, turn_crash, turn_records}
 use Rattle.bridge_durability.proofs.RecordLemmas.{other_stays, answer_stores}
-
-shown_alike : (old new : MachineState) (image : List ℕ) → DividesAlike old.device.store new.device.store → shown_by new image ≡ shown_by old image
-shown_alike old new image alike = ap (λ (l : Layout). records_in l image) alike.layout
-
-on_true : (b : Bool) (P Q : Type 0) → b ≡ true → P → MatchBool b P Q
-on_true true P Q e p = p
-on_true false P Q e p = absurd (cc)
-
-on_false : (b : Bool) (P Q : Type 0) → b ≡ false → Q → MatchBool b P Q
-on_false true P Q e q = absurd (cc)
-on_false false P Q e q = q
 
 pub one_of : (b : Bool) (P Q : Type 0) → MatchBool b P Q → P ⊎ Q
 one_of true P Q h = inl h
@@ -93,16 +80,11 @@ module _ (tells : Type 0) (client : ClientState) (budget : ℕ) where
         let one = (turn_goes_on tells client budget told bridge first step.turn step.bridge left are.0).1 in
         let more = (turns_go_on tells client budget told step.bridge left rest next last are.1).1 in
         let leaves = turn_crash tells run told client budget bridge first step.turn step.bridge left own machine are.0 in
-        elim (cases_lt s (changes_of left)) [
-          | inl before ↦
-              on_false (nat_le (changes_of left) s) _ _ (lt-leb (changes_of left) s before)
-              (leaves.each s image from (CrashImage-earlier (told_of left) (told_of last) s image more.later before crash))
-          | inr behind ↦
-              on_true (nat_le (changes_of left) s) _ _ (le-leb (changes_of left) s behind)
-              (subst (λ (m : Records). ShowsTurns s step.bridge left rest m) (shown_alike first left image one.alike)
-              (turns_show step.bridge left rest next last (own_on tells client budget told bridge first step.turn step.bridge left are.0 own)
-              (turn_keeps tells client budget bridge first step.turn step.bridge left are.0 machine) are.1 s image behind crash))
-        ]
+        by_step (changes_of left) s _ _
+        (λ behind. subst (λ (m : Records). ShowsTurns s step.bridge left rest m) (shown_alike first left image one.alike)
+        (turns_show step.bridge left rest next last (own_on tells client budget told bridge first step.turn step.bridge left are.0 own)
+        (turn_keeps tells client budget bridge first step.turn step.bridge left are.0 machine) are.1 s image behind crash))
+        (λ before. leaves.each s image from (CrashImage-earlier (told_of left) (told_of last) s image more.later before crash))
 
     -- the same at the end of a turn
     pub record_stays : (bridge : BridgeState) (old : MachineState) (turn : Turn) (next : BridgeState) (new : MachineState) (id : ℕ) (bytes : List ℕ) → client ≡ own_client old → IsMachine old

@@ -25,13 +25,13 @@ pub own_client-same : (old new : MachineState) → new.device.store.layout ≡ o
 own_client-same old new same = ap (λ (l : Layout). own_client (record old { device = record old.device { store = record old.device.store { layout = l } } })) same
 
 module _ (tells : Type 0) where
-  no_moves : (old : MachineState) → HasTrail tells old old
+  pub no_moves : (old : MachineState) → HasTrail tells old old
   no_moves old = ([], refl)
 
-  one_move : (old : MachineState) (event : Event) (new : MachineState) → Happens tells old event new → HasTrail tells old new
+  pub one_move : (old : MachineState) (event : Event) (new : MachineState) → Happens tells old event new → HasTrail tells old new
   one_move old event new happens = ((record { event = event; left = new }) ∷ [], (happens, refl))
 
-  moves_then : (old mid new : MachineState) → HasTrail tells old mid → HasTrail tells mid new → HasTrail tells old new
+  pub moves_then : (old mid new : MachineState) → HasTrail tells old mid → HasTrail tells mid new → HasTrail tells old new
   moves_then old mid new before behind = (before.0 ++ behind.0, happens_then tells old mid new before.0 behind.0 before.1 behind.1)
 
   module _ (client : ClientState) (budget : ℕ) where

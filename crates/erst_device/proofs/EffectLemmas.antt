@@ -65,7 +65,7 @@ keeps_abandoned tells store = record {
   power = power_refl store.flash;
 }
 
-faults_rise : {T : Type 0} (before after : ℕ) (result : Result T StoreError) → HasFaultsOf before after result → before ≤ after
+pub faults_rise : {T : Type 0} (before after : ℕ) (result : Result T StoreError) → HasFaultsOf before after result → before ≤ after
 faults_rise before after (Ok done) cause = omega arith
 faults_rise before after (Err (errors.NoSpace free)) cause = omega arith
 faults_rise before after (Err (errors.LastGeneration id)) cause = omega arith

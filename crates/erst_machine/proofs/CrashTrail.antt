@@ -1,5 +1,5 @@
 -- The one induction: moves of a machine one after another.
-use Rattle.std.proofs.Common.{◌≡◌, ℕ, ◌+◌, ◌≤◌, ◌/◌, ◌%◌, ◌^◌, Bool, true, false, List, [], ◌∷◌, ◌++◌, length, Option, Some, None, Result, Ok, Err, refl, sym, ap, subst, ◌∙◌, arith, inl, inr}
+use Rattle.std.proofs.Common.{◌≡◌, ℕ, ◌+◌, ◌<◌, ◌≤◌, ◌/◌, ◌%◌, ◌^◌, Bool, true, false, List, [], ◌∷◌, ◌++◌, length, Option, Some, None, Result, Ok, Err, refl, sym, ap, subst, ◌∙◌, arith, inl, inr}
 use Rattle.std.specs.Prelude.{nat_le, MatchBool}
 use Rattle.std.proofs.lemmas.Bool.{cases_lt, le-leb, lt-leb}
 use Rattle.flash_words.specs.Flash.{Told, CrashImage, Leaves, image_at}
@@ -7,9 +7,6 @@ use Rattle.flash_words.specs.Layout.{Layout}
 use Rattle.flash_words.proofs.CrashLemmas.{IsLater-refl, IsLater-then, past_grows, image_at-later, image_at-now, CrashImage-earlier, CrashImage-now, Leaves-none, Leaves-weaker, Leaves-exit}
 use Rattle.record_model.specs.Records.{Stored}
 use Rattle.record_store.specs.Store.{StoreView, DividesAlike, records_of as records_in}
-use Rattle.record_store.specs.Answers.{HasFaultsOf}
-use Rattle.record_store.specs.declared.errors.StoreError.{StoreError}
-use Rattle.record_store.specs.declared.errors.StoreError.TheVariants as errors
 use Rattle.apei_gas.specs.declared.widths.Width.{Width}
 use Rattle.apei_gas.specs.Access.{bits}
 use Rattle.apei_space.specs.declared.faults.SpaceFault.{SpaceFault}
@@ -19,6 +16,7 @@ use Rattle.apei_space.specs.Windows.{address_of}
 use Rattle.apei_space.proofs.AccessLemmas.{trail_of, Trail-push}
 use Rattle.ghes_ack.specs.declared.submission.SubmitError.{SubmitError}
 use Rattle.erst_device.specs.DeviceState.{DeviceState}
+use Rattle.erst_device.proofs.EffectLemmas.{faults_rise}
 use Rattle.erst_machine.specs.declared.errors.BootError.{BootError}
 use Rattle.erst_machine.specs.declared.areas.Area.{Area}
 use Rattle.erst_machine.specs.declared.areas.Area.TheVariants.{Device, Scratch, LogRange, Handover, BootErrors, Ports}
@@ -114,7 +112,7 @@ one_access tells told old (Copy from to n answer) new h = by_state old new _ h.1
 one_access tells told old (ReadBytes at before after answer) new h = by_state old new _ h.2 refl
 one_access tells told old (WriteBytes at bytes answer) new h = by_state old new _ h.1 (stored_store (spot_at old at (length bytes)) old at bytes)
 
-shown_alike : (old new : MachineState) (image : List ℕ) → DividesAlike old.device.store new.device.store → shown_by new image ≡ shown_by old image
+pub shown_alike : (old new : MachineState) (image : List ℕ) → DividesAlike old.device.store new.device.store → shown_by new image ≡ shown_by old image
 shown_alike old new image alike = ap (λ (l : Layout). records_in l image) alike.layout
 
 on_true : (b : Bool) (P Q : Type 0) → b ≡ true → P → MatchBool b P Q
@@ -124,6 +122,13 @@ on_true false P Q e p = absurd (cc)
 on_false : (b : Bool) (P Q : Type 0) → b ≡ false → Q → MatchBool b P Q
 on_false true P Q e q = absurd (cc)
 on_false false P Q e q = q
+
+-- whether so many changes are made by a step
+pub by_step : (changes s : ℕ) (P Q : Type 0) → (changes ≤ s → P) → (s < changes → Q) → MatchBool (nat_le changes s) P Q
+by_step changes s P Q made not_yet = elim (cases_lt s changes) [
+  | inl before ↦ on_false (nat_le changes s) P Q (lt-leb changes s before) (not_yet before)
+  | inr after ↦ on_true (nat_le changes s) P Q (le-leb changes s after) (made after)
+]
 
 -- moves of any kind, each of which is one move
 module _ {E : Type 0} (moves : MachineState → E → MachineState → Type 0) (unfaulted : MachineState → E → Stored)
@@ -155,17 +160,12 @@ module _ {E : Type 0} (moves : MachineState → E → MachineState → Type 0) (
   trail_shows first (move ∷ rest) last is s image from crash =
       let one = one_move first move.event move.left is.0 in
       let more = trail_goes_on move.left rest last is.1 in
-      elim (cases_lt s (changes_of move.left)) [
-        | inl before ↦
-            on_false (nat_le (changes_of move.left) s) _ _ (lt-leb (changes_of move.left) s before)
-            (elim (one.leaves.each s image from (CrashImage-earlier (told_of move.left) (told_of last) s image more.later before crash)) [
-              | inl old ↦ inl old
-              | inr made ↦ inr (inr made)
-            ])
-        | inr after ↦
-            on_true (nat_le (changes_of move.left) s) _ _ (le-leb (changes_of move.left) s after)
-            (subst (λ (m : Stored). Shows unfaulted s move.left rest m) (shown_alike first move.left image one.alike) (trail_shows move.left rest last is.1 s image after crash))
-      ]
+      by_step (changes_of move.left) s _ _
+      (λ after. subst (λ (m : Stored). Shows unfaulted s move.left rest m) (shown_alike first move.left image one.alike) (trail_shows move.left rest last is.1 s image after crash))
+      (λ before. elim (one.leaves.each s image from (CrashImage-earlier (told_of move.left) (told_of last) s image more.later before crash)) [
+        | inl old ↦ inl old
+        | inr made ↦ inr (inr made)
+      ])
 
   trail_ends : (first : MachineState) (trail : List (Move E MachineState)) (last : MachineState) → Trail moves first trail last → ShowsEach (told_of last) first trail
   trail_ends first [] last is = tt
@@ -202,15 +202,6 @@ reached_is_machine tells first last Stays machine = machine
 reached_is_machine tells first last (Goes mid call end more allowed) machine = kept_allowed tells mid end call allowed (reached_is_machine tells first mid more machine)
 
 -- a store that only looks, after what was pending was given up, keeps the records, by at most one change
-faults_rise : {T : Type 0} (before after : ℕ) (result : Result T StoreError) → HasFaultsOf before after result → before ≤ after
-faults_rise before after (Ok done) cause = omega arith
-faults_rise before after (Err (errors.NoSpace free)) cause = omega arith
-faults_rise before after (Err (errors.LastGeneration id)) cause = omega arith
-faults_rise before after (Err errors.NotFound) cause = omega arith
-faults_rise before after (Err errors.Empty) cause = omega arith
-faults_rise before after (Err errors.Flash) cause = cause.0
-faults_rise before after (Err (errors.Small need)) cause = omega arith
-
 restart_moves : (tells : Type 0) (told : tells) (before : StoreView) (memory : MemoryState) (old : MachineState) (result : Result ℕ BootError) (new : MachineState) →
     before.layout ≡ old.device.store.layout → before.flash.told ≡ told_of old → before.flash.steps ≡ old.device.store.flash.steps → before.flash.faults ≡ old.device.store.flash.faults →
     before.flash.size ≡ old.device.store.flash.size → before.flash.sector_size ≡ old.device.store.flash.sector_size →

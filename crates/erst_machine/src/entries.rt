@@ -8,7 +8,7 @@ use apei_gas::Gas;
 use erst_entries::{Action, Entry, Instruction};
 
 /// A register of so many bits in memory. The access size code is 3 for 32 bits and 4 for 64.
-pub(crate) fn register_of(width: u8, access: u8, address: u64) -> Gas
+pub fn register_of(width: u8, access: u8, address: u64) -> Gas
     ensures { result ≡ register_of width access address }
 {
     Gas {
@@ -32,7 +32,8 @@ fn value_register() -> Gas
     register_of(64, 4, VALUE)
 }
 
-fn entry_of(action: Action, instruction: Instruction, region: Gas, value: u64, mask: u64) -> Entry
+/// An entry of an action that replaces the whole register.
+pub fn entry_of(action: Action, instruction: Instruction, region: Gas, value: u64, mask: u64) -> Entry
     ensures { (code : ℕ) → instruction_of code ≡ Some instruction → result ≡ entry_of action code region value mask }
 {
     Entry {

@@ -18,3 +18,4 @@ pub use laws::{
     every_access_finds_its_bytes, whatever_happens_is_one_list,
 };
 pub use machine::Machine;
+pub use tables::own_header;

@@ -17,8 +17,8 @@ use erst_entries::ErstTable;
 use hest_sources::{Ack, Ghes};
 use std::alloc::Global;
 
-/// A header whose checksum is still 0.
-fn header(signature: [u8; 4], length: u32) -> Header
+/// The header of a table of the machine, whose checksum is still 0.
+pub fn own_header(signature: [u8; 4], length: u32) -> Header
     ensures { result ≡ own_header signature length 0 }
 {
     Header {
@@ -41,7 +41,7 @@ pub fn erst(alloc: Global) -> Result<Vec<u8>, Memory>
     ensures table { IfOk result (λ bytes. IsErst own_erst bytes.items) }
     ensures fits { OnOk result (FitsErst own_erst) }
 {
-    let mut table = ErstTable::blank(alloc, header(*b"ERST", 0));
+    let mut table = ErstTable::blank(alloc, own_header(*b"ERST", 0));
     for entry in own_entries() {
         table.push(entry)?;
     }
@@ -81,7 +81,7 @@ fn put_hest(out: &mut [u8])
 {
     let mut source = [0; 92];
     own_source().put(&mut source);
-    header(*b"HEST", 132).put(out);
+    own_header(*b"HEST", 132).put(out);
     put_u32(out, 36, 1);
     write_array(out, 40, &source);
     seal(out);
@@ -91,7 +91,7 @@ fn put_bert(out: &mut [u8])
     requires { out.old ≡ zeros 48 }
     ensures { out.new ≡ own_bert_bytes }
 {
-    header(*b"BERT", 48).put(out);
+    own_header(*b"BERT", 48).put(out);
     put_u32(out, 36, BOOT_ERRORS_LEN as u32);
     put_u64(out, 40, BOOT_ERRORS);
     seal(out);

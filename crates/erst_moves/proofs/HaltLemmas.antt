@@ -5,18 +5,19 @@ use Rattle.std.proofs.lemmas.Option.{same_Some}
 use Rattle.apei_space.specs.Calls.{Call, Copy}
 use Rattle.erst_entries.specs.declared.actions.Action.{Action}
 use Rattle.erst_entries.specs.declared.entries.Entry.{Entry}
-use Rattle.erst_entries.specs.declared.instructions.Instruction.TheVariants.{WriteRegisterValue, LoadVar1, LoadVar2, StoreVar1, Add, SkipNextIfTrue, Goto, SetSourceBase, SetTargetBase, MoveData}
+use Rattle.erst_entries.specs.declared.instructions.Instruction.TheVariants.{WriteRegisterValue, StoreVar1, Add, SkipNextIfTrue, Goto, MoveData}
 use Rattle.erst_entries.specs.Programs.{Listed}
 use Rattle.erst_interp.specs.declared.configurations.Configuration.{Configuration}
 use Rattle.erst_interp.specs.declared.stops.RunStop.{RunStop}
 use Rattle.erst_interp.specs.declared.stops.RunStop.TheVariants.{Budget}
+use Rattle.erst_interp.specs.Instructions.{Work}
 use Rattle.erst_interp.specs.Steps.{Halt, blocks}
 use Rattle.erst_interp.specs.Runs.{task_of}
 use Rattle.erst_moves.specs.MoveEntries.{MoveRegister, Offset, Source, Target, Length, region_of, no_region, plain_entry, put_number, use_register, move_entries}
 use Rattle.erst_moves.specs.MoveSpaces.{ServesMove, AreAddressable}
 use Rattle.erst_moves.specs.MoveRuns.{move_then, move_steps}
-use Rattle.erst_moves.proofs.WorkLemmas.{IsUnpaid, IsTooLong, IsNotRead, IsNotCopied, halt_by}
-use Rattle.erst_moves.proofs.EntryLemmas.{register_at, no_fault, reads_number, reads_always, writes_always}
+use Rattle.erst_moves.proofs.WorkLemmas.{IsUnpaid, IsTooLong, IsNotRead, IsNotCopied, HaltBy, halt_by}
+use Rattle.erst_moves.proofs.EntryLemmas.{Taken, OfSource, OfTarget, OfVar1, OfVar2, code_of, instruction_in, has_code, works, register_at, no_fault, reads_number, reads_always, writes_always}
 use Rattle.erst_moves.proofs.StageLemmas.{Stage, First, Second, Third, Fourth, Fifth, Sixth, Seventh, Head, Copied, Loaded, Added, Kept, Again, Done, cost, IsStage, stage_at, stage_in, stage_fits, rounds_hold}
 
 -- the budget had fewer steps than were needed
@@ -42,32 +43,12 @@ module _ {W : Type 0} (allows : W → Call → W → Type 0) (fits : W → Type 
         (subst (λ (e : Entry). Halt allows (task_of program given e c) paid old stop left new) (sym is) halt) in
         writes_always allows fits from target count space r why.0 action 0x07 0 c.var1 old new why.1 why.2 why.3 fit
 
-    no_stop_source : (r : MoveRegister) (entry : Entry) (c : Configuration) (paid : ℕ) (old : W) (stop : RunStop) (left : ℕ) (new : W) → use_register action 0x10 r ≡ entry → fits old
+    no_stop_taking : (into : Taken) (r : MoveRegister) (entry : Entry) (c : Configuration) (paid : ℕ) (old : W) (stop : RunStop) (left : ℕ) (new : W) → use_register action (code_of into) r ≡ entry → fits old
         → Halt allows (task_of program given entry c) paid old stop left new → ⊥
-    no_stop_source r entry c paid old stop left new is fit halt =
-        let why = halt_by allows (task_of program given (use_register action 0x10 r) c) SetSourceBase refl (λ used. (register_at r, refl)) paid old stop left new
-        (subst (λ (e : Entry). Halt allows (task_of program given e c) paid old stop left new) (sym is) halt) in
-        reads_always allows fits from target count space r why.0 old new why.1 why.2 why.3 fit
-
-    no_stop_target : (r : MoveRegister) (entry : Entry) (c : Configuration) (paid : ℕ) (old : W) (stop : RunStop) (left : ℕ) (new : W) → use_register action 0x11 r ≡ entry → fits old
-        → Halt allows (task_of program given entry c) paid old stop left new → ⊥
-    no_stop_target r entry c paid old stop left new is fit halt =
-        let why = halt_by allows (task_of program given (use_register action 0x11 r) c) SetTargetBase refl (λ used. (register_at r, refl)) paid old stop left new
-        (subst (λ (e : Entry). Halt allows (task_of program given e c) paid old stop left new) (sym is) halt) in
-        reads_always allows fits from target count space r why.0 old new why.1 why.2 why.3 fit
-
-    no_stop_var2 : (r : MoveRegister) (entry : Entry) (c : Configuration) (paid : ℕ) (old : W) (stop : RunStop) (left : ℕ) (new : W) → use_register action 0x06 r ≡ entry → fits old
-        → Halt allows (task_of program given entry c) paid old stop left new → ⊥
-    no_stop_var2 r entry c paid old stop left new is fit halt =
-        let why = halt_by allows (task_of program given (use_register action 0x06 r) c) LoadVar2 refl (λ used. (register_at r, refl)) paid old stop left new
-        (subst (λ (e : Entry). Halt allows (task_of program given e c) paid old stop left new) (sym is) halt) in
-        reads_always allows fits from target count space r why.0 old new why.1 why.2 why.3 fit
-
-    no_stop_var1 : (r : MoveRegister) (entry : Entry) (c : Configuration) (paid : ℕ) (old : W) (stop : RunStop) (left : ℕ) (new : W) → use_register action 0x05 r ≡ entry → fits old
-        → Halt allows (task_of program given entry c) paid old stop left new → ⊥
-    no_stop_var1 r entry c paid old stop left new is fit halt =
-        let why = halt_by allows (task_of program given (use_register action 0x05 r) c) LoadVar1 refl (λ used. (register_at r, refl)) paid old stop left new
-        (subst (λ (e : Entry). Halt allows (task_of program given e c) paid old stop left new) (sym is) halt) in
+    no_stop_taking into r entry c paid old stop left new is fit halt =
+        let task = task_of program given (use_register action (code_of into) r) c in
+        let why = subst (λ (w : Work). HaltBy allows task paid old w stop left new) (works allows fits from target count space program given action into r c)
+        (halt_by allows task (instruction_in into) (has_code into) (λ used. (register_at r, refl)) paid old stop left new (subst (λ (e : Entry). Halt allows (task_of program given e c) paid old stop left new) (sym is) halt)) in
         reads_always allows fits from target count space r why.0 old new why.1 why.2 why.3 fit
 
     no_stop_skip : (r : MoveRegister) (size : ℕ) (entry : Entry) (c : Configuration) (paid : ℕ) (old : W) (stop : RunStop) (left : ℕ) (new : W) → plain_entry action 0x0E (region_of r) size (2 ^ 64 - 1) ≡ entry → fits old
@@ -128,18 +109,18 @@ module _ {W : Type 0} (allows : W → Call → W → Type 0) (fits : W → Type 
     stage_stops Fourth is not entry here paid stop left new halt =
         absurd (no_stop_put (move_then action from target count behind) given action Offset 0 entry _ paid _ stop left new (same_Some _ _ here) (stage_fits allows fits from target count space below first fit Fourth tt) halt)
     stage_stops Fifth is not entry here paid stop left new halt =
-        absurd (no_stop_source (move_then action from target count behind) given action Source entry _ paid _ stop left new (same_Some _ _ here) (stage_fits allows fits from target count space below first fit Fifth tt) halt)
+        absurd (no_stop_taking (move_then action from target count behind) given action OfSource Source entry _ paid _ stop left new (same_Some _ _ here) (stage_fits allows fits from target count space below first fit Fifth tt) halt)
     stage_stops Sixth is not entry here paid stop left new halt =
-        absurd (no_stop_target (move_then action from target count behind) given action Target entry _ paid _ stop left new (same_Some _ _ here) (stage_fits allows fits from target count space below first fit Sixth tt) halt)
+        absurd (no_stop_taking (move_then action from target count behind) given action OfTarget Target entry _ paid _ stop left new (same_Some _ _ here) (stage_fits allows fits from target count space below first fit Sixth tt) halt)
     stage_stops Seventh is not entry here paid stop left new halt =
-        absurd (no_stop_var2 (move_then action from target count behind) given action Length entry _ paid _ stop left new (same_Some _ _ here) (stage_fits allows fits from target count space below first fit Seventh tt) halt)
+        absurd (no_stop_taking (move_then action from target count behind) given action OfVar2 Length entry _ paid _ stop left new (same_Some _ _ here) (stage_fits allows fits from target count space below first fit Seventh tt) halt)
     stage_stops (Head i) is not entry here paid stop left new halt =
         let holds = rounds_hold allows fits from target count space below first fit i (omega arith) in (
           stop_copy (move_then action from target count behind) given action Offset i entry _ paid _ stop left new (same_Some _ _ here) holds.offset is below.source below.target_is refl refl refl holds.fit halt,
           omega arith,
         )
     stage_stops (Copied i) is not entry here paid stop left new halt =
-        absurd (no_stop_var1 (move_then action from target count behind) given action Offset entry _ paid _ stop left new (same_Some _ _ here) (stage_fits allows fits from target count space below first fit (Copied i) is) halt)
+        absurd (no_stop_taking (move_then action from target count behind) given action OfVar1 Offset entry _ paid _ stop left new (same_Some _ _ here) (stage_fits allows fits from target count space below first fit (Copied i) is) halt)
     stage_stops (Loaded i) is not entry here paid stop left new halt =
         absurd (no_stop_add (move_then action from target count behind) given action entry _ paid _ stop left new (same_Some _ _ here) halt)
     stage_stops (Added i) is not entry here paid stop left new halt =

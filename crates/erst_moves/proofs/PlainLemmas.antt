@@ -53,11 +53,30 @@ located_at windows place index room k n apart is some fits =
     ap refused (not_none n (within (spot windows 0 (Memory (place + k))) (place + k) n) some ∙ ap (λ (o : Option (ℕ × ℕ)). within o (place + k) n) there ∙ within_fits (index + k) (room - k) (place + k) n (omega arith))
 
 -- how far a register stands from the first
-abbrev place_in : MoveRegister → ℕ
+abbrev pub place_in : MoveRegister → ℕ
 place_in Offset = 0
 place_in Source = 8
 place_in Target = 16
 place_in Length = 24
+
+-- two registers have none of their bytes in common
+pub registers_differ : (first : ℕ) (r other : MoveRegister) → (address_of r ≡ address_of other → ⊥) → ShareNone (first + place_in other) 8 (first + place_in r) 8
+registers_differ first Offset Offset not = absurd (not refl)
+registers_differ first Source Source not = absurd (not refl)
+registers_differ first Target Target not = absurd (not refl)
+registers_differ first Length Length not = absurd (not refl)
+registers_differ first Offset Source not = inr (omega arith)
+registers_differ first Offset Target not = inr (omega arith)
+registers_differ first Offset Length not = inr (omega arith)
+registers_differ first Source Offset not = inl (omega arith)
+registers_differ first Source Target not = inr (omega arith)
+registers_differ first Source Length not = inr (omega arith)
+registers_differ first Target Offset not = inl (omega arith)
+registers_differ first Target Source not = inl (omega arith)
+registers_differ first Target Length not = inr (omega arith)
+registers_differ first Length Offset not = inl (omega arith)
+registers_differ first Length Source not = inl (omega arith)
+registers_differ first Length Target not = inl (omega arith)
 
 module _ (first : RamState) (from target count source sink registers : ℕ) (room : HoldsMove first from target count source sink registers) where
   -- the memories that a move comes by
@@ -84,24 +103,6 @@ module _ (first : RamState) (from target count source sink registers : ℕ) (roo
   register_low Source = omega arith
   register_low Target = omega arith
   register_low Length = omega arith
-
-  registers_differ : (r other : MoveRegister) → (address_of r ≡ address_of other → ⊥) → ShareNone (registers + place_in other) 8 (registers + place_in r) 8
-  registers_differ Offset Offset not = absurd (not refl)
-  registers_differ Source Source not = absurd (not refl)
-  registers_differ Target Target not = absurd (not refl)
-  registers_differ Length Length not = absurd (not refl)
-  registers_differ Offset Source not = inr (omega arith)
-  registers_differ Offset Target not = inr (omega arith)
-  registers_differ Offset Length not = inr (omega arith)
-  registers_differ Source Offset not = inl (omega arith)
-  registers_differ Source Target not = inr (omega arith)
-  registers_differ Source Length not = inr (omega arith)
-  registers_differ Target Offset not = inl (omega arith)
-  registers_differ Target Source not = inl (omega arith)
-  registers_differ Target Length not = inr (omega arith)
-  registers_differ Length Offset not = inl (omega arith)
-  registers_differ Length Source not = inl (omega arith)
-  registers_differ Length Target not = inl (omega arith)
 
   -- all lie within the bytes
   source_within : source + 128 * count ≤ length first.bytes
@@ -166,7 +167,7 @@ module _ (first : RamState) (from target count source sink registers : ℕ) (roo
     value_put = λ w r n fits small. let long = fits.1 in number-put w.bytes (registers + place_in r) n (omega (arith, register_low r, registers_within, long)) small;
     value_beside = λ w r other n fits not.
         number-beside w.bytes (spelled 8 n) (registers + place_in r) (registers + place_in other) (put_long w r n fits)
-        (subst (λ (k : ℕ). ShareNone (registers + place_in other) 8 (registers + place_in r) k) (sym (length-spelled 8 n)) (registers_differ r other not));
+        (subst (λ (k : ℕ). ShareNone (registers + place_in other) 8 (registers + place_in r) k) (sym (length-spelled 8 n)) (registers_differ registers r other not));
     value_behind = λ w r i fits less.
         number-beside w.bytes (part w.bytes (source + 128 * i) 128) (sink + 128 * i) (registers + place_in r) (piece_within w i fits less)
         (subst (λ (k : ℕ). ShareNone (registers + place_in r) 8 (sink + 128 * i) k) (sym (piece_long w i fits less)) (apart_from i r less room.sink_apart));

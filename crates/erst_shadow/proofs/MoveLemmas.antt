@@ -9,7 +9,7 @@ use Rattle.apei_space.specs.Calls.{Read, Write, Copy}
 use Rattle.erst_moves.specs.MoveEntries.{MoveRegister, Offset, Source, Target, Length, address_of}
 use Rattle.erst_moves.specs.MoveSpaces.{ServesMove, AreAddressable, after_rounds}
 use Rattle.erst_moves.specs.PlainMoves.{ShareNone}
-use Rattle.erst_moves.proofs.PlainLemmas.{part-beside, number-put, number-beside}
+use Rattle.erst_moves.proofs.PlainLemmas.{part-beside, number-put, number-beside, place_in as place_behind, registers_differ}
 use Rattle.erst_machine.specs.declared.areas.Area.TheVariants.{Scratch, LogRange}
 use Rattle.erst_machine.specs.declared.areas.Spot.{Spot}
 use Rattle.erst_machine.specs.declared.areas.Spot.TheVariants.{Inside}
@@ -48,23 +48,16 @@ register_low Source = (omega arith, omega arith)
 register_low Target = (omega arith, omega arith)
 register_low Length = (omega arith, omega arith)
 
-registers_differ : (r other : MoveRegister) → (address_of r ≡ address_of other → ⊥) → ShareNone (place_in other) 8 (place_in r) 8
-registers_differ Offset Offset not = absurd (not refl)
-registers_differ Source Source not = absurd (not refl)
-registers_differ Target Target not = absurd (not refl)
-registers_differ Length Length not = absurd (not refl)
-registers_differ Offset Source not = inr (omega arith)
-registers_differ Offset Target not = inr (omega arith)
-registers_differ Offset Length not = inr (omega arith)
-registers_differ Source Offset not = inl (omega arith)
-registers_differ Source Target not = inr (omega arith)
-registers_differ Source Length not = inr (omega arith)
-registers_differ Target Offset not = inl (omega arith)
-registers_differ Target Source not = inl (omega arith)
-registers_differ Target Length not = inr (omega arith)
-registers_differ Length Offset not = inl (omega arith)
-registers_differ Length Source not = inl (omega arith)
-registers_differ Length Target not = inl (omega arith)
+register_at : (r : MoveRegister) → 0xF80 + place_behind r ≡ place_in r
+register_at Offset = refl
+register_at Source = refl
+register_at Target = refl
+register_at Length = refl
+
+registers_apart : (r other : MoveRegister) → (address_of r ≡ address_of other → ⊥) → ShareNone (place_in other) 8 (place_in r) 8
+registers_apart r other not =
+    subst (λ (k : ℕ). ShareNone (place_in other) 8 k 8) (register_at r)
+    (subst (λ (k : ℕ). ShareNone k 8 (0xF80 + place_behind r) 8) (register_at other) (registers_differ 0xF80 r other not))
 
 -- bytes that begin with the first pieces of others, and have the next piece put behind them
 piece_behind : (i : ℕ) (old source piece : List ℕ) → length piece ≡ 128 → 128 * i + length piece ≤ length old → part old 0 (128 * i) ≡ part source 0 (128 * i) → piece ≡ part source (128 * i) 128
@@ -109,7 +102,7 @@ value_put first w r n comes small = let low = (register_low r).1 in number-put w
 value_beside : (first w : MachineState) (r other : MoveRegister) (n : ℕ) → KeepsOthers first w → (address_of r ≡ address_of other → ⊥) → value other (put r n w) ≡ value other w
 value_beside first w r other n comes not =
     number-beside w.memory.scratch (spelled 8 n) (place_in r) (place_in other) (put_long first w r n comes)
-    (subst (λ (k : ℕ). ShareNone (place_in other) 8 (place_in r) k) (sym (length-spelled 8 n)) (registers_differ r other not))
+    (subst (λ (k : ℕ). ShareNone (place_in other) 8 (place_in r) k) (sym (length-spelled 8 n)) (registers_apart r other not))
 
 pub record KeepsRange (first w : MachineState) : Type 0 where
   pub comes : KeepsOthers first w

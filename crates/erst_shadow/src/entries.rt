@@ -2,12 +2,11 @@
 ghost use Rattle.std.specs.Prelude.{◌≡◌, ℕ, Some};
 ghost use Rattle.erst_entries.specs.Instructions.{instruction_of};
 ghost use Rattle.erst_machine.specs.OwnTables.{register_of};
-ghost use Rattle.erst_moves.specs.MoveEntries.{no_region, plain_entry, move_entries};
+ghost use Rattle.erst_moves.specs.MoveEntries.{plain_entry, move_entries};
 ghost use Rattle.erst_shadow.specs.ShadowTables.{entries_before, entries_between, entries_behind};
 
-use apei_gas::Gas;
 use erst_entries::{Action, Entry, Instruction};
-use erst_machine::entries::{act, answer, give, is_one};
+use erst_machine::entries::{act, answer, entry_of, give, is_one, register_of};
 
 /// Where the scratch memory begins.
 pub const SCRATCH: u64 = 0x1000;
@@ -21,60 +20,14 @@ const TARGET: u64 = 0x1f90;
 
 const LENGTH: u64 = 0x1f98;
 
-/// A register of 64 bits in memory.
-fn register(address: u64) -> Gas
-    ensures { result ≡ register_of 64 4 address }
-{
-    Gas {
-        space: 0,
-        width: 64,
-        offset: 0,
-        access: 4,
-        address,
-    }
-}
-
-/// No register.
-fn no_region() -> Gas
-    ensures { result ≡ no_region }
-{
-    Gas {
-        space: 0,
-        width: 0,
-        offset: 0,
-        access: 0,
-        address: 0,
-    }
-}
-
-fn plain_entry(
-    action: Action,
-    instruction: Instruction,
-    region: Gas,
-    value: u64,
-    mask: u64,
-) -> Entry
-    ensures { (code : ℕ) → instruction_of code ≡ Some instruction → result ≡ plain_entry action code region value mask }
-{
-    Entry {
-        action: action.code(),
-        code: instruction.code(),
-        flags: 0,
-        spare: 0,
-        region,
-        value,
-        mask,
-    }
-}
-
 /// Puts a number into a register of a move.
 fn put_number(action: Action, address: u64, value: u64) -> Entry
     ensures { result ≡ plain_entry action 0x3 (register_of 64 4 address) value 18446744073709551615 }
 {
-    plain_entry(
+    entry_of(
         action,
         Instruction::WriteRegisterValue,
-        register(address),
+        register_of(64, 4, address),
         value,
         u64::MAX,
     )
@@ -84,7 +37,7 @@ fn put_number(action: Action, address: u64, value: u64) -> Entry
 fn use_register(action: Action, instruction: Instruction, address: u64) -> Entry
     ensures { (code : ℕ) → instruction_of code ≡ Some instruction → result ≡ plain_entry action code (register_of 64 4 address) 0 18446744073709551615 }
 {
-    plain_entry(action, instruction, register(address), 0, u64::MAX)
+    entry_of(action, instruction, register_of(64, 4, address), 0, u64::MAX)
 }
 
 /// What moves so many bytes, a multiple of 128, from one address to another.
@@ -102,16 +55,16 @@ pub fn move_entries(action: Action, from: u64, target: u64, size: u64) -> [Entry
         use_register(action, Instruction::LoadVar2, LENGTH),
         use_register(action, Instruction::MoveData, OFFSET),
         use_register(action, Instruction::LoadVar1, OFFSET),
-        plain_entry(action, Instruction::Add, no_region(), 0, 0),
+        entry_of(action, Instruction::Add, register_of(0, 0, 0), 0, 0),
         use_register(action, Instruction::StoreVar1, OFFSET),
-        plain_entry(
+        entry_of(
             action,
             Instruction::SkipNextIfTrue,
-            register(OFFSET),
+            register_of(64, 4, OFFSET),
             size,
             u64::MAX,
         ),
-        plain_entry(action, Instruction::Goto, no_region(), 7, 0),
+        entry_of(action, Instruction::Goto, register_of(0, 0, 0), 7, 0),
     ]
 }
 

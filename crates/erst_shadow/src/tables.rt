@@ -2,32 +2,14 @@
 ghost use Rattle.std.specs.Prelude.{◌≡◌, ◌+◌, ◌≤◌, ◌<◌, ◌^◌, ◌++◌, ◌∷◌, [], length, IfOk, OnOk};
 ghost use Rattle.erst_entries.specs.Layout.{spelling, FitsErst};
 ghost use Rattle.erst_entries.specs.Tables.{IsErst};
-ghost use Rattle.erst_machine.specs.OwnTables.{own_header};
 ghost use Rattle.erst_shadow.specs.ShadowTables.{pieces_of, shadow_erst};
 
 use crate::entries::{SCRATCH, entries_before, entries_behind, entries_between, move_entries};
 use apei_bytes::Memory;
-use apei_tables::Header;
 use erst_device::LOG_RANGE;
 use erst_entries::{Action, Entry, ErstTable};
+use erst_machine::own_header;
 use std::alloc::Global;
-
-/// A header whose length and checksum are still 0.
-fn header() -> Header
-    ensures { result ≡ own_header (0x45 ∷ 0x52 ∷ 0x53 ∷ 0x54 ∷ []) 0 0 }
-{
-    Header {
-        signature: *b"ERST",
-        length: 0,
-        revision: 1,
-        checksum: 0,
-        oem_id: *b"APEIPR",
-        oem_table_id: *b"APEISIM ",
-        oem_revision: 1,
-        creator_id: *b"APEI",
-        creator_revision: 1,
-    }
-}
 
 /// Puts entries behind those of a table.
 fn append(table: &mut ErstTable, entries: &[Entry]) -> Result<(), Memory>
@@ -50,7 +32,7 @@ pub fn shadow_table(alloc: Global, reach: u32) -> Result<ErstTable, Memory>
     ensures fits { OnOk result (FitsErst (shadow_erst (pieces_of reach))) }
 {
     let size = 128 * u64::from((reach / 128).min(31));
-    let mut table = ErstTable::blank(alloc, header());
+    let mut table = ErstTable::blank(alloc, own_header(*b"ERST", 0));
     append(&mut table, &entries_before())?;
     append(
         &mut table,

@@ -5,7 +5,7 @@ use Rattle.std.proofs.lemmas.Nat.{div-add-mod'}
 use Rattle.std.proofs.lemmas.Bool.{cases_lt}
 use Rattle.std.proofs.lemmas.Slice.{take-put_mid}
 use borrow.Rule.Slice.PartMut.{put_mid}
-use Rattle.std.proofs.lemmas.List.{length-take, take_all}
+use Rattle.std.proofs.lemmas.List.{length-take, take_all, take_more}
 use Rattle.flash_model.specs.declared.geometry.Geometry.{Geometry}
 use Rattle.flash_words.specs.Flash.{FlashState}
 use Rattle.flash_words.specs.Layout.{reach_of}
@@ -59,20 +59,12 @@ slot_is room place zero h = refl
 slot_is room place (suc n) h = get_take place.next (parts_of room place.len - 1) n (omega arith)
 
 -- the parts in the first slots and in one more
-take_more : (xs : List ℕ) (n : ℕ) → n < length xs → take (n + 1) xs ≡ take n xs ++ get_or xs n 0 ∷ []
-take_more xs n h = let next : n + 1 ≡ suc n = omega arith in ap (λ (m : ℕ). take m xs) next ∙ push xs n h
-  where
-    push : (ys : List ℕ) (m : ℕ) → m < length ys → take (suc m) ys ≡ take m ys ++ get_or ys m 0 ∷ []
-    push [] m l = absurd (omega arith)
-    push (y ∷ ys) zero l = refl
-    push (y ∷ ys) (suc m) l = ap (λ (zs : List ℕ). y ∷ zs) (push ys m (omega arith))
-
 pub joined_more : (room len : ℕ) (slot : ℕ → Slot) (slots : List ℕ) (number n : ℕ) → number < length slots → get_or slots number 0 ≡ n
     → parts_joined room len slot 0 (take (number + 1) slots) ≡ parts_joined room len slot 0 (take number slots) ++ take (part_len room len number) (slot n).body
 joined_more room len slot slots number n h is =
     let front = length-take number slots in
     let long : 0 + length (take number slots) ≡ number = omega arith in
-    ap (parts_joined room len slot 0) (take_more slots number h)
+    ap (parts_joined room len slot 0) (take_more slots number 0 h)
     ∙ parts_joined-push room len slot 0 (take number slots) (get_or slots number 0)
     ∙ ap (λ (m : ℕ). parts_joined room len slot 0 (take number slots) ++ take (part_len room len m) (slot (get_or slots number 0)).body) long
     ∙ ap (λ (m : ℕ). parts_joined room len slot 0 (take number slots) ++ take (part_len room len number) (slot m).body) is

@@ -9,5 +9,5 @@ pub returns : goal.returns
 returns c =
     let before = c.put_u64.ensures.written ∙ ap (λ (xs : List ℕ). put_at xs 40 (spelled 8 0x400000)) (c.put_u32.ensures.written
     ∙ ap (λ (xs : List ℕ). put_at xs 36 (spelled 4 16384)) (c.put.ensures.written
-    ∙ ap (λ (xs : List ℕ). put_at xs 0 (spelling c.header.result)) c.requires ∙ ap (λ (h : Header). put_at _ 0 (spelling h)) c.header.ensures)) in
+    ∙ ap (λ (xs : List ℕ). put_at xs 0 (spelling c.own_header.result)) c.requires ∙ ap (λ (h : Header). put_at _ 0 (spelling h)) c.own_header.ensures)) in
     sealed_bert c.seal.new.table (subst (λ (xs : List ℕ). SameOutside 9 1 xs c.seal.new.table) before c.seal.ensures.others) c.seal.ensures.sum (omega (arith, c.type_inv.out 9))
