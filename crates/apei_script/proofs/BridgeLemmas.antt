@@ -42,7 +42,7 @@ use Rattle.apei_script.specs.declared.desk.Desk.{Desk}
 use Rattle.apei_script.specs.Desks.{state_of, SameClients}
 use Rattle.apei_script.proofs.PlayLemmas.{quiet_with, shows_none, other_bridge}
 use Rattle.apei_script.proofs.KeptTurns.{blocks_kept}
-use Rattle.apei_script.proofs.ToldLemmas.{told_none, told_more}
+use Rattle.apei_notify.proofs.ToldLemmas.{told_none, told_then}
 
 -- What power lost shows
 
@@ -258,7 +258,7 @@ module _ {L : Type 0} (hearing : L → Hearing) (tells told_sink : Type 0) (clie
       let one : block_of (turn_of turn) (last_of new) ≡ new.handover.last ∷ [] = ap (λ (t : Turn). block_of t (last_of new)) (taken_is (turn_of turn) taken) in
       subst (λ (xs : List ℕ). BridgedSoFar now new members_now xs made_now written_now) (sym (take_more all k 0 more))
       (step_more mid now before new members_mid members_now (take k all) (get_or all k 0) made made_now written_mid written_now turn step so is side counted at pushed
-      (λ blocks told. subst (λ (bs : List (List ℕ)). Told hearing (blocks ++ bs) members members_now) (sym one) (told_more hearing blocks new.handover.last members members_mid members_now told telling))
+      (λ blocks told. subst (λ (bs : List (List ℕ)). Told hearing (blocks ++ bs) members members_now) (sym one) (told_then hearing blocks (new.handover.last ∷ []) members members_mid members_now told telling))
       (λ t. text t ∙ ap (λ (xs : List ℕ). written_mid ++ xs) (sym (append-nil (reply_at (changes_in new) (words_of_block new.handover.last))))
       ∙ ap (λ (bs : List (List ℕ)). written_mid ++ text_of_replies (said_at (changes_in new) (map words_of_block bs))) (sym one)))
 
@@ -362,7 +362,7 @@ module _ {L : Type 0} (hearing : L → Hearing) (tells told_sink : Type 0) (prog
             (λ t. counted_more so.steps last (so.counted t) (counted t ∙ at));
         told = subst (λ (bs : List (List ℕ)). Told hearing bs members members_now)
             (sym (blocks_more so.steps last ∙ ap (λ (t : Turn). blocks_in so.steps ++ block_of t (last_of new.machine)) took))
-            (told_more hearing (blocks_in so.steps) new.machine.handover.last members members_mid members_now so.told telling);
+            (told_then hearing (blocks_in so.steps) (new.machine.handover.last ∷ []) members members_mid members_now so.told telling);
         text = λ t. let part = text t in (
           part.0,
           part.1 ∙ ap (λ (xs : List ℕ). xs ++ take part.0 (reply_at (changes_in new.machine) (words_of_block new.machine.handover.last))) (so.text t),

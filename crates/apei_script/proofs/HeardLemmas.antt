@@ -1,76 +1,11 @@
--- A reply that is written in pieces while it is made.
-use Rattle.std.proofs.lemmas.Bool.{cases_lt, false≢true}
-use Rattle.std.proofs.Common.{◌≡◌, ◌∙◌, ℕ, zero, suc, ◌+◌, ◌<◌, ◌≤◌, ◌↔◌, inl, inr, Bool, true, false, IsTrue, min, List, [], ◌∷◌, ◌++◌, length, take, drop, map, refl, sym, ap, append_assoc, arith, add-one}
-use Rattle.std.specs.Prelude.{codes, decimal, IfSome, slice_get}
+-- Counts of listeners that are written in pieces.
+use Rattle.std.proofs.Common.{◌≡◌, ◌∙◌, ℕ, ◌≤◌, List, ◌∷◌, [], ◌++◌, length, take, drop, map, sym, ap, append_assoc}
+use Rattle.std.specs.Prelude.{codes, decimal}
 use Rattle.std.specs.List.{flat_map}
-use Rattle.std.proofs.lemmas.List.{append-nil, map-append, take-append-drop, flat_map_more, take_min, take-append-le}
-use Rattle.apei_script.specs.Words.{words_of_heard}
-
--- of some words a part was written, and the others are the reply in hand
-pub record ShownSoFar (told_sink : Type 0) (written written_now reply words : List ℕ) : Type 0 where
-  pub shown : List ℕ
-  pub text : told_sink → written_now ≡ written ++ shown
-  pub words_are : shown ++ reply ≡ words
-
-pub shown_none : (told_sink : Type 0) (written reply words : List ℕ) → reply ≡ words → ShownSoFar told_sink written written reply words
-shown_none told_sink written reply words is = record { shown = []; text = λ _. sym (append-nil written); words_are = is }
-
--- the reply in hand was written
-pub shown_flushed : (told_sink : Type 0) (written written_now written_then reply words : List ℕ) → ShownSoFar told_sink written written_now reply words → (told_sink → written_then ≡ written_now ++ reply)
-    → ShownSoFar told_sink written written_then [] words
-shown_flushed told_sink written written_now written_then reply words so text = record {
-  shown = so.shown ++ reply;
-  text = λ t. text t ∙ ap (λ (xs : List ℕ). xs ++ reply) (so.text t) ∙ append_assoc written so.shown reply;
-  words_are = append-nil (so.shown ++ reply) ∙ so.words_are;
-}
-
--- more words
-pub shown_more : (told_sink : Type 0) (written written_now reply reply_now words words_now more : List ℕ) → ShownSoFar told_sink written written_now reply words → reply_now ≡ reply ++ more
-    → words_now ≡ words ++ more → ShownSoFar told_sink written written_now reply_now words_now
-shown_more told_sink written written_now reply reply_now words words_now more so is are = record {
-  shown = so.shown;
-  text = so.text;
-  words_are = ap (λ (xs : List ℕ). so.shown ++ xs) is ∙ sym (append_assoc so.shown reply more) ∙ ap (λ (xs : List ℕ). xs ++ more) so.words_are ∙ sym are;
-}
-
--- all of it was written
-pub shown_all : (told_sink : Type 0) (written written_now written_then reply words : List ℕ) → ShownSoFar told_sink written written_now reply words → (told_sink → written_then ≡ written_now ++ reply)
-    → told_sink → written_then ≡ written ++ words
-shown_all told_sink written written_now written_then reply words so text t =
-    text t ∙ ap (λ (xs : List ℕ). xs ++ reply) (so.text t) ∙ append_assoc written so.shown reply ∙ ap (λ (xs : List ℕ). written ++ xs) so.words_are
-
-take_behind : (xs ys : List ℕ) (n : ℕ) → take (length xs + n) (xs ++ ys) ≡ xs ++ take n ys
-take_behind [] ys n = let e : 0 + n ≡ n = omega arith in ap (λ (k : ℕ). take k ys) e
-take_behind (x ∷ xs) ys n = let e : suc (length xs) + n ≡ suc (length xs + n) = omega arith in ap (λ (k : ℕ). take k (x ∷ (xs ++ ys))) e ∙ ap (λ (zs : List ℕ). x ∷ zs) (take_behind xs ys n)
-
--- a part of the reply in hand is a part of all words that there will be
-pub shown_part : (told_sink : Type 0) (written written_now written_then reply words rest whole : List ℕ) → ShownSoFar told_sink written written_now reply words → whole ≡ words ++ rest
-    → (told_sink → (n : ℕ) × (written_then ≡ written_now ++ take n reply)) → told_sink → (n : ℕ) × (written_then ≡ written ++ take n whole)
-shown_part told_sink written written_now written_then reply words rest whole so is text t =
-    let part = text t in
-    let m = min part.0 (length reply) in
-    let cut : take m (reply ++ rest) ≡ take part.0 reply = take-append-le m reply rest (omega arith) ∙ take_min part.0 reply in
-    let split : whole ≡ so.shown ++ (reply ++ rest) = is ∙ ap (λ (xs : List ℕ). xs ++ rest) (sym so.words_are) ∙ append_assoc so.shown reply rest in (
-      length so.shown + m,
-      part.1 ∙ ap (λ (xs : List ℕ). xs ++ take part.0 reply) (so.text t) ∙ append_assoc written so.shown (take part.0 reply)
-          ∙ ap (λ (xs : List ℕ). written ++ xs) (ap (λ (xs : List ℕ). so.shown ++ xs) (sym cut) ∙ sym (take_behind so.shown (reply ++ rest) m) ∙ ap (take (length so.shown + m)) (sym split)),
-    )
-
--- one count more
-counts-suc : {X : Type 0} (f : X → ℕ) (xs : List X) (k n : ℕ) → k < length xs → IfSome (slice_get xs k) (λ b. n ≡ f b) → map f (take (suc k) xs) ≡ map f (take k xs) ++ n ∷ []
-counts-suc f [] k n h is = absurd (omega (arith, h))
-counts-suc f (x ∷ xs) zero n h is = ap (λ (m : ℕ). m ∷ []) (sym is)
-counts-suc f (x ∷ xs) (suc k) n h is = ap (λ (ys : List ℕ). f x ∷ ys) (counts-suc f xs k n (omega (arith, h)) is)
-
-pub heard-more : {X : Type 0} (f : X → ℕ) (xs : List X) (k n : ℕ) → k < length xs → IfSome (slice_get xs k) (λ b. n ≡ f b)
-    → words_of_heard (map f (take (k + 1) xs)) ≡ words_of_heard (map f (take k xs)) ++ (codes " " ++ decimal n)
-heard-more {X} f xs k n h is =
-    let e : map f (take (k + 1) xs) ≡ map f (take k xs) ++ n ∷ [] = ap (λ (j : ℕ). map f (take j xs)) (add-one k) ∙ counts-suc f xs k n h is in
-    ap words_of_heard e ∙ sym (flat_map_more (λ (m : ℕ). codes " " ++ decimal m) (codes "heard") (map f (take k xs)) n)
-
-flat_map-append : {X A : Type 0} (f : X → List A) (xs ys : List X) → flat_map f (xs ++ ys) ≡ flat_map f xs ++ flat_map f ys
-flat_map-append f [] ys = refl
-flat_map-append {X} {A} f (x ∷ xs) ys = ap (λ (zs : List A). f x ++ zs) (flat_map-append f xs ys) ∙ sym (append_assoc (f x) (flat_map f xs) (flat_map f ys))
+use Rattle.std.proofs.lemmas.List.{map-append, take-append-drop, take_all}
+use Rattle.script_text.specs.Shown.{AreShown}
+use Rattle.script_text.proofs.ShownLemmas.{shown_more, flat_map-append}
+use Rattle.apei_script.specs.Words.{words_of_heard, reply_at}
 
 -- the words of all counts begin with those of the first
 pub heard-rest : {X : Type 0} (f : X → ℕ) (xs : List X) (k : ℕ)
@@ -82,6 +17,10 @@ heard-rest {X} f xs k =
     ∙ ap (λ (ys : List ℕ). codes "heard" ++ ys) (flat_map-append g (map f (take k xs)) (map f (drop k xs)))
     ∙ sym (append_assoc (codes "heard") (flat_map g (map f (take k xs))) (flat_map g (map f (drop k xs))))
 
-pub not_full : (n : ℕ) (full : Bool) → IsTrue full ↔ (131200 < n) → full ≡ false → n ≤ 131200
-not_full n true h is = absurd cc
-not_full n false h is = let none : 131200 < n → ⊥ = λ more. false≢true (h.1 more) in elim (cases_lt 131200 n) [ inl more ↦ absurd (none more) | inr few ↦ few ]
+-- the line of all counts
+pub heard_line : {X : Type 0} (f : X → ℕ) (told : Type 0) (members : List X) (written middle held reply : List ℕ) (k step : ℕ)
+    → AreShown told written middle held (words_of_heard (map f (take k members))) → length members ≤ k → reply ≡ reply_at step held
+    → AreShown told written middle reply (reply_at step (words_of_heard (map f members)))
+heard_line {X} f told members written middle held reply k step so few is =
+    shown_more told written middle held reply (words_of_heard (map f (take k members))) (reply_at step (words_of_heard (map f members))) (codes " @" ++ (decimal step ++ 10 ∷ [])) so is
+    (ap (λ (xs : List X). reply_at step (words_of_heard (map f xs))) (sym (take_all k members few)))

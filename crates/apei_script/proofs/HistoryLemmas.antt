@@ -1,22 +1,20 @@
 -- Lines one after another.
 use Rattle.std.proofs.Common.{◌≡◌, ℕ, ◌≤◌, Bool, true, false, ◌⊎◌, List, [], ◌∷◌, ◌++◌, length, Option, Some, None, refl, sym, ap, subst, ◌∙◌, arith, inl, inr}
-use Rattle.std.specs.Prelude.{nat_le, MatchBool}
-use Rattle.std.proofs.lemmas.Bool.{cases_lt, le-leb, lt-leb}
 use Rattle.flash_words.specs.Flash.{CrashImage, IsLater, image_at}
 use Rattle.flash_words.specs.Layout.{Layout}
 use Rattle.flash_words.proofs.CrashLemmas.{past_grows, image_at-later, image_at-now, CrashImage-earlier, CrashImage-now}
 use Rattle.record_model.specs.Records.{Stored}
-use Rattle.record_store.specs.Store.{DividesAlike, records_of as records_in}
 use Rattle.apei_space.specs.Accesses.{Move, Trail}
 use Rattle.erst_machine.specs.MachineState.{MachineState, IsMachine, told_of}
 use Rattle.erst_machine.specs.Events.{Event, Happens}
 use Rattle.erst_machine.specs.Shown.{changes_of, shown_by, made_by_event, GoesOn, IsShown}
-use Rattle.erst_machine.proofs.CrashTrail.{events_are_shown, happens_then}
+use Rattle.erst_machine.proofs.CrashTrail.{shown_alike, by_step, events_are_shown, happens_then}
 use Rattle.erst_machine.proofs.EventLemmas.{events_keep}
 use Rattle.erst_commands.specs.Attached.{own_client}
 use Rattle.erst_twins.specs.Alike.{FailedNothing}
 use Rattle.erst_twins.proofs.Dialogues.{quiet_first, quiet_second}
 use Rattle.bridge_durability.specs.Turns.{Step}
+use Rattle.bridge_durability.proofs.TrailLemmas.{own_client-same}
 use Rattle.bridge_durability.specs.Shown.{ShowsTurns}
 use Rattle.script_text.specs.ScriptGrammar.{Line}
 use Rattle.apei_script.specs.Words.{Reply}
@@ -33,17 +31,6 @@ faults_of state = state.device.store.flash.faults
 
 abbrev Moves : Type 0
 Moves = List (Move Event MachineState)
-
-shown_alike : (old new : MachineState) (image : List ℕ) → DividesAlike old.device.store new.device.store → shown_by new image ≡ shown_by old image
-shown_alike old new image alike = ap (λ (l : Layout). records_in l image) alike.layout
-
-on_true : (b : Bool) (P Q : Type 0) → b ≡ true → P → MatchBool b P Q
-on_true true P Q e p = p
-on_true false P Q e p = absurd (cc)
-
-on_false : (b : Bool) (P Q : Type 0) → b ≡ false → Q → MatchBool b P Q
-on_false true P Q e q = absurd (cc)
-on_false false P Q e q = q
 
 -- the client of a machine's second table depends on how the flash is divided alone
 shadow_client-kept : (old new : MachineState) → new.device.store.layout ≡ old.device.store.layout → shadow_client new ≡ shadow_client old
@@ -112,10 +99,6 @@ module _ (tells : Type 0) where
 
   -- each line
 
-  -- an own client depends on the layout alone
-  pub own_client-kept : (old new : MachineState) → new.device.store.layout ≡ old.device.store.layout → own_client new ≡ own_client old
-  own_client-kept old new same = ap (λ (l : Layout). own_client (record old { device = record old.device { store = record old.device.store { layout = l } } })) same
-
   pub history_uses_either : (wants : List (ℕ → Bool)) (counts : List ℕ) (first : PlayerState) (played : List Played) (last : PlayerState)
       → first.own ≡ own_client first.machine → GivenNoOther first → AreOwnLines played → Follows tells wants counts first played last → AlwaysUsesEither first played
   history_uses_either wants counts first [] last own given lines is = uses_either first own given
@@ -125,7 +108,7 @@ module _ (tells : Type 0) where
       let divides = line_divides tells counts first line.line line.said line.blocks line.steps line.left plays in (
         uses_either first own given,
         history_uses_either wants (heard_after wants line.blocks counts) line.left rest last
-            (stay.0 ∙ own ∙ sym (own_client-kept first.machine line.left.machine divides))
+            (stay.0 ∙ own ∙ sym (own_client-same first.machine line.left.machine divides))
             (no_other counts first line.line line.said line.blocks line.steps line.left plays lines.0 given) lines.1 is.1,
       )
 
@@ -223,14 +206,9 @@ module _ (tells : Type 0) where
         let more = (history_goes_on wants (heard_after wants line.blocks counts) line.left rest last is.1).1 in
         let shows = line_shows counts first line own given lines.0 is.0 in
         let stay = line_own tells counts first line.line line.said line.blocks line.steps line.left is.0.plays in
-        elim (cases_lt s (changes_of left)) [
-          | inl before ↦
-              on_false (nat_le (changes_of left) s) _ _ (lt-leb (changes_of left) s before)
-              (shows line.steps refl s image from (CrashImage-earlier (told_of left) (told_of last.machine) s image more.later before crash))
-          | inr after ↦
-              on_true (nat_le (changes_of left) s) _ _ (le-leb (changes_of left) s after)
-              (subst (λ (m : Stored). ShowsLines s line.left rest m) (shown_alike first.machine left image one.alike)
-              (history_shows wants (heard_after wants line.blocks counts) line.left rest last
-              (stay.0 ∙ own ∙ sym (own_client-kept first.machine left one.alike.layout))
-              (no_other counts first line.line line.said line.blocks line.steps line.left is.0.plays lines.0 given) lines.1 is.1 s image after crash))
-        ]
+        by_step (changes_of left) s _ _
+        (λ after. subst (λ (m : Stored). ShowsLines s line.left rest m) (shown_alike first.machine left image one.alike)
+        (history_shows wants (heard_after wants line.blocks counts) line.left rest last
+        (stay.0 ∙ own ∙ sym (own_client-same first.machine left one.alike.layout))
+        (no_other counts first line.line line.said line.blocks line.steps line.left is.0.plays lines.0 given) lines.1 is.1 s image after crash))
+        (λ before. shows line.steps refl s image from (CrashImage-earlier (told_of left) (told_of last.machine) s image more.later before crash))

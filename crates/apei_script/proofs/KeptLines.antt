@@ -36,7 +36,8 @@ use Rattle.apei_script.specs.History.{Played, heard_after, Follows, ShowsLine, S
 use Rattle.apei_script.specs.Spares.{Spares, SpareTurns, SpareLines, KeepsAll}
 use Rattle.apei_script.proofs.KeptTurns.{kept_turns, blocks_kept}
 use Rattle.apei_script.proofs.LineLemmas.{line_divides, line_own}
-use Rattle.apei_script.proofs.HistoryLemmas.{no_other, own_client-kept, uses_either}
+use Rattle.bridge_durability.proofs.TrailLemmas.{own_client-same}
+use Rattle.apei_script.proofs.HistoryLemmas.{no_other, uses_either}
 
 -- Commands of others
 
@@ -109,7 +110,7 @@ module _ (tells : Type 0) where
       → played.left.own ≡ own_client played.left.machine
   own_then counts old played line own =
       (line_own tells counts old played.line played.said played.blocks played.steps played.left line.plays).0 ∙ own
-      ∙ sym (own_client-kept tells old.machine played.left.machine (line_divides tells counts old played.line played.said played.blocks played.steps played.left line.plays))
+      ∙ sym (own_client-same old.machine played.left.machine (line_divides tells counts old played.line played.said played.blocks played.steps played.left line.plays))
 
   other_then : (counts : List ℕ) (old : PlayerState) (played : Played) → LinePlayed tells counts old played.line played.said played.blocks played.steps played.left → IsOwnLine played.line → GivenNoOther old
       → GivenNoOther played.left

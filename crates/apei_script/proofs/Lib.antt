@@ -15,7 +15,6 @@ pub mod LeavesLemmas
 pub mod ToldLemmas
 pub mod TakenLemmas
 pub mod TurnLemmas
-pub mod ResultLemmas
 pub mod HeardLemmas
 pub mod ListLemmas
 pub mod Lengths

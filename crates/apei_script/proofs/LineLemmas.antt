@@ -10,7 +10,7 @@ use Rattle.erst_machine.proofs.CrashTrail.{events_are_shown, happens_then, reach
 use Rattle.erst_machine.proofs.EventLemmas.{events_keep}
 use Rattle.erst_bridge.specs.Bridges.{BridgeState}
 use Rattle.bridge_durability.specs.Turns.{Step}
-use Rattle.bridge_durability.proofs.TrailLemmas.{turns_trail}
+use Rattle.bridge_durability.proofs.TrailLemmas.{HasTrail, no_moves, one_move, moves_then, turns_trail}
 use Rattle.script_text.specs.ScriptGrammar.{Line}
 use Rattle.apei_script.specs.Words.{Reply}
 use Rattle.apei_script.specs.Players.{PlayerState, budget_of}
@@ -20,64 +20,52 @@ use Rattle.apei_script.specs.Bridged.{ByBridge, Enters, StaysAs, BridgesTurns}
 use Rattle.apei_script.specs.Plays.{Plays, Blank, ByClient, GivenTable, OwnTable, GivenShadow, OnMachine, ByTheBridge, OnlyTells, Reset, Power, FailsRestart, ResetFails, PowerFails, HasHappened}
 use Rattle.apei_script.proofs.EventChanges.{along}
 
-abbrev Trails : Type 0 → MachineState → MachineState → Type 0
-Trails tells old new = (trail : List (Move Event MachineState)) × Trail (Happens tells) old trail new
-
 module _ (tells : Type 0) where
-  none : (old : MachineState) → Trails tells old old
-  none old = ([], refl)
-
-  one : (old : MachineState) (event : Event) (new : MachineState) → Happens tells old event new → Trails tells old new
-  one old event new happens = ((record { event = event; left = new }) ∷ [], (happens, refl))
-
-  more : (old mid new : MachineState) → Trails tells old mid → Trails tells mid new → Trails tells old new
-  more old mid new before behind = (before.0 ++ behind.0, happens_then tells old mid new before.0 behind.0 before.1 behind.1)
-
-  turned : (old : MachineState) (letters : List ℕ) (events : List TurnEvent) (blocks : List (List ℕ)) (new : MachineState) → Turned old letters events blocks new → Trails tells old new
-  turned old letters events blocks new turns = elim turns as (λ letters events blocks new turns. Trails tells old new) [
-    | NoTurn ↦ none old
-    | OneMore letters events blocks mid letter event new (before → trails) turns ↦ more old mid new trails (one mid (OneTurn (side_of letter) event) new turns)
+  turned : (old : MachineState) (letters : List ℕ) (events : List TurnEvent) (blocks : List (List ℕ)) (new : MachineState) → Turned old letters events blocks new → HasTrail tells old new
+  turned old letters events blocks new turns = elim turns as (λ letters events blocks new turns. HasTrail tells old new) [
+    | NoTurn ↦ no_moves tells old
+    | OneMore letters events blocks mid letter event new (before → trails) turns ↦ moves_then tells old mid new trails (one_move tells mid (OneTurn (side_of letter) event) new turns)
   ]
 
-  of_happened : (old : MachineState) (line : Line) (said blocks : List (List ℕ)) (new : MachineState) → Happened tells old line said blocks new → Trails tells old new
-  of_happened old line said blocks new happened = elim happened as (λ line said blocks new happened. Trails tells old new) [
-    | Once line event words new asks happens ↦ one old event new happens
+  of_happened : (old : MachineState) (line : Line) (said blocks : List (List ℕ)) (new : MachineState) → Happened tells old line said blocks new → HasTrail tells old new
+  of_happened old line said blocks new happened = elim happened as (λ line said blocks new happened. HasTrail tells old new) [
+    | Once line event words new asks happens ↦ one_move tells old event new happens
     | Turn letters events blocks new turns ↦ turned old letters events blocks new turns
-    | IsListed blocks left laid ↦ none old
+    | IsListed blocks left laid ↦ no_moves tells old
   ]
 
   of_table : (old : MachineState) (other : Option ClientState) (bytes words : List ℕ) (new : MachineState) (other_now : Option ClientState) →
-      GivesTable tells old other bytes words new other_now → Trails tells old new
-  of_table old other bytes words new other_now gives = elim gives as (λ words new other_now gives. Trails tells old new) [
-    | IsNoTable why refused ↦ none old
+      GivesTable tells old other bytes words new other_now → HasTrail tells old new
+  of_table old other bytes words new other_now gives = elim gives as (λ words new other_now gives. HasTrail tells old new) [
+    | IsNoTable why refused ↦ no_moves tells old
     | IsNotAttached erst why left new begins attaches reaches ↦ reached_happens tells old new reaches
     | IsAttached erst client left new begins attaches reaches ↦ reached_happens tells old new reaches
   ]
 
   of_bridge : (old : PlayerState) (line : Line) (said : List Reply) (blocks : List (List ℕ)) (steps : List Step) (next : BridgeState) (machine : MachineState)
-      → ByBridge tells old line said blocks steps next machine → Trails tells old.machine machine
-  of_bridge old line said blocks steps next machine by = elim by as (λ line said blocks steps next machine by. Trails tells old.machine machine) [
-    | Enters id none_refuses ↦ none old.machine
-    | StaysAs id why refuses ↦ none old.machine
+      → ByBridge tells old line said blocks steps next machine → HasTrail tells old.machine machine
+  of_bridge old line said blocks steps next machine by = elim by as (λ line said blocks steps next machine by. HasTrail tells old.machine machine) [
+    | Enters id none_refuses ↦ no_moves tells old.machine
+    | StaysAs id why refuses ↦ no_moves tells old.machine
     | BridgesTurns letters steps next machine on are sides counted ↦ turns_trail tells old.own (budget_of old) old.bridge old.machine steps next machine are
   ]
 
   -- every line
-  pub of_line : (counts : List ℕ) (old : PlayerState) (line : Line) (said : List Reply) (blocks : List (List ℕ)) (steps : List Step) (new : PlayerState) → Plays tells counts old line said blocks steps new → Trails tells old.machine new.machine
-  of_line counts old line said blocks steps new plays = elim plays as (λ line said blocks steps new plays. Trails tells old.machine new.machine) [
-    | Blank ↦ none old.machine
+  pub of_line : (counts : List ℕ) (old : PlayerState) (line : Line) (said : List Reply) (blocks : List (List ℕ)) (steps : List Step) (new : PlayerState) → Plays tells counts old line said blocks steps new → HasTrail tells old.machine new.machine
+  of_line counts old line said blocks steps new plays = elim plays as (λ line said blocks steps new plays. HasTrail tells old.machine new.machine) [
+    | Blank ↦ no_moves tells old.machine
     | ByClient line words machine commanded ↦ reached_happens tells old.machine machine commanded.reaches
     | GivenTable hex bytes words machine other decoded gives ↦ of_table old.machine old.other bytes words machine other gives
-    | OwnTable ↦ none old.machine
+    | OwnTable ↦ no_moves tells old.machine
     | GivenShadow machine gives ↦ reached_happens tells old.machine machine gives.reaches
     | OnMachine line said blocks machine alone happened ↦ of_happened old.machine line said blocks machine happened
     | ByTheBridge line said blocks steps next machine by ↦ of_bridge old line said blocks steps next machine by
-    | OnlyTells line words told ↦ none old.machine
-    | Reset n machine warms ↦ one old.machine (Warmed (Ok n)) machine warms
-    | Power n machine powers ↦ one old.machine (Powered (Ok n)) machine powers
+    | OnlyTells line words told ↦ no_moves tells old.machine
+    | Reset n machine warms ↦ one_move tells old.machine (Warmed (Ok n)) machine warms
+    | Power n machine powers ↦ one_move tells old.machine (Powered (Ok n)) machine powers
   ]
 
-  has_happened : (old new : MachineState) → Trails tells old new → HasHappened tells old new
+  has_happened : (old new : MachineState) → HasTrail tells old new → HasHappened tells old new
   has_happened old new trails =
       let takes = along tells old new trails.0 trails.1 in
       record { trail = trails.0; happens = trails.1; shown = λ told. events_are_shown tells told old new trails.0 trails.1; never_falls = takes.never_falls; exact = takes.exact }
@@ -89,8 +77,8 @@ module _ (tells : Type 0) where
   pub failed_restart : (old : MachineState) (line : Line) (new : MachineState) → FailsRestart tells old line new →
       HasHappened tells old new × Rose old.device.store.flash.faults new.device.store.flash.faults
   failed_restart old line new fails = elim fails as (λ line new fails. HasHappened tells old new × Rose old.device.store.flash.faults new.device.store.flash.faults) [
-    | ResetFails error new warms ↦ (has_happened old new (one old (Warmed (Err error)) new warms), warms.leaves.cause.1)
-    | PowerFails error new powers ↦ (has_happened old new (one old (Powered (Err error)) new powers), powers.restarts.leaves.cause.1)
+    | ResetFails error new warms ↦ (has_happened old new (one_move tells old (Warmed (Err error)) new warms), warms.leaves.cause.1)
+    | PowerFails error new powers ↦ (has_happened old new (one_move tells old (Powered (Err error)) new powers), powers.restarts.leaves.cause.1)
   ]
 
   -- the machine stays one, its flash divided as it was

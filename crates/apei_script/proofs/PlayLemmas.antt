@@ -17,7 +17,7 @@ use Rattle.apei_script.specs.Plays.{Plays, Blank, OnMachine, OnlyTells, LinePlay
 use Rattle.apei_script.specs.Desks.{state_of, SameClients, Lists, ListsUnheard, LineAnswered, MakesReply}
 use Rattle.apei_script.proofs.LineLemmas.{line_happened}
 use Rattle.apei_script.proofs.LeavesLemmas.{line_leaves}
-use Rattle.apei_script.proofs.ToldLemmas.{told_none}
+use Rattle.apei_notify.proofs.ToldLemmas.{told_none}
 
 -- a line that is no command on records
 pub quiet_with : (tells : Type 0) (counts : List ℕ) (old : PlayerState) (line : Line) (said : List Reply) (blocks : List (List ℕ)) (steps : List Step) (new : PlayerState) → names_command line ≡ false → Plays tells counts old line said blocks steps new

@@ -1,11 +1,11 @@
 -- The playing of one line. `tells` says whether the flash tells its content.
 use Rattle.std.specs.Prelude.{◌≡◌, ℕ, ◌+◌, ◌≤◌, Bool, true, false, List, [], ◌∷◌, ◌++◌, codes, decimal, length, take, Option, Some, None, Ok, Err}
-use Rattle.std.specs.List.{AllZip}
 use Rattle.hex.specs.Hex.{decode_of}
 use Rattle.base_model.specs.Faults.{Rose}
 use Rattle.apei_space.specs.Accesses.{Move, Trail}
 use Rattle.line_grammar.specs.declared.lengths.TheConstants.{LONGEST_LINE}
-use Rattle.apei_notify.specs.Telling.{IsToldOfAll, Hearing, counts_of}
+use Rattle.apei_notify.specs.Telling.{Hearing, counts_of}
+pub use Rattle.apei_notify.specs.Telling.{Told}
 use Rattle.ghes_ack.specs.declared.events.Event.{Event as TurnEvent}
 use Rattle.ghes_ack.specs.declared.events.Event.TheVariants.{Took}
 use Rattle.erst_entries.specs.Tables.{refusal as table_refusal}
@@ -173,10 +173,6 @@ Stops tells old line new SinkFault = ⊥
 Stops tells old line new FlashFault = (machine : MachineState) × FailsRestart tells old.machine line machine × HasHappened tells old.machine machine
     × Rose old.machine.device.store.flash.faults machine.device.store.flash.faults × (new ≡ with_machine machine old)
 Stops tells old line new Memory = (new ≡ old) × BringsTable line
-
--- the listeners, before and after they were told of some blocks, each in its place
-abbrev pub Told : {L : Type 0} → (L → Hearing) → List (List ℕ) → List L → List L → Type 0
-Told hearing blocks old new = AllZip (IsToldOfAll hearing blocks) old new
 
 -- a line was played, its listeners told, and its replies written
 pub record PlaysLine {L : Type 0} (hearing : L → Hearing) (tells told_sink : Type 0)

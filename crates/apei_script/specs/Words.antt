@@ -8,20 +8,16 @@ use Rattle.erst_interp.specs.declared.stops.RunStop.{RunStop}
 use Rattle.erst_client.specs.declared.errors.AttachError.{AttachError}
 use Rattle.erst_client.specs.declared.errors.ClientError.{ClientError}
 use Rattle.erst_entries.specs.declared.tables.ErstError.{ErstError}
-use Rattle.ghes_ack.specs.declared.events.Event.{Event}
-use Rattle.ghes_ack.specs.declared.events.Event.TheVariants.{Idle, Fill, Publish, Free, Wait, Nothing, Found, Copied, Took, Clear, Ack}
 use Rattle.ghes_ack.specs.declared.submission.SubmitError.{SubmitError}
 use Rattle.ghes_ack.specs.declared.submission.SubmitError.TheVariants.{Long as too_long, Malformed as malformed, Trailing as trailing}
 use Rattle.erst_machine.specs.declared.errors.FatalError.{FatalError}
 use Rattle.erst_machine.specs.declared.errors.FatalError.TheVariants.{Long, Malformed, Trailing, Region}
 use Rattle.script_text.specs.ClientWords.{words_of_attach, words_of_client}
+pub use Rattle.script_text.specs.ReplyWords.{refused, word_of, words_of_turns, words_of_heard}
 use Rattle.script_text.specs.RunWords.{words_of_fault, words_of_stop}
 use Rattle.script_text.specs.SubmitWords.{words_of_submit}
 use Rattle.script_text.specs.TableWords.{words_of_erst}
 use Rattle.erst_commands.specs.Writes.{id_of}
-
-abbrev pub refused : List ℕ → List ℕ
-refused words = codes "refused " ++ words
 
 -- a write shows the identifier and the length of the bytes of its line
 abbrev pub words_of_write : List ℕ → Result (Unit {0}) ClientError → List ℕ
@@ -72,23 +68,6 @@ abbrev pub words_of_submission : Result ℕ SubmitError → List ℕ
 words_of_submission (Ok n) = codes "queued " ++ decimal n
 words_of_submission (Err error) = refused (words_of_submit error)
 
--- the word of each turn's event
-abbrev pub word_of : Event → List ℕ
-word_of Idle = codes "idle"
-word_of Fill = codes "fill"
-word_of Publish = codes "publish"
-word_of Free = codes "free"
-word_of Wait = codes "wait"
-word_of Nothing = codes "nothing"
-word_of Found = codes "found"
-word_of Copied = codes "copy"
-word_of Took = codes "took"
-word_of Clear = codes "clear"
-word_of Ack = codes "ack"
-
-abbrev pub words_of_turns : List Event → List ℕ
-words_of_turns events = codes "turns" ++ flat_map (λ (event : Event). codes " " ++ word_of event) events
-
 -- an error status block: its severity (ACPI 6.4, table 18.11), its length and its bytes
 abbrev pub words_of_block : List ℕ → List ℕ
 words_of_block block = codes "block " ++ decimal (number_at block 16 4) ++ codes " " ++ decimal (length block) ++ codes " " ++ encode_lower block
@@ -112,10 +91,6 @@ words_of_laid (Err error) = refused (words_of_fatal error)
 -- how many blocks stand in the boot error region
 abbrev pub words_of_bert : ℕ → List ℕ
 words_of_bert n = codes "bert " ++ decimal n
-
--- how often each listener has heard of an error, in their order
-abbrev pub words_of_heard : List ℕ → List ℕ
-words_of_heard counts = codes "heard" ++ flat_map (λ (n : ℕ). codes " " ++ decimal n) counts
 
 -- how many records there are after a restart
 abbrev pub words_of_reset : ℕ → List ℕ

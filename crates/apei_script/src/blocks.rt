@@ -3,18 +3,17 @@ ghost use Rattle.std.specs.Prelude.{◌≡◌, ◌≤◌, ℕ, List, [], ◌∷�
 ghost use Rattle.line_grammar.specs.declared.lengths.TheConstants.{LONGEST_LINE};
 ghost use Rattle.line_grammar.specs.Parts.{IsPairs};
 ghost use Rattle.script_text.specs.ScriptGrammar.{error, peek, fatal};
-ghost use Rattle.apei_script.specs.Words.{word_of};
 ghost use Rattle.apei_script.specs.Replies.{IsMade};
 ghost use Rattle.apei_script.specs.Happened.{Happened, side_of};
 ghost use Rattle.apei_script.specs.Desks.{state_of, MakesReply};
 
 use crate::desk::Desk;
 use crate::refusals::{refuse, refuse_fatal};
-use crate::reply::Reply;
 use apei_space::Space;
 use erst_machine::Machine;
 use flash_model::Flash;
-use ghes_ack::{Event, Side};
+use ghes_ack::Side;
+use script_text::Reply;
 
 impl<F: Flash> Desk<F> {
     /// Gives an error status block to the handover.
@@ -95,25 +94,5 @@ pub fn side_of(letter: u8) -> Side
         Side::Firmware
     } else {
         Side::Reader
-    }
-}
-
-/// The word of an event.
-pub fn word_of(event: Event) -> &'static [u8]
-    ensures word { result.now ≡ word_of event }
-    ensures short { length result.now ≤ 7 }
-{
-    match event {
-        Event::Idle => b"idle",
-        Event::Fill => b"fill",
-        Event::Publish => b"publish",
-        Event::Free => b"free",
-        Event::Wait => b"wait",
-        Event::Nothing => b"nothing",
-        Event::Found => b"found",
-        Event::Copied => b"copy",
-        Event::Took => b"took",
-        Event::Clear => b"clear",
-        Event::Ack => b"ack",
     }
 }

@@ -14,10 +14,10 @@ ghost use Rattle.apei_script.specs.Bridged.{HasTaken, words_of_turn, words_of_ma
 ghost use Rattle.apei_script.specs.Desks.{state_of, SameClients, MakesReply};
 ghost use Rattle.apei_script.specs.Played.{AreBridged, AreBridgedUnheard};
 
-use crate::blocks::{side_of, word_of};
+use crate::blocks::side_of;
 use crate::desk::Desk;
 use crate::events::hear_of_block;
-use crate::reply::Reply;
+use crate::reply::end_line;
 use apei_bytes::{Sink, SinkFault, write_all};
 use apei_notify::{Chain, Listener};
 use bridge_turns::{MadeTurn, SideTurn, turn_side};
@@ -29,7 +29,7 @@ use erst_machine::Machine;
 use flash_model::Flash;
 use ghes_ack::{Event, Station, a_taken_block_fits};
 use line_text::LineText;
-use script_text::Refusal;
+use script_text::{Refusal, Reply, word_of};
 
 impl<F: Flash> Desk<F> {
     /// Turns the bridge on, where it is off and the reader idle: the first block that is stored gets this identifier.
@@ -145,14 +145,11 @@ fn say_made<O: Sink>(
 {
     reply.begin(b"turns");
     'saying: for turn in made {
-        if !reply.has_room() {
-            write_all(out, reply.text())?;
-            reply.begin(b"");
-        }
+        reply.make_room(out)?;
         reply.add(b" ");
         say_turn(turn, reply);
     }
-    reply.end(step);
+    end_line(reply, step);
     write_all(out, reply.text())
 }
 

@@ -4,12 +4,11 @@ ghost use Rattle.hex.specs.Hex.{decode_of};
 ghost use Rattle.line_grammar.specs.declared.lengths.TheConstants.{LONGEST_LINE, LONGEST_BYTES};
 ghost use Rattle.line_grammar.specs.Parts.{IsPairs};
 
-use crate::reply::Reply;
 use apei_bytes::Memory;
 use bridge_turns::MadeTurn;
 use ghes_ack::Event;
 use line_grammar::LONGEST_BYTES;
-use script_text::decode;
+use script_text::{Reply, decode};
 use std::alloc::Global;
 
 /// The most turns of a line.

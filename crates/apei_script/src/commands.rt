@@ -13,14 +13,14 @@ ghost use Rattle.apei_script.specs.Desks.{state_of, MakesReply};
 
 use crate::desk::Desk;
 use crate::refusals::{refuse, refuse_behind};
-use crate::reply::Reply;
+use crate::reply::put_record;
 use apei_bytes::get_u64;
 use cper_frame::ID_AT;
 use erst_client::Client;
 use erst_interp::{Budget, run};
 use erst_machine::Machine;
 use flash_model::Flash;
-use script_text::{ScriptLine, decode};
+use script_text::{Reply, ScriptLine, decode};
 
 /// The bytes of the longest record that is read.
 const READ_BUFFER: usize = 65_536;
@@ -135,7 +135,7 @@ fn read_record<F: Flash>(
     let out = &mut bytes[..READ_BUFFER];
     let mut budget = Budget::new(steps);
     match client.read(id, out, &mut budget, machine) {
-        Ok(len) => reply.record(&out[..len]),
+        Ok(len) => put_record(reply, &out[..len]),
         Err(error) => refuse(reply, &error),
     }
 }

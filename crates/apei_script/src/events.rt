@@ -12,15 +12,16 @@ ghost use Rattle.apei_script.specs.Plays.{changes_in};
 ghost use Rattle.apei_script.specs.Desks.{state_of, SameClients, Lists, ListsUnheard};
 ghost use Rattle.apei_script.specs.Played.{AreTold, heard_by, AreTurned, AreTurnedUnheard};
 
-use crate::blocks::{side_of, word_of};
+use crate::blocks::side_of;
 use crate::desk::Desk;
-use crate::reply::Reply;
+use crate::reply::{end_line, put_block};
 use apei_bytes::{Sink, SinkFault, get_u32, write_all};
 use apei_notify::{Chain, Listener};
 use apei_space::Space;
 use erst_machine::Machine;
 use flash_model::Flash;
 use ghes_ack::{Event, a_taken_block_fits};
+use script_text::{Reply, word_of};
 
 /// Turns of both sides, one for each letter. The listeners are told of each block when it is taken, and its line is written right after;
 /// where the sink refuses that, no further turn is made.
@@ -48,7 +49,7 @@ pub fn turns<F: Flash, O: Sink>(
     let step = desk.machine.steps();
     let reply = &mut desk.buffers.reply;
     say_turns(&desk.buffers.events, reply);
-    reply.end(step);
+    end_line(reply, step);
     write_all(out, reply.text())
 }
 
@@ -86,8 +87,8 @@ pub fn hear_of_block<F: Flash, O: Sink>(
     let block = desk.machine.taken();
     chain.tell(get_u32(block, SEVERITY), block);
     let reply = &mut desk.buffers.reply;
-    reply.block(block);
-    reply.end(step);
+    put_block(reply, block);
+    end_line(reply, step);
     write_all(out, reply.text())
 }
 
@@ -165,7 +166,7 @@ fn show_block<F: Flash, O: Sink>(
         &mut desk.buffers.bytes,
         &mut desk.buffers.reply,
     );
-    desk.buffers.reply.end(step);
+    end_line(&mut desk.buffers.reply, step);
     write_all(out, desk.buffers.reply.text())
 }
 
@@ -186,7 +187,7 @@ fn make_block<F: Flash>(
 {
     let block = &mut bytes[..(next - at) as usize];
     region_bytes(machine, at, block);
-    reply.block(block);
+    put_block(reply, block);
 }
 
 /// The bytes from a place of the boot error region on.
@@ -213,7 +214,7 @@ fn end_list<F: Flash, O: Sink>(desk: &mut Desk<F>, count: u64, out: &mut O) -> R
     let reply = &mut desk.buffers.reply;
     reply.begin(b"bert ");
     reply.add_number(count);
-    reply.end(step);
+    end_line(reply, step);
     write_all(out, reply.text())
 }
 
@@ -234,13 +235,10 @@ pub fn say_heard<F: Flash, O: Sink>(
     let reply = &mut desk.buffers.reply;
     reply.begin(b"heard");
     'hearing: for at in 0..chain.len() {
-        if reply.is_full() {
-            write_all(out, reply.text())?;
-            reply.begin(b"");
-        }
+        reply.make_room(out)?;
         reply.add(b" ");
         reply.add_number(chain.heard(at));
     }
-    reply.end(step);
+    end_line(reply, step);
     write_all(out, reply.text())
 }

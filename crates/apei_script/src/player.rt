@@ -18,6 +18,7 @@ use crate::buffers::Buffers;
 use crate::desk::Desk;
 use crate::events::{list_blocks, say_heard, turns};
 use crate::laws::a_line_is_the_maps;
+use crate::reply::end_line;
 use apei_bytes::{Memory, Sink, SinkFault, write_all};
 use apei_notify::{Chain, Listener};
 use erst_bridge::Bridge;
@@ -150,7 +151,7 @@ impl<F: Flash> Player<F> {
         a_line_is_the_maps::<F>();
         self.desk.machine.stands();
         self.desk.carry_out(line)?;
-        self.desk.buffers.reply.end(self.desk.machine.steps());
+        end_line(&mut self.desk.buffers.reply, self.desk.machine.steps());
         Ok(())
     }
 

@@ -3,12 +3,11 @@ ghost use Rattle.std.specs.Prelude.{◌≡◌, ◌≤◌, ◌++◌, length};
 ghost use Rattle.apei_script.specs.Words.{refused, words_of_fatal};
 ghost use Rattle.apei_script.specs.Replies.{IsMade};
 
-use crate::reply::Reply;
 use bert_region::RegionFull;
 use erst_machine::FatalError;
 use ghes_ack::SubmitError;
 use line_text::LineText;
-use script_text::Refusal;
+use script_text::{Refusal, Reply};
 
 /// Makes it the words of a refusal.
 pub fn refuse<R: Refusal>(reply: &mut Reply, why: &R)

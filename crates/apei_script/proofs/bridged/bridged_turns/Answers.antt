@@ -5,7 +5,7 @@ use Rattle.bridge_turns.specs.Made.{turn_of}
 use Rattle.apei_script.specs.Bridged.{words_of_made}
 use Rattle.apei_script.specs.Words.{reply_at}
 use Rattle.apei_script.specs.Desks.{state_of, SameClients}
-use Rattle.apei_script.proofs.ResultLemmas.{on_err, has_cause, same_cause}
+use Rattle.base_model.proofs.FaultLemmas.{on_err, has_cause, same_cause}
 use Rattle.apei_script.proofs.BridgeLemmas.{no_step, bridged_quiet, bridged_took, turns_all, turns_unheard, turns_cut, not_taken, same_turn, so_at, played_by, unheard_by}
 use Rattle.apei_script.proofs.bridged.bridged_turns.Goals as goal
 use Rattle.apei_script.proofs.bridged.bridged_turns.Goals.{then-taken+in_ok-hear_of_block, else-taken}
