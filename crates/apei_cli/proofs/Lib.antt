@@ -3,4 +3,4 @@ pub mod RunLemmas
 pub mod WholeLemmas
 pub mod CompleteLemmas
 pub mod JobLemmas
-pub mod HubLemmas
+pub mod EndLemmas

@@ -1,7 +1,7 @@
 -- Laws of a run over the lines of a script.
-use Rattle.std.proofs.Common.{◌≡◌, ℕ, ◌+◌, Bool, true, false, List, [], ◌∷◌, ◌++◌, refl, sym, ap, subst, ◌∙◌, append_assoc}
+use Rattle.std.proofs.Common.{◌≡◌, ℕ, ◌+◌, Bool, false, List, [], ◌∷◌, ◌++◌, refl, sym, ap, subst, ◌∙◌, append_assoc}
 use Rattle.std.proofs.lemmas.List.{append-nil}
-use Rattle.std.specs.Prelude.{MatchBool, ◌↔◌}
+use Rattle.std.specs.Prelude.{◌↔◌}
 use Rattle.base_model.specs.Faults.{Rose}
 use Rattle.line_grammar.specs.Columns.{BreaksAt}
 use Rattle.erst_machine.specs.MachineState.{MachineState}
@@ -16,23 +16,18 @@ use Rattle.apei_script.specs.Words.{Reply, text_of_replies}
 use Rattle.apei_script.specs.Plays.{LinePlayed, HasHappened, FailsRestart, PartlyWritten, PlaysLine, PlaysUnheard, Stops, Told, step_of}
 use Rattle.erst_machine.specs.Shown.{changes_of}
 use Rattle.apei_script.specs.History.{Played, Follows, AreCounted, blocks_of, reply_of, text_of, heard_after}
+use Rattle.script_lines.specs.Ends.{EndsReading}
+use Rattle.script_lines.specs.declared.ending.ScriptEnd.{ScriptEnd}
+use Rattle.script_lines.specs.declared.ending.ScriptEnd.TheVariants as ending
 use Rattle.script_lines.specs.Lines.{Line, Reading, IsNextLine, IsAtEnd, NextIsTooLong, HasNoLine}
 use Rattle.script_lines.specs.Reads.{HasRead, StandsAt, AreReadInOrder, last_line}
 use Rattle.apei_cli.specs.Played.{CanPlay, ArePlayed}
-use Rattle.apei_cli.specs.Statuses.{StopsAt, EndsLines, LeavesLast}
+use Rattle.apei_cli.specs.Statuses.{StopsAt, EndsLines, LeavesLast, status_of}
 use Rattle.apei_cli.specs.Runs.{PlaysScript}
 use Rattle.apei_cli.specs.declared.status.Status.{Status}
 use Rattle.apei_cli.specs.declared.status.Status.TheVariants.{Done, BadWords, BadLine, SourceFault, SinkFault, FlashFault, BadGeometry, TooLong, Memory}
-use Rattle.apei_cli.proofs.ToldLemmas.{WantsOf, wants_first, wants_stay, none_told, all_told_then, heard_all}
-
--- which of two cases it is
-pub on_true : (b : Bool) (P Q : Type 0) → b ≡ true → MatchBool b P Q → P
-on_true true P Q e p = p
-on_true false P Q e p = absurd (cc e)
-
-pub on_false : (b : Bool) (P Q : Type 0) → b ≡ false → MatchBool b P Q → Q
-on_false true P Q e q = absurd (cc e)
-on_false false P Q e q = q
+use Rattle.apei_notify.proofs.ToldLemmas.{told_none, told_then}
+use Rattle.apei_cli.proofs.ToldLemmas.{WantsOf, wants_first, wants_stay, heard_all}
 
 -- the line that was read can be played
 pub playable : (tells : Type 0) (a b : Reading) (rest rest_now text : List ℕ) (line : ScriptLine) → IsNextLine tells a b rest rest_now → text ≡ b.line → Means text line
@@ -103,7 +98,7 @@ module _ {L : Type 0} (hearing : L → Hearing) (told_source told_sink tells : T
         history = refl;
         counts = refl;
         wants = wants_first hearing listeners;
-        told = none_told hearing listeners;
+        told = told_none hearing listeners;
         text = λ told. sym (append-nil written);
         counted = λ told. tt;
       })
@@ -130,7 +125,7 @@ module _ {L : Type 0} (hearing : L → Hearing) (told_source told_sink tells : T
     told_now : Told hearing (blocks_of (so_far.played ++ played_as line said blocks steps new ∷ [])) first members_now
     told_now =
         subst (λ (bs : List (List ℕ)). Told hearing bs first members_now) (sym (blocks_of-push so_far.played (played_as line said blocks steps new)))
-        (all_told_then hearing (blocks_of so_far.played) blocks first members members_now so_far.told told)
+        (told_then hearing (blocks_of so_far.played) blocks first members members_now so_far.told told)
 
     counts_now : counts_of hearing members_now ≡ counts_after (wants_of hearing first) (so_far.played ++ played_as line said blocks steps new ∷ []) (counts_of hearing first)
     counts_now =
@@ -176,11 +171,11 @@ module _ {L : Type 0} (hearing : L → Hearing) (told_source told_sink tells : T
     fault = λ e. absurd (other e);
   }
 
-  -- the script was read to its end
-  pub ends_done : (script rest rest_now written now : List ℕ) (first members : List L) (old new : PlayerState) (a b : Reading)
-      → IsAtEnd told_source a b rest rest_now → SoFar hearing told_source told_sink tells script rest written now first members old new a
-      → PlaysScript hearing told_source told_sink tells script rest_now written now first members old new Done
-  ends_done script rest rest_now written now first members old new a b end so_far =
+  -- there is no next line
+  pub ends_none : (script rest rest_now written now : List ℕ) (first members : List L) (old new : PlayerState) (a b : Reading) (ending : ScriptEnd)
+      → EndsReading told_source a b rest rest_now ending → SoFar hearing told_source told_sink tells script rest written now first members old new a
+      → PlaysScript hearing told_source told_sink tells script rest_now written now first members old new (status_of ending)
+  ends_none script rest rest_now written now first members old new a b ending.Done end so_far =
       as_so_far script rest rest_now written now now first members old new a Done so_far (
         λ told.
             let all = order.at_end script rest rest_now so_far.lines a b so_far.read end told in
@@ -188,36 +183,25 @@ module _ {L : Type 0} (hearing : L → Hearing) (told_source told_sink tells : T
         so_far.text,
       )
       refl (λ e. absurd (cc e))
-
-  -- the source failed
-  pub ends_fault : (script rest rest_now written now : List ℕ) (first members : List L) (old new : PlayerState) (a b : Reading)
-      → HasNoLine told_source a b rest rest_now → SoFar hearing told_source told_sink tells script rest written now first members old new a
-      → PlaysScript hearing told_source told_sink tells script rest_now written now first members old new SourceFault
-  ends_fault script rest rest_now written now first members old new a b failed so_far =
+  ends_none script rest rest_now written now first members old new a b (ending.BadLine number column) end so_far = absurd end
+  ends_none script rest rest_now written now first members old new a b ending.SourceFault end so_far =
       as_so_far script rest rest_now written now now first members old new a SourceFault so_far
-      ((λ told. record { lines = so_far.lines; taken = order.failed script rest rest_now so_far.lines a b so_far.read failed told; are = so_far.are }), so_far.text)
+      ((λ told. record { lines = so_far.lines; taken = order.failed script rest rest_now so_far.lines a b so_far.read end told; are = so_far.are }), so_far.text)
       refl (λ e. absurd (cc e))
-
-  -- the next line is too long
-  pub ends_too_long : (script rest rest_now written now : List ℕ) (first members : List L) (old new : PlayerState) (a b : Reading) (number : ℕ)
-      → NextIsTooLong told_source a b rest → number ≡ b.number → SoFar hearing told_source told_sink tells script rest written now first members old new a
-      → PlaysScript hearing told_source told_sink tells script rest_now written now first members old new (TooLong (number + 1))
-  ends_too_long script rest rest_now written now first members old new a b number next is so_far =
-      as_so_far script rest rest_now written now now first members old new a (TooLong (number + 1)) so_far (
+  ends_none script rest rest_now written now first members old new a b ending.SinkFault end so_far = absurd end
+  ends_none script rest rest_now written now first members old new a b (ending.TooLong number) (is, long) so_far =
+      as_so_far script rest rest_now written now now first members old new a (TooLong number) so_far (
         λ told.
-            let ahead = order.too_long script rest so_far.lines a b so_far.read next told in
+            let ahead = order.too_long script rest so_far.lines a b so_far.read long told in
             record {
               line = ahead.0;
-              stops = record {
-                before = so_far.lines;
-                stands = subst (λ (n : ℕ). StandsAt script so_far.lines n ahead.0) (ap (λ (n : ℕ). n + 1) (sym is)) ahead.1;
-                are = so_far.are;
-              };
+              stops = record { before = so_far.lines; stands = subst (λ (n : ℕ). StandsAt script so_far.lines n ahead.0) (sym is) ahead.1; are = so_far.are };
               too_long = ahead.2;
             },
         so_far.text,
       )
       refl (λ e. absurd (cc e))
+  ends_none script rest rest_now written now first members old new a b ending.Memory end so_far = absurd end
 
   -- the line that was read is none
   pub ends_bad : (script rest rest_now written now : List ℕ) (first members : List L) (old new : PlayerState) (a b : Reading) (number column : ℕ)

@@ -6,11 +6,22 @@ use Rattle.script_text.specs.ScriptGrammar.{Line as ScriptLine, IsLine}
 use Rattle.apei_script.specs.Words.{Reply}
 use Rattle.apei_script.specs.Plays.{LeftIn, FailsRestart, BringsTable, PartlyWritten}
 use Rattle.apei_script.specs.History.{Played, text_of}
+use Rattle.script_lines.specs.declared.ending.ScriptEnd.{ScriptEnd}
+use Rattle.script_lines.specs.declared.ending.ScriptEnd.TheVariants as ending
 use Rattle.script_lines.specs.Lines.{Line, lines_of, IsTooLong}
 use Rattle.script_lines.specs.Reads.{StandsAt, AreTaken}
 use Rattle.apei_cli.specs.Played.{CanPlay, ArePlayed}
 use Rattle.apei_cli.specs.declared.status.Status.{Status}
 use Rattle.apei_cli.specs.declared.status.Status.TheVariants.{Done, BadWords, BadLine, SourceFault, SinkFault, FlashFault, BadGeometry, TooLong, Memory}
+
+-- the status of a script that ended
+abbrev pub status_of : ScriptEnd → Status
+status_of ending.Done = Done
+status_of (ending.BadLine line column) = BadLine line column
+status_of ending.SourceFault = SourceFault
+status_of ending.SinkFault = SinkFault
+status_of (ending.TooLong line) = TooLong line
+status_of ending.Memory = Memory
 
 -- the lines before one of the script were played, and what that line is
 pub record StopsAt (script : List ℕ) (played : List Played) (number : ℕ) (line : Line) : Type 0 where

@@ -6,28 +6,14 @@ ghost use Rattle.script_lines.specs.Lines.{lines_of};
 ghost use Rattle.hub_script.specs.History.{AreInGrammar};
 ghost use Rattle.apei_cli.specs.Runs.{fault_of};
 ghost use Rattle.apei_cli.specs.Jobs.{MayEndCheck};
-ghost use Rattle.apei_cli.specs.HubRuns.{hub_status, IsHubRun};
+ghost use Rattle.apei_cli.specs.HubRuns.{IsHubRun};
 
-use crate::status::Status;
+use crate::status::{Status, status_of};
 use apei_bytes::{Sink, Source};
 use apei_notify::Listener;
 use flash_model::Flash;
-use hub_script::{HubEnd, serve_script};
+use hub_script::serve_script;
 use std::alloc::Global;
-
-/// The status of an end of such a script.
-fn hub_status(end: HubEnd) -> Status
-    ensures { result ≡ hub_status end }
-{
-    match end {
-        HubEnd::Done => Status::Done,
-        HubEnd::BadLine { line, column } => Status::BadLine { line, column },
-        HubEnd::SourceFault => Status::SourceFault,
-        HubEnd::SinkFault => Status::SinkFault,
-        HubEnd::TooLong { line } => Status::TooLong { line },
-        HubEnd::Memory => Status::Memory,
-    }
-}
 
 /// Plays a script on the error sources of a table. No call of the flash is made.
 pub fn run_hub<I: Source, O: Sink, F: Flash>(
@@ -48,5 +34,5 @@ pub fn run_hub<I: Source, O: Sink, F: Flash>(
         → (Rose (O.faults out.old) (O.faults out.new) → ⊥) → (result.0 ≡ Status.Done) ⊎ (result.0 ≡ Status.Memory) }
 {
     let (end, listeners) = serve_script(alloc, listeners, script, out);
-    (hub_status(end), flash, listeners)
+    (status_of(end), flash, listeners)
 }

@@ -1,6 +1,8 @@
 // How a run of the program ends.
 ghost use Rattle.std.specs.Prelude.{◌≡◌};
+ghost use Rattle.apei_cli.specs.Statuses.{status_of};
 
+use script_lines::ScriptEnd;
 use std::fmt;
 
 /// How a run ends.
@@ -81,5 +83,19 @@ impl fmt::Display for Status {
             Status::TooLong { line } => write!(f, "apei: line {line} too long"),
             Status::Memory => write!(f, "apei: out of memory"),
         }
+    }
+}
+
+/// The status of a script that ended.
+pub fn status_of(end: ScriptEnd) -> Status
+    ensures { result ≡ status_of end }
+{
+    match end {
+        ScriptEnd::Done => Status::Done,
+        ScriptEnd::BadLine { line, column } => Status::BadLine { line, column },
+        ScriptEnd::SourceFault => Status::SourceFault,
+        ScriptEnd::SinkFault => Status::SinkFault,
+        ScriptEnd::TooLong { line } => Status::TooLong { line },
+        ScriptEnd::Memory => Status::Memory,
     }
 }

@@ -1,7 +1,7 @@
 -- A record that is read part by part.
 use Rattle.std.proofs.Common.{◌≡◌, ℕ, zero, suc, ◌+◌, ◌-◌, ◌<◌, ◌≤◌, List, [], ◌∷◌, ◌++◌, length, take, get_or, Some, refl, sym, ap, subst, ◌∙◌, arith}
 use Rattle.std.specs.FinMap.{get}
-use Rattle.std.proofs.lemmas.List.{length-take, take_all}
+use Rattle.std.proofs.lemmas.List.{length-take, take_all, take_more}
 use Rattle.record_model.specs.Records.{Head, Slot, Entry, slot_at, entry_at, record_of, further_of, parts_of, part_len, parts_joined, stored_in, selected}
 use Rattle.record_model.proofs.ChosenLemmas.{get-chosen}
 use Rattle.record_model.proofs.FirstLemmas.{is_first-chosen}
@@ -27,14 +27,6 @@ slot_is : (room k : ℕ) (head : Head) (number : ℕ) → number < parts_of room
 slot_is room k head zero h = refl
 slot_is room k head (suc n) h = get_take head.next (parts_of room head.len - 1) n (omega arith)
 
-take_more : (xs : List ℕ) (n : ℕ) → n < length xs → take (n + 1) xs ≡ take n xs ++ get_or xs n 0 ∷ []
-take_more xs n h = let next : n + 1 ≡ suc n = omega arith in ap (λ (m : ℕ). take m xs) next ∙ push xs n h
-  where
-    push : (ys : List ℕ) (m : ℕ) → m < length ys → take (suc m) ys ≡ take m ys ++ get_or ys m 0 ∷ []
-    push [] m l = absurd (omega arith)
-    push (y ∷ ys) zero l = refl
-    push (y ∷ ys) (suc m) l = ap (λ (zs : List ℕ). y ∷ zs) (push ys m (omega arith))
-
 -- the parts in the first slots and in one more
 pub joined_more : (room k : ℕ) (head : Head) (slot : ℕ → Slot) (number : ℕ) → length head.next ≡ 3 → parts_of room head.len ≤ 4 → number < parts_of room head.len
     → parts_joined room head.len slot 0 (take (number + 1) (k ∷ take (parts_of room head.len - 1) head.next))
@@ -44,7 +36,7 @@ joined_more room k head slot number three few h =
     let all : length slots ≡ parts_of room head.len = let t = length-take (parts_of room head.len - 1) head.next in omega arith in
     let front = length-take number slots in
     let long : 0 + length (take number slots) ≡ number = omega arith in
-    ap (parts_joined room head.len slot 0) (take_more slots number (omega arith))
+    ap (parts_joined room head.len slot 0) (take_more slots number 0 (omega arith))
     ∙ parts_joined-push room head.len slot 0 (take number slots) (get_or slots number 0)
     ∙ ap (λ (m : ℕ). parts_joined room head.len slot 0 (take number slots) ++ take (part_len room head.len m) (slot (get_or slots number 0)).body) long
     ∙ ap (λ (m : ℕ). parts_joined room head.len slot 0 (take number slots) ++ take (part_len room head.len number) (slot m).body) (slot_is room k head number h)

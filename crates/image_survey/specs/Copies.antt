@@ -6,8 +6,8 @@ use Rattle.base_model.specs.Faults.{Rose}
 use Rattle.flash_model.specs.declared.geometry.Geometry.{Geometry}
 use Rattle.flash_words.specs.Flash.{FlashState, StaysLit, next_count}
 use Rattle.record_slots.specs.Slots.{Fits}
-use Rattle.image_survey.specs.declared.flash.ImageError.{ImageError}
-use Rattle.image_survey.specs.declared.flash.ImageError.TheVariants.{Size, Flash, Memory}
+use Rattle.record_recovery.specs.declared.scanning.ScanError.{ScanError}
+use Rattle.record_recovery.specs.declared.scanning.ScanError.TheVariants.{Size, Flash, Memory}
 
 -- no change was made and none was asked for: the content, the size, the count of changes and the power are as before
 pub record LeavesAlone (tells : Type 0) (old new : FlashState) : Type 0 where
@@ -20,7 +20,7 @@ pub record LeavesAlone (tells : Type 0) (old new : FlashState) : Type 0 where
 
 -- another size is answered exactly where the flash has one, and a fault only where the count of faults rose, by one. Bytes and a
 -- fault come of one read, and the other answers of none
-abbrev pub IsAnswer : Geometry → FlashState → FlashState → Result (Vec ℕ Global) ImageError → Type 0
+abbrev pub IsAnswer : Geometry → FlashState → FlashState → Result (Vec ℕ Global) ScanError → Type 0
 IsAnswer geometry old new (Ok image) = Fits geometry old × (new.faults ≡ old.faults) × (new.reads ≡ next_count old.reads)
 IsAnswer geometry old new (Err (Size found sector)) =
     (Fits geometry old → ⊥) × (found ≡ old.size) × (sector ≡ old.sector_size) × (new ≡ old)

@@ -14,9 +14,9 @@ mod survey;
 mod totals;
 
 pub use finding::find;
-pub use flash::{ImageError, read_image};
+pub use flash::read_image;
 pub use kinds::SlotKind;
 pub use reading::record_at;
-pub use record_recovery::Look;
+pub use record_recovery::{Look, ScanError};
 pub use survey::{SlotView, survey_slots};
 pub use totals::{Totals, count_slots};
