@@ -16,7 +16,7 @@ loop-at-init c = decode_start c.args.hex.now c.args.out.now
 pub loop-at-preserved : goal.loop-at-preserved
 loop-at-preserved c =
     let byte = byte_of (get_or c.args.hex.now (2 * c.loop-at.at) 0) (get_or c.args.hex.now (2 * c.loop-at.at + 1) 0) c.value_of.result c.value_of-in-loop-at.result (2 * c.loop-at.at)
-        c.value_of.ensures.value c.value_of-in-loop-at.ensures.value in
+    c.value_of.ensures.value c.value_of-in-loop-at.ensures.value in
     decode_step c.args.hex.now c.loop-at.out c.loop-at.at (c.value_of.result * 16 + c.value_of-in-loop-at.result) (omega arith) (omega arith) byte c.loop-at.invariant
 
 pub returns-clause-bytes : goal.returns-clause-bytes
