@@ -28,7 +28,12 @@ fn add_stored(
     slot: u32,
     head: &Head,
 ) -> Result<(), AllocError> {
-    let Head { id, generation, len, .. } = *head;
+    let Head {
+        id,
+        generation,
+        len,
+        ..
+    } = *head;
     write!(
         out,
         "\nrecord {id} generation {generation} bytes {len} slots {slot}"
