@@ -33,7 +33,13 @@ fn value_register() -> Gas
 }
 
 /// An entry of an action that replaces the whole register.
-pub fn entry_of(action: Action, instruction: Instruction, region: Gas, value: u64, mask: u64) -> Entry
+pub fn entry_of(
+    action: Action,
+    instruction: Instruction,
+    region: Gas,
+    value: u64,
+    mask: u64,
+) -> Entry
     ensures { (code : ℕ) → instruction_of code ≡ Some instruction → result ≡ entry_of action code region value mask }
 {
     Entry {

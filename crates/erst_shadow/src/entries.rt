@@ -37,7 +37,13 @@ fn put_number(action: Action, address: u64, value: u64) -> Entry
 fn use_register(action: Action, instruction: Instruction, address: u64) -> Entry
     ensures { (code : ℕ) → instruction_of code ≡ Some instruction → result ≡ plain_entry action code (register_of 64 4 address) 0 18446744073709551615 }
 {
-    entry_of(action, instruction, register_of(64, 4, address), 0, u64::MAX)
+    entry_of(
+        action,
+        instruction,
+        register_of(64, 4, address),
+        0,
+        u64::MAX,
+    )
 }
 
 /// What moves so many bytes, a multiple of 128, from one address to another.

@@ -6,7 +6,7 @@ ghost use Rattle.flash_words.specs.Flash.{OnlyReads, AsksChange, next_count};
 
 use crate::image_file::open_or_make;
 use crate::medium::Medium;
-use flash_model::{Flash, FlashFailed};
+use flash_model::{Flash, FlashFailed, next_count};
 use std::alloc::Global;
 
 /// A flash in a file, which it holds in memory too.
@@ -24,13 +24,6 @@ pub struct FileFlash {
     restarts: u64,
     // Whether the last change failed.
     failed: bool,
-}
-
-// A count that stands still at the last value of its type.
-fn next_count(count: u64) -> u64
-    ensures { result ≡ next_count count }
-{
-    count.saturating_add(1)
 }
 
 impl FileFlash {

@@ -2,7 +2,7 @@
 ghost use Rattle.std.specs.Prelude.{◌≡◌, ◌↔◌, ◌+◌, ◌≤◌, length, replicate, OnOk, IsErr, IsTrue};
 ghost use Rattle.base_model.specs.Bytes.{part, put_at};
 
-use flash_model::FlashFailed;
+use flash_model::{FlashFailed, copy_range, fill_range, put_range};
 use std::fs::File;
 use std::io;
 use std::os::unix::fs::FileExt;
@@ -24,30 +24,6 @@ fn store(file: &File, at: usize, bytes: &[u8]) -> io::Result<()> {
     file.sync_data()
 }
 
-// The bytes of a range.
-fn copy(image: &[u8], at: usize, buf: &mut [u8])
-    requires { at + length buf.old ≤ length image.now }
-    ensures { buf.new ≡ part image.now at (length buf.old) }
-{
-    buf.copy_from_slice(&image[at..at + buf.len()]);
-}
-
-// Puts bytes in the place of those of a range.
-fn put(image: &mut [u8], at: usize, bytes: &[u8])
-    requires { at + length bytes.now ≤ length image.old }
-    ensures { image.new ≡ put_at image.old at bytes.now }
-{
-    image[at..at + bytes.len()].copy_from_slice(bytes);
-}
-
-// Erases a range.
-fn erase(image: &mut [u8], at: usize, len: usize)
-    requires { at + len ≤ length image.old }
-    ensures { image.new ≡ put_at image.old at (replicate len 0xFF) }
-{
-    image[at..at + len].fill(ERASED);
-}
-
 impl Medium {
     ghost use Rattle.file_flash.specs.Mediums.{size_of, image_of, IsUnusable};
 
@@ -67,7 +43,7 @@ impl Medium {
     {
         match self {
             Medium::Held { file: _, image } => {
-                copy(image, at, buf);
+                copy_range(image, at, buf);
                 Ok(())
             }
             Medium::Unusable { size: _ } => Err(FlashFailed),
@@ -83,7 +59,7 @@ impl Medium {
         let Medium::Held { file: _, image } = self else {
             return Err(FlashFailed);
         };
-        put(image, at, bytes);
+        put_range(image, at, bytes);
         self.settle(at, bytes.len())
     }
 
@@ -96,7 +72,7 @@ impl Medium {
         let Medium::Held { file: _, image } = self else {
             return Err(FlashFailed);
         };
-        erase(image, at, len);
+        fill_range(image, at, len, ERASED);
         self.settle(at, len)
     }
 

@@ -55,9 +55,12 @@ fn add_slot(out: &mut String, view: &SlotView) -> Result<(), AllocError> {
 }
 
 fn add_marks(out: &mut String, head: &Head, tail: u8) -> Result<(), AllocError> {
-    let gate = head.gate;
-    let kill = head.kill;
-    let format = head.format;
+    let Head {
+        gate,
+        kill,
+        format,
+        ..
+    } = *head;
     write!(
         out,
         ",\"gate\":{gate},\"kill\":{kill},\"tail\":{tail},\"format\":{format}"
@@ -65,9 +68,12 @@ fn add_marks(out: &mut String, head: &Head, tail: u8) -> Result<(), AllocError> 
 }
 
 fn add_numbers(out: &mut String, head: &Head) -> Result<(), AllocError> {
-    let id = head.id;
-    let generation = head.generation;
-    let len = head.len;
+    let Head {
+        id,
+        generation,
+        len,
+        ..
+    } = *head;
     let [one, two, three] = head.next;
     write!(
         out,
@@ -101,9 +107,12 @@ fn add_stored(
     slot: u32,
     head: &Head,
 ) -> Result<(), AllocError> {
-    let id = head.id;
-    let generation = head.generation;
-    let len = head.len;
+    let Head {
+        id,
+        generation,
+        len,
+        ..
+    } = *head;
     write!(
         out,
         "{{\"id\":\"{id}\",\"generation\":{generation},\"bytes\":{len},\"slots\":[{slot}"

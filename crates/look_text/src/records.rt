@@ -28,9 +28,12 @@ fn add_stored(
     slot: u32,
     head: &Head,
 ) -> Result<(), AllocError> {
-    let id = head.id;
-    let generation = head.generation;
-    let len = head.len;
+    let Head {
+        id,
+        generation,
+        len,
+        ..
+    } = *head;
     write!(
         out,
         "\nrecord {id} generation {generation} bytes {len} slots {slot}"
