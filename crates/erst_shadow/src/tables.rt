@@ -8,8 +8,8 @@ use crate::entries::{SCRATCH, entries_before, entries_behind, entries_between, m
 use apei_bytes::Memory;
 use erst_device::LOG_RANGE;
 use erst_entries::{Action, Entry, ErstTable};
-use erst_machine::own_header;
 use erst_machine::entries::told_entries;
+use erst_machine::own_header;
 use std::alloc::Global;
 
 /// Puts entries behind those of a table.
