@@ -3,6 +3,7 @@ ghost use Rattle.std.specs.Prelude.{◌≡◌, ◌*◌, ◌+◌, ◌≤◌, leng
 ghost use Rattle.base_model.specs.Bytes.{part, put_at};
 ghost use Rattle.driver_example.specs.Wear.{erased_once_more};
 
+use flash_model::{copy_range, fill_range, put_range};
 use std::alloc::{AllocError, Global};
 
 /// Flash of sectors of so many bytes, with the count of the erases of each sector.
@@ -34,7 +35,7 @@ impl Driver {
         requires { at + length buf.old ≤ length self.now.bytes.items }
         ensures { buf.new ≡ part self.now.bytes.items at (length buf.old) }
     {
-        copy(&self.bytes, at, buf);
+        copy_range(&self.bytes, at, buf);
     }
 
     /// Programs erased bytes from `at` on.
@@ -45,7 +46,7 @@ impl Driver {
         ensures erases { self.new.erases ≡ self.old.erases }
         ensures sector { self.new.sector ≡ self.old.sector }
     {
-        put(&mut self.bytes, at, bytes);
+        put_range(&mut self.bytes, at, bytes);
     }
 
     /// Erases a sector, and counts that.
@@ -57,7 +58,7 @@ impl Driver {
         ensures sector { self.new.sector ≡ self.old.sector }
     {
         let len = self.sector as usize;
-        erase(&mut self.bytes, sector as usize * len, len);
+        fill_range(&mut self.bytes, sector as usize * len, len, ERASED);
         count_erase(&mut self.erases, sector as usize);
     }
 }
@@ -69,28 +70,4 @@ fn count_erase(erases: &mut [u32], sector: usize)
     if sector < erases.len() {
         erases[sector] = erases[sector].saturating_add(1);
     }
-}
-
-// The bytes of a range.
-fn copy(image: &[u8], at: usize, buf: &mut [u8])
-    requires { at + length buf.old ≤ length image.now }
-    ensures { buf.new ≡ part image.now at (length buf.old) }
-{
-    buf.copy_from_slice(&image[at..at + buf.len()]);
-}
-
-// Puts bytes in the place of those of a range.
-fn put(image: &mut [u8], at: usize, bytes: &[u8])
-    requires { at + length bytes.now ≤ length image.old }
-    ensures { image.new ≡ put_at image.old at bytes.now }
-{
-    image[at..at + bytes.len()].copy_from_slice(bytes);
-}
-
-// Erases a range.
-fn erase(image: &mut [u8], at: usize, len: usize)
-    requires { at + len ≤ length image.old }
-    ensures { image.new ≡ put_at image.old at (replicate len 0xFF) }
-{
-    image[at..at + len].fill(ERASED);
 }

@@ -6,7 +6,7 @@ ghost use Rattle.driver_example.specs.Wear.{erased_once_more};
 ghost use Rattle.flash_words.specs.Flash.{OnlyReads, AsksChange, next_count};
 
 use crate::driver::Driver;
-use flash_model::{Flash, FlashFailed};
+use flash_model::{Flash, FlashFailed, next_count};
 
 /// The driver, with the counts that a store reads: the changes that were asked for, the reads, the calls that failed, and the
 /// restarts.
@@ -19,12 +19,6 @@ pub struct DriverFlash {
     restarts: u64,
     // Whether the last change failed.
     failed: bool,
-}
-
-fn next_count(count: u64) -> u64
-    ensures { result ≡ next_count count }
-{
-    count.saturating_add(1)
 }
 
 impl DriverFlash {

@@ -55,12 +55,9 @@ fn add_slot(out: &mut String, view: &SlotView) -> Result<(), AllocError> {
 }
 
 fn add_marks(out: &mut String, head: &Head, tail: u8) -> Result<(), AllocError> {
-    let Head {
-        gate,
-        kill,
-        format,
-        ..
-    } = *head;
+    let gate = head.gate;
+    let kill = head.kill;
+    let format = head.format;
     write!(
         out,
         ",\"gate\":{gate},\"kill\":{kill},\"tail\":{tail},\"format\":{format}"
@@ -68,12 +65,9 @@ fn add_marks(out: &mut String, head: &Head, tail: u8) -> Result<(), AllocError> 
 }
 
 fn add_numbers(out: &mut String, head: &Head) -> Result<(), AllocError> {
-    let Head {
-        id,
-        generation,
-        len,
-        ..
-    } = *head;
+    let id = head.id;
+    let generation = head.generation;
+    let len = head.len;
     let [one, two, three] = head.next;
     write!(
         out,
@@ -107,12 +101,9 @@ fn add_stored(
     slot: u32,
     head: &Head,
 ) -> Result<(), AllocError> {
-    let Head {
-        id,
-        generation,
-        len,
-        ..
-    } = *head;
+    let id = head.id;
+    let generation = head.generation;
+    let len = head.len;
     write!(
         out,
         "{{\"id\":\"{id}\",\"generation\":{generation},\"bytes\":{len},\"slots\":[{slot}"

@@ -28,12 +28,9 @@ fn add_stored(
     slot: u32,
     head: &Head,
 ) -> Result<(), AllocError> {
-    let Head {
-        id,
-        generation,
-        len,
-        ..
-    } = *head;
+    let id = head.id;
+    let generation = head.generation;
+    let len = head.len;
     write!(
         out,
         "\nrecord {id} generation {generation} bytes {len} slots {slot}"

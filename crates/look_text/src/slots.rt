@@ -48,12 +48,9 @@ fn add_slot(
 
 // The head of a first slot.
 fn add_first(out: &mut String, geometry: &Geometry, head: &Head) -> Result<(), AllocError> {
-    let Head {
-        id,
-        generation,
-        len,
-        ..
-    } = *head;
+    let id = head.id;
+    let generation = head.generation;
+    let len = head.len;
     write!(out, " id {id} generation {generation} bytes {len}")?;
     let further = further_slots(geometry, head);
     if !further.is_empty() {
@@ -64,12 +61,9 @@ fn add_first(out: &mut String, geometry: &Geometry, head: &Head) -> Result<(), A
 
 // The head of a further slot.
 fn add_part(out: &mut String, head: &Head) -> Result<(), AllocError> {
-    let Head {
-        id,
-        generation,
-        len,
-        ..
-    } = *head;
+    let id = head.id;
+    let generation = head.generation;
+    let len = head.len;
     let part = head.next[0];
     let first = head.next[1];
     write!(
@@ -91,12 +85,9 @@ fn add_filling(out: &mut String, geometry: &Geometry, head: &Head) -> Result<(),
 
 // The marks of a slot that is of no known form.
 fn add_marks(out: &mut String, head: &Head, tail: u8) -> Result<(), AllocError> {
-    let Head {
-        gate,
-        kill,
-        format,
-        ..
-    } = *head;
+    let gate = head.gate;
+    let kill = head.kill;
+    let format = head.format;
     write!(
         out,
         " gate {gate:#04x} kill {kill:#04x} format {format} tail {tail:#04x}"
