@@ -1,7 +1,7 @@
 // A client over plain memory, by a table of the machine's shape.
-use apei_gas::{Gas, Place, Width};
+use crate::tables::{add, blank, entry};
+use apei_gas::{Place, Width};
 use apei_space::{Ram, Space, Window};
-use apei_tables::Header;
 use erst_client::Client;
 use erst_entries::{Action, Entry, ErstTable, Instruction};
 use erst_interp::Budget;
@@ -38,58 +38,32 @@ const READS: [Action; 8] = [
     Action::GetExecuteOperationTimings,
 ];
 
-fn entry(action: Action, instruction: Instruction, address: u64) -> Entry {
-    Entry {
-        action: action.code(),
-        code: instruction.code(),
-        flags: 0,
-        spare: 0,
-        region: Gas {
-            space: 0,
-            width: 64,
-            offset: 0,
-            access: 4,
-            address,
-        },
-        value: u64::from(action.code()),
-        mask: u64::MAX,
-    }
+fn register(action: Action, instruction: Instruction, address: u64) -> Entry {
+    entry(action, instruction, address, u64::from(action.code()))
 }
 
 fn act(action: Action) -> Entry {
-    entry(action, Instruction::WriteRegisterValue, ACTION)
-}
-
-fn add(table: &mut ErstTable, entry: Entry) -> Option<()> {
-    if table.len() >= 64 {
-        return None;
-    }
-    table.push(entry).ok()
+    register(action, Instruction::WriteRegisterValue, ACTION)
 }
 
 fn table(alloc: Global) -> Option<ErstTable> {
-    let header = Header {
-        signature: *b"ERST",
-        length: 48,
-        revision: 1,
-        checksum: 0,
-        oem_id: [0; 6],
-        oem_table_id: [0; 8],
-        oem_revision: 1,
-        creator_id: [0; 4],
-        creator_revision: 1,
-    };
-    let mut table = ErstTable::blank(alloc, header);
+    let mut table = blank(alloc);
     for action in ACTS {
         add(&mut table, act(action))?;
     }
     for action in WRITES {
-        add(&mut table, entry(action, Instruction::WriteRegister, VALUE))?;
+        add(
+            &mut table,
+            register(action, Instruction::WriteRegister, VALUE),
+        )?;
         add(&mut table, act(action))?;
     }
     for action in READS {
         add(&mut table, act(action))?;
-        add(&mut table, entry(action, Instruction::ReadRegister, VALUE))?;
+        add(
+            &mut table,
+            register(action, Instruction::ReadRegister, VALUE),
+        )?;
     }
     Some(table)
 }

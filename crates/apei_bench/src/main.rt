@@ -7,6 +7,7 @@ mod handovers;
 mod lines;
 mod machines;
 mod programs;
+mod tables;
 
 use std::alloc::Global;
 use std::env;

@@ -1,7 +1,7 @@
 // Register programs over plain memory.
-use apei_gas::{Gas, Place, Width};
+use crate::tables::{add, blank, entry};
+use apei_gas::{Place, Width};
 use apei_space::{Ram, Space, Window};
-use apei_tables::Header;
 use erst_entries::{Action, Entry, ErstTable, Instruction, Program};
 use erst_interp::{Budget, RunStop, run};
 use std::alloc::Global;
@@ -20,23 +20,9 @@ fn action() -> u8 {
     Action::GetRecordIdentifier.code()
 }
 
-// An entry on a 64-bit register of memory.
-fn entry(instruction: Instruction, address: u64) -> Entry {
-    Entry {
-        action: action(),
-        code: instruction.code(),
-        flags: 0,
-        spare: 0,
-        region: Gas {
-            space: 0,
-            width: 64,
-            offset: 0,
-            access: 4,
-            address,
-        },
-        value: 0,
-        mask: u64::MAX,
-    }
+// An entry on a register of memory.
+fn register(instruction: Instruction, address: u64) -> Entry {
+    entry(Action::GetRecordIdentifier, instruction, address, 0)
 }
 
 fn memory(alloc: Global) -> Option<Ram> {
@@ -49,7 +35,7 @@ fn memory(alloc: Global) -> Option<Ram> {
 
 /// A program that goes round for so many steps. It answers the steps that are left.
 pub fn go_round(alloc: Global, steps: u64) -> Option<u64> {
-    let entries = [entry(Instruction::Goto, MEMORY)];
+    let entries = [register(Instruction::Goto, MEMORY)];
     let mut ram = memory(alloc)?;
     let mut budget = Budget::new(steps);
     match run(&Program::of(&entries, action()), 0, &mut budget, &mut ram) {
@@ -71,21 +57,10 @@ pub fn go_round_table(alloc: Global, pairs: u64, steps: u64) -> Option<u64> {
 }
 
 fn alternating(alloc: Global, pairs: u64) -> Option<ErstTable> {
-    let header = Header {
-        signature: *b"ERST",
-        length: 48,
-        revision: 1,
-        checksum: 0,
-        oem_id: [0; 6],
-        oem_table_id: [0; 8],
-        oem_revision: 1,
-        creator_id: [0; 4],
-        creator_revision: 1,
-    };
-    let mut table = ErstTable::blank(alloc, header);
+    let mut table = blank(alloc);
     for index in 0..pairs {
         let next = if index + 1 < pairs { index + 1 } else { 0 };
-        let mut round = entry(Instruction::Goto, MEMORY);
+        let mut round = register(Instruction::Goto, MEMORY);
         round.value = next;
         add(&mut table, round)?;
         round.action = Action::GetRecordCount.code();
@@ -95,20 +70,13 @@ fn alternating(alloc: Global, pairs: u64) -> Option<ErstTable> {
     Some(table)
 }
 
-fn add(table: &mut ErstTable, entry: Entry) -> Option<()> {
-    if table.len() >= 4096 {
-        return None;
-    }
-    table.push(entry).ok()
-}
-
 /// A program that copies 65,536 bytes, so many times. It answers how often it was done.
 pub fn move_bytes(alloc: Global, times: u64) -> Option<u64> {
     let entries = [
-        entry(Instruction::SetSourceBase, MEMORY),
-        entry(Instruction::SetTargetBase, MEMORY + 8),
-        entry(Instruction::LoadVar2, MEMORY + 16),
-        entry(Instruction::MoveData, MEMORY + 24),
+        register(Instruction::SetSourceBase, MEMORY),
+        register(Instruction::SetTargetBase, MEMORY + 8),
+        register(Instruction::LoadVar2, MEMORY + 16),
+        register(Instruction::MoveData, MEMORY + 24),
     ];
     let mut ram = memory(alloc)?;
     ram.write(Place::Memory(MEMORY), Width::B64, SOURCE).ok()?;
