@@ -61,6 +61,13 @@ impl Gas {
         if self.access > 4 {
             return Err(BadRegister::Access(u64::from(self.access)));
         }
+        if self.width == 64 && self.offset == 0 {
+            return Ok(Register {
+                place,
+                access: Width::B64,
+                offset: 0,
+            });
+        }
         if self.width == 0 || u16::from(self.offset) + u16::from(self.width) > 64 {
             return Err(BadRegister::Bits {
                 offset: u64::from(self.offset),

@@ -9,6 +9,7 @@ use erst_entries::Entry;
 /// The flag of a store that keeps the register's other bits.
 const PRESERVE_REGISTER: u8 = 1;
 
+#[inline(always)]
 #[tactic(auto, using(crate::proofs::Rules::accesses))]
 /// Reads the entry's field by one access.
 pub fn read_field<S: Space>(

@@ -70,6 +70,7 @@ impl Contents {
     }
 
     /// The number at a byte of an area.
+    #[inline(always)]
     pub fn number(&self, area: Area, start: usize, width: Width) -> u64
         requires sizes { (reach : ℕ) × HasSizes reach (memory_of self.now) × (start + bits width / 8 ≤ size_of reach area) }
         requires readable { IsReadable area }
