@@ -4,7 +4,7 @@ use Rattle.std.specs.Result.{result_unwrap_or}
 use Rattle.std.proofs.lemmas.Nat.{and_le_l, or_lt, and_or_self, pow-add, pow_pos}
 use Rattle.std.proofs.Math.Nat.{mod-eq_of_lt, mul-mod_left, mul_assoc}
 use Rattle.std.proofs.lemmas.Grind.{and-not_self}
-use Rattle.base_model.specs.Bytes.{little, number_at, spelled, put_at}
+use Rattle.base_model.specs.Bytes.{little, number_at, spelled}
 use Rattle.base_model.proofs.BytesLemmas.{length-spelled, little-spelled, length-put_at}
 use Rattle.apei_gas.specs.declared.registers.Place.{Place}
 use Rattle.apei_gas.specs.declared.registers.Place.TheVariants.{Memory}

@@ -10,8 +10,10 @@ use Rattle.apei_space.specs.RamState.{RamState}
 use Rattle.ghes_block.specs.declared.error.BlockError.{BlockError}
 use Rattle.ghes_block.specs.Reading.{checked, head_verdict, status_at}
 use Rattle.ghes_ack.specs.declared.maps.HandoverMap.{HandoverMap}
-use Rattle.ghes_window.specs.Queues.{IsEmpty}
-use Rattle.ghes_ack.specs.Queues.{Blocks, Adds}
+use Rattle.ghes_window.specs.declared.window.BlockWindow.{BlockWindow}
+use Rattle.ghes_window.specs.declared.blocks.Blocks.{Blocks as BlocksOver}
+use Rattle.ghes_window.specs.Queues.{IsEmpty, Adds}
+use Rattle.ghes_ack.specs.Queues.{Blocks}
 use Rattle.ghes_ack.specs.Machine.{Machine, Situation, Filling, Published, Reading, Cleared, Acknowledged, Fits, with_status, started, submitted, waiting_in, InSituation, IsState}
 use Rattle.ghes_ack.specs.Maps.{HasAckBits, HasWindows, address_in, ack_read, window, with_ack, with_address, with_set, memory_started, IsSet}
 use Rattle.ghes_ack.specs.Handovers.{HandoverState, fresh, StandsFor, reason}
@@ -29,7 +31,7 @@ use Rattle.ghes_ack.proofs.MachineTurns.{Kept, Agrees}
 use Rattle.ghes_ack.proofs.TurnLemmas.{kept_with, agrees, stands_by}
 
 -- the two sides of a start, with no block
-pub fresh_is : (b : Blocks) → IsEmpty b → state_of Filling b ≡ fresh b.map
+pub fresh_is : {M : Type 0} (b : BlocksOver M) → IsEmpty b → state_of Filling b ≡ fresh b.map
 fresh_is b e =
     let waiting : map (λ v. v.items) b.waiting.items ≡ [] = ap (map (λ v. v.items)) e.waiting in
     let work : in_work Filling b.at_work b.last ≡ None = ap (λ (o : Option (Vec ℕ Global)). in_work Filling o b.last) e.at_work in
@@ -144,7 +146,7 @@ waiting_of None b all = absurd all
 waiting_of (Some ends) b all = length-map b.waiting.items (λ v. v.items) ∙ all.room.counted
 
 -- a block more
-added_in : (s : Situation) (b after : Blocks) (block : List ℕ) → Adds b after block → state_of s after ≡ record (state_of s b) { waiting = (state_of s b).waiting ++ block ∷ [] }
+added_in : {M : Type 0} {w : M → BlockWindow} (s : Situation) (b after : BlocksOver M) (block : List ℕ) → Adds w b after block → state_of s after ≡ record (state_of s b) { waiting = (state_of s b).waiting ++ block ∷ [] }
 added_in s b after block a =
     let waiting = a.waiting in
     let map_is = a.same.map in
@@ -156,7 +158,7 @@ added_in s b after block a =
     ap (λ (x : Option (Vec ℕ Global)). in_work s x after.last) a.at_work ∙ ap (λ (x : Vec ℕ Global). in_work s b.at_work x) a.same.last in
     cc
 
-pub added : (ends : Option Ends) (b after : Blocks) (block : List ℕ) → Adds b after block → view_of ends after ≡ record (view_of ends b) { waiting = (view_of ends b).waiting ++ block ∷ [] }
+pub added : {M : Type 0} {w : M → BlockWindow} (ends : Option Ends) (b after : BlocksOver M) (block : List ℕ) → Adds w b after block → view_of ends after ≡ record (view_of ends b) { waiting = (view_of ends b).waiting ++ block ∷ [] }
 added ends b after block a =
     ap (λ (o : Option (Vec ℕ Global)). state_of (situation_in ends o) after) a.at_work ∙ added_in (situation_in ends b.at_work) b after block a
 

@@ -1,7 +1,7 @@
 -- Each turn of a handover is the machine's turn.
-use Rattle.std.proofs.Common.{◌≡◌, ◌∙◌, ℕ, ◌+◌, ◌*◌, ◌<◌, ◌≤◌, ◌⊎◌, inl, inr, List, [], ◌∷◌, ◌++◌, length, take, Option, Some, None, option_to_list, refl, sym, ap, subst, arith, bit_and}
+use Rattle.std.proofs.Common.{◌≡◌, ◌∙◌, ℕ, ◌+◌, ◌*◌, ◌<◌, ◌≤◌, ◌⊎◌, inl, List, [], ◌∷◌, ◌++◌, length, take, Option, Some, None, option_to_list, refl, sym, ap, subst, arith, bit_and}
 use Rattle.std.proofs.lemmas.List.{length-take}
-use Rattle.base_model.specs.Bytes.{part, number_at, spelled, put_at}
+use Rattle.base_model.specs.Bytes.{part, spelled, put_at}
 use Rattle.base_model.proofs.BytesLemmas.{length-spelled}
 use Rattle.apei_space.specs.RamState.{RamState}
 use Rattle.ghes_window.proofs.PieceLemmas.{length-with_piece}

@@ -6,16 +6,16 @@ use Rattle.ghes_ack.specs.declared.events.Side.TheVariants.{Firmware, Reader}
 use Rattle.ghes_ack.specs.declared.events.Event.{Event}
 use Rattle.ghes_ack.specs.declared.events.Event.TheVariants.{Free, Wait, Nothing, Found}
 use Rattle.ghes_ack.specs.Machine.{Machine, Situation, Filling, Published, Reading, Cleared, Acknowledged}
-use Rattle.ghes_ack.specs.Sides.{looking_at, in_work, IsCopiedSoFar}
-use Rattle.ghes_hub.specs.declared.plain.ends.FirmwareEnd.{FirmwareEnd}
-use Rattle.ghes_hub.specs.declared.plain.ends.FirmwareEnd.TheVariants.{Writes, Waits}
-use Rattle.ghes_hub.specs.declared.plain.ends.ReaderEnd.{ReaderEnd}
-use Rattle.ghes_hub.specs.declared.plain.ends.ReaderEnd.TheVariants.{Looks, Reads}
+use Rattle.ghes_ack.specs.Sides.{looking_at, waiting_at, state_of, handover_of, in_work, AreApart, IsCopiedSoFar}
+use Rattle.ghes_ack.specs.declared.ends.FirmwareEnd.{FirmwareEnd}
+use Rattle.ghes_ack.specs.declared.ends.FirmwareEnd.TheVariants.{Writes, Waits}
+use Rattle.ghes_ack.specs.declared.ends.ReaderEnd.{ReaderEnd}
+use Rattle.ghes_ack.specs.declared.ends.ReaderEnd.TheVariants.{Looks, Reads, Acknowledges}
 use Rattle.ghes_window.specs.declared.blocks.Blocks.{Blocks}
 use Rattle.ghes_window.specs.Queues.{count_of}
 use Rattle.ghes_hub.specs.declared.plain.map.PlainMap.{PlainMap}
 use Rattle.ghes_hub.specs.Plain.{plain_status, PlainState, PlainStands}
-use Rattle.ghes_hub.specs.PlainSides.{waiting_at, state_of, handover_of, IsSound, AreApart, IsConsistent, Stands, Turns, SideDone, FirmwareIsAble, FirmwareTurns, ReaderIsAble, ReaderTurns}
+use Rattle.ghes_hub.specs.PlainSides.{IsSound, IsConsistent, Stands, Turns, SideDone, FirmwareIsAble, FirmwareTurns, ReaderIsAble, ReaderTurns}
 use Rattle.ghes_hub.proofs.PlainTurns.{waits, held_status, no_status, finds_nothing, work_fits}
 use Rattle.ghes_hub.proofs.PlainBlocks.{frees_at, finds_at}
 
@@ -29,6 +29,8 @@ reader_able (Writes write) (Looks look) b ram all (m, st) = st.windows
 reader_able (Waits wait) (Looks look) b ram all (m, st) = st.windows
 reader_able (Writes write) (Reads read) b ram all stands = absurd all.apart
 reader_able (Waits wait) (Reads read) b ram all stands = (all.sound, stands)
+reader_able (Writes write) (Acknowledges end) b ram all stands = absurd all.apart
+reader_able (Waits wait) (Acknowledges end) b ram all stands = absurd all.sound.under_way
 
 -- it has the same blocks and memory
 firmware_as : (event other : Event) (firmware end : FirmwareEnd) (reader : ReaderEnd) (old new after : Blocks PlainMap) (ram memory left : RamState) → event ≡ other → new ≡ after → memory ≡ left →
@@ -65,6 +67,7 @@ returned : (write : FirmwareEnd) (reader : ReaderEnd) (b : Blocks PlainMap) (ram
 returned (Writes write) (Looks look) b ram None is none m st = record { apart = tt; turns = frees_at b ram is m st }
 returned (Waits wait) (Looks look) b ram None is none m st = record { apart = tt; turns = frees_at b ram is m st }
 returned write (Looks look) b ram (Some block) is none m st = absurd (let some = held_status (state_of Published b) ram m (inl refl) st in omega (arith, some, none))
+returned write (Acknowledges end) b ram work is none m st = absurd st.occurs
 returned write (Reads read) b ram work is none m st = absurd (let some = held_status (state_of Reading b) ram m (inr refl) st in omega (arith, some, none))
 
 -- a published block is at work
@@ -86,6 +89,7 @@ firmware_done (Writes write) (Waits wait) (Looks look) b new ram memory event al
       turns = λ m st. subst (λ (s : Situation). Turns Firmware event (state_of Filling b) ram (state_of s new) memory m) is (makes.1 m st);
     }
 firmware_done (Writes write) end (Reads read) b new ram memory event all stands makes = absurd all.apart
+firmware_done (Writes write) end (Acknowledges acknowledge) b new ram memory event all stands makes = absurd all.apart
 firmware_done (Waits wait) (Writes write) reader b new ram memory event all stands (found, is_new, is_memory) =
     firmware_as event Free (Waits wait) (Writes write) reader b new b ram memory ram found.1 is_new is_memory
     (record {
@@ -190,3 +194,6 @@ reader_done (Waits wait) (Reads read) (Reads later) b new ram memory event all s
   consistent = record { apart = tt; sound = makes.0 };
   turns = makes.1;
 }
+reader_done firmware (Looks look) (Acknowledges end) b new ram memory event all stands (found, is_memory) = absurd found
+reader_done (Waits wait) (Reads read) (Acknowledges end) b new ram memory event all stands makes = absurd makes.0.under_way
+reader_done firmware (Acknowledges acknowledge) end b new ram memory event all stands makes = absurd makes

@@ -1,13 +1,12 @@
 -- What accesses of the two windows of a plain handover read and leave.
-use Rattle.std.proofs.Common.{◌≡◌, ◌∙◌, ℕ, ◌<◌, ◌≤◌, List, length, sym, ap, subst, arith}
+use Rattle.std.proofs.Common.{◌≡◌, ◌∙◌, ℕ, ◌<◌, List, length, sym, ap, subst, arith}
 use Rattle.base_model.specs.Bytes.{part, little, spelled, put_at}
 use Rattle.base_model.proofs.BytesLemmas.{length-spelled, little-spelled, length-part, length-put_at, SameOutside-refl, is_put_at}
 use Rattle.apei_gas.specs.declared.registers.Place.{Place}
 use Rattle.apei_gas.specs.declared.registers.Place.TheVariants.{Memory}
 use Rattle.apei_space.specs.RamState.{RamState, located, stored}
 use Rattle.apei_space.proofs.Placed.{IsPlaced, placed}
-use Rattle.ghes_window.specs.declared.window.BlockWindow.{BlockWindow}
-use Rattle.ghes_window.specs.Windows.{HasBlock, block_bytes, with_block}
+use Rattle.ghes_window.specs.Windows.{HasBlock}
 use Rattle.ghes_window.proofs.PlacedLemmas.{bytes_placed, stored_placed, fits_in, mapped_back, mapped_apart, disjoint_sym}
 use Rattle.ghes_window.proofs.WindowLemmas.{block_ends, length-block, block-with_block, length-status}
 use Rattle.ghes_ack.specs.Machine.{with_status}
@@ -15,14 +14,7 @@ use Rattle.ghes_hub.specs.declared.plain.map.PlainMap.{PlainMap}
 use Rattle.ghes_hub.specs.Plain.{HasPlainWindows, plain_window, plain_window_of, plain_address, with_plain_window, with_plain_address}
 
 -- the block's window is one of them
-pub has_block : (map : PlainMap) (at : BlockWindow) (ram : RamState) → at ≡ plain_window_of map → HasPlainWindows map ram → HasBlock at ram
-has_block map at ram is w = subst (λ (x : BlockWindow). HasBlock x ram) (sym is) (record { head = w.head; fills = w.fills; block = w.block })
-
--- a write of it
-pub by_window : (map : PlainMap) (at : BlockWindow) (ram new : RamState) (f : List ℕ → List ℕ) → at ≡ plain_window_of map → new ≡ with_block at ram (f (block_bytes at ram)) → new ≡ with_plain_window map ram (f (plain_window map ram))
-by_window map at ram new f is e = subst (λ (x : BlockWindow). new ≡ with_block x ram (f (block_bytes x ram))) is e
-
-own : (map : PlainMap) (ram : RamState) → HasPlainWindows map ram → HasBlock (plain_window_of map) ram
+pub own : (map : PlainMap) (ram : RamState) → HasPlainWindows map ram → HasBlock (plain_window_of map) ram
 own map ram w = record { head = w.head; fills = w.fills; block = w.block }
 
 pub block_some : (map : PlainMap) (ram : RamState) → HasPlainWindows map ram → 0 < map.len

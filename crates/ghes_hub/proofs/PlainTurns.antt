@@ -1,5 +1,5 @@
 -- Each turn of a plain handover is the machine's turn.
-use Rattle.std.proofs.Common.{◌≡◌, ◌∙◌, ℕ, ◌+◌, ◌*◌, ◌<◌, ◌≤◌, ◌⊎◌, inl, inr, List, [], ◌∷◌, ◌++◌, length, take, Option, Some, None, option_to_list, refl, sym, ap, subst, arith}
+use Rattle.std.proofs.Common.{◌≡◌, ◌∙◌, ℕ, ◌+◌, ◌*◌, ◌<◌, ◌≤◌, ◌⊎◌, List, [], ◌∷◌, ◌++◌, length, take, Option, Some, None, option_to_list, refl, sym, ap, subst, arith}
 use Rattle.std.proofs.lemmas.List.{length-take}
 use Rattle.base_model.specs.Bytes.{part, spelled, put_at}
 use Rattle.base_model.proofs.BytesLemmas.{length-spelled}
@@ -14,7 +14,8 @@ use Rattle.ghes_ack.proofs.MachineTurns as machine
 use Rattle.ghes_ack.proofs.MachineTurns.{Kept, Agrees, Next}
 use Rattle.ghes_hub.specs.declared.plain.map.PlainMap.{PlainMap}
 use Rattle.ghes_hub.specs.Kinds.{ByStatus, settled, plainly, turned_by, Occurs}
-use Rattle.ghes_hub.specs.Plain.{HasPlainWindows, plain_window, plain_status, plain_address, with_plain_window, PlainState, plain_kept, PlainStands}
+use Rattle.ghes_hub.specs.Plain.{HasPlainWindows, plain_window, plain_status, plain_address, with_plain_window, PlainState, PlainStands}
+use Rattle.ghes_ack.specs.Handovers.{kept}
 use Rattle.ghes_hub.specs.PlainSides.{Turns, Stands}
 use Rattle.ghes_hub.proofs.PlainMemory.{length-window, window-with_window, address-with_window, windows_window, length-plain_status, unchanged}
 
@@ -23,7 +24,7 @@ abbrev pub kept_with : PlainState → List ℕ → Kept
 kept_with h bytes = record {
   len = h.map.len;
   situation = h.situation;
-  held = plain_kept h;
+  held = kept h;
   waiting = length h.waiting;
   filled = h.filled;
   copied = h.copied;
@@ -110,13 +111,13 @@ writes side event h after ram new bytes m n is a occurs same wide memory st =
     (subst (λ (at : PlainMap). HasPlainWindows at new) (sym same) windows) (subst (λ (at : PlainMap). plain_address at new ≡ at.block) (sym same) address)
 
 -- the firmware's block fits into the window
-pub next_fits : (h : PlainState) (ram : RamState) (m : Machine) (block : List ℕ) (rest : List (List ℕ)) → plain_kept h ≡ block ∷ rest → PlainStands h ram m → Fits h.map.len block
+pub next_fits : (h : PlainState) (ram : RamState) (m : Machine) (block : List ℕ) (rest : List (List ℕ)) → kept h ≡ block ∷ rest → PlainStands h ram m → Fits h.map.len block
 next_fits h ram m block rest held st = (machine.oldest (kept_now h ram) m block rest held (agrees h ram m st)).fits
 
-pub idles : (h : PlainState) (ram : RamState) (m : Machine) → h.situation ≡ Filling → plain_kept h ≡ [] → PlainStands h ram m → Turns Firmware Idle h ram h ram m
+pub idles : (h : PlainState) (ram : RamState) (m : Machine) → h.situation ≡ Filling → kept h ≡ [] → PlainStands h ram m → Turns Firmware Idle h ram h ram m
 idles h ram m now none st = stays Firmware Idle h h ram m (machine.idles (kept_now h ram) m now none (agrees h ram m st)) st.occurs refl st st.windows st.address
 
-pub fills : (h : PlainState) (ram new : RamState) (m : Machine) (block : List ℕ) (rest : List (List ℕ)) → h.situation ≡ Filling → plain_kept h ≡ block ∷ rest → 64 * h.filled < length block →
+pub fills : (h : PlainState) (ram new : RamState) (m : Machine) (block : List ℕ) (rest : List (List ℕ)) → h.situation ≡ Filling → kept h ≡ block ∷ rest → 64 * h.filled < length block →
     new ≡ with_plain_window h.map ram (with_piece (plain_window h.map ram) block h.filled) → PlainStands h ram m →
     Turns Firmware Fill h ram (record h { waiting = rest; at_work = Some block; filled = h.filled + 1 }) new m
 fills h ram new m block rest now held more memory st =
@@ -128,7 +129,7 @@ fills h ram new m block rest now held more memory st =
     (settled_next Firmware Fill (kept_with (record h { waiting = rest; at_work = Some block; filled = h.filled + 1 }) (with_piece (plain_window h.map ram) block h.filled)) m next st.occurs) next.agrees st.occurs refl wide memory st
 
 -- a block all of whose pieces are filled is published
-pub publishes : (h : PlainState) (ram new : RamState) (m : Machine) (block : List ℕ) (rest : List (List ℕ)) → h.situation ≡ Filling → plain_kept h ≡ block ∷ rest → length block ≤ 64 * h.filled →
+pub publishes : (h : PlainState) (ram new : RamState) (m : Machine) (block : List ℕ) (rest : List (List ℕ)) → h.situation ≡ Filling → kept h ≡ block ∷ rest → length block ≤ 64 * h.filled →
     new ≡ with_plain_window h.map ram (with_status (plain_window h.map ram) (take 4 block)) → PlainStands h ram m →
     Turns Firmware Publish h ram (record h { waiting = rest; at_work = Some block; filled = 0; situation = Published }) new m
 publishes h ram new m block rest now held none memory st =
@@ -159,7 +160,7 @@ pub finds : (h : PlainState) (ram : RamState) (m : Machine) → h.situation ≡ 
 finds h ram m now st = stays Reader Found h (record h { situation = Reading; copied = 0 }) ram m (machine.finds (kept_now h ram) m now (agrees h ram m st)) tt refl st st.windows st.address
 
 -- the block that is published and not acknowledged
-held_work : (h : PlainState) (block : List ℕ) → h.at_work ≡ Some block → plain_kept h ≡ block ∷ h.waiting
+held_work : (h : PlainState) (block : List ℕ) → h.at_work ≡ Some block → kept h ≡ block ∷ h.waiting
 held_work h block is = ap (λ (o : Option (List ℕ)). option_to_list o ++ h.waiting) is
 
 pub work_fits : (h : PlainState) (ram : RamState) (m : Machine) (block : List ℕ) → h.at_work ≡ Some block → PlainStands h ram m → Fits h.map.len block

@@ -58,8 +58,8 @@ plain_windows_kept map old new windows size w = record {
   status_block = w.status_block;
 }
 
-plain_kept_by : (h : PlainState) (windows : List Window) (old new : RamState) (m : Machine) → AreClear windows (plain_places_of h.map) → SameWhere (IsOff windows) old new → PlainStands h old m → PlainStands h new m
-plain_kept_by h windows old new m clear s st = record {
+kept_by : (h : PlainState) (windows : List Window) (old new : RamState) (m : Machine) → AreClear windows (plain_places_of h.map) → SameWhere (IsOff windows) old new → PlainStands h old m → PlainStands h new m
+kept_by h windows old new m clear s st = record {
   state = st.state;
   windows = plain_windows_kept h.map old new s.windows s.size st.windows;
   address = ap little (s.bytes (Memory h.map.status) 8 clear.0) ∙ st.address;
@@ -76,7 +76,7 @@ plain_kept_by h windows old new m clear s st = record {
 -- what is written off the windows of a source leaves it
 pub source_kept : (q : Source) (windows : List Window) (old new : RamState) (m : Machine) → AreClear windows (windows_of q) → SameWhere (IsOff windows) old new → SourceStands q old m → SourceStands q new m
 source_kept (Acknowledged h) windows old new m clear s st = StandsFor-others h old new m (same_in_map h.map windows old new clear s) st
-source_kept (Plain h) windows old new m clear s st = plain_kept_by h windows old new m clear s st
+source_kept (Plain h) windows old new m clear s st = kept_by h windows old new m clear s st
 
 -- a source in another state, and the memory that its turn left
 pub record Moves (ram new : RamState) (list : List Source) (i : ℕ) (before after : Source) : Type 0 where

@@ -1,12 +1,13 @@
 -- A handover without a read acknowledgement: its two windows in memory, what it keeps, and the states of the machine that it stands for.
-use Rattle.std.specs.Prelude.{◌≡◌, ℕ, ◌≤◌, List, [], ◌++◌, length, drop, Option, None, option_to_list}
+use Rattle.std.specs.Prelude.{◌≡◌, ℕ, ◌≤◌, List, length, drop, Option}
 use Rattle.base_model.specs.Bytes.{little, number_at, spelled}
 use Rattle.apei_gas.specs.declared.registers.Place.TheVariants.{Memory}
 use Rattle.apei_space.specs.RamState.{RamState, FillsWindows, located, stored}
 use Rattle.apei_space.specs.Mapped.{AreMapped, AreDisjoint}
 use Rattle.ghes_ack.specs.declared.submission.SubmitError.{SubmitError}
-use Rattle.ghes_ack.specs.Machine.{Machine, Situation, Filling, with_status, IsState, waiting_in, last_taken}
+use Rattle.ghes_ack.specs.Machine.{Machine, with_status, IsState, waiting_in, last_taken}
 use Rattle.ghes_ack.specs.Maps.{bytes_at}
+use Rattle.ghes_ack.specs.Handovers.{HandoverOver, kept}
 use Rattle.ghes_window.specs.declared.window.BlockWindow.{BlockWindow}
 use Rattle.ghes_ack.specs.Submissions.{refusal_of}
 use Rattle.ghes_hub.specs.declared.plain.map.PlainMap.{PlainMap}
@@ -43,21 +44,8 @@ with_plain_address map ram = stored (located ram.windows (Memory map.status) 8) 
 abbrev pub plain_started : PlainMap → RamState → RamState
 plain_started map ram = with_plain_window map (with_plain_address map ram) (with_status (plain_window map ram) (spelled 4 0))
 
--- the blocks that wait, the one that is filled or published and not yet acknowledged, and the one taken last
-pub record PlainState : Type 0 where
-  pub map : PlainMap
-  pub situation : Situation
-  pub waiting : List (List ℕ)
-  pub at_work : Option (List ℕ)
-  pub filled : ℕ
-  pub copied : ℕ
-  pub last : List ℕ
-
-abbrev pub plain_fresh : PlainMap → PlainState
-plain_fresh at = record { map = at; situation = Filling; waiting = []; at_work = None; filled = 0; copied = 0; last = [] }
-
-abbrev pub plain_kept : PlainState → List (List ℕ)
-plain_kept h = option_to_list h.at_work ++ h.waiting
+abbrev pub PlainState : Type 0
+PlainState = HandoverOver PlainMap
 
 -- a state of the machine agrees with what the handover keeps and with the memory
 pub record PlainStands (h : PlainState) (ram : RamState) (m : Machine) : Type 0 where
@@ -67,7 +55,7 @@ pub record PlainStands (h : PlainState) (ram : RamState) (m : Machine) : Type 0 
   pub window_is : m.window ≡ plain_window h.map ram
   pub situation : m.situation ≡ h.situation
   pub occurs : Occurs ByStatus h.situation
-  pub blocks : plain_kept h ≡ drop m.acknowledged m.blocks
+  pub blocks : kept h ≡ drop m.acknowledged m.blocks
   pub wait : length h.waiting ≡ waiting_in m
   pub filled : h.filled ≡ m.filled
   pub copied : h.copied ≡ m.copied

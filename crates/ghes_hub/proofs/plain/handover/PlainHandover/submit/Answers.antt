@@ -2,9 +2,9 @@ use Rattle.std.proofs.Common.{◌≡◌, ◌∙◌, ℕ, ◌∷◌, [], ◌++◌
 use Rattle.ghes_ack.specs.Machine.{Fits, submitted}
 use Rattle.ghes_hub.specs.declared.plain.map.PlainMap.{PlainMap}
 use Rattle.ghes_hub.specs.Plain.{PlainState, PlainStands}
-use Rattle.ghes_hub.specs.PlainSides.{view_of}
-use Rattle.ghes_ack.proofs.StartLemmas.{refused_as}
-use Rattle.ghes_hub.proofs.PlainStart.{waiting_of, added, submits}
+use Rattle.ghes_ack.specs.Sides.{view_of}
+use Rattle.ghes_ack.proofs.StartLemmas.{added, refused_as}
+use Rattle.ghes_hub.proofs.PlainStart.{waiting_of, submits}
 use Rattle.ghes_hub.proofs.plain.handover.PlainHandover.submit.Goals as goal
 
 pub returns-in-Err-clause-exact : goal.returns-in-Err-clause-exact
