@@ -38,7 +38,7 @@ layout_kept (Plain map) windows old new clear s h = plain_windows_kept map old n
 
 window_kept : (layout : Layout) (windows : List Window) (old new : RamState) → AreClear windows (layout_windows layout) → SameWhere (IsOff windows) old new → layout_window layout new ≡ layout_window layout old
 window_kept (Acknowledged map) windows old new clear s = s.bytes (Memory map.block) map.len clear.1.1.0
-window_kept (Plain map) windows old new clear s = s.bytes (Memory map.block) map.len clear.1.0
+window_kept (Plain map) windows old new clear s = s.bytes (Memory map.window.block) map.window.len clear.1.0
 
 -- one more of the first
 take_next : {X : Type 0} (xs : List X) (n : ℕ) (x : X) → slice_get xs n ≡ Some x → take (suc n) xs ≡ take n xs ++ x ∷ []

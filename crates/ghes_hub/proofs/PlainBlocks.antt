@@ -18,7 +18,7 @@ use Rattle.ghes_ack.proofs.SideLemmas.{in_hand, none_in_hand, begins_at}
 use Rattle.ghes_hub.proofs.PlainTurns.{next_fits, fills, publishes, frees, idles, finds, copies_over, copies_more, copies_last, clears}
 
 -- the block in hand is one that the window takes
-pub fits_in_hand : (b t : Blocks PlainMap) (block : Vec ℕ Global) (ram : RamState) → TakesOut plain_window_of b t block → Stands (state_of Filling b) ram → HasPlainWindows b.map ram × Fits b.map.len block.items
+pub fits_in_hand : (b t : Blocks PlainMap) (block : Vec ℕ Global) (ram : RamState) → TakesOut plain_window_of b t block → Stands (state_of Filling b) ram → HasPlainWindows b.map ram × Fits b.map.window.len block.items
 fits_in_hand b t block ram out (m, st) =
     (st.windows, next_fits (state_of Filling b) ram m block.items (map (λ v. v.items) t.waiting.items) out.held st)
 

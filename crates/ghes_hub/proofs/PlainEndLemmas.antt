@@ -13,6 +13,7 @@ use Rattle.ghes_ack.specs.declared.ends.ReaderEnd.{ReaderEnd}
 use Rattle.ghes_ack.specs.declared.ends.ReaderEnd.TheVariants.{Looks, Reads, Acknowledges}
 use Rattle.ghes_window.specs.declared.blocks.Blocks.{Blocks}
 use Rattle.ghes_window.specs.Queues.{count_of}
+use Rattle.ghes_window.proofs.RoomLemmas.{room_with}
 use Rattle.ghes_hub.specs.declared.plain.map.PlainMap.{PlainMap}
 use Rattle.ghes_hub.specs.Plain.{plain_status, PlainState, PlainStands}
 use Rattle.ghes_hub.specs.PlainSides.{IsSound, IsConsistent, Stands, Turns, SideDone, FirmwareIsAble, FirmwareTurns, ReaderIsAble, ReaderTurns}
@@ -140,21 +141,7 @@ found_by (Waits wait) read b ram (Some block) is some m st =
 
 -- with a block that no piece is copied of
 at_first : (s : Situation) (b : Blocks PlainMap) → IsSound s b → IsCopiedSoFar 0 b.at_work b.last → IsSound Reading (record b { copied = 0 })
-at_first s b all far = record {
-  short = all.short;
-  room = record {
-    places = all.room.places;
-    few = all.room.few;
-    counted = all.room.counted;
-    queue = all.room.queue;
-    stack = all.room.stack;
-    waiting_room = all.room.waiting_room;
-    work_room = all.room.work_room;
-    spare_room = all.room.spare_room;
-    last_room = all.room.last_room;
-  };
-  under_way = far;
-}
+at_first s b all far = record { short = all.short; room = room_with b b.at_work 0 refl all.room.work_room all.room; under_way = far }
 
 -- a block that was cleared is no longer at work
 returned_at : (work : Option (Vec ℕ Global)) → work ≡ None → Acknowledged ≡ looking_at work

@@ -14,7 +14,7 @@ use Rattle.ghes_ack.specs.Machine.{Machine, Filling, Fits, with_status, started,
 use Rattle.ghes_ack.specs.Elsewhere.{SameWhere}
 use Rattle.ghes_ack.specs.Sides.{state_of, view_of}
 use Rattle.ghes_ack.proofs.StepLemmas.{start_is}
-use Rattle.ghes_ack.proofs.StartLemmas.{fresh_is, submits_more}
+use Rattle.ghes_ack.proofs.StartLemmas.{fresh_is, fresh_agrees, submits_more}
 use Rattle.ghes_ack.proofs.ElsewhereLemmas.{SameWhere-then, SameWhere-stored}
 use Rattle.ghes_hub.specs.declared.plain.map.PlainMap.{PlainMap}
 use Rattle.ghes_ack.specs.declared.ends.Ends.{Ends}
@@ -22,42 +22,31 @@ use Rattle.ghes_hub.specs.Places.{IsOff, plain_places_of}
 use Rattle.ghes_hub.specs.Plain.{HasPlainWindows, plain_window, plain_address, with_plain_window, with_plain_address, plain_started, PlainState, PlainStands}
 use Rattle.ghes_ack.specs.Handovers.{fresh}
 use Rattle.ghes_hub.specs.PlainSides.{Turns, AreConsistent}
-use Rattle.ghes_hub.proofs.PlainMemory.{length-window, block_some, block_placed, status_placed, window-with_window, address-with_window, window-with_address, address-with_address, windows_window, HasPlain-with_address, length-plain_status}
-use Rattle.ghes_hub.proofs.PlainTurns.{kept_now, agrees, stands_by}
+use Rattle.ghes_window.proofs.AddressLemmas.{length-window, block_some, block_placed, status_placed, window-with_window, address-with_window, window-with_address, address-with_address}
+use Rattle.ghes_hub.proofs.PlainMemory.{windows_window, HasPlain-with_address, length-plain_status}
+use Rattle.ghes_hub.proofs.PlainTurns.{kept_now, stands_by}
 
 pub started_is : (at : PlainMap) (ram a new : RamState) → HasPlainWindows at ram → a ≡ with_plain_address at ram → new ≡ with_plain_window at a (put_at (plain_window at a) 0 (spelled 4 0)) → new ≡ plain_started at ram
 started_is at ram a new w is_a is =
     is ∙ ap (λ (r : RamState). with_plain_window at r (with_status (plain_window at r) (spelled 4 0))) is_a
-    ∙ ap (λ (bytes : List ℕ). with_plain_window at (with_plain_address at ram) (with_status bytes (spelled 4 0))) (window-with_address at ram w)
+    ∙ ap (λ (bytes : List ℕ). with_plain_window at (with_plain_address at ram) (with_status bytes (spelled 4 0))) (window-with_address at.status at.window ram w)
 
 pub fresh_stands : (at : PlainMap) (ram new : RamState) → HasPlainWindows at ram → new ≡ plain_started at ram → PlainStands (fresh at) new (started (plain_window at ram))
 fresh_stands at ram new w is =
-    let n = length-window at ram w in
-    let head = w.head in
     let a : RamState = with_plain_address at ram in
     let w_a = HasPlain-with_address at ram w in
+    let bytes : List ℕ = with_status (plain_window at ram) (spelled 4 0) in
     let wide = length-plain_status at ram (spelled 4 0) (length-spelled 4 0) w in
-    record {
-      state = subst (λ (k : ℕ). IsState k (started (plain_window at ram))) n (start_is (plain_window at ram) (omega (arith, n, head)));
-      windows = windows_window at a new (with_status (plain_window at ram) (spelled 4 0)) is wide w_a;
-      address = ap (plain_address at) is ∙ address-with_window at a (with_status (plain_window at ram) (spelled 4 0)) w_a wide ∙ address-with_address at ram w;
-      window_is = sym (ap (plain_window at) is ∙ window-with_window at a (with_status (plain_window at ram) (spelled 4 0)) w_a wide);
-      situation = refl;
-      occurs = tt;
-      blocks = refl;
-      wait = refl;
-      filled = refl;
-      copied = refl;
-      last = refl;
-    }
+    stands_by (fresh at) new bytes (started (plain_window at ram)) (fresh_agrees at at.window.len (plain_window at ram) (length-window at.status at.window ram w) w.head) (sym (ap (plain_window at) is ∙ window-with_window at.status at.window a bytes w_a wide))
+    (windows_window at a new bytes is wide w_a) (ap (plain_address at) is ∙ address-with_window at.status at.window a bytes w_a wide ∙ address-with_address at.status at.window ram w) tt
 
 pub begun_stands : (at : PlainMap) (b : Blocks PlainMap) (ram new : RamState) → b.map ≡ at → IsEmpty b → HasPlainWindows at ram → new ≡ plain_started at ram → PlainStands (state_of Filling b) new (started (plain_window at ram))
 begun_stands at b ram new same e w is = subst (λ (h : PlainState). PlainStands h new (started (plain_window at ram))) (sym (fresh_is b e ∙ ap fresh same)) (fresh_stands at ram new w is)
 
-pub submits : (h : PlainState) (ram : RamState) (m : Machine) (block : List ℕ) → Fits h.map.len block → PlainStands h ram m → PlainStands (record h { waiting = h.waiting ++ block ∷ [] }) ram (submitted m block)
+pub submits : (h : PlainState) (ram : RamState) (m : Machine) (block : List ℕ) → Fits h.map.window.len block → PlainStands h ram m → PlainStands (record h { waiting = h.waiting ++ block ∷ [] }) ram (submitted m block)
 submits h ram m block good st =
     let more = submits_more (kept_now h ram) m block (option_to_list h.at_work ++ (h.waiting ++ block ∷ [])) (length (h.waiting ++ block ∷ []))
-    (sym (append_assoc (option_to_list h.at_work) h.waiting (block ∷ []))) (length-append h.waiting (block ∷ [])) good (agrees h ram m st) in
+    (sym (append_assoc (option_to_list h.at_work) h.waiting (block ∷ []))) (length-append h.waiting (block ∷ [])) good st.agrees in
     stands_by (record h { waiting = h.waiting ++ block ∷ [] }) ram (plain_window h.map ram) (submitted m block) more refl st.windows st.address st.occurs
 
 -- the blocks that wait
@@ -65,19 +54,19 @@ pub waiting_of : (ends : Option Ends) (b : Blocks PlainMap) → AreConsistent en
 waiting_of None b all = absurd all
 waiting_of (Some ends) b all = length-map b.waiting.items (λ v. v.items) ∙ all.sound.room.counted
 
-pub plain_elsewhere : (map : PlainMap) (ram : RamState) (bytes : List ℕ) → HasPlainWindows map ram → length bytes ≡ map.len → SameWhere (IsOff (plain_places_of map)) ram (with_plain_window map ram bytes)
-plain_elsewhere map ram bytes w n = let b = block_placed map ram w in SameWhere-stored (IsOff (plain_places_of map)) ram (Memory map.block) map.len b.0 bytes w.fills b.1 n (block_some map ram w) (λ at k off. off.1.0)
+pub plain_elsewhere : (map : PlainMap) (ram : RamState) (bytes : List ℕ) → HasPlainWindows map ram → length bytes ≡ map.window.len → SameWhere (IsOff (plain_places_of map)) ram (with_plain_window map ram bytes)
+plain_elsewhere map ram bytes w n = let b = block_placed map.status map.window ram w in SameWhere-stored (IsOff (plain_places_of map)) ram (Memory map.window.block) map.window.len b.0 bytes w.fills b.1 n (block_some map.status map.window ram w) (λ at k off. off.1.0)
 
 pub plain_elsewhere_started : (map : PlainMap) (ram new : RamState) → HasPlainWindows map ram → new ≡ plain_started map ram → SameWhere (IsOff (plain_places_of map)) ram new
 plain_elsewhere_started map ram new w is =
     let a : RamState = with_plain_address map ram in
-    let p = status_placed map ram w in
+    let p = status_placed map.status map.window ram w in
     let wide = length-plain_status map ram (spelled 4 0) (length-spelled 4 0) w in
-    let one = SameWhere-stored (IsOff (plain_places_of map)) ram (Memory map.status) 8 p.0 (spelled 8 map.block) w.fills p.1 (length-spelled 8 map.block) (omega arith) (λ at k off. off.0) in
+    let one = SameWhere-stored (IsOff (plain_places_of map)) ram (Memory map.status) 8 p.0 (spelled 8 map.window.block) w.fills p.1 (length-spelled 8 map.window.block) (omega arith) (λ at k off. off.0) in
     subst (SameWhere (IsOff (plain_places_of map)) ram) (sym is)
     (SameWhere-then (IsOff (plain_places_of map)) ram a (plain_started map ram) one (plain_elsewhere map a (with_status (plain_window map ram) (spelled 4 0)) (HasPlain-with_address map ram w) wide))
 
 pub plain_turn_elsewhere : (side : Side) (event : Event) (h after : PlainState) (ram new : RamState) (m : Machine) → PlainStands h ram m → Turns side event h ram after new m → SameWhere (IsOff (plain_places_of h.map)) ram new
 plain_turn_elsewhere side event h after ram new m st t =
     let w : HasPlainWindows h.map new = subst (λ (at : PlainMap). HasPlainWindows at new) t.map t.stands.windows in
-    subst (SameWhere (IsOff (plain_places_of h.map)) ram) (sym t.memory_is) (plain_elsewhere h.map ram (plain_window h.map new) st.windows (length-window h.map new w))
+    subst (SameWhere (IsOff (plain_places_of h.map)) ram) (sym t.memory_is) (plain_elsewhere h.map ram (plain_window h.map new) st.windows (length-window h.map.status h.map.window new w))

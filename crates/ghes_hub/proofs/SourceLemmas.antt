@@ -20,6 +20,7 @@ use Rattle.ghes_hub.specs.declared.plain.map.PlainMap.{PlainMap}
 use Rattle.ghes_hub.specs.declared.source.Source.{Source}
 use Rattle.ghes_hub.specs.declared.source.Source.TheVariants.{Acknowledged, Plain}
 use Rattle.ghes_hub.specs.Kinds.{Kind}
+use Rattle.ghes_ack.specs.Kept.{Agrees, kept_over}
 use Rattle.ghes_hub.specs.Plain.{HasPlainWindows, PlainState, PlainStands}
 use Rattle.ghes_hub.specs.Places.{places_of, plain_places_of, IsOff, AreClear}
 use Rattle.ghes_hub.specs.OneSource.{kind_of, layout_in, windows_of, SourceStands, Stands, SamePlaces, SourceTurned}
@@ -54,23 +55,16 @@ plain_windows_kept map old new windows size w = record {
   head = w.head;
   fills = record { apart = subst AreApart (sym windows) w.fills.apart; as_long = ap total windows ∙ w.fills.as_long ∙ sym size };
   status = subst (λ (xs : List Window). AreMapped xs (Memory map.status) 8) (sym windows) w.status;
-  block = subst (λ (xs : List Window). AreMapped xs (Memory map.block) map.len) (sym windows) w.block;
+  block = subst (λ (xs : List Window). AreMapped xs (Memory map.window.block) map.window.len) (sym windows) w.block;
   status_block = w.status_block;
 }
 
 kept_by : (h : PlainState) (windows : List Window) (old new : RamState) (m : Machine) → AreClear windows (plain_places_of h.map) → SameWhere (IsOff windows) old new → PlainStands h old m → PlainStands h new m
 kept_by h windows old new m clear s st = record {
-  state = st.state;
+  agrees = subst (λ (bytes : List ℕ). Agrees (kept_over h.map.window.len h bytes) m) (sym (s.bytes (Memory h.map.window.block) h.map.window.len clear.1.0)) st.agrees;
   windows = plain_windows_kept h.map old new s.windows s.size st.windows;
   address = ap little (s.bytes (Memory h.map.status) 8 clear.0) ∙ st.address;
-  window_is = st.window_is ∙ sym (s.bytes (Memory h.map.block) h.map.len clear.1.0);
-  situation = st.situation;
   occurs = st.occurs;
-  blocks = st.blocks;
-  wait = st.wait;
-  filled = st.filled;
-  copied = st.copied;
-  last = st.last;
 }
 
 -- what is written off the windows of a source leaves it

@@ -28,7 +28,7 @@ IsUnderWay Acknowledged b = b.at_work ≡ None
 
 -- the blocks are as they must be in a situation
 pub record IsSound (situation : Situation) (b : Blocks PlainMap) : Type 0 where
-  pub short : b.map.len < 2 ^ 32
+  pub short : b.map.window.len < 2 ^ 32
   pub room : HasRoom plain_window_of 0 b
   pub under_way : IsUnderWay situation b
 

@@ -7,23 +7,19 @@ use apei_space::{Ram, Space};
 use ghes_ack::{MayWrite, MustLook, begin};
 use ghes_window::{BlockWindow, HasWindow};
 
-/// The 8 bytes at `status` hold the block's address, and the block's window has `len` bytes at `block`.
+/// The 8 bytes at `status` hold the address of the block's window.
 #[derive(Clone, Copy, Debug, PartialEq, Eq)]
 pub struct PlainMap {
     pub status: u64,
-    pub block: u64,
-    pub len: u32,
+    pub window: BlockWindow,
 }
 
 impl HasWindow for PlainMap {
-    ghost window_of = { λ map. record { block = map.block; len = map.len } };
+    ghost window_of = { λ map. map.window };
 
     #[inline(always)]
     fn window(&self) -> BlockWindow {
-        BlockWindow {
-            block: self.block,
-            len: self.len,
-        }
+        self.window
     }
 }
 
@@ -41,6 +37,6 @@ impl PlainMap {
     fn write_address(&self, ram: &mut Ram)
         ensures { ram.new ≡ with_plain_address self.now ram.old }
     {
-        let _ = ram.write(Place::Memory(self.status), Width::B64, self.block);
+        let _ = ram.write(Place::Memory(self.status), Width::B64, self.window.block);
     }
 }

@@ -8,8 +8,8 @@ returns-in_default-clause-turns c = λ m st. idles_at c.args.blocks.now c.next.n
 pub fill-requires-clause-fits : goal.fill-requires-clause-fits
 fill-requires-clause-fits c =
     let good = fits_in_hand c.args.blocks.now c.next.new.self c.in-Some.block c.args.ram.now c.in-Some.ensures c.requires.stands in
-    let fits : length c.deref.result.now ≤ c.args.blocks.now.map.len = subst (λ (x : List ℕ). length x ≤ c.args.blocks.now.map.len) (sym c.deref.ensures.value) good.1.fits in
-    let same : c.next.new.self.map.len ≡ c.args.blocks.now.map.len = ap (λ at. at.len) c.in-Some.ensures.same.map in
+    let fits : length c.deref.result.now ≤ c.args.blocks.now.map.window.len = subst (λ (x : List ℕ). length x ≤ c.args.blocks.now.map.window.len) (sym c.deref.ensures.value) good.1.fits in
+    let same : c.next.new.self.map.window.len ≡ c.args.blocks.now.map.window.len = ap (λ at. at.window.len) c.in-Some.ensures.same.map in
     omega (arith, fits, same)
 
 pub returns-then-blocks-len-clause-turns : goal.returns-then-blocks-len-clause-turns
