@@ -18,7 +18,7 @@ use Rattle.ghes_window.specs.declared.window.BlockWindow.{BlockWindow}
 use Rattle.ghes_window.specs.Windows.{HasBlock, HasAddressed, block_bytes, with_block}
 use Rattle.ghes_window.proofs.AddressLemmas as address
 use Rattle.ghes_window.proofs.PlacedLemmas.{stored_placed, fits_in, mapped_back, mapped_apart, disjoint_sym}
-use Rattle.ghes_window.proofs.WindowLemmas.{block_ends, length-block, block-with_block}
+use Rattle.ghes_window.proofs.WindowLemmas.{length-block}
 use Rattle.ghes_ack.specs.declared.maps.HandoverMap.{HandoverMap}
 use Rattle.ghes_ack.specs.Maps.{HasAckBits, HasWindows, ack_bytes, ack_mask, kept_mask, bytes_in, address_in, window, window_of, ack_read, with_window, with_ack, with_address, IsSet, IsClear, with_set, with_clear, acknowledged}
 

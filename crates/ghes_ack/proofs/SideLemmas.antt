@@ -105,6 +105,11 @@ publishes_at b t block bytes ram new events rest out is none memory clear is_not
 pub begins_at : {M : Type 0} (b : BlocksOver M) (block : Vec ℕ Global) → b.at_work ≡ Some block → IsCopiedSoFar b.copied b.at_work b.last → 64 * b.copied < length block.items
 begins_at b block some far = subst (λ (o : Option (Vec ℕ Global)). IsCopiedSoFar b.copied o b.last) some far
 
+pub none_copied : {M : Type 0} (b : BlocksOver M) (block : Vec ℕ Global) → b.at_work ≡ Some block → 20 ≤ length block.items → IsCopiedSoFar 0 b.at_work b.last
+none_copied b block some head =
+    let begins : 64 * 0 < length block.items = omega (arith, head) in
+    subst (λ (o : Option (Vec ℕ Global)). IsCopiedSoFar 0 o b.last) (sym some) begins
+
 -- the block over which pieces were copied
 copied_items : (p : ℕ) (b : Blocks) (block : Vec ℕ Global) (bytes copied : List ℕ) (ram : RamState) → bytes ≡ block.items →
     copied ≡ put_at bytes (64 * b.copied) (part (window b.map ram) (64 * b.copied) (min (64 * p) (length bytes - 64 * b.copied))) → length copied ≡ block.len → (with_items block copied).items ≡ read_over b.map ram block.items b.copied p

@@ -16,7 +16,8 @@ use Rattle.ghes_hub.specs.Layouts.{layout_kind, layout_windows, HasLayout, layou
 use Rattle.ghes_hub.specs.Places.{IsOff, AreClear}
 use Rattle.ghes_hub.specs.OneSource.{kind_of, layout_in, windows_of, SourceStands}
 use Rattle.ghes_hub.specs.SourcesState.{AreServed}
-use Rattle.ghes_hub.proofs.SourceLemmas.{source_kept, same_in_map, plain_windows_kept}
+use Rattle.ghes_hub.proofs.PlainMemory.{plain_windows_kept}
+use Rattle.ghes_hub.proofs.SourceLemmas.{source_kept, same_in_map}
 
 slice_get-push : {X : Type 0} (xs : List X) (y : X) (i : ℕ) (x : X) → slice_get (xs ++ y ∷ []) i ≡ Some x → ((i < length xs) × (slice_get xs i ≡ Some x)) ⊎ ((i ≡ length xs) × (x ≡ y))
 slice_get-push {X} xs y i x is =

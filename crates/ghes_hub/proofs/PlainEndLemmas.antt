@@ -1,5 +1,5 @@
 -- A turn of one side of a plain handover is the machine's turn, whatever the other side does.
-use Rattle.std.proofs.Common.{◌≡◌, ℕ, ◌*◌, ◌<◌, inl, inr, length, Vec, Option, Some, None, refl, sym, ap, subst, arith}
+use Rattle.std.proofs.Common.{◌≡◌, ℕ, ◌<◌, inl, inr, Vec, Option, Some, None, refl, sym, ap, subst, arith}
 use Rattle.std.specs.declared.alloc.Global.{Global}
 use Rattle.apei_space.specs.RamState.{RamState}
 use Rattle.ghes_ack.specs.declared.events.Side.TheVariants.{Firmware, Reader}
@@ -17,6 +17,8 @@ use Rattle.ghes_window.proofs.RoomLemmas.{room_with}
 use Rattle.ghes_hub.specs.declared.plain.map.PlainMap.{PlainMap}
 use Rattle.ghes_hub.specs.Plain.{plain_status, PlainState, PlainStands}
 use Rattle.ghes_hub.specs.PlainSides.{IsSound, IsConsistent, Stands, Turns, SideDone, FirmwareIsAble, FirmwareTurns, ReaderIsAble, ReaderTurns}
+use Rattle.ghes_ack.proofs.SideLemmas.{none_copied}
+use Rattle.ghes_ack.proofs.JoinLemmas.{situation_at}
 use Rattle.ghes_hub.proofs.PlainTurns.{waits, held_status, no_status, finds_nothing, work_fits}
 use Rattle.ghes_hub.proofs.PlainBlocks.{frees_at, finds_at}
 
@@ -107,11 +109,6 @@ firmware_done (Waits wait) (Waits later) reader b new ram memory event all stand
       turns = λ m st. waits_by (state_of (waiting_at reader b.at_work) b) ram m (waiting_at reader b.at_work) refl found.0 st;
     })
 
--- the situation while the reader looks
-abbrev situation_at : FirmwareEnd → Option (Vec ℕ Global) → Situation
-situation_at (Writes write) work = Filling
-situation_at (Waits wait) work = looking_at work
-
 nothing_by : (firmware : FirmwareEnd) (b : Blocks PlainMap) (ram : RamState) (work : Option (Vec ℕ Global)) → plain_status b.map ram ≡ 0 → (m : Machine) → PlainStands (state_of (situation_at firmware work) b) ram m →
     Turns Reader Nothing (state_of (situation_at firmware work) b) ram (state_of (situation_at firmware work) b) ram m
 nothing_by (Writes write) b ram work none m st = finds_nothing (state_of Filling b) ram m (inl refl) st
@@ -130,12 +127,9 @@ found_by (Writes write) read b ram work is some m st = absurd (let none = no_sta
 found_by (Waits wait) read b ram None is some m st = absurd (let none = no_status (state_of Acknowledged b) ram m (inr refl) st in omega (arith, some, none))
 found_by (Waits wait) read b ram (Some block) is some m st =
     let old : in_work Published b.at_work b.last ≡ Some block.items = ap (λ (o : Option (Vec ℕ Global)). in_work Published o b.last) is in
-    let fits = work_fits (state_of Published b) ram m block.items old st in
-    let head = fits.head in
-    let begins : 64 * 0 < length block.items = omega (arith, head) in
     record {
       apart = tt;
-      far = subst (λ (o : Option (Vec ℕ Global)). IsCopiedSoFar 0 o b.last) (sym is) begins;
+      far = none_copied b block is (work_fits (state_of Published b) ram m block.items old st).head;
       turns = finds_at b ram (ap count_of is) m st;
     }
 

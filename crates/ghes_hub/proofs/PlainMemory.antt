@@ -1,18 +1,20 @@
 -- What accesses of the two windows of a plain handover read and leave.
-use Rattle.std.proofs.Common.{◌≡◌, ◌∙◌, ℕ, ◌<◌, List, length, sym, ap, subst, arith}
-use Rattle.base_model.specs.Bytes.{part, little, spelled, put_at}
-use Rattle.base_model.proofs.BytesLemmas.{length-spelled, little-spelled, length-part, length-put_at, SameOutside-refl, is_put_at}
+use Rattle.std.proofs.Common.{◌≡◌, ◌∙◌, ℕ, List, length, refl, sym, ap, subst, arith}
+use Rattle.base_model.specs.Bytes.{part, spelled, put_at}
+use Rattle.base_model.proofs.BytesLemmas.{length-spelled, length-part, length-put_at, SameOutside-refl, is_put_at}
 use Rattle.apei_gas.specs.declared.registers.Place.{Place}
 use Rattle.apei_gas.specs.declared.registers.Place.TheVariants.{Memory}
+use Rattle.apei_space.specs.declared.windows.Window.{Window}
+use Rattle.apei_space.specs.Windows.{AreApart, total}
+use Rattle.apei_space.specs.Mapped.{AreMapped}
 use Rattle.apei_space.specs.RamState.{RamState, located, stored}
-use Rattle.apei_space.proofs.Placed.{IsPlaced, placed}
-use Rattle.ghes_window.specs.Windows.{HasBlock}
+use Rattle.apei_space.proofs.Placed.{IsPlaced}
 use Rattle.ghes_window.proofs.AddressLemmas.{has_block, block_placed, status_placed}
-use Rattle.ghes_window.proofs.PlacedLemmas.{bytes_placed, stored_placed, fits_in, mapped_back, mapped_apart, disjoint_sym}
-use Rattle.ghes_window.proofs.WindowLemmas.{block_ends, length-block, block-with_block, length-status}
+use Rattle.ghes_window.proofs.PlacedLemmas.{bytes_placed, stored_placed, fits_in}
+use Rattle.ghes_window.proofs.WindowLemmas.{length-status}
 use Rattle.ghes_ack.specs.Machine.{with_status}
 use Rattle.ghes_hub.specs.declared.plain.map.PlainMap.{PlainMap}
-use Rattle.ghes_hub.specs.Plain.{HasPlainWindows, plain_window, plain_window_of, plain_address, with_plain_window, with_plain_address}
+use Rattle.ghes_hub.specs.Plain.{HasPlainWindows, plain_window, plain_window_of, with_plain_window, with_plain_address}
 
 -- a memory whose window is written with what it holds
 pub unchanged : (map : PlainMap) (ram : RamState) → HasPlainWindows map ram → ram ≡ with_plain_window map ram (plain_window map ram)
@@ -24,17 +26,21 @@ unchanged map ram w =
     ap (λ (x : List ℕ). record ram { bytes = x }) (back ∙ ap (put_at ram.bytes b.0) (sym (bytes_placed ram (Memory map.window.block) map.window.len b.0 b.1)))
     ∙ sym (stored_placed ram (Memory map.window.block) map.window.len b.0 (plain_window map ram) b.1)
 
+pub plain_windows_kept : (map : PlainMap) (old new : RamState) → new.windows ≡ old.windows → length new.bytes ≡ length old.bytes → HasPlainWindows map old → HasPlainWindows map new
+plain_windows_kept map old new windows size w = record {
+  head = w.head;
+  fills = record { apart = subst AreApart (sym windows) w.fills.apart; as_long = ap total windows ∙ w.fills.as_long ∙ sym size };
+  status = subst (λ (xs : List Window). AreMapped xs (Memory map.status) 8) (sym windows) w.status;
+  block = subst (λ (xs : List Window). AreMapped xs (Memory map.window.block) map.window.len) (sym windows) w.block;
+  status_block = w.status_block;
+}
+
 -- a store of as many bytes keeps the windows
 windows-stored : (map : PlainMap) (ram : RamState) (at : Place) (n s : ℕ) (bytes : List ℕ) → HasPlainWindows map ram → IsPlaced ram.windows at n s → length bytes ≡ n → HasPlainWindows map (stored (located ram.windows at n) ram bytes)
 windows-stored map ram at n s bytes w p is =
     let fits = fits_in ram at n s w.fills p in
-    subst (HasPlainWindows map) (sym (stored_placed ram at n s bytes p)) (record {
-      head = w.head;
-      fills = record { apart = w.fills.apart; as_long = w.fills.as_long ∙ sym (length-put_at ram.bytes s bytes (omega (arith, is, fits))) };
-      status = w.status;
-      block = w.block;
-      status_block = w.status_block;
-    })
+    subst (HasPlainWindows map) (sym (stored_placed ram at n s bytes p))
+    (plain_windows_kept map ram (record ram { bytes = put_at ram.bytes s bytes }) refl (length-put_at ram.bytes s bytes (omega (arith, is, fits))) w)
 
 pub windows_window : (map : PlainMap) (ram new : RamState) (bytes : List ℕ) → new ≡ with_plain_window map ram bytes → length bytes ≡ map.window.len → HasPlainWindows map ram → HasPlainWindows map new
 windows_window map ram new bytes is n w = let b = block_placed map.status map.window ram w in subst (HasPlainWindows map) (sym is) (windows-stored map ram (Memory map.window.block) map.window.len b.0 bytes w b.1 n)

@@ -10,10 +10,9 @@ use Rattle.ghes_window.specs.declared.blocks.Blocks.{Blocks}
 use Rattle.ghes_window.specs.Queues.{IsEmpty}
 use Rattle.ghes_ack.specs.declared.events.Side.{Side}
 use Rattle.ghes_ack.specs.declared.events.Event.{Event}
-use Rattle.ghes_ack.specs.Machine.{Machine, Filling, Fits, with_status, started, submitted, IsState}
+use Rattle.ghes_ack.specs.Machine.{Machine, Filling, Fits, with_status, started, submitted}
 use Rattle.ghes_ack.specs.Elsewhere.{SameWhere}
 use Rattle.ghes_ack.specs.Sides.{state_of, view_of}
-use Rattle.ghes_ack.proofs.StepLemmas.{start_is}
 use Rattle.ghes_ack.proofs.StartLemmas.{fresh_is, fresh_agrees, submits_more}
 use Rattle.ghes_ack.proofs.ElsewhereLemmas.{SameWhere-then, SameWhere-stored}
 use Rattle.ghes_hub.specs.declared.plain.map.PlainMap.{PlainMap}

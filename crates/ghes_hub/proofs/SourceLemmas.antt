@@ -6,9 +6,7 @@ use Rattle.std.proofs.lemmas.Option.{slice_get_past, slice_get_read, slice_get-g
 use Rattle.base_model.specs.Bytes.{little}
 use Rattle.apei_gas.specs.declared.registers.Place.TheVariants.{Memory}
 use Rattle.apei_space.specs.declared.windows.Window.{Window}
-use Rattle.apei_space.specs.Windows.{AreApart, total}
 use Rattle.apei_space.specs.RamState.{RamState}
-use Rattle.apei_space.specs.Mapped.{AreMapped}
 use Rattle.ghes_ack.specs.declared.maps.HandoverMap.{HandoverMap}
 use Rattle.ghes_ack.specs.declared.events.Side.{Side}
 use Rattle.ghes_ack.specs.declared.events.Event.{Event}
@@ -16,12 +14,12 @@ use Rattle.ghes_ack.specs.Machine.{Machine, submitted}
 use Rattle.ghes_ack.specs.Maps.{ack_bytes}
 use Rattle.ghes_ack.specs.Elsewhere.{SameWhere, SameInMap}
 use Rattle.ghes_ack.proofs.CallLemmas.{StandsFor-others}
-use Rattle.ghes_hub.specs.declared.plain.map.PlainMap.{PlainMap}
 use Rattle.ghes_hub.specs.declared.source.Source.{Source}
 use Rattle.ghes_hub.specs.declared.source.Source.TheVariants.{Acknowledged, Plain}
 use Rattle.ghes_hub.specs.Kinds.{Kind}
 use Rattle.ghes_ack.specs.Kept.{Agrees, kept_over}
-use Rattle.ghes_hub.specs.Plain.{HasPlainWindows, PlainState, PlainStands}
+use Rattle.ghes_hub.proofs.PlainMemory.{plain_windows_kept}
+use Rattle.ghes_hub.specs.Plain.{PlainState, PlainStands}
 use Rattle.ghes_hub.specs.Places.{places_of, plain_places_of, IsOff, AreClear}
 use Rattle.ghes_hub.specs.OneSource.{kind_of, layout_in, windows_of, SourceStands, Stands, SamePlaces, SourceTurned}
 use Rattle.ghes_hub.specs.SourcesState.{SourcesState, layouts_in, AreServed, StandsAt, TurnsAt}
@@ -48,15 +46,6 @@ same_in_map map windows old new clear s = record {
   status = s.bytes (Memory map.status) 8 clear.0;
   ack = s.bytes map.ack.place (ack_bytes map) clear.1.0;
   block = s.bytes (Memory map.block) map.len clear.1.1.0;
-}
-
-pub plain_windows_kept : (map : PlainMap) (old new : RamState) → new.windows ≡ old.windows → length new.bytes ≡ length old.bytes → HasPlainWindows map old → HasPlainWindows map new
-plain_windows_kept map old new windows size w = record {
-  head = w.head;
-  fills = record { apart = subst AreApart (sym windows) w.fills.apart; as_long = ap total windows ∙ w.fills.as_long ∙ sym size };
-  status = subst (λ (xs : List Window). AreMapped xs (Memory map.status) 8) (sym windows) w.status;
-  block = subst (λ (xs : List Window). AreMapped xs (Memory map.window.block) map.window.len) (sym windows) w.block;
-  status_block = w.status_block;
 }
 
 kept_by : (h : PlainState) (windows : List Window) (old new : RamState) (m : Machine) → AreClear windows (plain_places_of h.map) → SameWhere (IsOff windows) old new → PlainStands h old m → PlainStands h new m

@@ -1,12 +1,9 @@
 -- A handover without a read acknowledgement: its two windows in memory, what it keeps, and the states of the machine that it stands for.
-use Rattle.std.specs.Prelude.{◌≡◌, ℕ, ◌≤◌, List, length, drop, Option}
-use Rattle.base_model.specs.Bytes.{little, number_at, spelled}
-use Rattle.apei_gas.specs.declared.registers.Place.TheVariants.{Memory}
-use Rattle.apei_space.specs.RamState.{RamState, FillsWindows, located, stored}
-use Rattle.apei_space.specs.Mapped.{AreMapped, AreDisjoint}
+use Rattle.std.specs.Prelude.{◌≡◌, ℕ, List, length, Option}
+use Rattle.base_model.specs.Bytes.{spelled}
+use Rattle.apei_space.specs.RamState.{RamState}
 use Rattle.ghes_ack.specs.declared.submission.SubmitError.{SubmitError}
-use Rattle.ghes_ack.specs.Machine.{Machine, with_status, IsState, waiting_in, last_taken}
-use Rattle.ghes_ack.specs.Maps.{bytes_at}
+use Rattle.ghes_ack.specs.Machine.{Machine, with_status}
 use Rattle.ghes_ack.specs.Handovers.{HandoverOver}
 use Rattle.ghes_ack.specs.Kept.{Agrees, kept_over}
 use Rattle.ghes_window.specs.declared.window.BlockWindow.{BlockWindow}
