@@ -22,6 +22,7 @@ use Rattle.ghes_ack.specs.Sides.{Turns, Runs, Stands, looking_at, waiting_at, si
 use Rattle.ghes_ack.specs.OwnTurns.{IsAble, FirmwareMakes, Idles, Fills, Publishes, FirmwareRuns, read_over, ReaderMakes, Copies, Takes, Clears, GoesOn, ReaderRuns}
 use Rattle.ghes_ack.proofs.TurnLemmas.{idles, publishes, waits, frees, finds, finds_nothing, some_status, no_status, acks_in, set_and_clear, work_fits, copies_over, clears, acknowledges}
 use Rattle.ghes_ack.proofs.RunLemmas.{run_one, fills_run, copies_run, takes_run, copied_memory, copied_left, taken_memory, taken_left}
+use Rattle.ghes_ack.proofs.SideLemmas.{none_copied}
 
 -- a run, by what its events, its last state and its memory are
 runs_as : (side : Side) (h : HandoverState) (ram : RamState) (m : Machine) (events others : List Event) (new after : HandoverState) (memory left : RamState) → events ≡ others → new ≡ after → memory ≡ left →
@@ -206,7 +207,8 @@ never_returned h ram events new memory (Copies count block work more is_events i
 never_returned h ram events new memory (Takes count block work more all is_events is_new is_memory) now is = let e : Reading ≡ Acknowledged = sym now ∙ sym (ap (λ (x : HandoverState). x.situation) is_new) ∙ is in cc
 never_returned h ram events new memory (Clears block work all is_events is_new is_memory) now is = let e : Cleared ≡ Acknowledged = sym (ap (λ (x : HandoverState). x.situation) is_new) ∙ is in cc
 
-abbrev situation_at : FirmwareEnd → Option (Vec ℕ Global) → Situation
+-- the situation while the reader looks
+abbrev pub situation_at : FirmwareEnd → Option (Vec ℕ Global) → Situation
 situation_at (Writes write) work = Filling
 situation_at (Waits wait) work = looking_at work
 
@@ -229,12 +231,9 @@ found_by (Waits wait) read b ram None is some m st = absurd (let none = no_statu
 found_by (Waits wait) read b ram (Some block) is some m st =
     let old : in_work Published b.at_work b.last ≡ Some block.items = ap (λ (o : Option (Vec ℕ Global)). in_work Published o b.last) is in
     let new : in_work Reading b.at_work b.last ≡ Some block.items = ap (λ (o : Option (Vec ℕ Global)). in_work Reading o b.last) is in
-    let fits = work_fits (state_of Published b) ram m block.items old st in
-    let head = fits.head in
-    let begins : 64 * 0 < length block.items = omega (arith, head) in
     record {
       apart = tt;
-      far = subst (λ (o : Option (Vec ℕ Global)). IsCopiedSoFar 0 o b.last) (sym is) begins;
+      far = none_copied b block is (work_fits (state_of Published b) ram m block.items old st).head;
       turns = subst (λ (o : Option (List ℕ)). Turns Reader Found (state_of Published b) ram (record (state_of Reading b) { copied = 0; at_work = o }) ram m) (old ∙ sym new) (finds (state_of Published b) ram m refl st);
     }
 

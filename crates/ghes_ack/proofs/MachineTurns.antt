@@ -10,30 +10,8 @@ use Rattle.ghes_ack.specs.declared.events.Side.TheVariants.{Firmware, Reader}
 use Rattle.ghes_ack.specs.declared.events.Event.{Event}
 use Rattle.ghes_ack.specs.declared.events.Event.TheVariants.{Idle, Fill, Publish, Free, Wait, Nothing, Found, Copied, Took, Clear, Ack}
 use Rattle.ghes_ack.specs.Machine.{Machine, Situation, Filling, Published, Reading, Cleared, Acknowledged, Fits, block_at, at_work, last_taken, waiting_in, pieces, with_piece, with_status, Turned, offered, firmware_turn, reader_turn, turned, IsFilling, IsWhole, IsEmptied, IsReading, InSituation, IsState}
+use Rattle.ghes_ack.specs.Kept.{Kept, Agrees}
 use Rattle.ghes_ack.proofs.StepLemmas.{turn_keeps, fits_at_work}
-
--- what a handover keeps, with what its window of so many bytes holds
-pub record Kept : Type 0 where
-  pub len : ℕ
-  pub situation : Situation
-  -- the blocks that are not acknowledged, and how many wait
-  pub held : List (List ℕ)
-  pub waiting : ℕ
-  pub filled : ℕ
-  pub copied : ℕ
-  pub last : List ℕ
-  pub bytes : List ℕ
-
--- a state of the machine agrees with it
-pub record Agrees (k : Kept) (m : Machine) : Type 0 where
-  pub state : IsState k.len m
-  pub bytes_are : m.window ≡ k.bytes
-  pub situation_is : m.situation ≡ k.situation
-  pub blocks : k.held ≡ drop m.acknowledged m.blocks
-  pub wait : k.waiting ≡ waiting_in m
-  pub filled_is : k.filled ≡ m.filled
-  pub copied_is : k.copied ≡ m.copied
-  pub last_is : k.last ≡ last_taken m
 
 -- a turn of the machine, after which it agrees with this
 pub record Next (side : Side) (event : Event) (k : Kept) (m : Machine) : Type 0 where
@@ -44,6 +22,23 @@ pub record Next (side : Side) (event : Event) (k : Kept) (m : Machine) : Type 0 
 -- what the state of a machine after a turn is
 kept_state : (side : Side) (event : Event) (len : ℕ) (m n : Machine) → turned side m ≡ (event, n) → IsState len m → IsState len n
 kept_state side event len m n is st = subst (IsState len) (ap (λ (t : Turned). t.1) is) (turn_keeps len side m st)
+
+next_by : (side : Side) (event : Event) (k : Kept) (m n : Machine) → turned side m ≡ (event, n) → IsState k.len m → n.window ≡ k.bytes → n.situation ≡ k.situation → k.held ≡ drop n.acknowledged n.blocks → k.waiting ≡ waiting_in n →
+    k.filled ≡ n.filled → k.copied ≡ n.copied → k.last ≡ last_taken n → Next side event k m
+next_by side event k m n is st bytes situation blocks wait filled copied last = record {
+  machine = n;
+  is = is;
+  agrees = record {
+    state = kept_state side event k.len m n is st;
+    bytes_are = bytes;
+    situation_is = situation;
+    blocks = blocks;
+    wait = wait;
+    filled_is = filled;
+    copied_is = copied;
+    last_is = last;
+  };
+}
 
 -- what a state says in its situation
 pub in_situation : (k : Kept) (m : Machine) (s : Situation) → k.situation ≡ s → Agrees k m → InSituation m s
@@ -111,22 +106,9 @@ fills k m block rest now held more a =
     let x = oldest k m block rest held a in
     let e = a.filled_is in
     let few : m.filled < pieces block = omega (arith, more, e) in
-    let n : Machine = record m { filled = m.filled + 1; window = with_piece m.window block m.filled } in
     let turn : turned Firmware m ≡ (Fill, record m { filled = m.filled + 1; window = with_piece m.window block m.filled }) = turned_fill m block rest (a.situation_is ∙ now) (offered_is k m (block ∷ rest) now held a) few in
-    record {
-      machine = n;
-      is = turn;
-      agrees = record {
-        state = kept_state Firmware Fill k.len m n turn a.state;
-        bytes_are = ap (λ (i : ℕ). with_piece m.window block i) (sym a.filled_is) ∙ ap (λ (w : List ℕ). with_piece w block k.filled) a.bytes_are;
-        situation_is = a.situation_is;
-        blocks = sym held ∙ a.blocks;
-        wait = let l = x.behind in let p = f.published in let o = one_begun m.filled in omega (arith, l, p, o);
-        filled_is = ap (λ (i : ℕ). i + 1) a.filled_is;
-        copied_is = a.copied_is;
-        last_is = a.last_is;
-      };
-    }
+    next_by Firmware Fill (record k { held = block ∷ rest; waiting = length rest; filled = k.filled + 1; bytes = with_piece k.bytes block k.filled }) m (record m { filled = m.filled + 1; window = with_piece m.window block m.filled }) turn a.state (ap (λ (i : ℕ). with_piece m.window block i) (sym a.filled_is) ∙ ap (λ (w : List ℕ). with_piece w block k.filled) a.bytes_are) a.situation_is (sym held ∙ a.blocks)
+    (let l = x.behind in let p = f.published in let o = one_begun m.filled in omega (arith, l, p, o)) (ap (λ (i : ℕ). i + 1) a.filled_is) a.copied_is a.last_is
 
 -- a block all of whose pieces are filled is published
 pub publishes : (k : Kept) (m : Machine) (block : List ℕ) (rest : List (List ℕ)) → k.situation ≡ Filling → k.held ≡ block ∷ rest → length block ≤ 64 * k.filled → Agrees k m →
@@ -135,23 +117,10 @@ publishes k m block rest now held none a =
     let f : IsFilling m = in_situation k m Filling now a in
     let x = oldest k m block rest held a in
     let e = a.filled_is in
-    let n : Machine = record m { published = m.published + 1; filled = 0; window = with_status m.window (take 4 block); situation = Published } in
     let turn : turned Firmware m ≡ (Publish, record m { published = m.published + 1; filled = 0; window = with_status m.window (take 4 block); situation = Published }) =
     turned_publish m block rest (a.situation_is ∙ now) (offered_is k m (block ∷ rest) now held a) (omega (arith, none, e)) in
-    record {
-      machine = n;
-      is = turn;
-      agrees = record {
-        state = kept_state Firmware Publish k.len m n turn a.state;
-        bytes_are = ap (λ (w : List ℕ). with_status w (take 4 block)) a.bytes_are;
-        situation_is = refl;
-        blocks = sym held ∙ a.blocks;
-        wait = let l = x.behind in let p = f.published in omega (arith, l, p);
-        filled_is = refl;
-        copied_is = a.copied_is;
-        last_is = a.last_is;
-      };
-    }
+    next_by Firmware Publish (record k { situation = Published; held = block ∷ rest; waiting = length rest; filled = 0; bytes = with_status k.bytes (take 4 block) }) m (record m { published = m.published + 1; filled = 0; window = with_status m.window (take 4 block); situation = Published }) turn a.state (ap (λ (w : List ℕ). with_status w (take 4 block)) a.bytes_are) refl (sym held ∙ a.blocks)
+    (let l = x.behind in let p = f.published in omega (arith, l, p)) refl a.copied_is a.last_is
 
 -- the firmware waits for an acknowledgement
 turned_wait : (m : Machine) (s : Situation) → m.situation ≡ s → (s ≡ Published) ⊎ ((s ≡ Reading) ⊎ (s ≡ Cleared)) → turned Firmware m ≡ (Wait, m)
@@ -164,20 +133,7 @@ waits k m held a = same Firmware Wait k m (turned_wait m k.situation a.situation
 
 -- a turn that changes the situation, and how many pieces are copied
 moves : (side : Side) (event : Event) (k : Kept) (m : Machine) (s : Situation) (copied : ℕ) → turned side m ≡ (event, record m { situation = s; copied = copied }) → Agrees k m → Next side event (record k { situation = s; copied = copied }) m
-moves side event k m s copied is a = record {
-  machine = record m { situation = s; copied = copied };
-  is = is;
-  agrees = record {
-    state = kept_state side event k.len m (record m { situation = s; copied = copied }) is a.state;
-    bytes_are = a.bytes_are;
-    situation_is = refl;
-    blocks = a.blocks;
-    wait = a.wait;
-    filled_is = a.filled_is;
-    copied_is = refl;
-    last_is = a.last_is;
-  };
-}
+moves side event k m s copied is a = next_by side event (record k { situation = s; copied = copied }) m (record m { situation = s; copied = copied }) is a.state a.bytes_are refl a.blocks a.wait a.filled_is refl a.last_is
 
 pub frees : (k : Kept) (m : Machine) → k.situation ≡ Acknowledged → Agrees k m → Next Firmware Free (record k { situation = Filling }) m
 frees k m now a =
@@ -268,20 +224,7 @@ copies_more k m block rest now held more a =
     let e : length (at_work m) ≡ length block = ap length (oldest k m block rest held a).is in
     let c = a.copied_is in
     let turn : turned Reader m ≡ (Copied, record m { copied = m.copied + 1 }) = turned_copied m (a.situation_is ∙ now) (omega (arith, more, e, c)) in
-    record {
-      machine = record m { copied = m.copied + 1 };
-      is = turn;
-      agrees = record {
-        state = kept_state Reader Copied k.len m (record m { copied = m.copied + 1 }) turn a.state;
-        bytes_are = a.bytes_are;
-        situation_is = a.situation_is;
-        blocks = a.blocks;
-        wait = a.wait;
-        filled_is = a.filled_is;
-        copied_is = ap (λ (i : ℕ). i + 1) a.copied_is;
-        last_is = a.last_is;
-      };
-    }
+    next_by Reader Copied (record k { copied = k.copied + 1 }) m (record m { copied = m.copied + 1 }) turn a.state a.bytes_are a.situation_is a.blocks a.wait a.filled_is (ap (λ (i : ℕ). i + 1) a.copied_is) a.last_is
 
 pub copies_last : (k : Kept) (m : Machine) (block : List ℕ) (rest : List (List ℕ)) → k.situation ≡ Reading → k.held ≡ block ∷ rest → 64 * k.copied < length block → length block ≤ 64 * (k.copied + 1) → Agrees k m →
     Next Reader Took (record k { copied = k.copied + 1; last = block }) m
@@ -293,20 +236,8 @@ copies_last k m block rest now held more all a =
     let t = x.1.taken_is in
     let one : m.taken + 1 ≡ suc m.acknowledged = omega (arith, t) in
     let turn : turned Reader m ≡ (Took, record m { copied = m.copied + 1; taken = m.taken + 1 }) = turned_took m (a.situation_is ∙ now) x.0 (omega (arith, all, e, c)) in
-    record {
-      machine = record m { copied = m.copied + 1; taken = m.taken + 1 };
-      is = turn;
-      agrees = record {
-        state = kept_state Reader Took k.len m (record m { copied = m.copied + 1; taken = m.taken + 1 }) turn a.state;
-        bytes_are = a.bytes_are;
-        situation_is = a.situation_is;
-        blocks = a.blocks;
-        wait = a.wait;
-        filled_is = a.filled_is;
-        copied_is = ap (λ (i : ℕ). i + 1) a.copied_is;
-        last_is = sym w ∙ sym (ap (block_at ([] ∷ m.blocks)) one);
-      };
-    }
+    next_by Reader Took (record k { copied = k.copied + 1; last = block }) m (record m { copied = m.copied + 1; taken = m.taken + 1 }) turn a.state a.bytes_are a.situation_is a.blocks a.wait a.filled_is (ap (λ (i : ℕ). i + 1) a.copied_is)
+    (sym w ∙ sym (ap (block_at ([] ∷ m.blocks)) one))
 
 pub clears : (k : Kept) (m : Machine) (block : List ℕ) (rest : List (List ℕ)) → k.situation ≡ Reading → k.held ≡ block ∷ rest → length block ≤ 64 * k.copied → Agrees k m →
     Next Reader Clear (record k { situation = Cleared; bytes = with_status k.bytes (spelled 4 0) }) m
@@ -314,35 +245,9 @@ clears k m block rest now held all a =
     let e : length (at_work m) ≡ length block = ap length (oldest k m block rest held a).is in
     let c = a.copied_is in
     let turn : turned Reader m ≡ (Clear, record m { window = with_status m.window (spelled 4 0); situation = Cleared }) = turned_clear m (a.situation_is ∙ now) (omega (arith, all, e, c)) in
-    record {
-      machine = record m { window = with_status m.window (spelled 4 0); situation = Cleared };
-      is = turn;
-      agrees = record {
-        state = kept_state Reader Clear k.len m (record m { window = with_status m.window (spelled 4 0); situation = Cleared }) turn a.state;
-        bytes_are = ap (λ (w : List ℕ). with_status w (spelled 4 0)) a.bytes_are;
-        situation_is = refl;
-        blocks = a.blocks;
-        wait = a.wait;
-        filled_is = a.filled_is;
-        copied_is = a.copied_is;
-        last_is = a.last_is;
-      };
-    }
+    next_by Reader Clear (record k { situation = Cleared; bytes = with_status k.bytes (spelled 4 0) }) m (record m { window = with_status m.window (spelled 4 0); situation = Cleared }) turn a.state (ap (λ (w : List ℕ). with_status w (spelled 4 0)) a.bytes_are) refl a.blocks a.wait a.filled_is a.copied_is a.last_is
 
 pub acknowledges : (k : Kept) (m : Machine) (block : List ℕ) (rest : List (List ℕ)) → k.situation ≡ Cleared → k.held ≡ block ∷ rest → Agrees k m → Next Reader Ack (record k { situation = Acknowledged; held = rest }) m
 acknowledges k m block rest now held a =
     let turn : turned Reader m ≡ (Ack, record m { acknowledged = m.acknowledged + 1; situation = Acknowledged }) = ap (reader_turn m) (a.situation_is ∙ now) in
-    record {
-      machine = record m { acknowledged = m.acknowledged + 1; situation = Acknowledged };
-      is = turn;
-      agrees = record {
-        state = kept_state Reader Ack k.len m (record m { acknowledged = m.acknowledged + 1; situation = Acknowledged }) turn a.state;
-        bytes_are = a.bytes_are;
-        situation_is = refl;
-        blocks = ap (drop 1) (sym held ∙ a.blocks) ∙ drop-drop 1 m.acknowledged m.blocks;
-        wait = a.wait;
-        filled_is = a.filled_is;
-        copied_is = a.copied_is;
-        last_is = a.last_is;
-      };
-    }
+    next_by Reader Ack (record k { situation = Acknowledged; held = rest }) m (record m { acknowledged = m.acknowledged + 1; situation = Acknowledged }) turn a.state a.bytes_are refl (ap (drop 1) (sym held ∙ a.blocks) ∙ drop-drop 1 m.acknowledged m.blocks) a.wait a.filled_is a.copied_is a.last_is

@@ -4,7 +4,7 @@ use Rattle.std.specs.Result.{result_unwrap_or}
 use Rattle.std.proofs.lemmas.Nat.{and_le_l, or_lt, and_or_self, pow-add, pow_pos}
 use Rattle.std.proofs.Math.Nat.{mod-eq_of_lt, mul-mod_left, mul_assoc}
 use Rattle.std.proofs.lemmas.Grind.{and-not_self}
-use Rattle.base_model.specs.Bytes.{little, number_at, spelled, put_at}
+use Rattle.base_model.specs.Bytes.{little, number_at, spelled}
 use Rattle.base_model.proofs.BytesLemmas.{length-spelled, little-spelled, length-put_at}
 use Rattle.apei_gas.specs.declared.registers.Place.{Place}
 use Rattle.apei_gas.specs.declared.registers.Place.TheVariants.{Memory}
@@ -15,9 +15,10 @@ use Rattle.apei_space.specs.declared.faults.SpaceFault.{SpaceFault}
 use Rattle.apei_space.specs.RamState.{RamState, located, stored, changed, number_in}
 use Rattle.apei_space.proofs.Placed.{IsPlaced, placed}
 use Rattle.ghes_window.specs.declared.window.BlockWindow.{BlockWindow}
-use Rattle.ghes_window.specs.Windows.{HasBlock, block_bytes, with_block}
+use Rattle.ghes_window.specs.Windows.{HasBlock, HasAddressed, block_bytes, with_block}
+use Rattle.ghes_window.proofs.AddressLemmas as address
 use Rattle.ghes_window.proofs.PlacedLemmas.{stored_placed, fits_in, mapped_back, mapped_apart, disjoint_sym}
-use Rattle.ghes_window.proofs.WindowLemmas.{block_ends, length-block, block-with_block}
+use Rattle.ghes_window.proofs.WindowLemmas.{length-block}
 use Rattle.ghes_ack.specs.declared.maps.HandoverMap.{HandoverMap}
 use Rattle.ghes_ack.specs.Maps.{HasAckBits, HasWindows, ack_bytes, ack_mask, kept_mask, bytes_in, address_in, window, window_of, ack_read, with_window, with_ack, with_address, IsSet, IsClear, with_set, with_clear, acknowledged}
 
@@ -52,32 +53,34 @@ has_block_at map at ram is w = subst (λ (x : BlockWindow). HasBlock x ram) (sym
 pub by_window : (map : HandoverMap) (at : BlockWindow) (ram new : RamState) (f : List ℕ → List ℕ) → at ≡ window_of map → new ≡ with_block at ram (f (block_bytes at ram)) → new ≡ with_window map ram (f (window map ram))
 by_window map at ram new f is e = subst (λ (x : BlockWindow). new ≡ with_block x ram (f (block_bytes x ram))) is e
 
+addressed : (map : HandoverMap) (ram : RamState) → HasWindows map ram → HasAddressed map.status (window_of map) ram
+addressed map ram w = record { head = w.head; fills = w.fills; status = w.status; block = w.block; status_block = w.status_block }
+
 pub block_some : (map : HandoverMap) (ram : RamState) → HasWindows map ram → 0 < map.len
-block_some map ram w = let h = w.head in omega (arith, h)
+block_some map ram w = address.block_some map.status (window_of map) ram (addressed map ram w)
 
 pub block_placed : (map : HandoverMap) (ram : RamState) → HasWindows map ram → (b : ℕ) × IsPlaced ram.windows (Memory map.block) map.len b
-block_placed map ram w = placed ram.windows (Memory map.block) map.len w.fills.apart (block_some map ram w) w.block
+block_placed map ram w = address.block_placed map.status (window_of map) ram (addressed map ram w)
 
 pub ack_placed : (map : HandoverMap) (ram : RamState) → HasWindows map ram → (a : ℕ) × IsPlaced ram.windows map.ack.place (ack_bytes map) a
 ack_placed map ram w = placed ram.windows map.ack.place (ack_bytes map) w.fills.apart (ack_some map) w.ack
 
 pub status_placed : (map : HandoverMap) (ram : RamState) → HasWindows map ram → (a : ℕ) × IsPlaced ram.windows (Memory map.status) 8 a
-status_placed map ram w = placed ram.windows (Memory map.status) 8 w.fills.apart (omega arith) w.status
+status_placed map ram w = address.status_placed map.status (window_of map) ram (addressed map ram w)
 
 pub length-window : (map : HandoverMap) (ram : RamState) → HasWindows map ram → length (window map ram) ≡ map.len
 length-window map ram w = length-block (window_of map) ram (has_block map ram w)
 
 -- what a write leaves in its own window and in the others
 pub window-with_window : (map : HandoverMap) (ram : RamState) (bytes : List ℕ) → HasWindows map ram → length bytes ≡ map.len → window map (with_window map ram bytes) ≡ bytes
-window-with_window map ram bytes w n = block-with_block (window_of map) ram bytes (has_block map ram w) n
+window-with_window map ram bytes w n = address.window-with_window map.status (window_of map) ram bytes (addressed map ram w) n
 
 pub ack-with_window : (map : HandoverMap) (ram : RamState) (bytes : List ℕ) → HasWindows map ram → length bytes ≡ map.len → ack_read map (with_window map ram bytes) ≡ ack_read map ram
 ack-with_window map ram bytes w n =
     ap little (mapped_apart ram (Memory map.block) map.len bytes map.ack.place (ack_bytes map) w.fills w.block (block_some map ram w) n w.ack (ack_some map) (disjoint_sym map.ack.place (ack_bytes map) (Memory map.block) map.len w.ack_block))
 
 pub address-with_window : (map : HandoverMap) (ram : RamState) (bytes : List ℕ) → HasWindows map ram → length bytes ≡ map.len → address_in map (with_window map ram bytes) ≡ address_in map ram
-address-with_window map ram bytes w n =
-    ap little (mapped_apart ram (Memory map.block) map.len bytes (Memory map.status) 8 w.fills w.block (block_some map ram w) n w.status (omega arith) (disjoint_sym (Memory map.status) 8 (Memory map.block) map.len w.status_block))
+address-with_window map ram bytes w n = address.address-with_window map.status (window_of map) ram bytes (addressed map ram w) n
 
 pub window-with_ack : (map : HandoverMap) (ram : RamState) (x : ℕ) → HasWindows map ram → window map (with_ack map ram x) ≡ window map ram
 window-with_ack map ram x w =
@@ -88,17 +91,14 @@ address-with_ack map ram x w =
     ap little (mapped_apart ram map.ack.place (ack_bytes map) (spelled (ack_bytes map) x) (Memory map.status) 8 w.fills w.ack (ack_some map) (length-spelled (ack_bytes map) x) w.status (omega arith) (disjoint_sym (Memory map.status) 8 map.ack.place (ack_bytes map) w.status_ack))
 
 pub window-with_address : (map : HandoverMap) (ram : RamState) → HasWindows map ram → window map (with_address map ram) ≡ window map ram
-window-with_address map ram w =
-    mapped_apart ram (Memory map.status) 8 (spelled 8 map.block) (Memory map.block) map.len w.fills w.status (omega arith) (length-spelled 8 map.block) w.block (block_some map ram w) w.status_block
+window-with_address map ram w = address.window-with_address map.status (window_of map) ram (addressed map ram w)
 
 pub ack-with_address : (map : HandoverMap) (ram : RamState) → HasWindows map ram → ack_read map (with_address map ram) ≡ ack_read map ram
 ack-with_address map ram w =
     ap little (mapped_apart ram (Memory map.status) 8 (spelled 8 map.block) map.ack.place (ack_bytes map) w.fills w.status (omega arith) (length-spelled 8 map.block) w.ack (ack_some map) w.status_ack)
 
 pub address-with_address : (map : HandoverMap) (ram : RamState) → HasWindows map ram → address_in map (with_address map ram) ≡ map.block
-address-with_address map ram w =
-    let ends = block_ends (window_of map) ram (has_block map ram w) in
-    ap little (mapped_back ram (Memory map.status) 8 (spelled 8 map.block) w.fills w.status (omega arith) (length-spelled 8 map.block)) ∙ little-spelled 8 map.block (omega (arith, ends))
+address-with_address map ram w = address.address-with_address map.status (window_of map) ram (addressed map ram w)
 
 pub ack-with_ack : (map : HandoverMap) (ram : RamState) (x : ℕ) → HasWindows map ram → x < 2 ^ bits map.ack.access → ack_read map (with_ack map ram x) ≡ x
 ack-with_ack map ram x w small =

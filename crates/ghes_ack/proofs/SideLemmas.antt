@@ -1,5 +1,5 @@
 -- Turns of each side by its own end, its blocks and the memory alone.
-use Rattle.std.proofs.Common.{◌≡◌, ◌∙◌, ℕ, zero, suc, ◌+◌, ◌-◌, ◌*◌, ◌<◌, ◌≤◌, min, List, [], replicate, ◌∷◌, ◌++◌, length, take, drop, map, get_or, All, Vec, Option, Some, None, option_to_list, refl, sym, ap, subst, arith}
+use Rattle.std.proofs.Common.{◌≡◌, ◌∙◌, ℕ, zero, suc, ◌+◌, ◌-◌, ◌*◌, ◌<◌, ◌≤◌, min, List, [], replicate, ◌∷◌, ◌++◌, length, take, map, get_or, All, Vec, Option, Some, None, option_to_list, refl, sym, ap, subst, arith}
 use Rattle.std.specs.declared.alloc.Global.{Global}
 use Rattle.std.specs.Vec.{with_items}
 use Rattle.std.proofs.lemmas.List.{with_items_is}
@@ -9,11 +9,13 @@ use Rattle.apei_space.specs.RamState.{RamState}
 use Rattle.ghes_ack.specs.declared.maps.HandoverMap.{HandoverMap}
 use Rattle.ghes_ack.specs.declared.events.Event.{Event}
 use Rattle.ghes_ack.specs.declared.events.Event.TheVariants.{Idle, Fill, Publish, Copied, Took, Clear}
-use Rattle.ghes_window.specs.Queues.{held_of}
-use Rattle.ghes_ack.specs.Queues.{Blocks, HoldsNone, TakesOut}
+use Rattle.ghes_window.specs.declared.window.BlockWindow.{BlockWindow}
+use Rattle.ghes_window.specs.declared.blocks.Blocks.{Blocks as BlocksOver}
+use Rattle.ghes_window.specs.Queues.{held_of, HoldsNone, TakesOut}
+use Rattle.ghes_ack.specs.Queues.{Blocks}
 use Rattle.ghes_ack.specs.Machine.{Situation, Filling, Published, Reading, Cleared, Fits, with_piece, with_pieces, with_status}
-use Rattle.ghes_ack.specs.Maps.{window, ack_read, with_window, with_ack, with_clear, IsClear}
-use Rattle.ghes_ack.specs.Handovers.{HandoverState, kept}
+use Rattle.ghes_ack.specs.Maps.{window, window_of, ack_read, with_window, with_ack, with_clear, IsClear}
+use Rattle.ghes_ack.specs.Handovers.{HandoverOver, kept}
 use Rattle.ghes_ack.specs.Sides.{state_of, in_work, IsCopiedSoFar}
 use Rattle.ghes_ack.specs.OwnTurns.{FirmwareMakes, Idles, Fills, Publishes, read_over, ReaderMakes, Copies, Takes, Clears}
 use Rattle.ghes_ack.proofs.RunLemmas.{noted, taken_noted}
@@ -24,12 +26,12 @@ first_fits len block blocks rest is all =
     let n : length blocks ≡ suc (length rest) = ap length is in
     subst (λ (xs : List (List ℕ)). Fits len (get_or xs 0 [])) is (All-get_or (Fits len) blocks 0 [] (omega (arith, n)) all)
 
-pub fits_in_hand : (b t : Blocks) (block : Vec ℕ Global) → TakesOut b t block → All (Fits b.map.len) (held_of b) → Fits b.map.len block.items
+pub fits_in_hand : (b t : Blocks) (block : Vec ℕ Global) → TakesOut window_of b t block → All (Fits b.map.len) (held_of b) → Fits b.map.len block.items
 fits_in_hand b t block out all = first_fits b.map.len block.items (held_of b) (map (λ v. v.items) t.waiting.items) out.held all
 
 -- what the handover is after a turn that took out a block
-in_hand : (b t : Blocks) (block : Vec ℕ Global) (s : Situation) (filled other : ℕ) → TakesOut b t block → filled ≡ other →
-    ◌≡◌ {A = HandoverState} (record { map = b.map; situation = s; waiting = map (λ v. v.items) t.waiting.items; at_work = Some block.items; filled = filled; copied = b.copied; last = b.last.items })
+pub in_hand : {M : Type 0} {w : M → BlockWindow} (b t : BlocksOver M) (block : Vec ℕ Global) (s : Situation) (filled other : ℕ) → TakesOut w b t block → filled ≡ other →
+    ◌≡◌ {A = HandoverOver M} (record { map = b.map; situation = s; waiting = map (λ v. v.items) t.waiting.items; at_work = Some block.items; filled = filled; copied = b.copied; last = b.last.items })
     (record { map = t.map; situation = s; waiting = map (λ v. v.items) t.waiting.items; at_work = Some block.items; filled = other; copied = t.copied; last = t.last.items })
 in_hand b t block s filled other out same =
     let at = out.same.map in
@@ -42,8 +44,8 @@ none_held : (work : Option (Vec ℕ Global)) (last : Vec ℕ Global) (waiting : 
 none_held None last waiting is = (refl, is)
 none_held (Some block) last waiting is = absurd cc
 
-pub idles_at : (b t : Blocks) (ram : RamState) (events rest : List Event) → HoldsNone b t → events ≡ replicate 1 Idle ++ rest → FirmwareMakes (state_of Filling b) ram (take 1 events) (state_of Filling t) ram
-idles_at b t ram events rest none is_noted =
+pub none_in_hand : {M : Type 0} {w : M → BlockWindow} (b t : BlocksOver M) → HoldsNone w b t → state_of Filling t ≡ state_of Filling b
+none_in_hand b t none =
     let old = none_held b.at_work b.last (map (λ v. v.items) b.waiting.items) none.held in
     let work_old : in_work Filling b.at_work b.last ≡ None = old.0 in
     let waiting_old : map (λ v. v.items) b.waiting.items ≡ [] = old.1 in
@@ -53,11 +55,13 @@ idles_at b t ram events rest none is_noted =
     let filled = none.same.filled in
     let copied = none.same.copied in
     let last : t.last.items ≡ b.last.items = ap (λ v. v.items) none.same.last in
-    let same : state_of Filling t ≡ state_of Filling b = cc in
-    Idles none.held (noted 1 Idle events rest is_noted) same refl
+    cc
+
+pub idles_at : (b t : Blocks) (ram : RamState) (events rest : List Event) → HoldsNone window_of b t → events ≡ replicate 1 Idle ++ rest → FirmwareMakes (state_of Filling b) ram (take 1 events) (state_of Filling t) ram
+idles_at b t ram events rest none is_noted = Idles none.held (noted 1 Idle events rest is_noted) (none_in_hand b t none) refl
 
 -- the next pieces are filled
-pub fills_at : (count : ℕ) (b t : Blocks) (block : Vec ℕ Global) (bytes : List ℕ) (ram new : RamState) (events rest : List Event) → TakesOut b t block → bytes ≡ block.items → 0 < count → 64 * (t.filled + count) < length block.items + 64 →
+pub fills_at : (count : ℕ) (b t : Blocks) (block : Vec ℕ Global) (bytes : List ℕ) (ram new : RamState) (events rest : List Event) → TakesOut window_of b t block → bytes ≡ block.items → 0 < count → 64 * (t.filled + count) < length block.items + 64 →
     new ≡ with_window t.map ram (with_pieces (window t.map ram) bytes t.filled count) → events ≡ replicate count Fill ++ rest →
     FirmwareMakes (state_of Filling b) ram (take count events) (state_of Filling (record t { at_work = Some block; filled = t.filled + count })) new
 fills_at zero b t block bytes ram new events rest out is some more memory is_noted = absurd (omega (arith, some))
@@ -86,7 +90,7 @@ fills_next b block bytes ram new some is more memory =
     (memory ∙ ap (λ (x : List ℕ). with_window b.map ram (with_piece (window b.map ram) x b.filled)) is)
 
 -- a block all of whose pieces are filled is published
-pub publishes_at : (b t : Blocks) (block : Vec ℕ Global) (bytes : List ℕ) (ram new : RamState) (events rest : List Event) → TakesOut b t block → bytes ≡ block.items → length block.items ≤ 64 * t.filled →
+pub publishes_at : (b t : Blocks) (block : Vec ℕ Global) (bytes : List ℕ) (ram new : RamState) (events rest : List Event) → TakesOut window_of b t block → bytes ≡ block.items → length block.items ≤ 64 * t.filled →
     new ≡ with_window t.map (with_ack t.map ram (with_clear t.map (ack_read t.map ram))) (with_status (window t.map ram) (take 4 bytes)) → IsClear t.map new → events ≡ replicate 1 Publish ++ rest →
     FirmwareMakes (state_of Filling b) ram (take 1 events) (state_of Published (record t { at_work = Some block; filled = 0 })) new
 publishes_at b t block bytes ram new events rest out is none memory clear is_noted =
@@ -98,8 +102,13 @@ publishes_at b t block bytes ram new events rest out is none memory clear is_not
     Publishes block.items (map (λ v. v.items) t.waiting.items) out.held (omega (arith, none, f)) (noted 1 Publish events rest is_noted) (sym (in_hand b t block Published 0 0 out refl)) memory_b
     (subst (λ (at : HandoverMap). IsClear at new) same clear)
 
-pub begins_at : (b : Blocks) (block : Vec ℕ Global) → b.at_work ≡ Some block → IsCopiedSoFar b.copied b.at_work b.last → 64 * b.copied < length block.items
+pub begins_at : {M : Type 0} (b : BlocksOver M) (block : Vec ℕ Global) → b.at_work ≡ Some block → IsCopiedSoFar b.copied b.at_work b.last → 64 * b.copied < length block.items
 begins_at b block some far = subst (λ (o : Option (Vec ℕ Global)). IsCopiedSoFar b.copied o b.last) some far
+
+pub none_copied : {M : Type 0} (b : BlocksOver M) (block : Vec ℕ Global) → b.at_work ≡ Some block → 20 ≤ length block.items → IsCopiedSoFar 0 b.at_work b.last
+none_copied b block some head =
+    let begins : 64 * 0 < length block.items = omega (arith, head) in
+    subst (λ (o : Option (Vec ℕ Global)). IsCopiedSoFar 0 o b.last) (sym some) begins
 
 -- the block over which pieces were copied
 copied_items : (p : ℕ) (b : Blocks) (block : Vec ℕ Global) (bytes copied : List ℕ) (ram : RamState) → bytes ≡ block.items →

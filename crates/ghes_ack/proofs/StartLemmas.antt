@@ -10,8 +10,10 @@ use Rattle.apei_space.specs.RamState.{RamState}
 use Rattle.ghes_block.specs.declared.error.BlockError.{BlockError}
 use Rattle.ghes_block.specs.Reading.{checked, head_verdict, status_at}
 use Rattle.ghes_ack.specs.declared.maps.HandoverMap.{HandoverMap}
-use Rattle.ghes_window.specs.Queues.{IsEmpty}
-use Rattle.ghes_ack.specs.Queues.{Blocks, Adds}
+use Rattle.ghes_window.specs.declared.window.BlockWindow.{BlockWindow}
+use Rattle.ghes_window.specs.declared.blocks.Blocks.{Blocks as BlocksOver}
+use Rattle.ghes_window.specs.Queues.{IsEmpty, Adds}
+use Rattle.ghes_ack.specs.Queues.{Blocks}
 use Rattle.ghes_ack.specs.Machine.{Machine, Situation, Filling, Published, Reading, Cleared, Acknowledged, Fits, with_status, started, submitted, waiting_in, InSituation, IsState}
 use Rattle.ghes_ack.specs.Maps.{HasAckBits, HasWindows, address_in, ack_read, window, with_ack, with_address, with_set, memory_started, IsSet}
 use Rattle.ghes_ack.specs.Handovers.{HandoverState, fresh, StandsFor, reason}
@@ -25,11 +27,11 @@ use Rattle.ghes_ack.proofs.StepLemmas.{start_is, submit_keeps}
 use Rattle.ghes_ack.proofs.ScheduleLemmas.{state_in_order}
 use Rattle.ghes_ack.proofs.MemoryLemmas.{length-window, window-with_window, address-with_window, address-with_ack, address-with_address, HasWindows-with_ack, HasWindows-with_address}
 use Rattle.ghes_ack.proofs.EffectLemmas.{windows_window, length-status}
-use Rattle.ghes_ack.proofs.MachineTurns.{Kept, Agrees}
+use Rattle.ghes_ack.specs.Kept.{Kept, Agrees, kept_over}
 use Rattle.ghes_ack.proofs.TurnLemmas.{kept_with, agrees, stands_by}
 
 -- the two sides of a start, with no block
-pub fresh_is : (b : Blocks) → IsEmpty b → state_of Filling b ≡ fresh b.map
+pub fresh_is : {M : Type 0} (b : BlocksOver M) → IsEmpty b → state_of Filling b ≡ fresh b.map
 fresh_is b e =
     let waiting : map (λ v. v.items) b.waiting.items ≡ [] = ap (map (λ v. v.items)) e.waiting in
     let work : in_work Filling b.at_work b.last ≡ None = ap (λ (o : Option (Vec ℕ Global)). in_work Filling o b.last) e.at_work in
@@ -38,28 +40,29 @@ fresh_is b e =
     let last = e.last in
     cc
 
+pub fresh_agrees : {M : Type 0} (at : M) (len : ℕ) (window : List ℕ) → length window ≡ len → 20 ≤ len → Agrees (kept_over len (fresh at) (with_status window (spelled 4 0))) (started window)
+fresh_agrees at len window n head = record {
+  state = subst (λ (k : ℕ). IsState k (started window)) n (start_is window (omega (arith, n, head)));
+  bytes_are = refl;
+  situation_is = refl;
+  blocks = refl;
+  wait = refl;
+  filled_is = refl;
+  copied_is = refl;
+  last_is = refl;
+}
+
 pub fresh_stands : (at : HandoverMap) (ram new : RamState) → HasWindows at ram → new ≡ memory_started at ram → IsSet at new → StandsFor (fresh at) new (started (window at ram))
 fresh_stands at ram new w is set =
-    let n = length-window at ram w in
-    let head = w.head in
     let a : RamState = with_address at ram in
     let x : ℕ = with_set at (ack_read at ram) in
     let w_a = HasWindows-with_address at ram w in
     let w_b = HasWindows-with_ack at a x w_a in
+    let bytes : List ℕ = with_status (window at ram) (spelled 4 0) in
     let wide = length-status at ram (spelled 4 0) (length-spelled 4 0) w in
-    record {
-      state = subst (λ (k : ℕ). IsState k (started (window at ram))) n (start_is (window at ram) (omega (arith, n, head)));
-      windows = windows_window at (with_ack at a x) new (with_status (window at ram) (spelled 4 0)) is wide w_b;
-      address = ap (address_in at) is ∙ address-with_window at (with_ack at a x) (with_status (window at ram) (spelled 4 0)) w_b wide ∙ address-with_ack at a x w_a ∙ address-with_address at ram w;
-      acks = set;
-      window_is = sym (ap (window at) is ∙ window-with_window at (with_ack at a x) (with_status (window at ram) (spelled 4 0)) w_b wide);
-      situation = refl;
-      blocks = refl;
-      wait = refl;
-      filled = refl;
-      copied = refl;
-      last = refl;
-    }
+    stands_by (fresh at) new bytes (started (window at ram)) (fresh_agrees at at.len (window at ram) (length-window at ram w) w.head)
+    (sym (ap (window at) is ∙ window-with_window at (with_ack at a x) bytes w_b wide)) (windows_window at (with_ack at a x) new bytes is wide w_b)
+    (ap (address_in at) is ∙ address-with_window at (with_ack at a x) bytes w_b wide ∙ address-with_ack at a x w_a ∙ address-with_address at ram w) set
 
 pub record IsBegun (at : HandoverMap) (h : HandoverState) (ram new : RamState) : Type 0 where
   pub fresh_is : h ≡ fresh at
@@ -144,7 +147,7 @@ waiting_of None b all = absurd all
 waiting_of (Some ends) b all = length-map b.waiting.items (λ v. v.items) ∙ all.room.counted
 
 -- a block more
-added_in : (s : Situation) (b after : Blocks) (block : List ℕ) → Adds b after block → state_of s after ≡ record (state_of s b) { waiting = (state_of s b).waiting ++ block ∷ [] }
+added_in : {M : Type 0} {w : M → BlockWindow} (s : Situation) (b after : BlocksOver M) (block : List ℕ) → Adds w b after block → state_of s after ≡ record (state_of s b) { waiting = (state_of s b).waiting ++ block ∷ [] }
 added_in s b after block a =
     let waiting = a.waiting in
     let map_is = a.same.map in
@@ -156,7 +159,7 @@ added_in s b after block a =
     ap (λ (x : Option (Vec ℕ Global)). in_work s x after.last) a.at_work ∙ ap (λ (x : Vec ℕ Global). in_work s b.at_work x) a.same.last in
     cc
 
-pub added : (ends : Option Ends) (b after : Blocks) (block : List ℕ) → Adds b after block → view_of ends after ≡ record (view_of ends b) { waiting = (view_of ends b).waiting ++ block ∷ [] }
+pub added : {M : Type 0} {w : M → BlockWindow} (ends : Option Ends) (b after : BlocksOver M) (block : List ℕ) → Adds w b after block → view_of ends after ≡ record (view_of ends b) { waiting = (view_of ends b).waiting ++ block ∷ [] }
 added ends b after block a =
     ap (λ (o : Option (Vec ℕ Global)). state_of (situation_in ends o) after) a.at_work ∙ added_in (situation_in ends b.at_work) b after block a
 

@@ -86,21 +86,25 @@ publish_keeps len m block st h is there none =
       };
     }
 
-free_keeps : (len : ℕ) (m : Machine) → IsState len m → IsEmptied m 0 → IsState len (record m { situation = Filling })
-free_keeps len m st h = record {
-  window = st.window;
+-- a state with the same window and blocks
+same_blocks : (len : ℕ) (m n : Machine) → n.window ≡ m.window → n.blocks ≡ m.blocks → IsState len m → InSituation n n.situation → IsState len n
+same_blocks len m n window blocks st holds = record {
+  window = ap length window ∙ st.window;
   room = st.room;
-  blocks = st.blocks;
-  holds = record {
-    published = let p = h.published in omega (arith, p);
-    taken = let p = h.taken in omega (arith, p);
-    all = let p = h.all in omega (arith, p);
-    begun = λ some. let z = h.none_filled in absurd (omega (arith, z, some));
-    pieces_filled = rw h.none_filled (omega arith);
-    filled = rw h.none_filled refl;
-    status = h.status;
-  };
+  blocks = subst (All (Fits len)) (sym blocks) st.blocks;
+  holds = holds;
 }
+
+free_keeps : (len : ℕ) (m : Machine) → IsState len m → IsEmptied m 0 → IsState len (record m { situation = Filling })
+free_keeps len m st h = same_blocks len m (record m { situation = Filling }) refl refl st (record {
+  published = let p = h.published in omega (arith, p);
+  taken = let p = h.taken in omega (arith, p);
+  all = let p = h.all in omega (arith, p);
+  begun = λ some. let z = h.none_filled in absurd (omega (arith, z, some));
+  pieces_filled = rw h.none_filled (omega arith);
+  filled = rw h.none_filled refl;
+  status = h.status;
+})
 
 pub firmware_keeps : (len : ℕ) (m : Machine) (s : Situation) → m.situation ≡ s → IsState len m → InSituation m s → IsState len (firmware_turn m s).1
 firmware_keeps len m Filling now st h = go (drop m.published m.blocks) refl where
@@ -116,23 +120,18 @@ firmware_keeps len m Cleared now st h = st
 firmware_keeps len m Acknowledged now st h = free_keeps len m st h
 
 found_keeps : (len : ℕ) (m : Machine) → IsState len m → IsWhole m 0 → IsState len (record m { copied = 0; situation = Reading })
-found_keeps len m st h = record {
-  window = st.window;
-  room = st.room;
-  blocks = st.blocks;
-  holds = inl (
-    (let g = (fits_at_work len m st.blocks h.there).head in omega (arith, g)),
-    record { published = h.published; taken_is = h.taken_is; there = h.there; none_filled = h.none_filled; whole = h.whole },
-  );
-}
+found_keeps len m st h = same_blocks len m (record m { copied = 0; situation = Reading }) refl refl st (inl (
+  (let g = (fits_at_work len m st.blocks h.there).head in omega (arith, g)),
+  record { published = h.published; taken_is = h.taken_is; there = h.there; none_filled = h.none_filled; whole = h.whole },
+))
 
 reading_keeps : (len : ℕ) (m : Machine) → m.situation ≡ Reading → IsState len m → IsReading m → IsState len (reading m (at_work m)).1
 reading_keeps len m now st (inl h) = test (nat_lt (m.copied + 1) (pieces (at_work m))) refl where
   copies : IsReading (record m { copied = m.copied + 1 }) → IsState len (record m { copied = m.copied + 1 })
-  copies x = record { window = st.window; room = st.room; blocks = st.blocks; holds = subst (λ (s : Situation). InSituation (record m { copied = m.copied + 1 }) s) (sym now) x }
+  copies x = same_blocks len m (record m { copied = m.copied + 1 }) refl refl st (subst (λ (s : Situation). InSituation (record m { copied = m.copied + 1 }) s) (sym now) x)
 
   takes : IsReading (record m { copied = m.copied + 1; taken = m.taken + 1 }) → IsState len (record m { copied = m.copied + 1; taken = m.taken + 1 })
-  takes x = record { window = st.window; room = st.room; blocks = st.blocks; holds = subst (λ (s : Situation). InSituation (record m { copied = m.copied + 1; taken = m.taken + 1 }) s) (sym now) x }
+  takes x = same_blocks len m (record m { copied = m.copied + 1; taken = m.taken + 1 }) refl refl st (subst (λ (s : Situation). InSituation (record m { copied = m.copied + 1; taken = m.taken + 1 }) s) (sym now) x)
 
   test : (b : Bool) → nat_lt (m.copied + 1) (pieces (at_work m)) ≡ b → IsState len (reading m (at_work m)).1
   test true e = rw e (copies (inl ((grind (arith, nat_tests)), record { published = h.1.published; taken_is = h.1.taken_is; there = h.1.there; none_filled = h.1.none_filled; whole = h.1.whole })))
@@ -155,18 +154,13 @@ reading_keeps len m now st (inr h) =
     })
 
 ack_keeps : (len : ℕ) (m : Machine) → IsState len m → IsEmptied m 1 → IsState len (record m { acknowledged = m.acknowledged + 1; situation = Acknowledged })
-ack_keeps len m st h = record {
-  window = st.window;
-  room = st.room;
-  blocks = st.blocks;
-  holds = record {
-    published = let p = h.published in omega (arith, p);
-    taken = let p = h.taken in omega (arith, p);
-    all = let p = h.all in omega (arith, p);
-    none_filled = h.none_filled;
-    status = h.status;
-  };
-}
+ack_keeps len m st h = same_blocks len m (record m { acknowledged = m.acknowledged + 1; situation = Acknowledged }) refl refl st (record {
+  published = let p = h.published in omega (arith, p);
+  taken = let p = h.taken in omega (arith, p);
+  all = let p = h.all in omega (arith, p);
+  none_filled = h.none_filled;
+  status = h.status;
+})
 
 pub reader_keeps : (len : ℕ) (m : Machine) (s : Situation) → m.situation ≡ s → IsState len m → InSituation m s → IsState len (reader_turn m s).1
 reader_keeps len m Filling now st h = st

@@ -1,7 +1,7 @@
 -- Each turn of a handover is the machine's turn.
-use Rattle.std.proofs.Common.{◌≡◌, ◌∙◌, ℕ, ◌+◌, ◌*◌, ◌<◌, ◌≤◌, ◌⊎◌, inl, inr, List, [], ◌∷◌, ◌++◌, length, take, Option, Some, None, option_to_list, refl, sym, ap, subst, arith, bit_and}
+use Rattle.std.proofs.Common.{◌≡◌, ◌∙◌, ℕ, ◌+◌, ◌*◌, ◌<◌, ◌≤◌, ◌⊎◌, inl, List, [], ◌∷◌, ◌++◌, length, take, Option, Some, None, option_to_list, refl, sym, ap, subst, arith, bit_and}
 use Rattle.std.proofs.lemmas.List.{length-take}
-use Rattle.base_model.specs.Bytes.{part, number_at, spelled, put_at}
+use Rattle.base_model.specs.Bytes.{part, spelled, put_at}
 use Rattle.base_model.proofs.BytesLemmas.{length-spelled}
 use Rattle.apei_space.specs.RamState.{RamState}
 use Rattle.ghes_window.proofs.PieceLemmas.{length-with_piece}
@@ -15,22 +15,14 @@ use Rattle.ghes_ack.specs.Maps.{HasAckBits, HasWindows, window, status_word, add
 use Rattle.ghes_ack.specs.Handovers.{HandoverState, kept, AcksAre, StandsFor}
 use Rattle.ghes_ack.specs.Sides.{Turns, Stands}
 use Rattle.ghes_ack.proofs.MachineTurns as machine
-use Rattle.ghes_ack.proofs.MachineTurns.{Kept, Agrees, Next}
+use Rattle.ghes_ack.specs.Kept.{Kept, Agrees, kept_over}
+use Rattle.ghes_ack.proofs.MachineTurns.{Next}
 use Rattle.ghes_ack.proofs.MemoryLemmas.{length-window, window-with_window, window-with_ack, address-with_window, address-with_ack, ack-with_window, HasWindows-with_ack}
 use Rattle.ghes_ack.proofs.EffectLemmas.{windows_window, windows_ack, length-status}
 
 -- what it keeps, with other bytes in its window
 abbrev pub kept_with : HandoverState → List ℕ → Kept
-kept_with h bytes = record {
-  len = h.map.len;
-  situation = h.situation;
-  held = kept h;
-  waiting = length h.waiting;
-  filled = h.filled;
-  copied = h.copied;
-  last = h.last;
-  bytes = bytes;
-}
+kept_with h bytes = kept_over h.map.len h bytes
 
 pub agrees : (h : HandoverState) (ram : RamState) (m : Machine) → StandsFor h ram m → Agrees (kept_with h (window h.map ram)) m
 agrees h ram m st = record {

@@ -12,8 +12,8 @@ use Rattle.ghes_ack.specs.Machine.{Machine, Situation, Filling, Published, Readi
 use Rattle.ghes_ack.specs.Maps.{HasWindows, address_in, window, IsSet, IsClear}
 
 -- the blocks that wait, the one that is filled or published and not yet acknowledged, and the one taken last
-pub record HandoverState : Type 0 where
-  pub map : HandoverMap
+pub record HandoverOver (M : Type 0) : Type 0 where
+  pub map : M
   pub situation : Situation
   pub waiting : List (List ℕ)
   pub at_work : Option (List ℕ)
@@ -21,12 +21,15 @@ pub record HandoverState : Type 0 where
   pub copied : ℕ
   pub last : List ℕ
 
+abbrev pub HandoverState : Type 0
+HandoverState = HandoverOver HandoverMap
+
 -- right after a start
-abbrev pub fresh : HandoverMap → HandoverState
+abbrev pub fresh : {M : Type 0} → M → HandoverOver M
 fresh at = record { map = at; situation = Filling; waiting = []; at_work = None; filled = 0; copied = 0; last = [] }
 
 -- the blocks that are not acknowledged, oldest first
-abbrev pub kept : HandoverState → List (List ℕ)
+abbrev pub kept : {M : Type 0} → HandoverOver M → List (List ℕ)
 kept h = option_to_list h.at_work ++ h.waiting
 
 -- the acknowledge bits in each situation

@@ -1,5 +1,5 @@
 -- The handover as a machine: blocks, pieces of 64 bytes and five situations.
-use Rattle.std.specs.Prelude.{◌≡◌, ℕ, zero, suc, ◌+◌, ◌-◌, ◌*◌, ◌/◌, ◌<◌, ◌≤◌, ◌⊎◌, Bool, true, false, min, nat_lt, ◌==◌, if◌then◌else◌, List, [], ◌∷◌, ◌++◌, length, take, drop, replicate, get_or, All}
+use Rattle.std.specs.Prelude.{◌≡◌, ℕ, zero, suc, ◌+◌, ◌-◌, ◌*◌, ◌<◌, ◌≤◌, ◌⊎◌, Bool, true, false, nat_lt, ◌==◌, if◌then◌else◌, List, [], ◌∷◌, ◌++◌, length, take, drop, get_or, All}
 use Rattle.base_model.specs.Bytes.{spelled, number_at}
 pub use Rattle.ghes_window.specs.Pieces.{pieces, zeros, hidden, with_piece, with_pieces, with_status}
 use Rattle.ghes_ack.specs.declared.events.Side.{Side}

@@ -1,7 +1,6 @@
 -- The three windows of a handover in memory: the block's address, the acknowledge register and the block.
 use Rattle.std.specs.Prelude.{◌≡◌, ℕ, ◌-◌, ◌*◌, ◌/◌, ◌%◌, ◌^◌, ◌<◌, ◌≤◌, List, [], ◌∷◌, bit_and, bit_or}
 use Rattle.base_model.specs.Bytes.{little, number_at, spelled}
-use Rattle.apei_gas.specs.declared.registers.Place.{Place}
 use Rattle.apei_gas.specs.declared.registers.Place.TheVariants.{Memory}
 use Rattle.apei_gas.specs.Access.{bits}
 use Rattle.apei_space.specs.RamState.{RamState, FillsWindows, located, stored}

@@ -11,11 +11,12 @@ use Rattle.ghes_ack.specs.declared.ends.FirmwareEnd.{FirmwareEnd}
 use Rattle.ghes_ack.specs.declared.ends.FirmwareEnd.TheVariants.{Writes, Waits}
 use Rattle.ghes_ack.specs.declared.ends.ReaderEnd.{ReaderEnd}
 use Rattle.ghes_ack.specs.declared.ends.ReaderEnd.TheVariants.{Looks, Reads, Acknowledges}
+use Rattle.ghes_window.specs.declared.blocks.Blocks.{Blocks as BlocksOver}
 use Rattle.ghes_window.specs.Queues.{bytes_of}
 use Rattle.ghes_ack.specs.Queues.{Blocks, HasRoom}
 use Rattle.ghes_ack.specs.Machine.{Machine, Situation, Filling, Published, Reading, Cleared, Acknowledged}
 use Rattle.ghes_ack.specs.Maps.{HasAckBits, window, memory_after, AreLeft}
-use Rattle.ghes_ack.specs.Handovers.{HandoverState, StandsFor, IsTurned, AreTurned}
+use Rattle.ghes_ack.specs.Handovers.{HandoverOver, HandoverState, StandsFor, IsTurned, AreTurned}
 
 -- while the firmware waits and the reader looks, there is a block at work until it is acknowledged
 abbrev pub looking_at : Option (Vec ℕ Global) → Situation
@@ -43,7 +44,7 @@ in_work Cleared (Some block) last = Some block.items
 in_work Acknowledged work last = bytes_of work
 
 -- what the blocks are in a situation
-abbrev pub state_of : Situation → Blocks → HandoverState
+abbrev pub state_of : {M : Type 0} → Situation → BlocksOver M → HandoverOver M
 state_of situation b = record {
   map = b.map;
   situation = situation;
@@ -54,7 +55,7 @@ state_of situation b = record {
   last = b.last.items;
 }
 
-abbrev pub handover_of : Ends → Blocks → HandoverState
+abbrev pub handover_of : {M : Type 0} → Ends → BlocksOver M → HandoverOver M
 handover_of ends b = state_of (situation_of ends.firmware ends.reader b.at_work) b
 
 -- a published block is at work until its last piece is copied
@@ -88,7 +89,7 @@ abbrev pub situation_in : Option Ends → Option (Vec ℕ Global) → Situation
 situation_in None work = Filling
 situation_in (Some ends) work = situation_of ends.firmware ends.reader work
 
-abbrev pub view_of : Option Ends → Blocks → HandoverState
+abbrev pub view_of : {M : Type 0} → Option Ends → BlocksOver M → HandoverOver M
 view_of ends b = state_of (situation_in ends b.at_work) b
 
 abbrev pub AreConsistent : Option Ends → Blocks → Type 0

@@ -8,7 +8,7 @@ ghost use Rattle.ghes_ack.specs.Sides.{Stands, Turns, MakesTurns};
 ghost use Rattle.ghes_ack.specs.Handovers.{StandsFor, IsTurned, AreTurned, fresh, refusal};
 
 use crate::blocks::Blocks;
-use crate::ends::{Ends, FirmwareEnd, ReaderEnd, begin};
+use crate::ends::{Ends, ReaderEnd, begin_with_register};
 use crate::events::{Event, Side};
 use crate::maps::HandoverMap;
 use crate::submission::{SubmitError, check_block};
@@ -49,12 +49,9 @@ impl Handover {
         ensures refused { OnErr result (ram.new ≡ ram.old) }
     {
         let blocks = Blocks::new(alloc, map)?;
-        let (write, look) = begin(&map, ram);
+        let ends = Ends::at_start(begin_with_register(&map, ram));
         Ok(Handover {
-            ends: Some(Ends {
-                firmware: FirmwareEnd::Writes(write),
-                reader: ReaderEnd::Looks(look),
-            }),
+            ends: Some(ends),
             blocks,
         })
     }
@@ -124,7 +121,7 @@ impl Handover {
             unreachable!();
         };
         let next = all_turns(side, ends, &mut self.blocks, events, ram);
-        put_back(&mut self.ends, next);
+        next.put_back(&mut self.ends);
     }
 
     /// The block taken last since the start, empty where none was.
@@ -156,12 +153,8 @@ impl Handover {
             ends.end();
         }
         self.blocks.forget();
-        let (write, look) = begin(&self.blocks.map, ram);
-        let ends = Ends {
-            firmware: FirmwareEnd::Writes(write),
-            reader: ReaderEnd::Looks(look),
-        };
-        put_back(&mut self.ends, ends);
+        let ends = Ends::at_start(begin_with_register(&self.blocks.map, ram));
+        ends.put_back(&mut self.ends);
     }
 
     /// Spends the handover, in any situation.
@@ -170,16 +163,5 @@ impl Handover {
         if let Some(ends) = ends {
             ends.end();
         }
-    }
-}
-
-/// Puts the sides to their empty place.
-fn put_back(place: &mut Option<Ends>, ends: Ends)
-    requires { place.old ≡ None }
-    ensures { place.new ≡ Some ends }
-{
-    match place.replace(ends) {
-        None => {}
-        Some(_old) => unreachable!(),
     }
 }

@@ -12,6 +12,9 @@ mod station;
 mod submission;
 mod turns;
 
+pub use ends::{
+    Ends, FirmwareEnd, MayRead, MayWrite, MustAcknowledge, MustLook, MustWait, ReaderEnd, begin,
+};
 pub use events::{Event, Side};
 pub use handover::Handover;
 pub use laws::{

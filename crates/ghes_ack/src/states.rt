@@ -4,7 +4,7 @@ ghost use Rattle.base_model.specs.Bytes.{part, number_at, spelled};
 ghost use Rattle.ghes_ack.specs.Machine.{with_piece, with_status};
 ghost use Rattle.ghes_ack.specs.Maps.{HasAckBits, HasWindows, IsSet, IsClear, ack_read, window, status_word, with_window, with_ack, with_clear, acknowledged, memory_started};
 
-use crate::ends::{MayRead, MayWrite, MustAcknowledge, MustLook, MustWait, begin};
+use crate::ends::{MayRead, MayWrite, MustAcknowledge, MustLook, MustWait, begin_with_register};
 use crate::maps::HandoverMap;
 use apei_space::Ram;
 use std::marker::Model;
@@ -87,7 +87,7 @@ pub fn start(map: HandoverMap, ram: &mut Ram) -> (FirmBlock, OsIdle)
     ensures firm { result.0 ≡ map }
     ensures os { result.1 ≡ map }
 {
-    let (write, look) = begin(&map, ram);
+    let (write, look) = begin_with_register(&map, ram);
     (FirmBlock { map, end: write }, OsIdle { map, end: look })
 }
 

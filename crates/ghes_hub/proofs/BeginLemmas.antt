@@ -16,7 +16,8 @@ use Rattle.ghes_hub.specs.Layouts.{layout_kind, layout_windows, HasLayout, layou
 use Rattle.ghes_hub.specs.Places.{IsOff, AreClear}
 use Rattle.ghes_hub.specs.OneSource.{kind_of, layout_in, windows_of, SourceStands}
 use Rattle.ghes_hub.specs.SourcesState.{AreServed}
-use Rattle.ghes_hub.proofs.SourceLemmas.{source_kept, same_in_map, plain_windows_kept}
+use Rattle.ghes_hub.proofs.PlainMemory.{plain_windows_kept}
+use Rattle.ghes_hub.proofs.SourceLemmas.{source_kept, same_in_map}
 
 slice_get-push : {X : Type 0} (xs : List X) (y : X) (i : ℕ) (x : X) → slice_get (xs ++ y ∷ []) i ≡ Some x → ((i < length xs) × (slice_get xs i ≡ Some x)) ⊎ ((i ≡ length xs) × (x ≡ y))
 slice_get-push {X} xs y i x is =
@@ -38,7 +39,7 @@ layout_kept (Plain map) windows old new clear s h = plain_windows_kept map old n
 
 window_kept : (layout : Layout) (windows : List Window) (old new : RamState) → AreClear windows (layout_windows layout) → SameWhere (IsOff windows) old new → layout_window layout new ≡ layout_window layout old
 window_kept (Acknowledged map) windows old new clear s = s.bytes (Memory map.block) map.len clear.1.1.0
-window_kept (Plain map) windows old new clear s = s.bytes (Memory map.block) map.len clear.1.0
+window_kept (Plain map) windows old new clear s = s.bytes (Memory map.window.block) map.window.len clear.1.0
 
 -- one more of the first
 take_next : {X : Type 0} (xs : List X) (n : ℕ) (x : X) → slice_get xs n ≡ Some x → take (suc n) xs ≡ take n xs ++ x ∷ []

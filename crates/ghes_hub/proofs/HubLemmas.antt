@@ -1,5 +1,5 @@
 -- One source of a hub over lists of calls: what stands between its own changes nothing.
-use Rattle.std.proofs.Common.{◌≡◌, ◌≢◌, ◌∙◌, ℕ, ◌+◌, ◌≤◌, inl, inr, Bool, true, false, cond, ◌==◌, List, [], ◌∷◌, ◌++◌, length, take, drop, length-drop, remove, Some, slice_get, All, refl, sym, ap, subst, arith, length-append}
+use Rattle.std.proofs.Common.{◌≡◌, ◌≢◌, ◌∙◌, ℕ, ◌≤◌, inl, inr, Bool, true, false, cond, ◌==◌, List, [], ◌∷◌, ◌++◌, length, remove, Some, slice_get, All, refl, sym, ap, subst, arith, length-append}
 use Rattle.std.proofs.lemmas.Bool.{cases_eq, eq-eqb, ne_eqb}
 use Rattle.std.proofs.lemmas.List.{get_or_at}
 use Rattle.apei_space.specs.RamState.{RamState}
@@ -31,11 +31,11 @@ last_fits len blocks block all =
 -- a source stands for a state of the machine, over its own window
 pub is_state : (p : Source) (ram : RamState) (m : Machine) → SourceStands p ram m → IsState (length m.window) m
 is_state (Acknowledged h) ram m st = subst (λ (n : ℕ). IsState n m) (sym st.state.window) st.state
-is_state (Plain h) ram m st = subst (λ (n : ℕ). IsState n m) (sym st.state.window) st.state
+is_state (Plain h) ram m st = subst (λ (n : ℕ). IsState n m) (sym st.agrees.state.window) st.agrees.state
 
 pub last_is : (p : Source) (ram : RamState) (m : Machine) → SourceStands p ram m → last_of p ≡ last_taken m
 last_is (Acknowledged h) ram m st = st.last
-last_is (Plain h) ram m st = st.last
+last_is (Plain h) ram m st = st.agrees.last_is
 
 pub last_at : (kind : Kind) (s : SourcesState) (i : ℕ) (m : Machine) → StandsAt kind s i m → last_in s i ≡ last_taken m
 last_at kind s i m at = ap last_if at.is ∙ last_is at.handover s.ram m at.stands

@@ -7,6 +7,7 @@ use Rattle.apei_gas.specs.declared.registers.Place.TheVariants.{Memory, Io}
 use Rattle.apei_space.specs.declared.windows.Window.{Window}
 use Rattle.apei_space.specs.Windows.{EndsBelow, IsApart, IsApartFrom, AreApart, total}
 use Rattle.apei_space.specs.Mapped.{Holds, IsMapped, AreDisjoint}
+use Rattle.ghes_window.proofs.PlacedLemmas.{disjoint_sym}
 use Rattle.ghes_hub.specs.Places.{IsOff}
 use Rattle.ghes_hub.specs.Joins.{follows_at, follows, both, joins, AreFree, MayJoin, AreJoined}
 
@@ -84,26 +85,18 @@ flip (Io a) n (Io b) m (inr h) = inl h
 flip (Memory a) n (Io b) m h = tt
 flip (Io a) n (Memory b) m h = tt
 
-swap_off : (p : Place) (n : ℕ) (q : Place) (m : ℕ) → AreDisjoint p n q m → AreDisjoint q m p n
-swap_off (Memory a) n (Memory b) m (inl h) = inr h
-swap_off (Memory a) n (Memory b) m (inr h) = inl h
-swap_off (Io a) n (Io b) m (inl h) = inr h
-swap_off (Io a) n (Io b) m (inr h) = inl h
-swap_off (Memory a) n (Io b) m h = tt
-swap_off (Io a) n (Memory b) m h = tt
-
 -- `r` is off the new window and apart from one that it is joined to, which stands before it (or behind)
 mixed_before : (r : Place) (k : ℕ) (p : Place) (n : ℕ) (q : Place) (m : ℕ) → Adjoins p n q → IsApart p n r k → AreDisjoint q m r k → AreDisjoint p (n + m) r k
-mixed_before (Memory w) k (Memory a) n (Memory b) m e h g = swap_off (Memory w) k (Memory a) (n + m) (number_mixed_front w k a n b m e (flip (Memory a) n (Memory w) k h) (swap_off (Memory b) m (Memory w) k g))
-mixed_before (Io w) k (Io a) n (Io b) m e h g = swap_off (Io w) k (Io a) (n + m) (number_mixed_front w k a n b m e (flip (Io a) n (Io w) k h) (swap_off (Io b) m (Io w) k g))
+mixed_before (Memory w) k (Memory a) n (Memory b) m e h g = disjoint_sym (Memory w) k (Memory a) (n + m) (number_mixed_front w k a n b m e (flip (Memory a) n (Memory w) k h) (disjoint_sym (Memory b) m (Memory w) k g))
+mixed_before (Io w) k (Io a) n (Io b) m e h g = disjoint_sym (Io w) k (Io a) (n + m) (number_mixed_front w k a n b m e (flip (Io a) n (Io w) k h) (disjoint_sym (Io b) m (Io w) k g))
 mixed_before (Io w) k (Memory a) n (Memory b) m e h g = tt
 mixed_before (Memory w) k (Io a) n (Io b) m e h g = tt
 mixed_before r k (Memory a) n (Io b) m e h g = absurd e
 mixed_before r k (Io a) n (Memory b) m e h g = absurd e
 
 mixed_behind : (r : Place) (k : ℕ) (p : Place) (n : ℕ) (q : Place) (m : ℕ) → Adjoins p n q → AreDisjoint p n r k → IsApart q m r k → AreDisjoint p (n + m) r k
-mixed_behind (Memory w) k (Memory a) n (Memory b) m e h g = swap_off (Memory w) k (Memory a) (n + m) (number_mixed w k a n b m e (swap_off (Memory a) n (Memory w) k h) (flip (Memory b) m (Memory w) k g))
-mixed_behind (Io w) k (Io a) n (Io b) m e h g = swap_off (Io w) k (Io a) (n + m) (number_mixed w k a n b m e (swap_off (Io a) n (Io w) k h) (flip (Io b) m (Io w) k g))
+mixed_behind (Memory w) k (Memory a) n (Memory b) m e h g = disjoint_sym (Memory w) k (Memory a) (n + m) (number_mixed w k a n b m e (disjoint_sym (Memory a) n (Memory w) k h) (flip (Memory b) m (Memory w) k g))
+mixed_behind (Io w) k (Io a) n (Io b) m e h g = disjoint_sym (Io w) k (Io a) (n + m) (number_mixed w k a n b m e (disjoint_sym (Io a) n (Io w) k h) (flip (Io b) m (Io w) k g))
 mixed_behind (Io w) k (Memory a) n (Memory b) m e h g = tt
 mixed_behind (Memory w) k (Io a) n (Io b) m e h g = tt
 mixed_behind r k (Memory a) n (Io b) m e h g = absurd e
@@ -163,7 +156,7 @@ by_steps P none before behind later (window ∷ windows) new h = go (follows win
       go false true e f one two three = subst (P (window ∷ windows) new) (sym (step_behind window windows new e f)) (behind window windows new (joins windows (both new window)) f h (two f))
       go false false e f one two three =
           subst (P (window ∷ windows) new) (sym (step_later window windows new e f))
-          (later window windows new (joins windows new) (apart_is window.place window.len new.place new.len (swap_off new.place new.len window.place window.len h.off.0) e f) h three)
+          (later window windows new (joins windows new) (apart_is window.place window.len new.place new.len (disjoint_sym new.place new.len window.place window.len h.off.0) e f) h three)
 
 -- a window apart from all of them stays so
 abbrev KeepsApart : List Window → Window → List Window → Type 0

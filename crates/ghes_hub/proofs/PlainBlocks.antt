@@ -1,5 +1,5 @@
 -- The turns of the two sides of a plain handover with their blocks.
-use Rattle.std.proofs.Common.{◌≡◌, ◌∙◌, ℕ, ◌+◌, ◌-◌, ◌*◌, ◌<◌, ◌≤◌, min, List, [], ◌++◌, length, take, drop, map, Vec, Option, Some, None, option_to_list, refl, sym, ap, subst, arith}
+use Rattle.std.proofs.Common.{◌≡◌, ◌∙◌, ℕ, ◌+◌, ◌-◌, ◌*◌, ◌<◌, ◌≤◌, min, List, length, take, map, Vec, Option, Some, None, refl, sym, ap, subst, arith}
 use Rattle.std.specs.declared.alloc.Global.{Global}
 use Rattle.std.specs.Vec.{with_items}
 use Rattle.std.proofs.lemmas.List.{with_items_is}
@@ -7,29 +7,20 @@ use Rattle.base_model.specs.Bytes.{part, spelled, put_at}
 use Rattle.apei_space.specs.RamState.{RamState}
 use Rattle.ghes_ack.specs.declared.events.Side.TheVariants.{Firmware, Reader}
 use Rattle.ghes_ack.specs.declared.events.Event.TheVariants.{Idle, Fill, Publish, Free, Found, Copied, Took, Clear}
-use Rattle.ghes_ack.specs.Machine.{Machine, Situation, Filling, Published, Reading, Acknowledged, Fits, with_piece, with_status}
+use Rattle.ghes_ack.specs.Machine.{Machine, Filling, Published, Reading, Acknowledged, Fits, with_piece, with_status}
 use Rattle.ghes_hub.specs.declared.plain.map.PlainMap.{PlainMap}
 use Rattle.ghes_window.specs.declared.blocks.Blocks.{Blocks}
 use Rattle.ghes_window.specs.Queues.{TakesOut, HoldsNone, count_of}
 use Rattle.ghes_hub.specs.Plain.{HasPlainWindows, plain_window, plain_window_of, with_plain_window, PlainState, PlainStands}
-use Rattle.ghes_hub.specs.PlainSides.{Turns, Stands, state_of}
-use Rattle.ghes_ack.specs.Sides.{in_work, IsCopiedSoFar}
+use Rattle.ghes_hub.specs.PlainSides.{Turns, Stands}
+use Rattle.ghes_ack.specs.Sides.{state_of, in_work, IsCopiedSoFar}
+use Rattle.ghes_ack.proofs.SideLemmas.{in_hand, none_in_hand, begins_at}
 use Rattle.ghes_hub.proofs.PlainTurns.{next_fits, fills, publishes, frees, idles, finds, copies_over, copies_more, copies_last, clears}
 
 -- the block in hand is one that the window takes
-pub fits_in_hand : (b t : Blocks PlainMap) (block : Vec ℕ Global) (ram : RamState) → TakesOut plain_window_of b t block → Stands (state_of Filling b) ram → HasPlainWindows b.map ram × Fits b.map.len block.items
+pub fits_in_hand : (b t : Blocks PlainMap) (block : Vec ℕ Global) (ram : RamState) → TakesOut plain_window_of b t block → Stands (state_of Filling b) ram → HasPlainWindows b.map ram × Fits b.map.window.len block.items
 fits_in_hand b t block ram out (m, st) =
     (st.windows, next_fits (state_of Filling b) ram m block.items (map (λ v. v.items) t.waiting.items) out.held st)
-
--- what the handover is after a turn that took out a block
-in_hand : (b t : Blocks PlainMap) (block : Vec ℕ Global) (s : Situation) (filled other : ℕ) → TakesOut plain_window_of b t block → filled ≡ other →
-    ◌≡◌ {A = PlainState} (record { map = b.map; situation = s; waiting = map (λ v. v.items) t.waiting.items; at_work = Some block.items; filled = filled; copied = b.copied; last = b.last.items })
-    (record { map = t.map; situation = s; waiting = map (λ v. v.items) t.waiting.items; at_work = Some block.items; filled = other; copied = t.copied; last = t.last.items })
-in_hand b t block s filled other out same =
-    let at = out.same.map in
-    let copied = out.same.copied in
-    let last : t.last.items ≡ b.last.items = ap (λ v. v.items) out.same.last in
-    cc
 
 pub fills_hand : (b t : Blocks PlainMap) (block : Vec ℕ Global) (bytes : List ℕ) (ram new : RamState) → TakesOut plain_window_of b t block → bytes ≡ block.items → 64 * t.filled < length block.items →
     new ≡ with_plain_window t.map ram (with_piece (plain_window t.map ram) bytes t.filled) → (m : Machine) → PlainStands (state_of Filling b) ram m →
@@ -75,9 +66,6 @@ clears_at b rest ram new none gone far memory m st =
     let all : length b.last.items ≤ 64 * b.copied = subst (λ (o : Option (Vec ℕ Global)). IsCopiedSoFar b.copied o b.last) none far in
     subst (λ (o : Option (List ℕ)). Turns Reader Clear h ram (record h { situation = Acknowledged; at_work = o }) new m) after (clears h ram new m b.last.items refl last all memory st)
 
-pub begins_at : (b : Blocks PlainMap) (block : Vec ℕ Global) → b.at_work ≡ Some block → IsCopiedSoFar b.copied b.at_work b.last → 64 * b.copied < length block.items
-begins_at b block some far = subst (λ (o : Option (Vec ℕ Global)). IsCopiedSoFar b.copied o b.last) some far
-
 -- a copy leaves the block at work as it is
 pub same_items : (p : ℕ) (b : Blocks PlainMap) (block : Vec ℕ Global) (bytes copied : List ℕ) (ram : RamState) → b.at_work ≡ Some block → bytes ≡ block.items → IsCopiedSoFar b.copied b.at_work b.last →
     copied ≡ put_at bytes (64 * b.copied) (part (plain_window b.map ram) (64 * b.copied) (min p (length bytes - 64 * b.copied))) → Stands (state_of Reading b) ram → length copied ≡ block.len → (with_items block copied).items ≡ block.items
@@ -110,24 +98,8 @@ takes_at b after block last ram some same more all is m st =
     (subst (λ (o : Option (List ℕ)). Turns Reader Took h ram (record h { copied = b.copied + 1; last = last.items; at_work = o }) ram m) kept_same
     (subst (λ (x : List ℕ). Turns Reader Took h ram (record h { copied = b.copied + 1; last = x }) ram m) (sym same) (copies_last h ram m block.items refl work more all st)))
 
-nil_parts : (o : Option (List ℕ)) (xs : List (List ℕ)) → option_to_list o ++ xs ≡ [] → (o ≡ None) × (xs ≡ [])
-nil_parts None xs e = (refl, e)
-nil_parts (Some x) xs e = absurd cc
-
 pub idles_at : (b new : Blocks PlainMap) (ram : RamState) → HoldsNone plain_window_of b new → (m : Machine) → PlainStands (state_of Filling b) ram m → Turns Firmware Idle (state_of Filling b) ram (state_of Filling new) ram m
-idles_at b new ram none m st =
-    let map_is = none.same.map in
-    let filled = none.same.filled in
-    let copied = none.same.copied in
-    let last : new.last.items ≡ b.last.items = ap (λ v. v.items) none.same.last in
-    let t = idles (state_of Filling b) ram m refl none.held st in
-    let work : in_work Filling new.at_work new.last ≡ None = ap (λ (o : Option (Vec ℕ Global)). in_work Filling o new.last) none.at_work in
-    let wait : map (λ v. v.items) new.waiting.items ≡ [] = ap (map (λ v. v.items)) none.waiting in
-    let was = nil_parts (in_work Filling b.at_work b.last) (map (λ v. v.items) b.waiting.items) none.held in
-    let w0 = was.0 in
-    let w1 = was.1 in
-    let same : state_of Filling b ≡ state_of Filling new = cc in
-    subst (λ (after : PlainState). Turns Firmware Idle (state_of Filling b) ram after ram m) same t
+idles_at b new ram none m st = subst (λ (after : PlainState). Turns Firmware Idle (state_of Filling b) ram after ram m) (sym (none_in_hand b new none)) (idles (state_of Filling b) ram m refl none.held st)
 
 pub finds_at : (b : Blocks PlainMap) (ram : RamState) → count_of b.at_work ≡ 1 → (m : Machine) → PlainStands (state_of Published b) ram m → Turns Reader Found (state_of Published b) ram (state_of Reading (record b { copied = 0 })) ram m
 finds_at b ram one m st = subst (λ (o : Option (List ℕ)). Turns Reader Found (state_of Published b) ram (record (state_of Published b) { situation = Reading; copied = 0; at_work = o }) ram m) (same b.at_work one) (finds (state_of Published b) ram m refl st) where

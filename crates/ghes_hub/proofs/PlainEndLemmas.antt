@@ -1,21 +1,24 @@
 -- A turn of one side of a plain handover is the machine's turn, whatever the other side does.
-use Rattle.std.proofs.Common.{◌≡◌, ℕ, ◌*◌, ◌<◌, inl, inr, length, Vec, Option, Some, None, refl, sym, ap, subst, arith}
+use Rattle.std.proofs.Common.{◌≡◌, ℕ, ◌<◌, inl, inr, Vec, Option, Some, None, refl, sym, ap, subst, arith}
 use Rattle.std.specs.declared.alloc.Global.{Global}
 use Rattle.apei_space.specs.RamState.{RamState}
 use Rattle.ghes_ack.specs.declared.events.Side.TheVariants.{Firmware, Reader}
 use Rattle.ghes_ack.specs.declared.events.Event.{Event}
 use Rattle.ghes_ack.specs.declared.events.Event.TheVariants.{Free, Wait, Nothing, Found}
 use Rattle.ghes_ack.specs.Machine.{Machine, Situation, Filling, Published, Reading, Cleared, Acknowledged}
-use Rattle.ghes_ack.specs.Sides.{looking_at, in_work, IsCopiedSoFar}
-use Rattle.ghes_hub.specs.declared.plain.ends.FirmwareEnd.{FirmwareEnd}
-use Rattle.ghes_hub.specs.declared.plain.ends.FirmwareEnd.TheVariants.{Writes, Waits}
-use Rattle.ghes_hub.specs.declared.plain.ends.ReaderEnd.{ReaderEnd}
-use Rattle.ghes_hub.specs.declared.plain.ends.ReaderEnd.TheVariants.{Looks, Reads}
+use Rattle.ghes_ack.specs.Sides.{looking_at, waiting_at, state_of, handover_of, in_work, AreApart, IsCopiedSoFar}
+use Rattle.ghes_ack.specs.declared.ends.FirmwareEnd.{FirmwareEnd}
+use Rattle.ghes_ack.specs.declared.ends.FirmwareEnd.TheVariants.{Writes, Waits}
+use Rattle.ghes_ack.specs.declared.ends.ReaderEnd.{ReaderEnd}
+use Rattle.ghes_ack.specs.declared.ends.ReaderEnd.TheVariants.{Looks, Reads, Acknowledges}
 use Rattle.ghes_window.specs.declared.blocks.Blocks.{Blocks}
 use Rattle.ghes_window.specs.Queues.{count_of}
+use Rattle.ghes_window.proofs.RoomLemmas.{room_with}
 use Rattle.ghes_hub.specs.declared.plain.map.PlainMap.{PlainMap}
 use Rattle.ghes_hub.specs.Plain.{plain_status, PlainState, PlainStands}
-use Rattle.ghes_hub.specs.PlainSides.{waiting_at, state_of, handover_of, IsSound, AreApart, IsConsistent, Stands, Turns, SideDone, FirmwareIsAble, FirmwareTurns, ReaderIsAble, ReaderTurns}
+use Rattle.ghes_hub.specs.PlainSides.{IsSound, IsConsistent, Stands, Turns, SideDone, FirmwareIsAble, FirmwareTurns, ReaderIsAble, ReaderTurns}
+use Rattle.ghes_ack.proofs.SideLemmas.{none_copied}
+use Rattle.ghes_ack.proofs.JoinLemmas.{situation_at}
 use Rattle.ghes_hub.proofs.PlainTurns.{waits, held_status, no_status, finds_nothing, work_fits}
 use Rattle.ghes_hub.proofs.PlainBlocks.{frees_at, finds_at}
 
@@ -29,6 +32,8 @@ reader_able (Writes write) (Looks look) b ram all (m, st) = st.windows
 reader_able (Waits wait) (Looks look) b ram all (m, st) = st.windows
 reader_able (Writes write) (Reads read) b ram all stands = absurd all.apart
 reader_able (Waits wait) (Reads read) b ram all stands = (all.sound, stands)
+reader_able (Writes write) (Acknowledges end) b ram all stands = absurd all.apart
+reader_able (Waits wait) (Acknowledges end) b ram all stands = absurd all.sound.under_way
 
 -- it has the same blocks and memory
 firmware_as : (event other : Event) (firmware end : FirmwareEnd) (reader : ReaderEnd) (old new after : Blocks PlainMap) (ram memory left : RamState) → event ≡ other → new ≡ after → memory ≡ left →
@@ -65,6 +70,7 @@ returned : (write : FirmwareEnd) (reader : ReaderEnd) (b : Blocks PlainMap) (ram
 returned (Writes write) (Looks look) b ram None is none m st = record { apart = tt; turns = frees_at b ram is m st }
 returned (Waits wait) (Looks look) b ram None is none m st = record { apart = tt; turns = frees_at b ram is m st }
 returned write (Looks look) b ram (Some block) is none m st = absurd (let some = held_status (state_of Published b) ram m (inl refl) st in omega (arith, some, none))
+returned write (Acknowledges end) b ram work is none m st = absurd st.occurs
 returned write (Reads read) b ram work is none m st = absurd (let some = held_status (state_of Reading b) ram m (inr refl) st in omega (arith, some, none))
 
 -- a published block is at work
@@ -86,6 +92,7 @@ firmware_done (Writes write) (Waits wait) (Looks look) b new ram memory event al
       turns = λ m st. subst (λ (s : Situation). Turns Firmware event (state_of Filling b) ram (state_of s new) memory m) is (makes.1 m st);
     }
 firmware_done (Writes write) end (Reads read) b new ram memory event all stands makes = absurd all.apart
+firmware_done (Writes write) end (Acknowledges acknowledge) b new ram memory event all stands makes = absurd all.apart
 firmware_done (Waits wait) (Writes write) reader b new ram memory event all stands (found, is_new, is_memory) =
     firmware_as event Free (Waits wait) (Writes write) reader b new b ram memory ram found.1 is_new is_memory
     (record {
@@ -101,11 +108,6 @@ firmware_done (Waits wait) (Waits later) reader b new ram memory event all stand
       consistent = record { apart = tt; sound = all.sound };
       turns = λ m st. waits_by (state_of (waiting_at reader b.at_work) b) ram m (waiting_at reader b.at_work) refl found.0 st;
     })
-
--- the situation while the reader looks
-abbrev situation_at : FirmwareEnd → Option (Vec ℕ Global) → Situation
-situation_at (Writes write) work = Filling
-situation_at (Waits wait) work = looking_at work
 
 nothing_by : (firmware : FirmwareEnd) (b : Blocks PlainMap) (ram : RamState) (work : Option (Vec ℕ Global)) → plain_status b.map ram ≡ 0 → (m : Machine) → PlainStands (state_of (situation_at firmware work) b) ram m →
     Turns Reader Nothing (state_of (situation_at firmware work) b) ram (state_of (situation_at firmware work) b) ram m
@@ -125,32 +127,15 @@ found_by (Writes write) read b ram work is some m st = absurd (let none = no_sta
 found_by (Waits wait) read b ram None is some m st = absurd (let none = no_status (state_of Acknowledged b) ram m (inr refl) st in omega (arith, some, none))
 found_by (Waits wait) read b ram (Some block) is some m st =
     let old : in_work Published b.at_work b.last ≡ Some block.items = ap (λ (o : Option (Vec ℕ Global)). in_work Published o b.last) is in
-    let fits = work_fits (state_of Published b) ram m block.items old st in
-    let head = fits.head in
-    let begins : 64 * 0 < length block.items = omega (arith, head) in
     record {
       apart = tt;
-      far = subst (λ (o : Option (Vec ℕ Global)). IsCopiedSoFar 0 o b.last) (sym is) begins;
+      far = none_copied b block is (work_fits (state_of Published b) ram m block.items old st).head;
       turns = finds_at b ram (ap count_of is) m st;
     }
 
 -- with a block that no piece is copied of
 at_first : (s : Situation) (b : Blocks PlainMap) → IsSound s b → IsCopiedSoFar 0 b.at_work b.last → IsSound Reading (record b { copied = 0 })
-at_first s b all far = record {
-  short = all.short;
-  room = record {
-    places = all.room.places;
-    few = all.room.few;
-    counted = all.room.counted;
-    queue = all.room.queue;
-    stack = all.room.stack;
-    waiting_room = all.room.waiting_room;
-    work_room = all.room.work_room;
-    spare_room = all.room.spare_room;
-    last_room = all.room.last_room;
-  };
-  under_way = far;
-}
+at_first s b all far = record { short = all.short; room = room_with b b.at_work 0 refl all.room.work_room all.room; under_way = far }
 
 -- a block that was cleared is no longer at work
 returned_at : (work : Option (Vec ℕ Global)) → work ≡ None → Acknowledged ≡ looking_at work
@@ -190,3 +175,6 @@ reader_done (Waits wait) (Reads read) (Reads later) b new ram memory event all s
   consistent = record { apart = tt; sound = makes.0 };
   turns = makes.1;
 }
+reader_done firmware (Looks look) (Acknowledges end) b new ram memory event all stands (found, is_memory) = absurd found
+reader_done (Waits wait) (Reads read) (Acknowledges end) b new ram memory event all stands makes = absurd makes.0.under_way
+reader_done firmware (Acknowledges acknowledge) end b new ram memory event all stands makes = absurd makes

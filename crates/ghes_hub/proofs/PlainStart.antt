@@ -1,6 +1,5 @@
 -- A start and a submission of a plain handover, and what it leaves elsewhere.
-use Rattle.std.proofs.Common.{◌≡◌, ◌∙◌, ℕ, ◌+◌, ◌≤◌, List, [], ◌∷◌, ◌++◌, length, length-append, map, Vec, Option, Some, None, option_to_list, refl, sym, ap, subst, arith, append_assoc}
-use Rattle.std.specs.declared.alloc.Global.{Global}
+use Rattle.std.proofs.Common.{◌≡◌, ◌∙◌, ℕ, List, [], ◌∷◌, ◌++◌, length, length-append, map, Option, Some, None, option_to_list, refl, sym, ap, subst, arith, append_assoc}
 use Rattle.std.specs.VecDeque.{deque_len}
 use Rattle.std.proofs.lemmas.List.{length-map}
 use Rattle.base_model.specs.Bytes.{spelled, put_at}
@@ -8,103 +7,65 @@ use Rattle.base_model.proofs.BytesLemmas.{length-spelled}
 use Rattle.apei_gas.specs.declared.registers.Place.TheVariants.{Memory}
 use Rattle.apei_space.specs.RamState.{RamState}
 use Rattle.ghes_window.specs.declared.blocks.Blocks.{Blocks}
-use Rattle.ghes_window.specs.Queues.{IsEmpty, Adds}
+use Rattle.ghes_window.specs.Queues.{IsEmpty}
 use Rattle.ghes_ack.specs.declared.events.Side.{Side}
 use Rattle.ghes_ack.specs.declared.events.Event.{Event}
-use Rattle.ghes_ack.specs.Machine.{Machine, Situation, Filling, Fits, with_status, started, submitted, IsState}
+use Rattle.ghes_ack.specs.Machine.{Machine, Filling, Fits, with_status, started, submitted}
 use Rattle.ghes_ack.specs.Elsewhere.{SameWhere}
-use Rattle.ghes_ack.specs.Sides.{in_work}
-use Rattle.ghes_ack.proofs.StepLemmas.{start_is}
-use Rattle.ghes_ack.proofs.StartLemmas.{submits_more}
+use Rattle.ghes_ack.specs.Sides.{state_of, view_of}
+use Rattle.ghes_ack.proofs.StartLemmas.{fresh_is, fresh_agrees, submits_more}
 use Rattle.ghes_ack.proofs.ElsewhereLemmas.{SameWhere-then, SameWhere-stored}
 use Rattle.ghes_hub.specs.declared.plain.map.PlainMap.{PlainMap}
-use Rattle.ghes_hub.specs.declared.plain.ends.PlainEnds.{PlainEnds}
+use Rattle.ghes_ack.specs.declared.ends.Ends.{Ends}
 use Rattle.ghes_hub.specs.Places.{IsOff, plain_places_of}
-use Rattle.ghes_hub.specs.Plain.{HasPlainWindows, plain_window, plain_window_of, plain_address, with_plain_window, with_plain_address, plain_started, PlainState, plain_fresh, PlainStands}
-use Rattle.ghes_hub.specs.PlainSides.{Turns, AreConsistent, situation_in, state_of, view_of}
-use Rattle.ghes_hub.proofs.PlainMemory.{length-window, block_some, block_placed, status_placed, window-with_window, address-with_window, window-with_address, address-with_address, windows_window, HasPlain-with_address, length-plain_status}
-use Rattle.ghes_hub.proofs.PlainTurns.{kept_now, agrees, stands_by}
-
--- the two sides of a start, with no block
-pub fresh_is : (b : Blocks PlainMap) → IsEmpty b → state_of Filling b ≡ plain_fresh b.map
-fresh_is b e =
-    let waiting : map (λ v. v.items) b.waiting.items ≡ [] = ap (map (λ v. v.items)) e.waiting in
-    let work : in_work Filling b.at_work b.last ≡ None = ap (λ (o : Option (Vec ℕ Global)). in_work Filling o b.last) e.at_work in
-    let filled = e.filled in
-    let copied = e.copied in
-    let last = e.last in
-    cc
+use Rattle.ghes_hub.specs.Plain.{HasPlainWindows, plain_window, plain_address, with_plain_window, with_plain_address, plain_started, PlainState, PlainStands}
+use Rattle.ghes_ack.specs.Handovers.{fresh}
+use Rattle.ghes_hub.specs.PlainSides.{Turns, AreConsistent}
+use Rattle.ghes_window.proofs.AddressLemmas.{length-window, block_some, block_placed, status_placed, window-with_window, address-with_window, window-with_address, address-with_address}
+use Rattle.ghes_hub.proofs.PlainMemory.{windows_window, HasPlain-with_address, length-plain_status}
+use Rattle.ghes_hub.proofs.PlainTurns.{kept_now, stands_by}
 
 pub started_is : (at : PlainMap) (ram a new : RamState) → HasPlainWindows at ram → a ≡ with_plain_address at ram → new ≡ with_plain_window at a (put_at (plain_window at a) 0 (spelled 4 0)) → new ≡ plain_started at ram
 started_is at ram a new w is_a is =
     is ∙ ap (λ (r : RamState). with_plain_window at r (with_status (plain_window at r) (spelled 4 0))) is_a
-    ∙ ap (λ (bytes : List ℕ). with_plain_window at (with_plain_address at ram) (with_status bytes (spelled 4 0))) (window-with_address at ram w)
+    ∙ ap (λ (bytes : List ℕ). with_plain_window at (with_plain_address at ram) (with_status bytes (spelled 4 0))) (window-with_address at.status at.window ram w)
 
-pub fresh_stands : (at : PlainMap) (ram new : RamState) → HasPlainWindows at ram → new ≡ plain_started at ram → PlainStands (plain_fresh at) new (started (plain_window at ram))
+pub fresh_stands : (at : PlainMap) (ram new : RamState) → HasPlainWindows at ram → new ≡ plain_started at ram → PlainStands (fresh at) new (started (plain_window at ram))
 fresh_stands at ram new w is =
-    let n = length-window at ram w in
-    let head = w.head in
     let a : RamState = with_plain_address at ram in
     let w_a = HasPlain-with_address at ram w in
+    let bytes : List ℕ = with_status (plain_window at ram) (spelled 4 0) in
     let wide = length-plain_status at ram (spelled 4 0) (length-spelled 4 0) w in
-    record {
-      state = subst (λ (k : ℕ). IsState k (started (plain_window at ram))) n (start_is (plain_window at ram) (omega (arith, n, head)));
-      windows = windows_window at a new (with_status (plain_window at ram) (spelled 4 0)) is wide w_a;
-      address = ap (plain_address at) is ∙ address-with_window at a (with_status (plain_window at ram) (spelled 4 0)) w_a wide ∙ address-with_address at ram w;
-      window_is = sym (ap (plain_window at) is ∙ window-with_window at a (with_status (plain_window at ram) (spelled 4 0)) w_a wide);
-      situation = refl;
-      occurs = tt;
-      blocks = refl;
-      wait = refl;
-      filled = refl;
-      copied = refl;
-      last = refl;
-    }
+    stands_by (fresh at) new bytes (started (plain_window at ram)) (fresh_agrees at at.window.len (plain_window at ram) (length-window at.status at.window ram w) w.head) (sym (ap (plain_window at) is ∙ window-with_window at.status at.window a bytes w_a wide))
+    (windows_window at a new bytes is wide w_a) (ap (plain_address at) is ∙ address-with_window at.status at.window a bytes w_a wide ∙ address-with_address at.status at.window ram w) tt
 
 pub begun_stands : (at : PlainMap) (b : Blocks PlainMap) (ram new : RamState) → b.map ≡ at → IsEmpty b → HasPlainWindows at ram → new ≡ plain_started at ram → PlainStands (state_of Filling b) new (started (plain_window at ram))
-begun_stands at b ram new same e w is = subst (λ (h : PlainState). PlainStands h new (started (plain_window at ram))) (sym (fresh_is b e ∙ ap plain_fresh same)) (fresh_stands at ram new w is)
+begun_stands at b ram new same e w is = subst (λ (h : PlainState). PlainStands h new (started (plain_window at ram))) (sym (fresh_is b e ∙ ap fresh same)) (fresh_stands at ram new w is)
 
-pub submits : (h : PlainState) (ram : RamState) (m : Machine) (block : List ℕ) → Fits h.map.len block → PlainStands h ram m → PlainStands (record h { waiting = h.waiting ++ block ∷ [] }) ram (submitted m block)
+pub submits : (h : PlainState) (ram : RamState) (m : Machine) (block : List ℕ) → Fits h.map.window.len block → PlainStands h ram m → PlainStands (record h { waiting = h.waiting ++ block ∷ [] }) ram (submitted m block)
 submits h ram m block good st =
     let more = submits_more (kept_now h ram) m block (option_to_list h.at_work ++ (h.waiting ++ block ∷ [])) (length (h.waiting ++ block ∷ []))
-    (sym (append_assoc (option_to_list h.at_work) h.waiting (block ∷ []))) (length-append h.waiting (block ∷ [])) good (agrees h ram m st) in
+    (sym (append_assoc (option_to_list h.at_work) h.waiting (block ∷ []))) (length-append h.waiting (block ∷ [])) good st.agrees in
     stands_by (record h { waiting = h.waiting ++ block ∷ [] }) ram (plain_window h.map ram) (submitted m block) more refl st.windows st.address st.occurs
 
 -- the blocks that wait
-pub waiting_of : (ends : Option PlainEnds) (b : Blocks PlainMap) → AreConsistent ends b → length (view_of ends b).waiting ≡ deque_len b.waiting
+pub waiting_of : (ends : Option Ends) (b : Blocks PlainMap) → AreConsistent ends b → length (view_of ends b).waiting ≡ deque_len b.waiting
 waiting_of None b all = absurd all
 waiting_of (Some ends) b all = length-map b.waiting.items (λ v. v.items) ∙ all.sound.room.counted
 
--- a block more
-added_in : (s : Situation) (b after : Blocks PlainMap) (block : List ℕ) → Adds plain_window_of b after block → state_of s after ≡ record (state_of s b) { waiting = (state_of s b).waiting ++ block ∷ [] }
-added_in s b after block a =
-    let waiting = a.waiting in
-    let map_is = a.same.map in
-    let filled = a.same.filled in
-    let copied = a.same.copied in
-    let last = a.same.last in
-    let items : after.last.items ≡ b.last.items = ap (λ v. v.items) a.same.last in
-    let work : in_work s after.at_work after.last ≡ in_work s b.at_work b.last =
-    ap (λ (x : Option (Vec ℕ Global)). in_work s x after.last) a.at_work ∙ ap (λ (x : Vec ℕ Global). in_work s b.at_work x) a.same.last in
-    cc
-
-pub added : (ends : Option PlainEnds) (b after : Blocks PlainMap) (block : List ℕ) → Adds plain_window_of b after block → view_of ends after ≡ record (view_of ends b) { waiting = (view_of ends b).waiting ++ block ∷ [] }
-added ends b after block a =
-    ap (λ (o : Option (Vec ℕ Global)). state_of (situation_in ends o) after) a.at_work ∙ added_in (situation_in ends b.at_work) b after block a
-
-pub plain_elsewhere : (map : PlainMap) (ram : RamState) (bytes : List ℕ) → HasPlainWindows map ram → length bytes ≡ map.len → SameWhere (IsOff (plain_places_of map)) ram (with_plain_window map ram bytes)
-plain_elsewhere map ram bytes w n = let b = block_placed map ram w in SameWhere-stored (IsOff (plain_places_of map)) ram (Memory map.block) map.len b.0 bytes w.fills b.1 n (block_some map ram w) (λ at k off. off.1.0)
+pub plain_elsewhere : (map : PlainMap) (ram : RamState) (bytes : List ℕ) → HasPlainWindows map ram → length bytes ≡ map.window.len → SameWhere (IsOff (plain_places_of map)) ram (with_plain_window map ram bytes)
+plain_elsewhere map ram bytes w n = let b = block_placed map.status map.window ram w in SameWhere-stored (IsOff (plain_places_of map)) ram (Memory map.window.block) map.window.len b.0 bytes w.fills b.1 n (block_some map.status map.window ram w) (λ at k off. off.1.0)
 
 pub plain_elsewhere_started : (map : PlainMap) (ram new : RamState) → HasPlainWindows map ram → new ≡ plain_started map ram → SameWhere (IsOff (plain_places_of map)) ram new
 plain_elsewhere_started map ram new w is =
     let a : RamState = with_plain_address map ram in
-    let p = status_placed map ram w in
+    let p = status_placed map.status map.window ram w in
     let wide = length-plain_status map ram (spelled 4 0) (length-spelled 4 0) w in
-    let one = SameWhere-stored (IsOff (plain_places_of map)) ram (Memory map.status) 8 p.0 (spelled 8 map.block) w.fills p.1 (length-spelled 8 map.block) (omega arith) (λ at k off. off.0) in
+    let one = SameWhere-stored (IsOff (plain_places_of map)) ram (Memory map.status) 8 p.0 (spelled 8 map.window.block) w.fills p.1 (length-spelled 8 map.window.block) (omega arith) (λ at k off. off.0) in
     subst (SameWhere (IsOff (plain_places_of map)) ram) (sym is)
     (SameWhere-then (IsOff (plain_places_of map)) ram a (plain_started map ram) one (plain_elsewhere map a (with_status (plain_window map ram) (spelled 4 0)) (HasPlain-with_address map ram w) wide))
 
 pub plain_turn_elsewhere : (side : Side) (event : Event) (h after : PlainState) (ram new : RamState) (m : Machine) → PlainStands h ram m → Turns side event h ram after new m → SameWhere (IsOff (plain_places_of h.map)) ram new
 plain_turn_elsewhere side event h after ram new m st t =
     let w : HasPlainWindows h.map new = subst (λ (at : PlainMap). HasPlainWindows at new) t.map t.stands.windows in
-    subst (SameWhere (IsOff (plain_places_of h.map)) ram) (sym t.memory_is) (plain_elsewhere h.map ram (plain_window h.map new) st.windows (length-window h.map new w))
+    subst (SameWhere (IsOff (plain_places_of h.map)) ram) (sym t.memory_is) (plain_elsewhere h.map ram (plain_window h.map new) st.windows (length-window h.map.status h.map.window new w))

@@ -117,15 +117,15 @@ pub record Covers (layouts : List Layout) (ram : RamState) : Type 0 where
   pub fills : FillsWindows ram
   pub mapped : (at : Place) → IsMapped (all_windows layouts) at → IsMapped ram.windows at
 
-pub plain_has : (layouts : List Layout) (ram : RamState) (i : ℕ) (map : PlainMap) → Covers layouts ram → AreFree [] (all_windows layouts) → slice_get layouts i ≡ Some (Plain map) → 20 ≤ map.len → HasPlainWindows map ram
+pub plain_has : (layouts : List Layout) (ram : RamState) (i : ℕ) (map : PlainMap) → Covers layouts ram → AreFree [] (all_windows layouts) → slice_get layouts i ≡ Some (Plain map) → 20 ≤ map.window.len → HasPlainWindows map ram
 plain_has layouts ram i map covers free is room =
     let f = (free_at [] layouts i (Plain map) free is).free in
     record {
       head = room;
       fills = covers.fills;
       status = λ k h. covers.mapped (further (Memory map.status) k) (mapped_in layouts i (Plain map) is (further (Memory map.status) k) (inl (held_further (Memory map.status) 8 k h)));
-      block = λ k h. covers.mapped (further (Memory map.block) k) (mapped_in layouts i (Plain map) is (further (Memory map.block) k) (inr (inl (held_further (Memory map.block) map.len k h))));
-      status_block = disjoint_sym (Memory map.block) map.len (Memory map.status) 8 f.3.2.0;
+      block = λ k h. covers.mapped (further (Memory map.window.block) k) (mapped_in layouts i (Plain map) is (further (Memory map.window.block) k) (inr (inl (held_further (Memory map.window.block) map.window.len k h))));
+      status_block = disjoint_sym (Memory map.window.block) map.window.len (Memory map.status) 8 f.3.2.0;
     }
 
 pub acknowledged_has : (layouts : List Layout) (ram : RamState) (i : ℕ) (map : HandoverMap) → Covers layouts ram → AreFree [] (all_windows layouts) → slice_get layouts i ≡ Some (Acknowledged map) → 20 ≤ map.len → HasWindows map ram

@@ -167,7 +167,7 @@ ack_bits gas (Ok register) write is e =
       product_some a zero h k = absurd (omega (arith, k))
 
 has_layout : (layouts : List Layout) (ram : RamState) (i n : ℕ) (source : Ghes) (ack : Option Ack) → Covers layouts ram → AreFree [] (all_windows layouts) → slice_get layouts i ≡ Some (layout_by n source ack) → 20 ≤ source.block_len → has_ack ack ≡ true → HasLayout (layout_by n source ack) ram
-has_layout layouts ram i n source None covers free is low good = plain_has layouts ram i (record { status = source.status.address; block = _; len = source.block_len }) covers free is low
+has_layout layouts ram i n source None covers free is low good = plain_has layouts ram i (record { status = source.status.address; window = record { block = _; len = source.block_len } }) covers free is low
 has_layout layouts ram i n source (Some ack) covers free is low good =
     let b = ack_bits ack.register (checked ack.register) ack.write refl good in
     (acknowledged_has layouts ram i _ covers free is low, record { some = b.0; inside = b.1 })

@@ -6,9 +6,7 @@ use Rattle.std.proofs.lemmas.Option.{slice_get_past, slice_get_read, slice_get-g
 use Rattle.base_model.specs.Bytes.{little}
 use Rattle.apei_gas.specs.declared.registers.Place.TheVariants.{Memory}
 use Rattle.apei_space.specs.declared.windows.Window.{Window}
-use Rattle.apei_space.specs.Windows.{AreApart, total}
 use Rattle.apei_space.specs.RamState.{RamState}
-use Rattle.apei_space.specs.Mapped.{AreMapped}
 use Rattle.ghes_ack.specs.declared.maps.HandoverMap.{HandoverMap}
 use Rattle.ghes_ack.specs.declared.events.Side.{Side}
 use Rattle.ghes_ack.specs.declared.events.Event.{Event}
@@ -16,11 +14,12 @@ use Rattle.ghes_ack.specs.Machine.{Machine, submitted}
 use Rattle.ghes_ack.specs.Maps.{ack_bytes}
 use Rattle.ghes_ack.specs.Elsewhere.{SameWhere, SameInMap}
 use Rattle.ghes_ack.proofs.CallLemmas.{StandsFor-others}
-use Rattle.ghes_hub.specs.declared.plain.map.PlainMap.{PlainMap}
 use Rattle.ghes_hub.specs.declared.source.Source.{Source}
 use Rattle.ghes_hub.specs.declared.source.Source.TheVariants.{Acknowledged, Plain}
 use Rattle.ghes_hub.specs.Kinds.{Kind}
-use Rattle.ghes_hub.specs.Plain.{HasPlainWindows, PlainState, PlainStands}
+use Rattle.ghes_ack.specs.Kept.{Agrees, kept_over}
+use Rattle.ghes_hub.proofs.PlainMemory.{plain_windows_kept}
+use Rattle.ghes_hub.specs.Plain.{PlainState, PlainStands}
 use Rattle.ghes_hub.specs.Places.{places_of, plain_places_of, IsOff, AreClear}
 use Rattle.ghes_hub.specs.OneSource.{kind_of, layout_in, windows_of, SourceStands, Stands, SamePlaces, SourceTurned}
 use Rattle.ghes_hub.specs.SourcesState.{SourcesState, layouts_in, AreServed, StandsAt, TurnsAt}
@@ -49,34 +48,18 @@ same_in_map map windows old new clear s = record {
   block = s.bytes (Memory map.block) map.len clear.1.1.0;
 }
 
-pub plain_windows_kept : (map : PlainMap) (old new : RamState) → new.windows ≡ old.windows → length new.bytes ≡ length old.bytes → HasPlainWindows map old → HasPlainWindows map new
-plain_windows_kept map old new windows size w = record {
-  head = w.head;
-  fills = record { apart = subst AreApart (sym windows) w.fills.apart; as_long = ap total windows ∙ w.fills.as_long ∙ sym size };
-  status = subst (λ (xs : List Window). AreMapped xs (Memory map.status) 8) (sym windows) w.status;
-  block = subst (λ (xs : List Window). AreMapped xs (Memory map.block) map.len) (sym windows) w.block;
-  status_block = w.status_block;
-}
-
-plain_kept_by : (h : PlainState) (windows : List Window) (old new : RamState) (m : Machine) → AreClear windows (plain_places_of h.map) → SameWhere (IsOff windows) old new → PlainStands h old m → PlainStands h new m
-plain_kept_by h windows old new m clear s st = record {
-  state = st.state;
+kept_by : (h : PlainState) (windows : List Window) (old new : RamState) (m : Machine) → AreClear windows (plain_places_of h.map) → SameWhere (IsOff windows) old new → PlainStands h old m → PlainStands h new m
+kept_by h windows old new m clear s st = record {
+  agrees = subst (λ (bytes : List ℕ). Agrees (kept_over h.map.window.len h bytes) m) (sym (s.bytes (Memory h.map.window.block) h.map.window.len clear.1.0)) st.agrees;
   windows = plain_windows_kept h.map old new s.windows s.size st.windows;
   address = ap little (s.bytes (Memory h.map.status) 8 clear.0) ∙ st.address;
-  window_is = st.window_is ∙ sym (s.bytes (Memory h.map.block) h.map.len clear.1.0);
-  situation = st.situation;
   occurs = st.occurs;
-  blocks = st.blocks;
-  wait = st.wait;
-  filled = st.filled;
-  copied = st.copied;
-  last = st.last;
 }
 
 -- what is written off the windows of a source leaves it
 pub source_kept : (q : Source) (windows : List Window) (old new : RamState) (m : Machine) → AreClear windows (windows_of q) → SameWhere (IsOff windows) old new → SourceStands q old m → SourceStands q new m
 source_kept (Acknowledged h) windows old new m clear s st = StandsFor-others h old new m (same_in_map h.map windows old new clear s) st
-source_kept (Plain h) windows old new m clear s st = plain_kept_by h windows old new m clear s st
+source_kept (Plain h) windows old new m clear s st = kept_by h windows old new m clear s st
 
 -- a source in another state, and the memory that its turn left
 pub record Moves (ram new : RamState) (list : List Source) (i : ℕ) (before after : Source) : Type 0 where

@@ -18,7 +18,7 @@ places_of map =
 
 -- and the two of a plain one
 abbrev pub plain_places_of : PlainMap → List Window
-plain_places_of map = record { place = Memory map.status; len = 8 } ∷ record { place = Memory map.block; len = map.len } ∷ []
+plain_places_of map = record { place = Memory map.status; len = 8 } ∷ record { place = Memory map.window.block; len = map.window.len } ∷ []
 
 -- n bytes at a place have none in common with any of some windows
 abbrev pub IsOff : List Window → Place → ℕ → Type 0

@@ -1,78 +1,54 @@
 -- A handover without a read acknowledgement: its two windows in memory, what it keeps, and the states of the machine that it stands for.
-use Rattle.std.specs.Prelude.{◌≡◌, ℕ, ◌≤◌, List, [], ◌++◌, length, drop, Option, None, option_to_list}
-use Rattle.base_model.specs.Bytes.{little, number_at, spelled}
-use Rattle.apei_gas.specs.declared.registers.Place.TheVariants.{Memory}
-use Rattle.apei_space.specs.RamState.{RamState, FillsWindows, located, stored}
-use Rattle.apei_space.specs.Mapped.{AreMapped, AreDisjoint}
+use Rattle.std.specs.Prelude.{◌≡◌, ℕ, List, length, Option}
+use Rattle.base_model.specs.Bytes.{spelled}
+use Rattle.apei_space.specs.RamState.{RamState}
 use Rattle.ghes_ack.specs.declared.submission.SubmitError.{SubmitError}
-use Rattle.ghes_ack.specs.Machine.{Machine, Situation, Filling, with_status, IsState, waiting_in, last_taken}
-use Rattle.ghes_ack.specs.Maps.{bytes_at}
+use Rattle.ghes_ack.specs.Machine.{Machine, with_status}
+use Rattle.ghes_ack.specs.Handovers.{HandoverOver}
+use Rattle.ghes_ack.specs.Kept.{Agrees, kept_over}
 use Rattle.ghes_window.specs.declared.window.BlockWindow.{BlockWindow}
+use Rattle.ghes_window.specs.Windows.{HasAddressed, block_bytes, block_status, with_block, address_at, with_address_at}
 use Rattle.ghes_ack.specs.Submissions.{refusal_of}
 use Rattle.ghes_hub.specs.declared.plain.map.PlainMap.{PlainMap}
 use Rattle.ghes_hub.specs.Kinds.{ByStatus, Occurs}
 
 -- the memory has the map's two windows, they are apart, and the block's has room for a block's head
-pub record HasPlainWindows (map : PlainMap) (ram : RamState) : Type 0 where
-  pub head : 20 ≤ map.len
-  pub fills : FillsWindows ram
-  pub status : AreMapped ram.windows (Memory map.status) 8
-  pub block : AreMapped ram.windows (Memory map.block) map.len
-  pub status_block : AreDisjoint (Memory map.status) 8 (Memory map.block) map.len
+abbrev pub HasPlainWindows : PlainMap → RamState → Type 0
+HasPlainWindows map ram = HasAddressed map.status map.window ram
 
 -- where the block's window lies
 abbrev pub plain_window_of : PlainMap → BlockWindow
-plain_window_of map = record { block = map.block; len = map.len }
+plain_window_of map = map.window
 
 abbrev pub plain_window : PlainMap → RamState → List ℕ
-plain_window map ram = bytes_at ram (Memory map.block) map.len
+plain_window map ram = block_bytes map.window ram
 
 abbrev pub plain_status : PlainMap → RamState → ℕ
-plain_status map ram = number_at (plain_window map ram) 0 4
+plain_status map ram = block_status map.window ram
 
 abbrev pub plain_address : PlainMap → RamState → ℕ
-plain_address map ram = little (bytes_at ram (Memory map.status) 8)
+plain_address map ram = address_at map.status ram
 
 -- the memory with other bytes in one of the windows, and nothing else changed
 abbrev pub with_plain_window : PlainMap → RamState → List ℕ → RamState
-with_plain_window map ram bytes = stored (located ram.windows (Memory map.block) map.len) ram bytes
+with_plain_window map ram bytes = with_block map.window ram bytes
 
 abbrev pub with_plain_address : PlainMap → RamState → RamState
-with_plain_address map ram = stored (located ram.windows (Memory map.status) 8) ram (spelled 8 map.block)
+with_plain_address map ram = with_address_at map.status map.window ram
 
 abbrev pub plain_started : PlainMap → RamState → RamState
 plain_started map ram = with_plain_window map (with_plain_address map ram) (with_status (plain_window map ram) (spelled 4 0))
 
--- the blocks that wait, the one that is filled or published and not yet acknowledged, and the one taken last
-pub record PlainState : Type 0 where
-  pub map : PlainMap
-  pub situation : Situation
-  pub waiting : List (List ℕ)
-  pub at_work : Option (List ℕ)
-  pub filled : ℕ
-  pub copied : ℕ
-  pub last : List ℕ
-
-abbrev pub plain_fresh : PlainMap → PlainState
-plain_fresh at = record { map = at; situation = Filling; waiting = []; at_work = None; filled = 0; copied = 0; last = [] }
-
-abbrev pub plain_kept : PlainState → List (List ℕ)
-plain_kept h = option_to_list h.at_work ++ h.waiting
+abbrev pub PlainState : Type 0
+PlainState = HandoverOver PlainMap
 
 -- a state of the machine agrees with what the handover keeps and with the memory
 pub record PlainStands (h : PlainState) (ram : RamState) (m : Machine) : Type 0 where
-  pub state : IsState h.map.len m
+  pub agrees : Agrees (kept_over h.map.window.len h (plain_window h.map ram)) m
   pub windows : HasPlainWindows h.map ram
-  pub address : plain_address h.map ram ≡ h.map.block
-  pub window_is : m.window ≡ plain_window h.map ram
-  pub situation : m.situation ≡ h.situation
+  pub address : plain_address h.map ram ≡ h.map.window.block
   pub occurs : Occurs ByStatus h.situation
-  pub blocks : plain_kept h ≡ drop m.acknowledged m.blocks
-  pub wait : length h.waiting ≡ waiting_in m
-  pub filled : h.filled ≡ m.filled
-  pub copied : h.copied ≡ m.copied
-  pub last : h.last ≡ last_taken m
 
 -- the first reason why a block is refused
 abbrev pub plain_refusal : PlainState → List ℕ → Option SubmitError
-plain_refusal h block = refusal_of h.map.len block (length h.waiting)
+plain_refusal h block = refusal_of h.map.window.len block (length h.waiting)

@@ -1,48 +1,22 @@
 -- The two sides and the blocks of a plain handover, and what they are together.
-use Rattle.std.specs.Prelude.{◌≡◌, ℕ, ◌<◌, Vec, Option, Some, None, ◌^◌, map}
-use Rattle.std.specs.declared.alloc.Global.{Global}
+use Rattle.std.specs.Prelude.{◌≡◌, ◌<◌, Option, Some, None, ◌^◌, map}
 use Rattle.apei_space.specs.RamState.{RamState}
 use Rattle.ghes_ack.specs.declared.events.Side.{Side}
 use Rattle.ghes_ack.specs.declared.events.Side.TheVariants.{Firmware, Reader}
 use Rattle.ghes_ack.specs.declared.events.Event.{Event}
 use Rattle.ghes_ack.specs.declared.events.Event.TheVariants.{Free, Wait, Nothing, Found}
 use Rattle.ghes_ack.specs.Machine.{Machine, Situation, Filling, Published, Reading, Cleared, Acknowledged}
-use Rattle.ghes_ack.specs.Sides.{looking_at, in_work, IsCopiedSoFar}
+use Rattle.ghes_ack.specs.Sides.{IsCopiedSoFar, AreApart, situation_of, state_of, handover_of}
 use Rattle.ghes_window.specs.declared.blocks.Blocks.{Blocks}
 use Rattle.ghes_window.specs.Queues.{HasRoom, count_of}
 use Rattle.ghes_hub.specs.declared.plain.map.PlainMap.{PlainMap}
-use Rattle.ghes_hub.specs.declared.plain.ends.PlainEnds.{PlainEnds}
-use Rattle.ghes_hub.specs.declared.plain.ends.FirmwareEnd.{FirmwareEnd}
-use Rattle.ghes_hub.specs.declared.plain.ends.FirmwareEnd.TheVariants.{Writes, Waits}
-use Rattle.ghes_hub.specs.declared.plain.ends.ReaderEnd.{ReaderEnd}
-use Rattle.ghes_hub.specs.declared.plain.ends.ReaderEnd.TheVariants.{Looks, Reads}
+use Rattle.ghes_ack.specs.declared.ends.Ends.{Ends}
+use Rattle.ghes_ack.specs.declared.ends.FirmwareEnd.{FirmwareEnd}
+use Rattle.ghes_ack.specs.declared.ends.FirmwareEnd.TheVariants.{Writes, Waits}
+use Rattle.ghes_ack.specs.declared.ends.ReaderEnd.{ReaderEnd}
+use Rattle.ghes_ack.specs.declared.ends.ReaderEnd.TheVariants.{Looks, Reads, Acknowledges}
 use Rattle.ghes_hub.specs.Kinds.{ByStatus, turned_by}
 use Rattle.ghes_hub.specs.Plain.{HasPlainWindows, PlainState, PlainStands, plain_status, plain_window, plain_window_of, with_plain_window}
-
--- while the firmware waits and the reader looks, there is a block at work until its block status is cleared
-abbrev pub waiting_at : ReaderEnd → Option (Vec ℕ Global) → Situation
-waiting_at (Looks look) work = looking_at work
-waiting_at (Reads read) work = Reading
-
--- the situation of two sides and the block at work
-abbrev pub situation_of : FirmwareEnd → ReaderEnd → Option (Vec ℕ Global) → Situation
-situation_of (Writes write) reader work = Filling
-situation_of (Waits wait) reader work = waiting_at reader work
-
--- what the blocks are in a situation
-abbrev pub state_of : Situation → Blocks PlainMap → PlainState
-state_of situation b = record {
-  map = b.map;
-  situation = situation;
-  waiting = map (λ v. v.items) b.waiting.items;
-  at_work = in_work situation b.at_work b.last;
-  filled = b.filled;
-  copied = b.copied;
-  last = b.last.items;
-}
-
-abbrev pub handover_of : PlainEnds → Blocks PlainMap → PlainState
-handover_of ends b = state_of (situation_of ends.firmware ends.reader b.at_work) b
 
 -- the block at work in each situation
 abbrev pub IsUnderWay : Situation → Blocks PlainMap → Type 0
@@ -54,30 +28,17 @@ IsUnderWay Acknowledged b = b.at_work ≡ None
 
 -- the blocks are as they must be in a situation
 pub record IsSound (situation : Situation) (b : Blocks PlainMap) : Type 0 where
-  pub short : b.map.len < 2 ^ 32
+  pub short : b.map.window.len < 2 ^ 32
   pub room : HasRoom plain_window_of 0 b
   pub under_way : IsUnderWay situation b
 
--- while the firmware may write the block, the reader looks for one: never are both at the block
-abbrev pub AreApart : FirmwareEnd → ReaderEnd → Type 0
-AreApart (Writes write) (Looks look) = Unit {0}
-AreApart (Writes write) (Reads read) = ⊥
-AreApart (Waits wait) reader = Unit {0}
-
 -- the sides and the blocks belong together
-pub record IsConsistent (ends : PlainEnds) (b : Blocks PlainMap) : Type 0 where
+pub record IsConsistent (ends : Ends) (b : Blocks PlainMap) : Type 0 where
   pub apart : AreApart ends.firmware ends.reader
   pub sound : IsSound (situation_of ends.firmware ends.reader b.at_work) b
 
 -- the two sides are always there between two calls
-abbrev pub situation_in : Option PlainEnds → Option (Vec ℕ Global) → Situation
-situation_in None work = Filling
-situation_in (Some ends) work = situation_of ends.firmware ends.reader work
-
-abbrev pub view_of : Option PlainEnds → Blocks PlainMap → PlainState
-view_of ends b = state_of (situation_in ends b.at_work) b
-
-abbrev pub AreConsistent : Option PlainEnds → Blocks PlainMap → Type 0
+abbrev pub AreConsistent : Option Ends → Blocks PlainMap → Type 0
 AreConsistent None b = ⊥
 AreConsistent (Some ends) b = IsConsistent ends b
 
@@ -94,7 +55,7 @@ pub record Turns (side : Side) (event : Event) (old : PlainState) (ram : RamStat
   pub memory_is : memory ≡ with_plain_window old.map ram (plain_window old.map memory)
 
 -- both sides after a turn of one of them
-pub record SideDone (side : Side) (event : Event) (ends next : PlainEnds) (old new : Blocks PlainMap) (ram memory : RamState) : Type 0 where
+pub record SideDone (side : Side) (event : Event) (ends next : Ends) (old new : Blocks PlainMap) (ram memory : RamState) : Type 0 where
   pub consistent : IsConsistent next new
   pub turns : (m : Machine) → PlainStands (handover_of ends old) ram m → Turns side event (handover_of ends old) ram (handover_of next new) memory m
 
@@ -123,19 +84,23 @@ FirmwareTurns (Waits wait) old ram event end new memory = FindsClear old.map ram
 abbrev pub reader_at : ReaderEnd → Situation
 reader_at (Looks look) = Acknowledged
 reader_at (Reads read) = Reading
+reader_at (Acknowledges end) = Cleared
 
 -- the reader can make a turn
 abbrev pub ReaderIsAble : ReaderEnd → Blocks PlainMap → RamState → Type 0
 ReaderIsAble (Looks look) b ram = HasPlainWindows b.map ram
 ReaderIsAble (Reads read) b ram = IsSound Reading b × Stands (state_of Reading b) ram
+ReaderIsAble (Acknowledges end) b ram = ⊥
 
 -- a turn of a reader that looks for a block: there is one exactly where the block status isn't 0, and none of its pieces is copied
 abbrev pub FindsBlock : Blocks PlainMap → RamState → Event → ReaderEnd → Blocks PlainMap → Type 0
 FindsBlock old ram event (Looks look) new = (plain_status old.map ram ≡ 0) × (event ≡ Nothing) × (new ≡ old)
 FindsBlock old ram event (Reads read) new = (0 < plain_status old.map ram) × (event ≡ Found) × (new ≡ record old { copied = 0 })
+FindsBlock old ram event (Acknowledges end) new = ⊥
 
 -- a turn of the reader, whatever the firmware does
 abbrev pub ReaderTurns : ReaderEnd → Blocks PlainMap → RamState → Event → ReaderEnd → Blocks PlainMap → RamState → Type 0
 ReaderTurns (Looks look) old ram event end new memory = FindsBlock old ram event end new × (memory ≡ ram)
 ReaderTurns (Reads read) old ram event end new memory =
     IsSound (reader_at end) new × ((m : Machine) → PlainStands (state_of Reading old) ram m → Turns Reader event (state_of Reading old) ram (state_of (reader_at end) new) memory m)
+ReaderTurns (Acknowledges acknowledge) old ram event end new memory = ⊥

@@ -30,7 +30,7 @@ pub fn put_all(layout: &Layout, windows: &mut Vec<Window>) -> bool
         }
         Layout::Plain(map) => {
             let first = put(memory(map.status, 8), windows);
-            let second = put(memory(map.block, map.len), windows);
+            let second = put(memory(map.window.block, map.window.len), windows);
             first || second
         }
     }

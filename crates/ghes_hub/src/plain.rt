@@ -1,5 +1,4 @@
 // A handover without a read acknowledgement.
-mod ends;
 mod firmware;
 mod handover;
 mod map;

@@ -11,6 +11,7 @@ use crate::layouts::Layout;
 use crate::plain::PlainMap;
 use apei_space::Window;
 use ghes_ack::HandoverMap;
+use ghes_window::BlockWindow;
 use hest_sources::{Ghes, HestSource};
 
 /// Where the block of the first source lies, and how far behind it each further one.
@@ -140,9 +141,9 @@ fn layout_of(index: usize, source: &Ghes) -> Layout
             });
         }
     }
+    let len = source.block_len;
     Layout::Plain(PlainMap {
         status: source.status.address,
-        block,
-        len: source.block_len,
+        window: BlockWindow { block, len },
     })
 }

@@ -3,3 +3,4 @@ pub mod PlacedLemmas
 pub mod WindowLemmas
 pub mod WriteLemmas
 pub mod RoomLemmas
+pub mod AddressLemmas

@@ -112,21 +112,9 @@ pub fn copy_in_place(read: &MayRead, blocks: &mut Blocks, ram: &Ram) -> bool
     if PIECE * (blocks.copied as usize) + PIECE >= bytes.len() {
         return false;
     }
-    copy_piece(read, &blocks.map, ram, blocks.copied, bytes);
+    read.copy_piece(&blocks.map, ram, blocks.copied, bytes);
     blocks.copied += 1;
     true
-}
-
-/// Copies a piece of the window to its place.
-fn copy_piece(read: &MayRead, map: &HandoverMap, ram: &Ram, piece: u32, bytes: &mut [u8])
-    requires windows { HasWindows map.now ram.now }
-    requires begins { 64 * piece < length bytes.old }
-    requires fits { length bytes.old ≤ map.now.len }
-    ensures { bytes.new ≡ put_at bytes.old (64 * piece) (part (window map.now ram.now) (64 * piece) (min 64 (length bytes.old - 64 * piece))) }
-{
-    let at = PIECE * piece as usize;
-    let end = bytes.len().min(at + PIECE);
-    read.copy(map, ram, at as u64, &mut bytes[at..end]);
 }
 
 /// Copies so many pieces of the window to their place.

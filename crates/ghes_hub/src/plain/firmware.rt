@@ -3,12 +3,12 @@ ghost use Rattle.std.specs.Prelude.{◌<◌};
 ghost use Rattle.ghes_ack.specs.declared.events.Side.TheVariants.{Firmware as OfFirmware};
 ghost use Rattle.ghes_ack.specs.Machine.{Machine, Filling};
 ghost use Rattle.ghes_hub.specs.Plain.{HasPlainWindows, PlainStands};
-ghost use Rattle.ghes_hub.specs.PlainSides.{IsSound, Stands, Turns, FindsClear, FirmwareIsAble, FirmwareTurns, firmware_at, state_of};
+ghost use Rattle.ghes_hub.specs.PlainSides.{IsSound, Stands, Turns, FindsClear, FirmwareIsAble, FirmwareTurns, firmware_at};
+ghost use Rattle.ghes_ack.specs.Sides.{state_of};
 
-use crate::plain::ends::{FirmwareEnd, PlainFirm, PlainWait};
 use crate::plain::map::PlainMap;
 use apei_space::Ram;
-use ghes_ack::Event;
+use ghes_ack::{Event, FirmwareEnd, MayWrite, MustWait};
 use ghes_window::{Blocks, PIECE};
 
 /// One turn of the firmware.
@@ -21,25 +21,25 @@ pub fn firmware_turn(
     ensures { FirmwareTurns end blocks.old ram.old result.1 result.0 blocks.new ram.new }
 {
     match end {
-        FirmwareEnd::Writes(firm) => fill_or_publish(firm, blocks, ram),
+        FirmwareEnd::Writes(write) => fill_or_publish(write, blocks, ram),
         FirmwareEnd::Waits(wait) => look_for_clear(wait, &blocks.map, ram),
     }
 }
 
 /// Looks whether the block was cleared.
-fn look_for_clear(wait: PlainWait, map: &PlainMap, ram: &Ram) -> (FirmwareEnd, Event)
+fn look_for_clear(wait: MustWait, map: &PlainMap, ram: &Ram) -> (FirmwareEnd, Event)
     requires { HasPlainWindows map.now ram.now }
     ensures { FindsClear map.now ram.now result.1 result.0 }
 {
-    match wait.poll(map, ram) {
-        Ok(firm) => (FirmwareEnd::Writes(firm), Event::Free),
+    match wait.poll_status(map, ram) {
+        Ok(write) => (FirmwareEnd::Writes(write), Event::Free),
         Err(wait) => (FirmwareEnd::Waits(wait), Event::Wait),
     }
 }
 
 /// Writes the next piece, or publishes a block all of whose pieces are written.
 fn fill_or_publish(
-    firm: PlainFirm,
+    write: MayWrite,
     blocks: &mut Blocks<PlainMap>,
     ram: &mut Ram,
 ) -> (FirmwareEnd, Event)
@@ -50,15 +50,15 @@ fn fill_or_publish(
         Turns OfFirmware result.1 (state_of Filling blocks.old) ram.old (state_of (firmware_at result.0) blocks.new) ram.new m }
 {
     let Some(block) = blocks.next() else {
-        return (FirmwareEnd::Writes(firm), Event::Idle);
+        return (FirmwareEnd::Writes(write), Event::Idle);
     };
     if PIECE * (blocks.filled as usize) < block.len() {
-        firm.fill(&blocks.map, ram, &block, blocks.filled);
+        write.fill(&blocks.map, ram, &block, blocks.filled);
         blocks.filled += 1;
         blocks.at_work = Some(block);
-        return (FirmwareEnd::Writes(firm), Event::Fill);
+        return (FirmwareEnd::Writes(write), Event::Fill);
     }
-    let wait = firm.publish(&blocks.map, ram, &block);
+    let wait = write.show(&blocks.map, ram, &block);
     blocks.filled = 0;
     blocks.at_work = Some(block);
     (FirmwareEnd::Waits(wait), Event::Publish)

@@ -2,15 +2,15 @@
 ghost use Rattle.std.specs.Prelude.{◌≡◌, ◌∷◌, ◌++◌, [], length, IfOk, OnOk, OnErr, MatchResult, Some, None};
 ghost use Rattle.apei_space.specs.RamState.{RamState};
 ghost use Rattle.ghes_ack.specs.Machine.{Machine, started, submitted};
-ghost use Rattle.ghes_hub.specs.Plain.{HasPlainWindows, PlainStands, plain_window, plain_started, plain_fresh, plain_refusal};
+ghost use Rattle.ghes_hub.specs.Plain.{HasPlainWindows, PlainStands, plain_window, plain_started, plain_refusal};
+ghost use Rattle.ghes_ack.specs.Handovers.{fresh};
 ghost use Rattle.ghes_hub.specs.PlainSides.{Turns};
 
-use crate::plain::ends::{FirmwareEnd, PlainEnds, ReaderEnd, begin};
 use crate::plain::map::PlainMap;
 use crate::plain::turns::one_turn;
 use apei_bytes::Memory;
 use apei_space::Ram;
-use ghes_ack::{Event, Side, SubmitError, check_block};
+use ghes_ack::{Ends, Event, Side, SubmitError, check_block};
 use ghes_window::Blocks;
 use std::alloc::Global;
 use std::marker::Model;
@@ -18,13 +18,14 @@ use std::marker::Model;
 /// Both sides of a plain handover, and the blocks that the firmware hands over. It may not be dropped: `end` spends it.
 pub struct PlainHandover {
     /// Always there between two calls.
-    ends: Option<PlainEnds>,
+    ends: Option<Ends>,
     blocks: Blocks<PlainMap>,
 }
 
 impl Model for PlainHandover {
     ghost use Rattle.ghes_hub.specs.Plain.{PlainState};
-    ghost use Rattle.ghes_hub.specs.PlainSides.{view_of, AreConsistent};
+    ghost use Rattle.ghes_hub.specs.PlainSides.{AreConsistent};
+    ghost use Rattle.ghes_ack.specs.Sides.{view_of};
 
     ghost Value = { PlainState };
 
@@ -37,18 +38,15 @@ impl PlainHandover {
     /// Begins a handover, with room for 66 blocks. No other call takes memory.
     pub fn new(alloc: Global, map: PlainMap, ram: &mut Ram) -> Result<PlainHandover, Memory>
         requires { HasPlainWindows map ram.old }
-        ensures fresh { IfOk result (λ handover. handover ≡ plain_fresh map) }
+        ensures fresh { IfOk result (λ handover. handover ≡ fresh map) }
         ensures stands { IfOk result (λ handover. PlainStands handover ram.new (started (plain_window map ram.old))) }
         ensures memory { OnOk result (ram.new ≡ plain_started map ram.old) }
         ensures refused { OnErr result (ram.new ≡ ram.old) }
     {
         let blocks = Blocks::new(alloc, map)?;
-        let (firm, idle) = begin(&map, ram);
+        let ends = Ends::at_start(map.begin(ram));
         Ok(PlainHandover {
-            ends: Some(PlainEnds {
-                firmware: FirmwareEnd::Writes(firm),
-                reader: ReaderEnd::Looks(idle),
-            }),
+            ends: Some(ends),
             blocks,
         })
     }
@@ -61,7 +59,7 @@ impl PlainHandover {
         ensures exact { MatchResult result (λ _. plain_refusal self.old block.now ≡ None) (λ error. plain_refusal self.old block.now ≡ Some error) }
         ensures refused { OnErr result (self.new ≡ self.old) }
     {
-        if let Err(error) = check_block(block, self.blocks.map.len, self.blocks.waiting.len()) {
+        if let Err(error) = check_block(block, self.blocks.map.window.len, self.blocks.waiting.len()) {
             return Err(error);
         }
         self.blocks.add(block);
@@ -77,7 +75,7 @@ impl PlainHandover {
             unreachable!();
         };
         let (next, event) = one_turn(side, ends, &mut self.blocks, ram);
-        put_back(&mut self.ends, next);
+        next.put_back(&mut self.ends);
         event
     }
 
@@ -94,16 +92,5 @@ impl PlainHandover {
         if let Some(ends) = ends {
             ends.end();
         }
-    }
-}
-
-/// Puts the sides to their empty place.
-fn put_back(place: &mut Option<PlainEnds>, ends: PlainEnds)
-    requires { place.old ≡ None }
-    ensures { place.new ≡ Some ends }
-{
-    match place.replace(ends) {
-        None => {}
-        Some(_old) => unreachable!(),
     }
 }

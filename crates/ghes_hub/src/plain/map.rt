@@ -1,36 +1,42 @@
 // The windows of a handover without a read acknowledgement.
 ghost use Rattle.std.specs.Prelude.{◌≡◌};
-ghost use Rattle.ghes_hub.specs.Plain.{with_plain_address};
+ghost use Rattle.ghes_hub.specs.Plain.{HasPlainWindows, with_plain_address, plain_started};
 
 use apei_gas::{Place, Width};
 use apei_space::{Ram, Space};
+use ghes_ack::{MayWrite, MustLook, begin};
 use ghes_window::{BlockWindow, HasWindow};
 
-/// The 8 bytes at `status` hold the block's address, and the block's window has `len` bytes at `block`.
+/// The 8 bytes at `status` hold the address of the block's window.
 #[derive(Clone, Copy, Debug, PartialEq, Eq)]
 pub struct PlainMap {
     pub status: u64,
-    pub block: u64,
-    pub len: u32,
+    pub window: BlockWindow,
 }
 
 impl HasWindow for PlainMap {
-    ghost window_of = { λ map. record { block = map.block; len = map.len } };
+    ghost window_of = { λ map. map.window };
 
     #[inline(always)]
     fn window(&self) -> BlockWindow {
-        BlockWindow {
-            block: self.block,
-            len: self.len,
-        }
+        self.window
     }
 }
 
 impl PlainMap {
+    /// Begins a handover: writes the block's address, and sets the block status to 0.
+    pub fn begin(&self, ram: &mut Ram) -> (MayWrite, MustLook)
+        requires { HasPlainWindows self.now ram.old }
+        ensures { ram.new ≡ plain_started self.now ram.old }
+    {
+        self.write_address(ram);
+        begin(self, ram)
+    }
+
     /// Writes the block's address.
-    pub fn write_address(&self, ram: &mut Ram)
+    fn write_address(&self, ram: &mut Ram)
         ensures { ram.new ≡ with_plain_address self.now ram.old }
     {
-        let _ = ram.write(Place::Memory(self.status), Width::B64, self.block);
+        let _ = ram.write(Place::Memory(self.status), Width::B64, self.window.block);
     }
 }

@@ -4,12 +4,12 @@ ghost use Rattle.base_model.specs.Bytes.{part, put_at};
 ghost use Rattle.ghes_ack.specs.declared.events.Side.TheVariants.{Reader as OfReader};
 ghost use Rattle.ghes_ack.specs.Machine.{Machine, Reading};
 ghost use Rattle.ghes_hub.specs.Plain.{HasPlainWindows, PlainStands, plain_window};
-ghost use Rattle.ghes_hub.specs.PlainSides.{IsSound, Stands, Turns, FindsBlock, ReaderIsAble, ReaderTurns, reader_at, state_of};
+ghost use Rattle.ghes_hub.specs.PlainSides.{IsSound, Stands, Turns, FindsBlock, ReaderIsAble, ReaderTurns, reader_at};
+ghost use Rattle.ghes_ack.specs.Sides.{state_of};
 
-use crate::plain::ends::{PlainBlock, PlainIdle, ReaderEnd};
 use crate::plain::map::PlainMap;
 use apei_space::Ram;
-use ghes_ack::Event;
+use ghes_ack::{Event, MayRead, MustLook, ReaderEnd};
 use ghes_window::{Blocks, PIECE};
 
 /// One turn of the reader.
@@ -22,32 +22,29 @@ pub fn reader_turn(
     ensures { ReaderTurns end blocks.old ram.old result.1 result.0 blocks.new ram.new }
 {
     match end {
-        ReaderEnd::Looks(idle) => look_for_block(idle, blocks, ram),
+        ReaderEnd::Looks(look) => look_for_block(look, blocks, ram),
         ReaderEnd::Reads(read) => copy_or_clear(read, blocks, ram),
+        ReaderEnd::Acknowledges(_end) => unreachable!(),
     }
 }
 
 /// Looks for a block, none of which is copied yet.
-fn look_for_block(idle: PlainIdle, blocks: &mut Blocks<PlainMap>, ram: &Ram) -> (ReaderEnd, Event)
+fn look_for_block(look: MustLook, blocks: &mut Blocks<PlainMap>, ram: &Ram) -> (ReaderEnd, Event)
     requires { HasPlainWindows blocks.old.map ram.now }
     ensures { FindsBlock blocks.old ram.now result.1 result.0 blocks.new }
 {
-    match idle.poll(&blocks.map, ram) {
+    match look.poll(&blocks.map, ram) {
         Ok(read) => {
             blocks.copied = 0;
             (ReaderEnd::Reads(read), Event::Found)
         }
-        Err(idle) => (ReaderEnd::Looks(idle), Event::Nothing),
+        Err(look) => (ReaderEnd::Looks(look), Event::Nothing),
     }
 }
 
 /// Copies the next piece, or clears the block status once all are copied. The block at work holds the same bytes already, so its
 /// own buffer takes them.
-fn copy_or_clear(
-    read: PlainBlock,
-    blocks: &mut Blocks<PlainMap>,
-    ram: &mut Ram,
-) -> (ReaderEnd, Event)
+fn copy_or_clear(read: MayRead, blocks: &mut Blocks<PlainMap>, ram: &mut Ram) -> (ReaderEnd, Event)
     requires sound { IsSound Reading blocks.old }
     requires stands { Stands (state_of Reading blocks.old) ram.old }
     ensures sound { IsSound (reader_at result.0) blocks.new }
@@ -55,10 +52,10 @@ fn copy_or_clear(
         Turns OfReader result.1 (state_of Reading blocks.old) ram.old (state_of (reader_at result.0) blocks.new) ram.new m }
 {
     let Some(mut bytes) = blocks.at_work.take() else {
-        let idle = read.clear(&blocks.map, ram);
-        return (ReaderEnd::Looks(idle), Event::Clear);
+        let look = read.clear(&blocks.map, ram).done();
+        return (ReaderEnd::Looks(look), Event::Clear);
     };
-    copy_piece(&read, &blocks.map, ram, blocks.copied, &mut bytes);
+    read.copy_piece(&blocks.map, ram, blocks.copied, &mut bytes);
     blocks.copied += 1;
     if PIECE * (blocks.copied as usize) < bytes.len() {
         blocks.at_work = Some(bytes);
@@ -66,16 +63,4 @@ fn copy_or_clear(
     }
     blocks.take(bytes);
     (ReaderEnd::Reads(read), Event::Took)
-}
-
-/// Copies a piece of the window to its place.
-fn copy_piece(read: &PlainBlock, map: &PlainMap, ram: &Ram, piece: u32, bytes: &mut [u8])
-    requires windows { HasPlainWindows map.now ram.now }
-    requires begins { 64 * piece < length bytes.old }
-    requires fits { length bytes.old ≤ map.now.len }
-    ensures { bytes.new ≡ put_at bytes.old (64 * piece) (part (plain_window map.now ram.now) (64 * piece) (min 64 (length bytes.old - 64 * piece))) }
-{
-    let at = PIECE * piece as usize;
-    let end = bytes.len().min(at + PIECE);
-    read.copy(map, ram, at as u64, &mut bytes[at..end]);
 }

@@ -2,6 +2,7 @@ use Rattle.std.proofs.Common.{◌≡◌, ◌∙◌, ℕ, ◌+◌, length, drop, 
 use Rattle.std.specs.declared.alloc.Global.{Global}
 use Rattle.std.specs.Vec.{with_items}
 use Rattle.ghes_window.specs.Queues.{count_of, IsWideIfSome}
+use Rattle.ghes_window.proofs.RoomLemmas.{room_with}
 use Rattle.ghes_ack.proofs.SideLemmas.{clears_at, begins_at, copies_at, takes_at}
 use Rattle.ghes_ack.proofs.blocks.reader.copy_or_clear.Goals as goal
 
@@ -11,22 +12,9 @@ returns-in_default-clause-runs c =
 
 pub returns-then-at-count-clause-room : goal.returns-then-at-count-clause-room
 returns-then-at-count-clause-room c =
-    let room = c.requires.able.room in
     let some : c.args.blocks.now.at_work ≡ Some c.in-Some.bytes = sym c.in-Some.ensures.value in
-    let one : count_of c.args.blocks.now.at_work ≡ 1 = ap count_of some in
-    let places = room.places in
-    let wide : IsWideIfSome c.args.blocks.now.map.len (Some c.in-Some.bytes) = subst (IsWideIfSome c.args.blocks.now.map.len) some room.work_room in
-    record {
-      places = omega (arith, places, one);
-      few = room.few;
-      counted = room.counted;
-      queue = room.queue;
-      stack = room.stack;
-      waiting_room = room.waiting_room;
-      work_room = wide;
-      spare_room = room.spare_room;
-      last_room = room.last_room;
-    }
+    room_with c.args.blocks.now (Some (with_items c.in-Some.bytes c.copy_pieces.new.bytes)) (c.args.blocks.now.copied + c.min-count.result) (sym (ap count_of some))
+    (subst (IsWideIfSome c.args.blocks.now.map.len) some c.requires.able.room.work_room) c.requires.able.room
 
 pub returns-then-at-count-clause-runs : goal.returns-then-at-count-clause-runs
 returns-then-at-count-clause-runs c =

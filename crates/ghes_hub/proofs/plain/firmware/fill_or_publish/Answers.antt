@@ -8,8 +8,8 @@ returns-in_default-clause-turns c = λ m st. idles_at c.args.blocks.now c.next.n
 pub fill-requires-clause-fits : goal.fill-requires-clause-fits
 fill-requires-clause-fits c =
     let good = fits_in_hand c.args.blocks.now c.next.new.self c.in-Some.block c.args.ram.now c.in-Some.ensures c.requires.stands in
-    let fits : length c.deref.result.now ≤ c.args.blocks.now.map.len = subst (λ (x : List ℕ). length x ≤ c.args.blocks.now.map.len) (sym c.deref.ensures.value) good.1.fits in
-    let same : c.next.new.self.map.len ≡ c.args.blocks.now.map.len = ap (λ at. at.len) c.in-Some.ensures.same.map in
+    let fits : length c.deref.result.now ≤ c.args.blocks.now.map.window.len = subst (λ (x : List ℕ). length x ≤ c.args.blocks.now.map.window.len) (sym c.deref.ensures.value) good.1.fits in
+    let same : c.next.new.self.map.window.len ≡ c.args.blocks.now.map.window.len = ap (λ at. at.window.len) c.in-Some.ensures.same.map in
     omega (arith, fits, same)
 
 pub returns-then-blocks-len-clause-turns : goal.returns-then-blocks-len-clause-turns
@@ -19,8 +19,8 @@ returns-then-blocks-len-clause-turns c =
     let more = c.if-blocks-len.true in
     λ m st. fills_hand c.args.blocks.now c.next.new.self c.in-Some.block c.deref.result.now c.args.ram.now c.fill.new.ram c.in-Some.ensures c.deref.ensures.value (omega (arith, n, l, more)) c.fill.ensures m st
 
-pub publish-wait-requires-clause-head : goal.publish-wait-requires-clause-head
-publish-wait-requires-clause-head c =
+pub show-wait-requires-clause-head : goal.show-wait-requires-clause-head
+show-wait-requires-clause-head c =
     let good = fits_in_hand c.args.blocks.now c.next.new.self c.in-Some.block c.args.ram.now c.in-Some.ensures c.requires.stands in
     subst (λ (x : List ℕ). 20 ≤ length x) (sym c.deref-2.ensures.value) good.1.head
 
@@ -29,4 +29,4 @@ returns-clause-turns c =
     let n : length c.in-Some.block.items ≡ vec_len c.in-Some.block = ap length (sym c.deref-2.ensures.value) ∙ c.deref-2.ensures.len in
     let l = c.len.ensures in
     let none = c.if-blocks-len.false in
-    λ m st. publishes_hand c.args.blocks.now c.next.new.self c.in-Some.block c.deref-2.result.now c.args.ram.now c.publish-wait.new.ram c.in-Some.ensures c.deref-2.ensures.value (omega (arith, n, l, none)) c.publish-wait.ensures m st
+    λ m st. publishes_hand c.args.blocks.now c.next.new.self c.in-Some.block c.deref-2.result.now c.args.ram.now c.show-wait.new.ram c.in-Some.ensures c.deref-2.ensures.value (omega (arith, n, l, none)) c.show-wait.ensures m st

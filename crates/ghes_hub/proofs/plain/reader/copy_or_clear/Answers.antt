@@ -1,11 +1,12 @@
 use Rattle.std.proofs.Common.{◌≡◌, ◌∙◌, ℕ, ◌+◌, length, Vec, Option, Some, sym, ap, arith}
 use Rattle.std.specs.declared.alloc.Global.{Global}
 use Rattle.std.specs.Vec.{with_items}
-use Rattle.ghes_hub.proofs.PlainBlocks.{clears_at, begins_at, same_items, copies_at, takes_at}
+use Rattle.ghes_hub.proofs.PlainBlocks.{clears_at, same_items, copies_at, takes_at}
+use Rattle.ghes_ack.proofs.SideLemmas.{begins_at}
 use Rattle.ghes_hub.proofs.plain.reader.copy_or_clear.Goals as goal
 
 pub returns-in_default-clause-turns : goal.returns-in_default-clause-turns
-returns-in_default-clause-turns c = λ m st. clears_at c.args.blocks.now c.take.new.self c.args.ram.now c.clear-idle.new.ram (sym c.in_default.ensures.value) c.take.ensures.after c.requires.sound.under_way c.clear-idle.ensures m st
+returns-in_default-clause-turns c = λ m st. clears_at c.args.blocks.now c.take.new.self c.args.ram.now c.clear.new.ram (sym c.in_default.ensures.value) c.take.ensures.after c.requires.sound.under_way c.clear.ensures m st
 
 pub returns-then-blocks-len-clause-turns : goal.returns-then-blocks-len-clause-turns
 returns-then-blocks-len-clause-turns c =
