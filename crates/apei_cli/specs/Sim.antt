@@ -5,16 +5,14 @@ use Rattle.flash_model.specs.declared.cut.Cut.{Cut}
 use Rattle.flash_model.specs.declared.tear.Tear.{Tear}
 use Rattle.flash_model.specs.declared.tear.Tear.TheVariants.{Nothing, Whole, Zeros, Marks}
 use Rattle.apei_words.specs.declared.job.Job.{Job}
-use Rattle.apei_words.specs.declared.job.Job.TheVariants.{Play, Sim, Check, Gen, Hub}
+use Rattle.apei_words.specs.declared.job.Job.TheVariants.{Sim, Gen}
 use Rattle.apei_words.specs.declared.job.Plan.{Plan}
 
 -- a job plays on a simulated flash
 abbrev pub simulates : Job → Bool
-simulates Play = false
 simulates Sim = true
-simulates Check = false
 simulates Gen = true
-simulates Hub = false
+simulates _ = false
 
 -- a tear by its number; the words give none above 3
 abbrev pub tear_numbered : ℕ → Tear

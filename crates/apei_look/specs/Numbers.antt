@@ -1,16 +1,13 @@
 -- The exit numbers of a run.
 use Rattle.std.specs.Prelude.{ℕ}
 use Rattle.apei_look.specs.declared.status.Status.{Status}
-use Rattle.apei_look.specs.declared.status.Status.TheVariants.{Done, BadWords, SinkFault, Unreadable, Missing, NoFile, Held, BadGeometry, Length, Memory, NoRecord}
+use Rattle.apei_look.specs.declared.status.Status.TheVariants.{Done, BadWords, SinkFault, File, BadGeometry, Length, Memory, NoRecord}
 
 abbrev pub number_of : Status → ℕ
 number_of Done = 0
 number_of BadWords = 1
 number_of SinkFault = 4
-number_of Unreadable = 5
-number_of Missing = 5
-number_of NoFile = 5
-number_of Held = 5
+number_of (File fault) = 5
 number_of BadGeometry = 6
 number_of (Length found wanted) = 6
 number_of Memory = 8

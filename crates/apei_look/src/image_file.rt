@@ -7,9 +7,27 @@ use std::fs;
 use std::fs::{File, TryLockError};
 use std::io::ErrorKind;
 use std::os::unix::fs::FileExt;
+use thiserror::Error;
 
 // What the bytes are before they are read.
 const ERASED: u8 = 0xFF;
+
+/// Why a file is not read.
+#[derive(Clone, Copy, Debug, PartialEq, Eq, Error)]
+pub enum FileFault {
+    /// It can't be opened or read.
+    #[error("the image can't be read")]
+    Unreadable,
+    /// There is no such file.
+    #[error("there is no such image")]
+    Missing,
+    /// It is no regular file.
+    #[error("the image is no regular file")]
+    NoFile,
+    /// Another run holds it.
+    #[error("another run holds the image")]
+    Held,
+}
 
 /// The bytes of the regular file at `path`, which has to have `size` of them. A file that another run holds for its changes
 /// is refused; while it is read no run can hold it so.
@@ -19,7 +37,7 @@ pub fn read_file(rt: &HostRuntime, alloc: Global, path: &str, size: u64) -> Resu
     let file = open(rt, path)?;
     let found = match file.metadata() {
         Ok(metadata) => metadata.len(),
-        Err(_) => return Err(Status::Unreadable),
+        Err(_) => return Err(Status::File(FileFault::Unreadable)),
     };
     if found != size {
         return Err(Status::Length {
@@ -30,24 +48,24 @@ pub fn read_file(rt: &HostRuntime, alloc: Global, path: &str, size: u64) -> Resu
     let mut image = vec![in alloc; ERASED; size as usize]?;
     match file.read_exact_at(&mut image, 0) {
         Ok(()) => Ok(image),
-        Err(_) => Err(Status::Unreadable),
+        Err(_) => Err(Status::File(FileFault::Unreadable)),
     }
 }
 
 // Opens the file and locks it. A folder or a pipe is not opened, since the opening of a pipe waits.
-fn open(rt: &HostRuntime, path: &str) -> Result<File, Status> {
+fn open(rt: &HostRuntime, path: &str) -> Result<File, FileFault> {
     match fs::metadata(rt, path) {
         Ok(found) if found.is_file() => (),
-        Ok(_) => return Err(Status::NoFile),
-        Err(error) if error.kind() == ErrorKind::NotFound => return Err(Status::Missing),
-        Err(_) => return Err(Status::Unreadable),
+        Ok(_) => return Err(FileFault::NoFile),
+        Err(error) if error.kind() == ErrorKind::NotFound => return Err(FileFault::Missing),
+        Err(_) => return Err(FileFault::Unreadable),
     }
     let Ok(file) = File::open(rt, path) else {
-        return Err(Status::Unreadable);
+        return Err(FileFault::Unreadable);
     };
     match file.try_lock_shared() {
         Ok(()) => Ok(file),
-        Err(TryLockError::WouldBlock) => Err(Status::Held),
-        Err(_) => Err(Status::Unreadable),
+        Err(TryLockError::WouldBlock) => Err(FileFault::Held),
+        Err(_) => Err(FileFault::Unreadable),
     }
 }

@@ -2,6 +2,7 @@
 ghost use Rattle.std.specs.Prelude.{◌≡◌};
 ghost use Rattle.apei_look.specs.Numbers.{number_of};
 
+use crate::image_file::FileFault;
 use std::alloc::AllocError;
 use thiserror::Error;
 
@@ -17,18 +18,9 @@ pub enum Status {
     /// The output could not be written.
     #[error("apei-look: write failed")]
     SinkFault,
-    /// The file can't be opened or read.
-    #[error("apei-look: the image can't be read")]
-    Unreadable,
-    /// There is no such file.
-    #[error("apei-look: there is no such image")]
-    Missing,
-    /// It is no regular file.
-    #[error("apei-look: the image is no regular file")]
-    NoFile,
-    /// Another run holds the file.
-    #[error("apei-look: another run holds the image")]
-    Held,
+    /// The file is not read.
+    #[error("apei-look: {0}")]
+    File(#[from] FileFault),
     /// The geometry is outside its limits.
     #[error("apei-look: the geometry is outside its limits")]
     BadGeometry,
@@ -52,7 +44,7 @@ impl Status {
             Status::Done => 0,
             Status::BadWords => 1,
             Status::SinkFault => 4,
-            Status::Unreadable | Status::Missing | Status::NoFile | Status::Held => 5,
+            Status::File(_) => 5,
             Status::BadGeometry | Status::Length { .. } => 6,
             Status::Memory => 8,
             Status::NoRecord { .. } => 10,

@@ -1,20 +1,13 @@
--- The exit numbers of a run, and the status of each stop.
+-- The exit numbers of a run.
 use Rattle.std.specs.Prelude.{ℕ}
-use Rattle.check_names.specs.declared.lines.NamesStop.{NamesStop}
-use Rattle.check_names.specs.declared.lines.NamesStop.TheVariants as stop
+use Rattle.check_names.specs.declared.lines.NamesStop.TheVariants.{SourceFault, SinkFault, TooLong, Memory}
 use Rattle.apei_names.specs.declared.status.Status.{Status}
-use Rattle.apei_names.specs.declared.status.Status.TheVariants.{Done, BadWords, SourceFault, SinkFault, TooLong, Memory}
+use Rattle.apei_names.specs.declared.status.Status.TheVariants.{Done, BadWords, Stopped}
 
 abbrev pub number_of : Status → ℕ
 number_of Done = 0
 number_of BadWords = 1
-number_of SourceFault = 3
-number_of SinkFault = 4
-number_of TooLong = 7
-number_of Memory = 8
-
-abbrev pub status_of : NamesStop → Status
-status_of stop.SourceFault = SourceFault
-status_of stop.SinkFault = SinkFault
-status_of stop.TooLong = TooLong
-status_of stop.Memory = Memory
+number_of (Stopped SourceFault) = 3
+number_of (Stopped SinkFault) = 4
+number_of (Stopped TooLong) = 7
+number_of (Stopped Memory) = 8

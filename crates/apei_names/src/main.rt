@@ -6,7 +6,7 @@ mod status;
 
 use crate::status::Status;
 use apei_bytes::{StdSink, StdSource};
-use check_names::write_named;
+use check_names::{NamesStop, write_named};
 use std::env;
 use std::io::ErrorKind;
 use std::process::ExitCode;
@@ -26,7 +26,7 @@ fn run(rt: &HostRuntime) -> Status {
         Ok(words) if words.len() <= 1 => name_lines(rt),
         Ok(_) => Status::BadWords,
         Err(error) if error.kind() == ErrorKind::InvalidData => Status::BadWords,
-        Err(_) => Status::Memory,
+        Err(_) => Status::Stopped(NamesStop::Memory),
     }
 }
 
@@ -35,6 +35,6 @@ fn name_lines(rt: &HostRuntime) -> Status {
     let mut out = StdSink::new(rt.stdout());
     match write_named(rt.alloc(), &mut input, &mut out) {
         Ok(()) => Status::Done,
-        Err(stop) => Status::from(stop),
+        Err(stop) => Status::Stopped(stop),
     }
 }

@@ -14,18 +14,9 @@ pub enum Status {
     /// There are words behind the program's name.
     #[error("apei-names: bad words")]
     BadWords,
-    /// The input could not be read.
-    #[error("apei-names: read failed")]
-    SourceFault,
-    /// The output could not be written.
-    #[error("apei-names: write failed")]
-    SinkFault,
-    /// The input is too long.
-    #[error("apei-names: the input is longer than 1 GiB")]
-    TooLong,
-    /// There was no memory.
-    #[error("apei-names: out of memory")]
-    Memory,
+    /// Not all lines were written.
+    #[error("apei-names: {0}")]
+    Stopped(NamesStop),
 }
 
 impl Status {
@@ -36,25 +27,10 @@ impl Status {
         match self {
             Status::Done => 0,
             Status::BadWords => 1,
-            Status::SourceFault => 3,
-            Status::SinkFault => 4,
-            Status::TooLong => 7,
-            Status::Memory => 8,
-        }
-    }
-}
-
-impl From<NamesStop> for Status {
-    ghost use Rattle.apei_names.specs.Numbers.{status_of};
-
-    ghost from_gives = { λ stop status. status ≡ status_of stop };
-
-    fn from(stop: NamesStop) -> Self {
-        match stop {
-            NamesStop::SourceFault => Status::SourceFault,
-            NamesStop::SinkFault => Status::SinkFault,
-            NamesStop::TooLong => Status::TooLong,
-            NamesStop::Memory => Status::Memory,
+            Status::Stopped(NamesStop::SourceFault) => 3,
+            Status::Stopped(NamesStop::SinkFault) => 4,
+            Status::Stopped(NamesStop::TooLong) => 7,
+            Status::Stopped(NamesStop::Memory) => 8,
         }
     }
 }

@@ -8,6 +8,7 @@ use crate::cut::cut;
 use crate::line::add_named;
 use apei_bytes::{ReadFailed, Sink, SinkFault, Source, write_all};
 use std::alloc::{AllocError, Global};
+use thiserror::Error;
 
 /// The most bytes that an input has: more than a check of the longest script writes.
 pub const MAX_INPUT: usize = 1 << 30;
@@ -16,15 +17,19 @@ pub const MAX_INPUT: usize = 1 << 30;
 const PIECE: usize = 4096;
 
 /// Why not all lines were written.
-#[derive(Clone, Copy, Debug, PartialEq, Eq)]
+#[derive(Clone, Copy, Debug, PartialEq, Eq, Error)]
 pub enum NamesStop {
     /// A read failed.
+    #[error("read failed")]
     SourceFault,
     /// A write failed.
+    #[error("write failed")]
     SinkFault,
     /// The input is longer than `MAX_INPUT`.
+    #[error("the input is longer than 1 GiB")]
     TooLong,
     /// There was no memory.
+    #[error("out of memory")]
     Memory,
 }
 

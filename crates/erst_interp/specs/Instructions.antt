@@ -52,19 +52,11 @@ abbrev pub uses_register : Work → Bool
 uses_register (GoOn c) = false
 uses_register (GoTo to) = false
 uses_register (WaitFor micros) = false
-uses_register (TakeField taken) = true
-uses_register (StoreValue value) = true
-uses_register (ChangeField changed) = true
-uses_register CompareField = true
-uses_register MoveBytes = true
+uses_register work = true
 
 -- it reads its field before all else
 abbrev pub reads_first : Work → Bool
-reads_first (GoOn c) = false
-reads_first (GoTo to) = false
-reads_first (WaitFor micros) = false
 reads_first (TakeField taken) = true
-reads_first (StoreValue value) = false
 reads_first (ChangeField changed) = true
-reads_first CompareField = false
 reads_first MoveBytes = true
+reads_first work = false

@@ -47,11 +47,9 @@ waiting_in m = length m.blocks - m.published - (if m.filled == 0 then 0 else 1)
 
 -- the reader neither reads a block nor has still to acknowledge one
 abbrev pub is_idle : Situation → Bool
-is_idle Filling = true
-is_idle Published = true
 is_idle Reading = false
 is_idle Cleared = false
-is_idle Acknowledged = true
+is_idle _ = true
 
 -- one turn: the event, and the state afterwards
 abbrev pub Turned : Type 0

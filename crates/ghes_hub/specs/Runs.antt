@@ -1,7 +1,7 @@
 -- What a source does over a list of submissions and turns.
 use Rattle.std.specs.Prelude.{Bool, true, false, if◌then◌else◌, List, [], ◌∷◌, ◌++◌, ℕ}
 use Rattle.ghes_ack.specs.declared.events.Event.{Event}
-use Rattle.ghes_ack.specs.declared.events.Event.TheVariants.{Idle, Fill, Publish, Free, Wait, Nothing, Found, Copied, Took, Clear, Ack}
+use Rattle.ghes_ack.specs.declared.events.Event.TheVariants.{Took}
 use Rattle.ghes_ack.specs.Machine.{submitted, last_taken}
 use Rattle.ghes_ack.specs.Schedules.{Step, Submit, Turn, Watched, watched}
 use Rattle.ghes_hub.specs.Kinds.{Kind, turned_by}
@@ -23,16 +23,7 @@ events_by kind w (Turn side ∷ steps) = (turned_by kind side w.machine).0 ∷ e
 -- the reader took a block in a turn
 abbrev pub takes : Event → Bool
 takes Took = true
-takes Idle = false
-takes Fill = false
-takes Publish = false
-takes Free = false
-takes Wait = false
-takes Nothing = false
-takes Found = false
-takes Copied = false
-takes Clear = false
-takes Ack = false
+takes _ = false
 
 -- the block of which the listeners are told after a turn, if any: that which was taken, the last one
 abbrev pub told_at : Event → List ℕ → List (List ℕ)

@@ -5,24 +5,21 @@ use Rattle.hub_script.specs.Turns.{AreTurns}
 use Rattle.hub_script.specs.declared.hub_line.HubWord.{HubWord}
 use Rattle.hub_script.specs.declared.hub_line.HubWord.TheVariants.{Comment, Hest, Error, Turns, Heard, Drop}
 
--- a keyword, with the space behind it where something follows
+-- a keyword, with the space behind it where something follows, and what may follow
+abbrev pub form_of : HubWord → List ℕ × (List ℕ → Type 0)
+form_of Comment = (codes "#", λ text. Unit {0})
+form_of Hest = (codes "hest ", IsPairs)
+form_of Error = (codes "error ", IsNumberThen (2 ^ 64 - 1) IsPairs)
+form_of Turns = (codes "turns ", AreTurns)
+form_of Heard = (codes "heard ", IsNumber 0 (2 ^ 64 - 1))
+form_of Drop = (codes "drop ", AreTwoNumbers (2 ^ 64 - 1) 0 (2 ^ 64 - 1))
+
 abbrev pub codes_of : HubWord → List ℕ
-codes_of Comment = codes "#"
-codes_of Hest = codes "hest "
-codes_of Error = codes "error "
-codes_of Turns = codes "turns "
-codes_of Heard = codes "heard "
-codes_of Drop = codes "drop "
+codes_of word = (form_of word).0
+
+abbrev pub Follows : HubWord → List ℕ → Type 0
+Follows word = (form_of word).1
 
 -- all keywords
 abbrev pub all_words : List HubWord
 all_words = Comment ∷ Hest ∷ Error ∷ Turns ∷ Heard ∷ Drop ∷ []
-
--- what may follow a keyword
-abbrev pub Follows : HubWord → List ℕ → Type 0
-Follows Comment = λ text. Unit {0}
-Follows Hest = IsPairs
-Follows Error = IsNumberThen (2 ^ 64 - 1) IsPairs
-Follows Turns = AreTurns
-Follows Heard = IsNumber 0 (2 ^ 64 - 1)
-Follows Drop = AreTwoNumbers (2 ^ 64 - 1) 0 (2 ^ 64 - 1)

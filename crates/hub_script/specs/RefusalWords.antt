@@ -19,13 +19,8 @@ words_of_hub Memory = []
 
 -- want of memory has no words
 abbrev pub HubHasWords : HubError → Type 0
-HubHasWords NoSource = Unit {0}
-HubHasWords (Many found) = Unit {0}
-HubHasWords (BlockLen i len) = Unit {0}
-HubHasWords (Status i) = Unit {0}
-HubHasWords (Ack i) = Unit {0}
-HubHasWords (Clash i) = Unit {0}
 HubHasWords Memory = ⊥
+HubHasWords _ = Unit {0}
 
 abbrev pub words_of_refusal : HubRefusal → List ℕ
 words_of_refusal Open = codes "open"
@@ -36,9 +31,6 @@ words_of_refusal Nobody = codes "none"
 words_of_refusal (Submit why) = words_of_submit why
 
 abbrev pub HasWords : HubRefusal → Type 0
-HasWords Open = Unit {0}
 HasWords (Table why) = HestHasWords why
 HasWords (Hub why) = HubHasWords why
-HasWords NoHub = Unit {0}
-HasWords Nobody = Unit {0}
-HasWords (Submit why) = Unit {0}
+HasWords _ = Unit {0}

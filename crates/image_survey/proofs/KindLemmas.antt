@@ -1,7 +1,8 @@
 -- What the kind of a slot says.
-use Rattle.std.proofs.Common.{◌≡◌, ℕ, ◌-◌, ◌<◌, Bool, true, false, not, List, Some, None, refl, sym, ap, ◌∙◌, inl, inr}
+use Rattle.std.proofs.Common.{◌≡◌, ℕ, ◌-◌, ◌<◌, Bool, true, false, not, List, length, Some, None, refl, sym, ap, ◌∙◌, inl, inr}
 use Rattle.std.specs.Prelude.{◌==◌, ◌&&◌, if◌then◌else◌}
 use Rattle.std.specs.FinMap.{get}
+use Rattle.flash_model.specs.declared.geometry.Geometry.{Geometry}
 use Rattle.record_model.specs.Records.{Head, Entry, slot_at, is_upright, is_up, entry_of, entry_at, is_first, is_taken, stored_in, record_of, gate_open, gate_closed, gate_further, not_killed, tail_mark}
 use Rattle.record_model.proofs.ChosenLemmas.{chosen_or_none, get-no_slot}
 use Rattle.record_model.proofs.FirstLemmas.{chosen-is_first, is_first-chosen}
@@ -15,33 +16,30 @@ use Rattle.record_recovery.specs.Looks.{IsSeen}
 use Rattle.image_survey.specs.Kinds.{kind_by, is_erased, kind_at}
 use Rattle.image_survey.specs.Counts.{is_record, is_second_copy}
 use Rattle.image_survey.specs.Shown.{IsFirstOf}
-use Rattle.record_recovery.proofs.LookLemmas.{seen_up}
+use Rattle.record_recovery.proofs.LookLemmas.{NamesParts, seen_up, names_parts}
+
+-- a test that fails of each kind which marks tell
+choice_fails : (test : SlotKind → Bool) → test Unknown ≡ false → test Killed ≡ false → test Orphan ≡ false → test Filling ≡ false → (a b c d e : Bool)
+    → test (if a then (if b then Unknown else Killed) else (if c then (if d then Orphan else Filling) else (if e then Filling else Unknown))) ≡ false
+choice_fails test unknown killed orphan filling true true c d e = unknown
+choice_fails test unknown killed orphan filling true false c d e = killed
+choice_fails test unknown killed orphan filling false b true true e = orphan
+choice_fails test unknown killed orphan filling false b true false e = filling
+choice_fails test unknown killed orphan filling false b false d true = filling
+choice_fails test unknown killed orphan filling false b false d false = unknown
 
 -- marks tell of no record and of no second copy
-choice_record : (a b c d e : Bool)
-    → is_record (if a then (if b then Unknown else Killed) else (if c then (if d then Orphan else Filling) else (if e then Filling else Unknown))) ≡ false
-choice_record true true c d e = refl
-choice_record true false c d e = refl
-choice_record false b true true e = refl
-choice_record false b true false e = refl
-choice_record false b false d true = refl
-choice_record false b false d false = refl
-
-choice_copy : (a b c d e : Bool)
-    → is_second_copy (if a then (if b then Unknown else Killed) else (if c then (if d then Orphan else Filling) else (if e then Filling else Unknown))) ≡ false
-choice_copy true true c d e = refl
-choice_copy true false c d e = refl
-choice_copy false b true true e = refl
-choice_copy false b true false e = refl
-choice_copy false b false d true = refl
-choice_copy false b false d false = refl
+marks_fail : (test : SlotKind → Bool) → test Unknown ≡ false → test Killed ≡ false → test Orphan ≡ false → test Filling ≡ false
+    → (head : Head) (tail : ℕ) → test (kind_by false false false false head tail) ≡ false
+marks_fail test unknown killed orphan filling head tail =
+    choice_fails test unknown killed orphan filling (head.gate == gate_open) (head.kill == not_killed) (head.gate == gate_further && head.format == 3) (tail == tail_mark) (head.gate == gate_closed)
 
 pub by-record : (first up taken erased : Bool) (head : Head) (tail : ℕ) → is_record (kind_by first up taken erased head tail) ≡ first
 by-record true up taken erased head tail = refl
 by-record false true taken erased head tail = refl
 by-record false false true erased head tail = refl
 by-record false false false true head tail = refl
-by-record false false false false head tail = choice_record (head.gate == gate_open) (head.kill == not_killed) (head.gate == gate_further && head.format == 3) (tail == tail_mark) (head.gate == gate_closed)
+by-record false false false false head tail = marks_fail is_record refl refl refl refl head tail
 
 pub by-copy : (first up taken erased : Bool) (head : Head) (tail : ℕ) → is_second_copy (kind_by first up taken erased head tail) ≡ (up && not first)
 by-copy true true taken erased head tail = refl
@@ -49,7 +47,7 @@ by-copy true false taken erased head tail = refl
 by-copy false true taken erased head tail = refl
 by-copy false false true erased head tail = refl
 by-copy false false false true head tail = refl
-by-copy false false false false head tail = choice_copy (head.gate == gate_open) (head.kill == not_killed) (head.gate == gate_further && head.format == 3) (tail == tail_mark) (head.gate == gate_closed)
+by-copy false false false false head tail = marks_fail is_second_copy refl refl refl refl head tail
 
 pub record_kind : (size slots k : ℕ) (image : List ℕ) → is_record (kind_at size slots image k) ≡ is_first (entry_at size slots image) slots k
 unfolding kind_at
@@ -108,3 +106,10 @@ first_up size slots k image head is within first =
     let chosen = is_first-chosen (entry_at size slots image) slots k within (first_of_kind size slots k image first) in
     let up = up_entry (size - 64) slots (slot_at size image) k chosen.0 (chosen.1).here in
     ((slot_at size image k).tail, ap (λ (h : Head). is_upright (size - 64) slots h (slot_at size image k).tail) is ∙ up.1)
+
+-- what the head of a first slot names
+pub first_names : (geometry : Geometry) (k : ℕ) (image : List ℕ) (head : Head) → head ≡ (slot_at geometry.slot_size image k).head → k < geometry.slots
+    → kind_at geometry.slot_size geometry.slots image k ≡ First → length head.next ≡ 3 → NamesParts geometry head
+first_names geometry k image head is within first three =
+    let up = first_up geometry.slot_size geometry.slots k image head is within first in
+    names_parts geometry head up.0 up.1 three

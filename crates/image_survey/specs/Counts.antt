@@ -4,51 +4,28 @@ use Rattle.std.specs.FinMap.{len}
 use Rattle.record_model.specs.Records.{slot_at, stored_in, second_copies, count_below}
 use Rattle.image_survey.specs.Kinds.{kind_at}
 use Rattle.image_survey.specs.declared.kinds.SlotKind.{SlotKind}
-use Rattle.image_survey.specs.declared.kinds.SlotKind.TheVariants.{First, Further, SecondCopy, Orphan, Filling, Killed, Erased, Unknown}
+use Rattle.image_survey.specs.declared.kinds.SlotKind.TheVariants.{First, Further, SecondCopy}
 use Rattle.image_survey.specs.declared.totals.Totals.{Totals}
 
 -- no record stands in a slot that a boot finds
 abbrev pub is_free : SlotKind → Bool
 is_free First = false
 is_free Further = false
-is_free SecondCopy = true
-is_free Orphan = true
-is_free Filling = true
-is_free Killed = true
-is_free Erased = true
-is_free Unknown = true
+is_free _ = true
 
 -- the first slot of a record that a boot finds, and a second copy
 abbrev pub is_record : SlotKind → Bool
 is_record First = true
-is_record Further = false
-is_record SecondCopy = false
-is_record Orphan = false
-is_record Filling = false
-is_record Killed = false
-is_record Erased = false
-is_record Unknown = false
+is_record _ = false
 
 abbrev pub is_second_copy : SlotKind → Bool
-is_second_copy First = false
-is_second_copy Further = false
 is_second_copy SecondCopy = true
-is_second_copy Orphan = false
-is_second_copy Filling = false
-is_second_copy Killed = false
-is_second_copy Erased = false
-is_second_copy Unknown = false
+is_second_copy _ = false
 
 -- the bytes of the record whose first slot this is
 abbrev pub bytes_of : SlotKind → ℕ → ℕ
 bytes_of First len = len
-bytes_of Further len = 0
-bytes_of SecondCopy len = 0
-bytes_of Orphan len = 0
-bytes_of Filling len = 0
-bytes_of Killed len = 0
-bytes_of Erased len = 0
-bytes_of Unknown len = 0
+bytes_of _ _ = 0
 
 -- those of the first n slots
 abbrev pub bytes_among : ℕ → ℕ → List ℕ → ℕ → ℕ

@@ -3,23 +3,19 @@ use Rattle.std.specs.Prelude.{ℕ, List, codes}
 use Rattle.image_survey.specs.declared.kinds.SlotKind.{SlotKind}
 use Rattle.image_survey.specs.declared.kinds.SlotKind.TheVariants.{First, Further, SecondCopy, Orphan, Filling, Killed, Erased, Unknown}
 
--- as ASCII numbers them: R + 2 o w k . ?
+-- the letter as ASCII numbers it, R + 2 o w k . ?, and the word
+abbrev pub legend_of : SlotKind → ℕ × List ℕ
+legend_of First = (82, codes "first")
+legend_of Further = (43, codes "further")
+legend_of SecondCopy = (50, codes "second-copy")
+legend_of Orphan = (111, codes "orphan")
+legend_of Filling = (119, codes "filling")
+legend_of Killed = (107, codes "killed")
+legend_of Erased = (46, codes "erased")
+legend_of Unknown = (63, codes "unknown")
+
 abbrev pub letter_of : SlotKind → ℕ
-letter_of First = 82
-letter_of Further = 43
-letter_of SecondCopy = 50
-letter_of Orphan = 111
-letter_of Filling = 119
-letter_of Killed = 107
-letter_of Erased = 46
-letter_of Unknown = 63
+letter_of kind = (legend_of kind).0
 
 abbrev pub word_of : SlotKind → List ℕ
-word_of First = codes "first"
-word_of Further = codes "further"
-word_of SecondCopy = codes "second-copy"
-word_of Orphan = codes "orphan"
-word_of Filling = codes "filling"
-word_of Killed = codes "killed"
-word_of Erased = codes "erased"
-word_of Unknown = codes "unknown"
+word_of kind = (legend_of kind).1

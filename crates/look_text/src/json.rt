@@ -4,10 +4,10 @@ ghost use Rattle.std.specs.Prelude.{◌<◌, length};
 use crate::guid::add_guid;
 use crate::image::{Image, further_slots};
 use crate::kind::word;
+use crate::records::add_slot_numbers;
 use crate::time::{add_time, has_time, is_precise};
 use cper_frame::{Record, RecordHead, notification_name, section_name, severity_name};
-use flash_model::Geometry;
-use image_survey::{SlotKind, SlotView, count_slots};
+use image_survey::{SlotKind, SlotView, Totals, count_slots};
 use record_slots::Head;
 use std::alloc::{AllocError, Global};
 
@@ -23,11 +23,12 @@ pub fn json_of(alloc: Global, image: &Image<'_>) -> Result<String, AllocError> {
 }
 
 fn add_totals(out: &mut String, image: &Image<'_>) -> Result<(), AllocError> {
-    let all = count_slots(image.views, image.geometry);
-    let free = all.free;
-    let records = all.records;
-    let second_copies = all.second_copies;
-    let bytes = all.bytes;
+    let Totals {
+        free,
+        records,
+        second_copies,
+        bytes,
+    } = count_slots(image.views, image.geometry);
     write!(
         out,
         "{{\"free\":{free},\"records\":{records},\"second_copies\":{second_copies},\"bytes\":{bytes}"
@@ -55,9 +56,12 @@ fn add_slot(out: &mut String, view: &SlotView) -> Result<(), AllocError> {
 }
 
 fn add_marks(out: &mut String, head: &Head, tail: u8) -> Result<(), AllocError> {
-    let gate = head.gate;
-    let kill = head.kill;
-    let format = head.format;
+    let Head {
+        gate,
+        kill,
+        format,
+        ..
+    } = *head;
     write!(
         out,
         ",\"gate\":{gate},\"kill\":{kill},\"tail\":{tail},\"format\":{format}"
@@ -65,13 +69,23 @@ fn add_marks(out: &mut String, head: &Head, tail: u8) -> Result<(), AllocError> 
 }
 
 fn add_numbers(out: &mut String, head: &Head) -> Result<(), AllocError> {
-    let id = head.id;
-    let generation = head.generation;
-    let len = head.len;
+    out.push(',')?;
+    add_identity(out, head)?;
     let [one, two, three] = head.next;
+    write!(out, ",\"next\":[{one},{two},{three}]")
+}
+
+// The record that a head names.
+fn add_identity(out: &mut String, head: &Head) -> Result<(), AllocError> {
+    let Head {
+        id,
+        generation,
+        len,
+        ..
+    } = *head;
     write!(
         out,
-        ",\"id\":\"{id}\",\"generation\":{generation},\"bytes\":{len},\"next\":[{one},{two},{three}]"
+        "\"id\":\"{id}\",\"generation\":{generation},\"bytes\":{len}"
     )
 }
 
@@ -82,7 +96,8 @@ fn add_records(alloc: Global, out: &mut String, image: &Image<'_>) -> Result<(),
         if let Some((head, bytes)) = image.record_at(alloc, slot)? {
             add_comma(out, is_first)?;
             is_first = false;
-            add_stored(out, image.geometry, slot, &head)?;
+            let further = further_slots(image.geometry, &head);
+            add_stored(out, slot, &head, further)?;
             add_frame(out, &bytes)?;
         }
     }
@@ -95,23 +110,11 @@ fn add_comma(out: &mut String, is_first: bool) -> Result<(), AllocError> {
 }
 
 // What the store says of a record.
-fn add_stored(
-    out: &mut String,
-    geometry: &Geometry,
-    slot: u32,
-    head: &Head,
-) -> Result<(), AllocError> {
-    let id = head.id;
-    let generation = head.generation;
-    let len = head.len;
-    write!(
-        out,
-        "{{\"id\":\"{id}\",\"generation\":{generation},\"bytes\":{len},\"slots\":[{slot}"
-    )?;
-    for next in further_slots(geometry, head) {
-        let next = *next;
-        write!(out, ",{next}")?;
-    }
+fn add_stored(out: &mut String, slot: u32, head: &Head, further: &[u16]) -> Result<(), AllocError> {
+    out.push('{')?;
+    add_identity(out, head)?;
+    write!(out, ",\"slots\":[{slot}")?;
+    add_slot_numbers(out, ',', further)?;
     out.push(']')
 }
 

@@ -5,7 +5,6 @@ use crate::guid::add_guid;
 use crate::image::{Image, further_slots};
 use crate::time::{add_time, has_time, is_precise};
 use cper_frame::{Record, RecordHead, notification_name, section_name, severity_name};
-use flash_model::Geometry;
 use record_slots::Head;
 use std::alloc::{AllocError, Global};
 
@@ -14,36 +13,33 @@ use std::alloc::{AllocError, Global};
 pub fn add_records(alloc: Global, out: &mut String, image: &Image<'_>) -> Result<(), AllocError> {
     for slot in 0..image.geometry.slots as u32 {
         if let Some((head, bytes)) = image.record_at(alloc, slot)? {
-            add_stored(out, image.geometry, slot, &head)?;
+            out.push_str("\nrecord ")?;
+            add_identity(out, &head)?;
+            write!(out, " slots {slot}")?;
+            add_slot_numbers(out, ' ', further_slots(image.geometry, &head))?;
+            out.push('\n')?;
             add_frame(out, &bytes)?;
         }
     }
     Ok(())
 }
 
-// What the store says of a record.
-fn add_stored(
-    out: &mut String,
-    geometry: &Geometry,
-    slot: u32,
-    head: &Head,
-) -> Result<(), AllocError> {
-    let id = head.id;
-    let generation = head.generation;
-    let len = head.len;
-    write!(
-        out,
-        "\nrecord {id} generation {generation} bytes {len} slots {slot}"
-    )?;
-    add_slot_numbers(out, further_slots(geometry, head))?;
-    out.push('\n')
+/// The record that a head names.
+pub fn add_identity(out: &mut String, head: &Head) -> Result<(), AllocError> {
+    let Head {
+        id,
+        generation,
+        len,
+        ..
+    } = *head;
+    write!(out, "{id} generation {generation} bytes {len}")
 }
 
-/// Numbers of slots, each behind a space.
-pub fn add_slot_numbers(out: &mut String, slots: &[u16]) -> Result<(), AllocError> {
+/// Numbers of slots, each behind a mark.
+pub fn add_slot_numbers(out: &mut String, mark: char, slots: &[u16]) -> Result<(), AllocError> {
     for slot in slots {
         let slot = *slot;
-        write!(out, " {slot}")?;
+        write!(out, "{mark}{slot}")?;
     }
     Ok(())
 }

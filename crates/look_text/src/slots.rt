@@ -1,7 +1,7 @@
 // A line for each slot.
 use crate::image::further_slots;
 use crate::kind::word;
-use crate::records::add_slot_numbers;
+use crate::records::{add_identity, add_slot_numbers};
 use flash_model::Geometry;
 use image_survey::{SlotKind, SlotView};
 use record_slots::{GATE_FURTHER, Head};
@@ -48,28 +48,21 @@ fn add_slot(
 
 // The head of a first slot.
 fn add_first(out: &mut String, geometry: &Geometry, head: &Head) -> Result<(), AllocError> {
-    let id = head.id;
-    let generation = head.generation;
-    let len = head.len;
-    write!(out, " id {id} generation {generation} bytes {len}")?;
+    out.push_str(" id ")?;
+    add_identity(out, head)?;
     let further = further_slots(geometry, head);
     if !further.is_empty() {
         out.push_str(" further")?;
     }
-    add_slot_numbers(out, further)
+    add_slot_numbers(out, ' ', further)
 }
 
 // The head of a further slot.
 fn add_part(out: &mut String, head: &Head) -> Result<(), AllocError> {
-    let id = head.id;
-    let generation = head.generation;
-    let len = head.len;
-    let part = head.next[0];
-    let first = head.next[1];
-    write!(
-        out,
-        " id {id} generation {generation} bytes {len} part {part} of slot {first}"
-    )
+    out.push_str(" id ")?;
+    add_identity(out, head)?;
+    let [part, first, _] = head.next;
+    write!(out, " part {part} of slot {first}")
 }
 
 // The head of a slot that is being filled or erased, as far as it has one.
@@ -85,9 +78,12 @@ fn add_filling(out: &mut String, geometry: &Geometry, head: &Head) -> Result<(),
 
 // The marks of a slot that is of no known form.
 fn add_marks(out: &mut String, head: &Head, tail: u8) -> Result<(), AllocError> {
-    let gate = head.gate;
-    let kill = head.kill;
-    let format = head.format;
+    let Head {
+        gate,
+        kill,
+        format,
+        ..
+    } = *head;
     write!(
         out,
         " gate {gate:#04x} kill {kill:#04x} format {format} tail {tail:#04x}"

@@ -3,7 +3,7 @@ use crate::image::Image;
 use crate::picture::{add_legend, add_picture};
 use crate::records::add_records;
 use crate::slots::add_slots;
-use image_survey::count_slots;
+use image_survey::{Totals, count_slots};
 use std::alloc::{AllocError, Global};
 
 /// The text of an image: a line for the whole, a picture of the slots with its legend, a line for each slot that is not
@@ -21,11 +21,12 @@ pub fn text_of(alloc: Global, image: &Image<'_>) -> Result<String, AllocError> {
 // The line for the whole.
 fn add_totals(out: &mut String, image: &Image<'_>) -> Result<(), AllocError> {
     let slots = image.geometry.slots();
-    let all = count_slots(image.views, image.geometry);
-    let free = all.free;
-    let records = all.records;
-    let second_copies = all.second_copies;
-    let bytes = all.bytes;
+    let Totals {
+        free,
+        records,
+        second_copies,
+        bytes,
+    } = count_slots(image.views, image.geometry);
     writeln!(
         out,
         "slots {slots} free {free} records {records} second copies {second_copies} bytes {bytes}"

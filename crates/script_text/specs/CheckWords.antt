@@ -4,24 +4,21 @@ use Rattle.line_grammar.specs.Parts.{IsPairs}
 use Rattle.script_text.specs.declared.check_line.CheckWord.{CheckWord}
 use Rattle.script_text.specs.declared.check_line.CheckWord.TheVariants.{Comment, Erst, Hest, Bert, Record, Block}
 
--- a keyword, with the space behind it where something follows
+-- a keyword, with the space behind it where something follows, and what may follow
+abbrev pub check_form_of : CheckWord → List ℕ × (List ℕ → Type 0)
+check_form_of Comment = (codes "#", λ text. Unit {0})
+check_form_of Erst = (codes "erst ", IsPairs)
+check_form_of Hest = (codes "hest ", IsPairs)
+check_form_of Bert = (codes "bert ", IsPairs)
+check_form_of Record = (codes "record ", IsPairs)
+check_form_of Block = (codes "block ", IsPairs)
+
 abbrev pub check_codes_of : CheckWord → List ℕ
-check_codes_of Comment = codes "#"
-check_codes_of Erst = codes "erst "
-check_codes_of Hest = codes "hest "
-check_codes_of Bert = codes "bert "
-check_codes_of Record = codes "record "
-check_codes_of Block = codes "block "
+check_codes_of word = (check_form_of word).0
+
+abbrev pub CheckFollows : CheckWord → List ℕ → Type 0
+CheckFollows word = (check_form_of word).1
 
 -- all keywords
 abbrev pub all_check_words : List CheckWord
 all_check_words = Comment ∷ Erst ∷ Hest ∷ Bert ∷ Record ∷ Block ∷ []
-
--- what may follow a keyword
-abbrev pub CheckFollows : CheckWord → List ℕ → Type 0
-CheckFollows Comment = λ text. Unit {0}
-CheckFollows Erst = IsPairs
-CheckFollows Hest = IsPairs
-CheckFollows Bert = IsPairs
-CheckFollows Record = IsPairs
-CheckFollows Block = IsPairs

@@ -22,10 +22,8 @@ words_of_erst Memory = []
 
 -- want of memory has no words
 abbrev pub ErstHasWords : ErstError → Type 0
-ErstHasWords (Table why) = Unit {0}
-ErstHasWords (HeaderSize found) = Unit {0}
-ErstHasWords (Count found length) = Unit {0}
 ErstHasWords Memory = ⊥
+ErstHasWords _ = Unit {0}
 
 abbrev pub words_of_hest : HestError → List ℕ
 words_of_hest (hest_table why) = words_of_table why
@@ -36,8 +34,5 @@ words_of_hest hest_memory = []
 
 -- want of memory has no words
 abbrev pub HestHasWords : HestError → Type 0
-HestHasWords (hest_table why) = Unit {0}
-HestHasWords (UnknownType at code) = Unit {0}
-HestHasWords (Cut at) = Unit {0}
-HestHasWords (hest_count declared found) = Unit {0}
 HestHasWords hest_memory = ⊥
+HestHasWords _ = Unit {0}

@@ -2,16 +2,12 @@
 #![tactic(auto)]
 
 mod check_line;
-mod client_refusals;
 mod digits;
-mod frame_refusals;
 mod laws;
 mod refusal;
+mod refusals;
 mod reply;
-mod run_refusals;
 mod script_line;
-mod submit_refusals;
-mod table_refusals;
 mod turns;
 
 pub use check_line::CheckLine;

@@ -8,7 +8,7 @@ use line_text::LineText;
 /// A refusal, which has words in a reply. Want of memory is no refusal, and has none.
 pub trait Refusal {
     // Whether it has words.
-    ghost has_words: { Self → Type 0 };
+    ghost has_words: { Self → Type 0 } = { λ _. Unit {0} };
 
     // Its words.
     ghost words: { Self → List ℕ };

@@ -2,8 +2,7 @@ use Rattle.std.proofs.Common.{◌≡◌, ◌-◌, ◌<◌, ◌≤◌, ◌++◌, 
 use Rattle.record_model.specs.Records.{part_len, parts_of, slot_at}
 use Rattle.record_slots.specs.Slots.{numbers_of}
 use Rattle.image_survey.specs.Reading.{slot_of_part}
-use Rattle.image_survey.proofs.KindLemmas.{first_up}
-use Rattle.record_recovery.proofs.LookLemmas.{names_parts}
+use Rattle.image_survey.proofs.KindLemmas.{first_up, first_names}
 use Rattle.image_survey.proofs.ReadLemmas.{joined_more, joined_all, stored_first}
 use Rattle.image_survey.proofs.reading.record_bytes.Goals as goal
 
@@ -17,9 +16,7 @@ loop-number-preserved c =
     let room = geometry.slot_size - 64 in
     let head = numbers_of c.args.head.now in
     let three : length c.args.head.now.next ≡ 3 = omega arith in
-    let up = first_up geometry.slot_size geometry.slots c.args.slot c.args.image.now head c.requires.head c.requires.slot c.requires.first in
-    let names = names_parts geometry head up.0 up.1 three in
-    let few : parts_of room c.args.head.now.len ≤ 4 = names.few in
+    let few = (first_names geometry c.args.slot c.args.image.now head c.requires.head c.requires.slot c.requires.first three).few in
     let low : c.loop-number.number < parts_of room c.args.head.now.len = omega (arith, c.parts_of-number-end.ensures) in
     c.in_ok-add_part.ensures
     ∙ ap (λ (xs : List ℕ). xs ++ take (part_len room c.args.head.now.len c.loop-number.number) (slot_at geometry.slot_size c.args.image.now (slot_of_part c.args.slot head c.loop-number.number)).body) c.loop-number.invariant
@@ -31,8 +28,7 @@ returns c =
     let room = geometry.slot_size - 64 in
     let head = numbers_of c.args.head.now in
     let three : length c.args.head.now.next ≡ 3 = omega arith in
-    let up = first_up geometry.slot_size geometry.slots c.args.slot c.args.image.now head c.requires.head c.requires.slot c.requires.first in
-    let names = names_parts geometry head up.0 up.1 three in
+    let some = (first_names geometry c.args.slot c.args.image.now head c.requires.head c.requires.slot c.requires.first three).some in
     let all : c.loop-number.number ≡ parts_of room c.args.head.now.len = omega (arith, c.parts_of-number-end.ensures) in
     stored_first geometry.slot_size geometry.slots c.args.slot c.args.image.now c.loop-number.bytes.items head c.requires.head c.requires.slot c.requires.first
-    (c.loop-number.invariant ∙ joined_all room c.args.slot head (slot_at geometry.slot_size c.args.image.now) c.loop-number.number three all names.some)
+    (c.loop-number.invariant ∙ joined_all room c.args.slot head (slot_at geometry.slot_size c.args.image.now) c.loop-number.number three all some)
