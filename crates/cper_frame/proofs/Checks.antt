@@ -1,5 +1,5 @@
 -- What it means that a record's checks pass, and that they see the record's own bytes alone.
-use Rattle.std.proofs.Common.{◌≡◌, ℕ, ◌-◌, ◌≤◌, ◌^◌, List, length, Option, Some, None, Ok, Err, refl, ap, ◌∙◌}
+use Rattle.std.proofs.Common.{◌≡◌, ℕ, ◌-◌, ◌≤◌, ◌^◌, List, length, Option, Some, None, Ok, Err, cond, refl, ap, ◌∙◌}
 use Rattle.std.proofs.lemmas.Bool.{eqb-true, ltb-false, eq-eqb, le-ltb, cond-true, cond-false}
 use Rattle.std.specs.Prelude.{◌==◌, nat_lt}
 use Rattle.base_model.specs.Bytes.{number_at}
@@ -57,13 +57,19 @@ passed limit bytes len h =
     let j = is_judged limit (length bytes) (number_at bytes 0 4) (number_at bytes 6 4) (section_count bytes) (record_length bytes) (misplaced bytes) len a.1 in
     (record { header = ltb-false (length bytes) 128 a.0; start = j.start; end = j.end; heads = j.heads; within = j.within; there = j.there; sections = j.sections }, j.len)
 
-judges : (limit have start end sections n : ℕ) (bad : Option ℕ) → Judged limit have start end sections n bad n → head_verdict limit have start end sections n bad ≡ Ok n
+-- what the header says is in order, and the bytes and the sections decide
+pub header_decides : (limit have start end sections len : ℕ) (bad : Option ℕ) → start ≡ signature → end ≡ 2 ^ 32 - 1 → bodies_from sections ≤ len → len ≤ limit
+    → head_verdict limit have start end sections len bad ≡ cond (nat_lt have len) (Err (Need (len - have))) (length_if_placed len bad)
 unfolding head_verdict
+header_decides limit have start end sections len bad starts ends heads within =
+    cond-true (start == signature) _ (Err Start) (eq-eqb start signature starts)
+    ∙ cond-true (end == 2 ^ 32 - 1) _ (Err End) (eq-eqb end (2 ^ 32 - 1) ends)
+    ∙ cond-false (nat_lt len (bodies_from sections)) (Err (Length len)) _ (le-ltb len (bodies_from sections) heads)
+    ∙ cond-false (nat_lt limit len) (Err (Limit len)) _ (le-ltb limit len within)
+
+judges : (limit have start end sections n : ℕ) (bad : Option ℕ) → Judged limit have start end sections n bad n → head_verdict limit have start end sections n bad ≡ Ok n
 judges limit have start end sections n bad j =
-    cond-true (start == signature) _ (Err Start) (eq-eqb start signature j.start)
-    ∙ cond-true (end == 2 ^ 32 - 1) _ (Err End) (eq-eqb end (2 ^ 32 - 1) j.end)
-    ∙ cond-false (nat_lt n (bodies_from sections)) (Err (Length n)) _ (le-ltb n (bodies_from sections) j.heads)
-    ∙ cond-false (nat_lt limit n) (Err (Limit n)) _ (le-ltb limit n j.within)
+    header_decides limit have start end sections n bad j.start j.end j.heads j.within
     ∙ cond-false (nat_lt have n) (Err (Need (n - have))) _ (le-ltb have n j.there)
     ∙ ap (length_if_placed n) j.sections
 

@@ -1,14 +1,14 @@
 -- How the checks of a record's beginning change as bytes are added to it.
 use Rattle.std.proofs.Common.{◌≡◌, ℕ, ◌+◌, ◌-◌, ◌<◌, ◌≤◌, ◌^◌, inl, inr, Bool, true, false, cond, List, [], ◌++◌, length, Option, Some, None, Result, Ok, Err, refl, sym, ap, ◌∙◌, arith, length-append}
 use Rattle.std.specs.Prelude.{◌==◌, nat_lt}
-use Rattle.std.proofs.lemmas.Bool.{eqb-true, ltb-true, ltb-false, eq-eqb, lt-ltb, le-ltb, cond-true, cond-false, cases_Bool}
+use Rattle.std.proofs.lemmas.Bool.{eqb-true, ltb-true, ltb-false, lt-ltb, le-ltb, cond-true, cond-false, cases_Bool}
 use Rattle.base_model.specs.Bytes.{number_at}
 use Rattle.cper_frame.specs.declared.error.FrameError.{FrameError}
 use Rattle.cper_frame.specs.declared.error.FrameError.TheVariants.{Need, Start, End, Length, Limit}
 use Rattle.cper_frame.specs.Grammar.{bodies_from}
 use Rattle.cper_frame.specs.Reading.{signature, section_count, record_length, misplaced, length_if_placed, head_verdict, checked}
 use Rattle.cper_frame.specs.Stream.{is_need}
-use Rattle.cper_frame.proofs.Checks.{passed}
+use Rattle.cper_frame.proofs.Checks.{passed, header_decides}
 use Rattle.apei_fields.proofs.Parts.{number_at-front}
 use Rattle.cper_frame.proofs.Sound.{misplaced-front}
 
@@ -132,21 +132,13 @@ is_partial limit have s e n len bad w h =
     )
 
 partial_needs : (limit have s e n len : ℕ) (bad : Option ℕ) → Partial limit have s e n len → head_verdict limit have s e n len bad ≡ Err (Need (len - have))
-unfolding head_verdict
 partial_needs limit have s e n len bad p =
-    cond-true (s == signature) _ (Err Start) (eq-eqb s signature p.start)
-    ∙ cond-true (e == 2 ^ 32 - 1) _ (Err End) (eq-eqb e (2 ^ 32 - 1) p.end)
-    ∙ cond-false (nat_lt len (bodies_from n)) (Err (Length len)) _ (le-ltb len (bodies_from n) p.heads)
-    ∙ cond-false (nat_lt limit len) (Err (Limit len)) _ (le-ltb limit len p.within)
+    header_decides limit have s e n len bad p.start p.end p.heads p.within
     ∙ cond-true (nat_lt have len) (Err (Need (len - have))) _ (lt-ltb have len p.less)
 
 complete_placed : (limit have s e n len : ℕ) (bad : Option ℕ) → s ≡ signature → e ≡ 2 ^ 32 - 1 → bodies_from n ≤ len → len ≤ limit → len ≤ have → head_verdict limit have s e n len bad ≡ length_if_placed len bad
-unfolding head_verdict
 complete_placed limit have s e n len bad start end heads within there =
-    cond-true (s == signature) _ (Err Start) (eq-eqb s signature start)
-    ∙ cond-true (e == 2 ^ 32 - 1) _ (Err End) (eq-eqb e (2 ^ 32 - 1) end)
-    ∙ cond-false (nat_lt len (bodies_from n)) (Err (Length len)) _ (le-ltb len (bodies_from n) heads)
-    ∙ cond-false (nat_lt limit len) (Err (Limit len)) _ (le-ltb limit len within)
+    header_decides limit have s e n len bad start end heads within
     ∙ cond-false (nat_lt have len) (Err (Need (len - have))) _ (le-ltb have len there)
 
 -- what is missing: of the header, or of the record

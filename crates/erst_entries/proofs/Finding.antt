@@ -26,41 +26,35 @@ finds bytes header table found size all = record {
   counted = sym (size-front bytes table (drop (length table) bytes) (split signature 48 bytes header table found) found.is_table.sealed) ∙ all;
 }
 
--- where the parts of a table stand
-front-header : (erst : Erst) → FitsErst erst → part (spelling erst) 0 36 ≡ header_spelling erst.header
+-- where the parts of a table stand: the header and its size, in the first 40 bytes
+front-two : (erst : Erst) → FitsErst erst → (at n : ℕ) → at + n ≤ 40 → part (spelling erst) at n ≡ part (header_spelling erst.header ++ spelled 4 erst.header_size) at n
 unfolding spelling front_spelling
-front-header erst fits =
+front-two erst fits at n low =
     let h = header_spelling erst.header in
     let has : length h ≡ 36 = length-spelling erst.header (has_sizes erst.header fits.header) in
     let a = spelled 4 erst.header_size in
     let b = spelled 4 erst.reserved in
     let d = spelled 4 erst.count in
-    let one : 0 + 36 ≤ length (((h ++ a) ++ b) ++ d) = simp length-append (omega (arith, has)) in
-    let two : 0 + 36 ≤ length ((h ++ a) ++ b) = simp length-append (omega (arith, has)) in
-    let three : 0 + 36 ≤ length (h ++ a) = simp length-append (omega (arith, has)) in
-    let four : 0 + 36 ≤ length h = omega arith in
-    part-append_left (((h ++ a) ++ b) ++ d) (entries_spelling erst.entries) 0 36 one
-    ∙ part-append_left ((h ++ a) ++ b) d 0 36 two
-    ∙ part-append_left (h ++ a) b 0 36 three
-    ∙ part-append_left h a 0 36 four
-    ∙ part-whole h 36 (omega arith)
+    let one : at + n ≤ length (((h ++ a) ++ b) ++ d) = simp length-append (omega (arith, has, length-spelled 4 erst.header_size)) in
+    let two : at + n ≤ length ((h ++ a) ++ b) = simp length-append (omega (arith, has, length-spelled 4 erst.header_size)) in
+    let three : at + n ≤ length (h ++ a) = simp length-append (omega (arith, has, length-spelled 4 erst.header_size)) in
+    part-append_left (((h ++ a) ++ b) ++ d) (entries_spelling erst.entries) at n one
+    ∙ part-append_left ((h ++ a) ++ b) d at n two
+    ∙ part-append_left (h ++ a) b at n three
+
+front-header : (erst : Erst) → FitsErst erst → part (spelling erst) 0 36 ≡ header_spelling erst.header
+front-header erst fits =
+    let h = header_spelling erst.header in
+    let has : length h ≡ 36 = length-spelling erst.header (has_sizes erst.header fits.header) in
+    let within : 0 + 36 ≤ length h = omega arith in
+    front-two erst fits 0 36 (omega arith) ∙ part-append_left h (spelled 4 erst.header_size) 0 36 within ∙ part-whole h 36 (omega arith)
 
 front-size : (erst : Erst) → FitsErst erst → part (spelling erst) 36 4 ≡ spelled 4 erst.header_size
-unfolding spelling front_spelling
 front-size erst fits =
     let h = header_spelling erst.header in
     let has : length h ≡ 36 = length-spelling erst.header (has_sizes erst.header fits.header) in
     let a = spelled 4 erst.header_size in
-    let b = spelled 4 erst.reserved in
-    let d = spelled 4 erst.count in
-    let one : 36 + 4 ≤ length (((h ++ a) ++ b) ++ d) = simp length-append (omega (arith, has, length-spelled 4 erst.header_size)) in
-    let two : 36 + 4 ≤ length ((h ++ a) ++ b) = simp length-append (omega (arith, has, length-spelled 4 erst.header_size)) in
-    let three : 36 + 4 ≤ length (h ++ a) = simp length-append (omega (arith, has, length-spelled 4 erst.header_size)) in
-    part-append_left (((h ++ a) ++ b) ++ d) (entries_spelling erst.entries) 36 4 one
-    ∙ part-append_left ((h ++ a) ++ b) d 36 4 two
-    ∙ part-append_left (h ++ a) b 36 4 three
-    ∙ part-append_right h a 36 0 4 (omega arith)
-    ∙ part-whole a 4 (omega (arith, length-spelled 4 erst.header_size))
+    front-two erst fits 36 4 (omega arith) ∙ part-append_right h a 36 0 4 (omega arith) ∙ part-whole a 4 (omega (arith, length-spelled 4 erst.header_size))
 
 front-count : (erst : Erst) → FitsErst erst → part (spelling erst) 44 4 ≡ spelled 4 erst.count
 unfolding spelling front_spelling

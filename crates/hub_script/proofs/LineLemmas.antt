@@ -2,8 +2,8 @@
 use Rattle.std.proofs.Common.{◌≡◌, ℕ, zero, suc, ◌<◌, ◌⊎◌, inl, inr, List, [], ◌∷◌, ◌++◌, get_or, refl, sym, ap, subst, ◌∙◌, arith}
 use Rattle.std.specs.Prelude.{IsTrue, decimal, codes}
 use Rattle.line_grammar.specs.Columns.{Begins}
-use Rattle.line_grammar.proofs.BehindLemmas.{IsBehind, IsOne, IsAlone, among}
-use Rattle.line_grammar.proofs.KeywordLemmas.{IsLanguage}
+use Rattle.line_grammar.proofs.BehindLemmas.{IsBehind, IsOne, IsAlone}
+use Rattle.line_grammar.proofs.KeywordLemmas.{IsLanguage, one_of_all, language}
 use Rattle.line_grammar.proofs.PairLemmas.{one_pair}
 use Rattle.hub_script.specs.Turns.{may_stand, AreTurns}
 use Rattle.hub_script.specs.HubGrammar.{Line, IsLine, IsValid, text_of, blank, comment, hest, error, turns, heard, removal}
@@ -29,7 +29,7 @@ line_behind Heard rest follows = (heard follows.0, (let h = follows.2 in omega a
 line_behind Drop rest (m, u, most_m, (n, least_n, most_n, is), e) = (removal m n, (omega arith, omega arith), ap (λ (x : List ℕ). codes "drop " ++ x) (e ∙ ap (λ (x : List ℕ). decimal m ++ 32 ∷ x) is))
 
 one_of : (word : HubWord) (text : List ℕ) → IsBehind codes_of Follows word text → IsOne codes_of Follows all_words text
-one_of word text behind = among codes_of Follows (codes_of word) text all_words (subst (λ (words : List HubWord). IsOne codes_of Follows words text) (sym (alone word)) (inl behind))
+one_of = one_of_all codes_of Follows all_words alone
 
 line_is : (line : Line) → IsValid line → (text : List ℕ) → text ≡ text_of line → (text ≡ []) ⊎ IsOne codes_of Follows all_words text
 line_is blank valid text e = inl e
@@ -66,10 +66,4 @@ sample Heard = (decimal 0, (0, omega arith, omega arith, refl))
 sample Drop = (decimal 0 ++ 32 ∷ decimal 0, (0, decimal 0, omega arith, (0, omega arith, omega arith, refl), refl))
 
 pub hubs : IsLanguage codes_of Follows all_words IsLine
-hubs = record {
-  alone = alone;
-  sample = sample;
-  blank = (blank, tt, refl);
-  from_word = line_behind;
-  to_word = λ text (line, valid, is). line_is line valid text is;
-}
+hubs = language codes_of Follows all_words IsValid text_of alone sample (blank, tt, refl) line_behind line_is

@@ -6,7 +6,7 @@ use Rattle.std.proofs.lemmas.List.Elements.{All-weaker, All-more, All-nil, recur
 use Rattle.line_grammar.specs.Columns.{Begins, Breaks}
 use Rattle.line_grammar.specs.Keywords.{common_length}
 use Rattle.line_grammar.specs.Keywords.{HasNoKeyword}
-use Rattle.line_grammar.proofs.BehindLemmas.{IsOne, IsAlone, reach_behind}
+use Rattle.line_grammar.proofs.BehindLemmas.{IsBehind, IsOne, IsAlone, among, reach_behind}
 use Rattle.line_grammar.proofs.CommonLemmas.{common_length-within, common_length-front, common_length-most, common_length-whole}
 
 -- what makes a set of texts such a language: no word begins another, something may follow each, an empty line is in it,
@@ -17,6 +17,26 @@ pub record IsLanguage {W : Type 0} (codes_of : W → List ℕ) (Follows : W → 
   pub blank : IsLine []
   pub from_word : (word : W) (rest : List ℕ) → Follows word rest → IsLine (codes_of word ++ rest)
   pub to_word : (text : List ℕ) → IsLine text → (text ≡ []) ⊎ IsOne codes_of Follows words text
+
+-- a word of the language with what may follow it is one of all
+pub one_of_all : {W : Type 0} (codes_of : W → List ℕ) (Follows : W → List ℕ → Type 0) (words : List W) → ((word : W) → IsAlone codes_of words word)
+    → (word : W) (text : List ℕ) → IsBehind codes_of Follows word text → IsOne codes_of Follows words text
+one_of_all {W = W} codes_of Follows words alone word text behind =
+    among codes_of Follows (codes_of word) text words (subst (λ (some : List W). IsOne codes_of Follows some text) (sym (alone word)) (inl behind))
+
+-- the language of the texts in which valid lines are written
+pub language : {W L : Type 0} (codes_of : W → List ℕ) (Follows : W → List ℕ → Type 0) (words : List W) (IsValid : L → Type 0) (text_of : L → List ℕ)
+    → ((word : W) → IsAlone codes_of words word) → ((word : W) → Begins (Follows word) []) → (line : L) × IsValid line × ([] ≡ text_of line)
+    → ((word : W) (rest : List ℕ) → Follows word rest → (line : L) × IsValid line × (codes_of word ++ rest ≡ text_of line))
+    → ((line : L) → IsValid line → (text : List ℕ) → text ≡ text_of line → (text ≡ []) ⊎ IsOne codes_of Follows words text)
+    → IsLanguage codes_of Follows words (λ text. (line : L) × IsValid line × (text ≡ text_of line))
+language codes_of Follows words IsValid text_of alone sample blank line_behind line_is = record {
+  alone = alone;
+  sample = sample;
+  blank = blank;
+  from_word = line_behind;
+  to_word = λ text (line, valid, is). line_is line valid text is;
+}
 
 line_of_one : {W : Type 0} (codes_of : W → List ℕ) (Follows : W → List ℕ → Type 0) (words : List W) (IsLine : List ℕ → Type 0) (lang : IsLanguage codes_of Follows words IsLine) (some : List W) (text : List ℕ) → IsOne codes_of Follows some text → IsLine text
 line_of_one codes_of Follows words IsLine lang [] text one = absurd one

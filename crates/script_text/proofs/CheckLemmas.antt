@@ -6,8 +6,8 @@ use Rattle.script_text.specs.CheckGrammar.{CheckedLine, blank, comment, erst, he
 use Rattle.script_text.specs.CheckWords.{check_codes_of, all_check_words, CheckFollows}
 use Rattle.script_text.specs.declared.check_line.CheckWord.{CheckWord}
 use Rattle.script_text.specs.declared.check_line.CheckWord.TheVariants.{Comment, Erst, Hest, Bert, Record, Block}
-use Rattle.line_grammar.proofs.BehindLemmas.{IsBehind, IsOne, IsAlone, among}
-use Rattle.line_grammar.proofs.KeywordLemmas.{IsLanguage}
+use Rattle.line_grammar.proofs.BehindLemmas.{IsBehind, IsOne, IsAlone}
+use Rattle.line_grammar.proofs.KeywordLemmas.{IsLanguage, one_of_all, language}
 use Rattle.line_grammar.proofs.PairLemmas.{one_pair}
 
 -- no keyword begins another
@@ -28,7 +28,7 @@ line_behind Record rest follows = (one_record rest, follows, refl)
 line_behind Block rest follows = (block rest, follows, refl)
 
 one_of : (word : CheckWord) (text : List ℕ) → IsBehind check_codes_of CheckFollows word text → IsOne check_codes_of CheckFollows all_check_words text
-one_of word text behind = among check_codes_of CheckFollows (check_codes_of word) text all_check_words (subst (λ (words : List CheckWord). IsOne check_codes_of CheckFollows words text) (sym (alone word)) (inl behind))
+one_of = one_of_all check_codes_of CheckFollows all_check_words alone
 
 line_is : (line : CheckedLine) → IsValidCheck line → (text : List ℕ) → text ≡ check_text_of line → (text ≡ []) ⊎ IsOne check_codes_of CheckFollows all_check_words text
 line_is blank valid text e = inl e
@@ -49,10 +49,4 @@ sample Block = (codes "00", one_pair)
 
 -- the lines that are checked
 pub checks : IsLanguage check_codes_of CheckFollows all_check_words IsCheckLine
-checks = record {
-  alone = alone;
-  sample = sample;
-  blank = (blank, tt, refl);
-  from_word = line_behind;
-  to_word = λ text (line, valid, is). line_is line valid text is;
-}
+checks = language check_codes_of CheckFollows all_check_words IsValidCheck check_text_of alone sample (blank, tt, refl) line_behind line_is

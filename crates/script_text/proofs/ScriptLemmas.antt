@@ -14,9 +14,9 @@ use Rattle.script_text.specs.declared.script_line.ScriptLine.{ScriptLine}
 use Rattle.script_text.specs.declared.script_line.ScriptLine.TheVariants as parsed
 use Rattle.script_text.specs.declared.script_line.ScriptWord.{ScriptWord}
 use Rattle.script_text.specs.declared.script_line.ScriptWord.TheVariants.{Comment, Write, Read, Clear, Count, Next, Dummy, Action, Table, Error, Turns, Peek, Fatal, Bert, Heard, Reset, Power, Bridge}
-use Rattle.line_grammar.proofs.KeywordLemmas.{IsLanguage}
+use Rattle.line_grammar.proofs.KeywordLemmas.{IsLanguage, one_of_all, language}
 use Rattle.line_grammar.proofs.PairLemmas.{one_pair}
-use Rattle.line_grammar.proofs.BehindLemmas.{IsBehind, IsOne, IsAlone, among}
+use Rattle.line_grammar.proofs.BehindLemmas.{IsBehind, IsOne, IsAlone}
 use Rattle.line_grammar.proofs.OneLine.{same_then}
 
 -- no keyword begins another
@@ -158,7 +158,7 @@ reading (bridge n) valid = inr (record { word = Bridge; rest = decimal n; follow
 
 -- a keyword with what may follow it is one of all
 one_of : (word : ScriptWord) (text : List ℕ) → IsBehind codes_of Follows word text → IsOne codes_of Follows all_words text
-one_of word text behind = among codes_of Follows (codes_of word) text all_words (subst (λ (words : List ScriptWord). IsOne codes_of Follows words text) (sym (alone word)) (inl behind))
+one_of = one_of_all codes_of Follows all_words alone
 
 line_behind : (word : ScriptWord) (rest : List ℕ) → Follows word rest → IsLine (codes_of word ++ rest)
 line_behind word rest follows = let so = is_meant word rest follows in (meant word rest follows, so.valid, so.is)
@@ -194,13 +194,7 @@ sample word = ([], refl)
 
 -- the lines of a script
 pub script : IsLanguage codes_of Follows all_words IsLine
-script = record {
-  alone = alone;
-  sample = sample;
-  blank = (blank, tt, refl);
-  from_word = line_behind;
-  to_word = λ text (line, valid, is). line_is line valid text is;
-}
+script = language codes_of Follows all_words IsValid text_of alone sample (blank, tt, refl) line_behind line_is
 
 -- what a text that was read means
 pub means : (text : List ℕ) (line : ScriptLine) → IsText text line → Means text (line_of line)
