@@ -1,5 +1,5 @@
 -- The lines are a language of keywords.
-use Rattle.std.proofs.Common.{◌≡◌, ℕ, zero, suc, ◌<◌, ◌⊎◌, inl, inr, List, [], ◌∷◌, ◌++◌, get_or, refl, sym, ap, subst, ◌∙◌, arith}
+use Rattle.std.proofs.Common.{◌≡◌, ℕ, zero, suc, ◌<◌, ◌⊎◌, inl, inr, List, [], ◌∷◌, ◌++◌, get_or, refl, ap, ◌∙◌, arith}
 use Rattle.std.specs.Prelude.{IsTrue, decimal, codes}
 use Rattle.line_grammar.specs.Columns.{Begins}
 use Rattle.line_grammar.proofs.BehindLemmas.{IsBehind, IsOne, IsAlone}

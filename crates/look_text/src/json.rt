@@ -7,7 +7,7 @@ use crate::kind::word;
 use crate::records::add_slot_numbers;
 use crate::time::{add_time, has_time, is_precise};
 use cper_frame::{Record, RecordHead, notification_name, section_name, severity_name};
-use image_survey::{SlotKind, SlotView, Totals, count_slots};
+use image_survey::{Look, SlotKind, SlotView, Totals, count_slots};
 use record_slots::Head;
 use std::alloc::{AllocError, Global};
 
@@ -49,29 +49,26 @@ fn add_slot(out: &mut String, view: &SlotView) -> Result<(), AllocError> {
     let kind = word(view.kind);
     write!(out, "{{\"kind\":\"{kind}\"")?;
     if view.kind != SlotKind::Erased {
-        add_marks(out, &view.look.head, view.look.tail)?;
-        add_numbers(out, &view.look.head)?;
+        add_look(out, &view.look)?;
     }
     out.push('}')
 }
 
-fn add_marks(out: &mut String, head: &Head, tail: u8) -> Result<(), AllocError> {
+// What was seen of a slot.
+fn add_look(out: &mut String, look: &Look) -> Result<(), AllocError> {
     let Head {
         gate,
         kill,
         format,
+        next: [one, two, three],
         ..
-    } = *head;
+    } = look.head;
+    let tail = look.tail;
     write!(
         out,
-        ",\"gate\":{gate},\"kill\":{kill},\"tail\":{tail},\"format\":{format}"
-    )
-}
-
-fn add_numbers(out: &mut String, head: &Head) -> Result<(), AllocError> {
-    out.push(',')?;
-    add_identity(out, head)?;
-    let [one, two, three] = head.next;
+        ",\"gate\":{gate},\"kill\":{kill},\"tail\":{tail},\"format\":{format},"
+    )?;
+    add_identity(out, &look.head)?;
     write!(out, ",\"next\":[{one},{two},{three}]")
 }
 

@@ -1,5 +1,5 @@
 -- The lines that are checked are a language of keywords.
-use Rattle.std.proofs.Common.{◌≡◌, ℕ, ◌⊎◌, inl, inr, List, [], ◌++◌, refl, sym, subst}
+use Rattle.std.proofs.Common.{◌≡◌, ℕ, ◌⊎◌, inl, inr, List, [], ◌++◌, refl}
 use Rattle.std.specs.Prelude.{codes}
 use Rattle.line_grammar.specs.Columns.{Begins}
 use Rattle.script_text.specs.CheckGrammar.{CheckedLine, blank, comment, erst, hest, bert, one_record, block, IsValidCheck, check_text_of, IsCheckLine}

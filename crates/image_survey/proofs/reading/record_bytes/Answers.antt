@@ -1,4 +1,4 @@
-use Rattle.std.proofs.Common.{◌≡◌, ◌-◌, ◌<◌, ◌≤◌, ◌++◌, ℕ, List, length, take, ap, sym, ◌∙◌, arith}
+use Rattle.std.proofs.Common.{◌≡◌, ◌-◌, ◌<◌, ◌++◌, ℕ, List, length, take, ap, sym, ◌∙◌, arith}
 use Rattle.record_model.specs.Records.{part_len, parts_of, slot_at}
 use Rattle.record_slots.specs.Slots.{numbers_of}
 use Rattle.image_survey.specs.Reading.{slot_of_part}
