@@ -231,6 +231,16 @@ impl MayRead {
         MustAcknowledge { made }
     }
 
+    /// Sets the block status to 0, which is the acknowledgement where there is no register.
+    #[inline]
+    pub fn release<M: HasWindow>(self, map: &M, ram: &mut Ram) -> MustLook
+        requires { HasBlock (M.window_of map.now) ram.old }
+        ensures { ram.new ≡ with_block (M.window_of map.now) ram.old (with_status (block_bytes (M.window_of map.now) ram.old) (spelled 4 0)) }
+    {
+        let MustAcknowledge { made } = self.clear(map, ram);
+        MustLook { made }
+    }
+
     /// Spends it.
     pub fn end(self) {
         let MayRead { made: () } = self;
@@ -244,14 +254,8 @@ impl MustAcknowledge {
         ensures memory { ram.new ≡ with_ack map.now ram.old (acknowledged map.now (ack_read map.now ram.old)) }
         ensures set { HasAckBits map.now → IsSet map.now ram.new }
     {
-        map.acknowledge(ram);
-        self.done()
-    }
-
-    /// Without a register the clearing is the acknowledgement.
-    #[inline]
-    pub fn done(self) -> MustLook {
         let MustAcknowledge { made } = self;
+        map.acknowledge(ram);
         MustLook { made }
     }
 

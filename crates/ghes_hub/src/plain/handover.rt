@@ -59,7 +59,11 @@ impl PlainHandover {
         ensures exact { MatchResult result (λ _. plain_refusal self.old block.now ≡ None) (λ error. plain_refusal self.old block.now ≡ Some error) }
         ensures refused { OnErr result (self.new ≡ self.old) }
     {
-        if let Err(error) = check_block(block, self.blocks.map.window.len, self.blocks.waiting.len()) {
+        if let Err(error) = check_block(
+            block,
+            self.blocks.map.window.len,
+            self.blocks.waiting.len(),
+        ) {
             return Err(error);
         }
         self.blocks.add(block);

@@ -52,7 +52,7 @@ fn copy_or_clear(read: MayRead, blocks: &mut Blocks<PlainMap>, ram: &mut Ram) ->
         Turns OfReader result.1 (state_of Reading blocks.old) ram.old (state_of (reader_at result.0) blocks.new) ram.new m }
 {
     let Some(mut bytes) = blocks.at_work.take() else {
-        let look = read.clear(&blocks.map, ram).done();
+        let look = read.release(&blocks.map, ram);
         return (ReaderEnd::Looks(look), Event::Clear);
     };
     read.copy_piece(&blocks.map, ram, blocks.copied, &mut bytes);

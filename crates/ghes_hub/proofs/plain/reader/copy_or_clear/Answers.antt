@@ -6,7 +6,7 @@ use Rattle.ghes_ack.proofs.SideLemmas.{begins_at}
 use Rattle.ghes_hub.proofs.plain.reader.copy_or_clear.Goals as goal
 
 pub returns-in_default-clause-turns : goal.returns-in_default-clause-turns
-returns-in_default-clause-turns c = λ m st. clears_at c.args.blocks.now c.take.new.self c.args.ram.now c.clear.new.ram (sym c.in_default.ensures.value) c.take.ensures.after c.requires.sound.under_way c.clear.ensures m st
+returns-in_default-clause-turns c = λ m st. clears_at c.args.blocks.now c.take.new.self c.args.ram.now c.release-look.new.ram (sym c.in_default.ensures.value) c.take.ensures.after c.requires.sound.under_way c.release-look.ensures m st
 
 pub returns-then-blocks-len-clause-turns : goal.returns-then-blocks-len-clause-turns
 returns-then-blocks-len-clause-turns c =
