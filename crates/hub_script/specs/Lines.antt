@@ -1,8 +1,10 @@
 -- A line of a script as a text, and what is written of it.
-use Rattle.std.specs.Prelude.{◌≡◌, ℕ, List, [], ◌∷◌, ◌++◌, take}
+use Rattle.std.specs.Prelude.{◌≡◌, ℕ, List, [], ◌∷◌, ◌++◌, take, None, Ok}
+use Rattle.hex.specs.Hex.{decode_of}
 use Rattle.apei_notify.specs.Telling.{Hearing}
 use Rattle.ghes_ack.specs.declared.events.Event.{Event}
 use Rattle.ghes_ack.specs.declared.events.Event.TheVariants.{Took}
+use Rattle.hest_sources.specs.Tables.{refusal}
 use Rattle.ghes_hub.specs.Hubs.{Call}
 use Rattle.hub_script.specs.HubGrammar.{Line, blank, comment, hest, turns}
 use Rattle.hub_script.specs.HubText.{IsWritten}
@@ -54,12 +56,19 @@ pub record TextIs (text : List ℕ) (Made : Line → Type 0) : Type 0 where
   pub written : IsWritten text line
   pub made : Made line
 
--- a text is a table, the one line for which memory is taken
+-- digits stand for bytes that begin with a table of error sources
+pub record BringsTable (hex : List ℕ) : Type 0 where
+  pub bytes : List ℕ
+  pub decoded : decode_of hex ≡ Ok bytes
+  pub table : refusal bytes ≡ None
+
+-- a text gives a table, the one line for which memory is taken
 pub record GivesTable (text : List ℕ) : Type 0 where
   pub hex : List ℕ
   pub written : IsWritten text (hest hex)
+  pub brings : BringsTable hex
 
 -- a line gives a table
 abbrev pub IsTable : HubLine → Type 0
-IsTable (Hest hex) = Unit {0}
+IsTable (Hest hex) = BringsTable hex.now
 IsTable line = ⊥

@@ -9,7 +9,7 @@ ghost use Rattle.hub_script.specs.HubGrammar.{IsLine, IsValid, text_of, hest, er
 ghost use Rattle.hub_script.specs.HubText.{line_of};
 ghost use Rattle.hub_script.specs.Turns.{AreTurns};
 ghost use Rattle.hub_script.specs.Stages.{Waiting, members_in};
-ghost use Rattle.hub_script.specs.Lines.{PlaysLine, PlaysUnheard, TextIs, GivesTable, IsTable};
+ghost use Rattle.hub_script.specs.Lines.{PlaysLine, PlaysUnheard, TextIs, BringsTable, GivesTable, IsTable};
 ghost use Rattle.hub_script.specs.Made.{stage_of, MakesReply, OpensFor};
 
 use crate::desk::Desk;
@@ -134,6 +134,7 @@ impl HubPlayer {
         requires pairs { IsPairs hex.now }
         requires fits { length hex.now ≤ LONGEST_LINE }
         ensures made { OnOk result (MakesReply hearing (stage_of self.old) (hest hex.now) (stage_of self.new) self.new.desk.reply) }
+        ensures memory { OnErr result (BringsTable hex.now) }
         ensures stays { OnErr result (stage_of self.new ≡ stage_of self.old) }
     {
         if self.hub.is_some() {

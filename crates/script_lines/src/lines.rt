@@ -136,6 +136,9 @@ impl LineReader {
         ensures number { IfOk result (λ number. number ≡ self.new.number) }
         ensures line { OnOk result (IsNextLine I.tells self.old self.new (I.rest script.old) (I.rest script.new)) }
         ensures end { IfErr result (EndsReading I.tells self.old self.new (I.rest script.old) (I.rest script.new)) }
+        ensures stays { OnErr result (StaysAt I.tells self.old self.new (I.rest script.old) (I.rest script.new)) }
+        ensures ended { result ≡ Err ScriptEnd.Done → self.new.at_end ≡ true }
+        ensures in_time { result ≡ Err ScriptEnd.SourceFault → ¬ (PastLimits self.old.end (length self.new.pending) 0) }
         ensures at_end { I.tells → self.new.at_end ≡ true → I.rest script.new ≡ [] }
         ensures no_fault { OnOk result (I.faults script.new ≡ I.faults script.old) }
         ensures cause { IfErr result (λ end. HasSourceCause (I.faults script.old) (I.faults script.new) (fault_of end)) }
