@@ -5,7 +5,7 @@ use Rattle.cper_frame.specs.Grammar.{RecordValue, IsRecord}
 use Rattle.cper_frame.specs.Reading.{checked as checked_record}
 use Rattle.cper_frame.proofs.Complete.{found_again as record_found_again}
 use Rattle.cper_frame.proofs.Whole.{only_found as only_record_found, never_refused as record_never_refused}
-use Rattle.ghes_block.specs.Grammar.{BlockValue, IsBlock}
+use Rattle.ghes_block.specs.Grammar.{IsBlock}
 use Rattle.ghes_block.specs.Reading.{checked as checked_block}
 use Rattle.ghes_block.proofs.Blocks.{found_again as block_found_again}
 use Rattle.ghes_block.proofs.Whole.{only_found as only_block_found, never_refused as block_never_refused}
