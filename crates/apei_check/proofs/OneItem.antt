@@ -5,7 +5,7 @@ use Rattle.cper_frame.specs.Grammar.{RecordValue, IsRecord}
 use Rattle.cper_frame.specs.Reading.{checked as checked_record}
 use Rattle.cper_frame.proofs.Complete.{found_again as record_found_again}
 use Rattle.cper_frame.proofs.Whole.{only_found as only_record_found, never_refused as record_never_refused}
-use Rattle.ghes_block.specs.Grammar.{BlockValue, IsBlock}
+use Rattle.ghes_block.specs.Grammar.{IsBlock}
 use Rattle.ghes_block.specs.Reading.{checked as checked_block}
 use Rattle.ghes_block.proofs.Blocks.{found_again as block_found_again}
 use Rattle.ghes_block.proofs.Whole.{only_found as only_block_found, never_refused as block_never_refused}
@@ -91,41 +91,35 @@ one_bert show bytes =
     (λ bert n why within is first. not_both _ why (bert_taken bytes bert n is) first)
     (λ why other a b. same_some _ why other a b)
 
-record_found : (bytes : List ℕ) (value : RecordValue) (n : ℕ) → n ≤ length bytes → IsRecord value (take n bytes) → checked_record (2 ^ 32 - 1) bytes ≡ Ok n
-record_found bytes value n within is =
-    let short = is.short in
-    let size : length (take n bytes) ≡ n = length-take n bytes ∙ omega arith in
-    let again = record_found_again (2 ^ 32 - 1) value (take n bytes) (drop n bytes) is (omega arith) in
-    ap (checked_record (2 ^ 32 - 1)) (sym (take-append-drop n bytes)) ∙ again ∙ ap (λ (m : ℕ). Ok m) size
+-- a check that finds again each item that the bytes begin with finds the one that there is
+module _ {V E : Type 0} (Is : V → List ℕ → Type 0) (checked : List ℕ → Result ℕ E) (value_of : ℕ → V) (bytes : List ℕ)
+    (again : (value : V) (n : ℕ) → Is value (take n bytes) → checked (take n bytes ++ drop n bytes) ≡ Ok (length (take n bytes)))
+    (only : (len : ℕ) (value : V) (n : ℕ) → checked bytes ≡ Ok len → n ≤ length bytes → Is value (take n bytes) → (value_of len ≡ value) × (len ≡ n)) where
+  found_at : (value : V) (n : ℕ) → n ≤ length bytes → Is value (take n bytes) → checked bytes ≡ Ok n
+  found_at value n within is =
+      let size : length (take n bytes) ≡ n = length-take n bytes ∙ omega arith in
+      ap checked (sym (take-append-drop n bytes)) ∙ again value n is ∙ ap (λ (m : ℕ). Ok m) size
 
-same_record : (bytes : List ℕ) (a b : RecordValue) (n m : ℕ) → n ≤ length bytes → m ≤ length bytes → IsRecord a (take n bytes) → IsRecord b (take m bytes) → (a ≡ b) × (n ≡ m)
-same_record bytes a b n m within within_too is is_too =
-    let found = record_found bytes a n within is in
-    let first = only_record_found bytes n a n found within is in
-    let second = only_record_found bytes n b m found within_too is_too in
-    (sym first.0 ∙ second.0, second.1)
+  one_found : (a b : V) (n m : ℕ) → n ≤ length bytes → m ≤ length bytes → Is a (take n bytes) → Is b (take m bytes) → (a ≡ b) × (n ≡ m)
+  one_found a b n m within within_too is is_too =
+      let found = found_at a n within is in
+      let first = only n a n found within is in
+      let second = only n b m found within_too is_too in
+      (sym first.0 ∙ second.0, second.1)
+
+record_again : (bytes : List ℕ) (value : RecordValue) (n : ℕ) → IsRecord value (take n bytes) → checked_record (2 ^ 32 - 1) (take n bytes ++ drop n bytes) ≡ Ok (length (take n bytes))
+record_again bytes value n is =
+    let short = is.short in
+    record_found_again (2 ^ 32 - 1) value (take n bytes) (drop n bytes) is (omega arith)
 
 pub one_framed_record : (show : Show) (bytes : List ℕ) (lines others : List (List ℕ)) → AreRecordLines show bytes lines → AreRecordLines show bytes others → lines ≡ others
 one_framed_record show bytes =
-    one_list _ _ _ _ _ _ show bytes (same_record bytes)
+    one_list _ _ _ _ _ _ show bytes (one_found IsRecord (checked_record (2 ^ 32 - 1)) _ bytes (record_again bytes) (only_record_found bytes))
     (λ value n error within is refused. record_never_refused bytes error value n refused within is)
     (λ error other a b. same_err _ error other a b)
 
-block_found : (bytes : List ℕ) (value : BlockValue) (n : ℕ) → n ≤ length bytes → IsBlock value (take n bytes) → checked_block bytes ≡ Ok n
-block_found bytes value n within is =
-    let size : length (take n bytes) ≡ n = length-take n bytes ∙ omega arith in
-    let again = block_found_again value (take n bytes) (drop n bytes) is in
-    ap checked_block (sym (take-append-drop n bytes)) ∙ again ∙ ap (λ (m : ℕ). Ok m) size
-
-same_block : (bytes : List ℕ) (a b : BlockValue) (n m : ℕ) → n ≤ length bytes → m ≤ length bytes → IsBlock a (take n bytes) → IsBlock b (take m bytes) → (a ≡ b) × (n ≡ m)
-same_block bytes a b n m within within_too is is_too =
-    let found = block_found bytes a n within is in
-    let first = only_block_found bytes n a n found within is in
-    let second = only_block_found bytes n b m found within_too is_too in
-    (sym first.0 ∙ second.0, second.1)
-
 pub one_status_block : (show : Show) (bytes : List ℕ) (lines others : List (List ℕ)) → AreBlockLines show bytes lines → AreBlockLines show bytes others → lines ≡ others
 one_status_block show bytes =
-    one_list _ _ _ _ _ _ show bytes (same_block bytes)
+    one_list _ _ _ _ _ _ show bytes (one_found IsBlock checked_block _ bytes (λ value n is. block_found_again value (take n bytes) (drop n bytes) is) (only_block_found bytes))
     (λ value n error within is refused. block_never_refused bytes error value n refused within is)
     (λ error other a b. same_err _ error other a b)

@@ -1,5 +1,5 @@
 -- A line for each part, which are counted from 0.
-use Rattle.std.proofs.Common.{◌≡◌, ℕ, ◌+◌, ◌<◌, List, [], length, get_or, map, sym, ap, ◌∙◌, arith}
+use Rattle.std.proofs.Common.{◌≡◌, ℕ, ◌+◌, ◌<◌, ◌≤◌, List, [], length, get_or, map, sym, ap, ◌∙◌, arith}
 use Rattle.std.specs.Prelude.{slice_get, Some}
 use Rattle.std.specs.List.{enumerate_from}
 use Rattle.std.proofs.lemmas.List.{get_or-map, length-map}
@@ -7,7 +7,9 @@ use Rattle.std.proofs.lemmas.List.FromFn.{get_or-enumerate_from, length-enumerat
 use Rattle.std.proofs.lemmas.Option.{slice_get_within, get_or_from_slice_get}
 use Rattle.cper_frame.specs.Grammar.{SectionValue}
 use Rattle.ghes_block.specs.Grammar.{EntryValue}
+use Rattle.ghes_block.specs.Entries.{place_of, EntryAt}
 use Rattle.apei_check.specs.Frames.{section_line, section_lines, entry_line, entry_lines}
+use Rattle.apei_check.proofs.PlaceLemmas.{is_here}
 
 abbrev pub numbered : {X : Type 0} → (ℕ → X → List ℕ) → List X → List (List ℕ)
 numbered line parts = map (λ part. line part.0 part.1) (enumerate_from 0 parts)
@@ -42,6 +44,21 @@ pub length-entry_lines : (entries : List EntryValue) → length (entry_lines ent
 unfolding entry_lines
 length-entry_lines entries = length_numbered entry_line entries
 
-pub entry_line_at : (entries : List EntryValue) (k : ℕ) (entry : EntryValue) → slice_get entries k ≡ Some entry → entry_line k entry ≡ get_or (entry_lines entries) k []
+-- the line of an entry that was found at its place is the next one
+pub record IsNextLine (entries : List EntryValue) (index next : ℕ) (line : List ℕ) : Type 0 where
+  pub few : index < length entries
+  pub within : index < length (entry_lines entries)
+  pub is : line ≡ get_or (entry_lines entries) index []
+  pub next_place : next ≡ place_of entries (index + 1)
+
+pub is_next_line : (entries : List EntryValue) (index at next : ℕ) (entry : EntryValue) (line : List ℕ) → index ≤ length entries → at ≡ place_of entries index → EntryAt entries at next entry
+    → line ≡ entry_line index entry → IsNextLine entries index next line
 unfolding entry_lines
-entry_line_at entries k entry found = numbered_of entry_line entries k entry (slice_get_within entries k entry found) found
+is_next_line entries index at next entry line low place there text =
+    let here = is_here entries index at next entry low place there in
+    record {
+      few = here.within;
+      within = omega (arith, here.within, length_numbered entry_line entries);
+      is = text ∙ numbered_of entry_line entries index entry here.within here.found;
+      next_place = here.next_place;
+    }

@@ -2,11 +2,10 @@
 ghost use Rattle.std.specs.Prelude.{◌≡◌, ◌≢◌, ◌≤◌, length, OnOk, OnErr, Err};
 ghost use Rattle.base_model.specs.Faults.{HasCause};
 ghost use Rattle.apei_check.specs.Shown.{Shows, ShowsPart, HasStopCause};
-ghost use Rattle.apei_check.specs.Written.{Writes, WritesPart};
 ghost use Rattle.cper_frame.specs.Sections.{value_of};
-ghost use Rattle.apei_check.specs.Frames.{AreRecordLines, record_line, section_line, section_lines};
+ghost use Rattle.apei_check.specs.Frames.{AreRecordLines, record_line, section_line};
 
-use crate::text::{CheckStop, Parts, Show, write_line, write_refused};
+use crate::text::{CheckStop, InOrder, Numbered, Show, write_refused};
 use apei_bytes::{Sink, SinkFault};
 use cper_frame::{Record, Section};
 use line_text::LineText;
@@ -45,27 +44,20 @@ fn record_line(framed: &Record<'_>, size: usize, rest: usize) -> LineText
     line
 }
 
-/// Writes the line of each section.
-fn write_sections<O: Sink>(framed: &Record<'_>, out: &mut O) -> Result<(), SinkFault>
-    ensures all { OnOk result (Writes O.tells (section_lines framed.now.sections) (O.written out.old) (O.written out.new)) }
-    ensures part { OnErr result (WritesPart O.tells (section_lines framed.now.sections) (O.written out.old) (O.written out.new)) }
-    ensures cause { HasCause (O.faults out.old) (O.faults out.new) result }
-{
-    for index in 0..framed.sections() {
-        write_line(section_line(index, &framed.section(index)), out)?;
-    }
-    Ok(())
-}
-
-impl Parts for Record<'_> {
+impl Numbered for Record<'_> {
     ghost use Rattle.apei_check.specs.Frames.{section_lines};
 
-    ghost is_decoded = { λ _. Unit {0} };
+    ghost part_lines = { λ framed. section_lines framed.sections };
 
-    ghost lines = { λ framed. section_lines framed.sections };
+    fn count(&self) -> usize {
+        usize::from(self.sections())
+    }
 
-    fn write_parts<O: Sink>(&self, out: &mut O) -> Result<(), SinkFault> {
-        write_sections(self, out)
+    fn part_line(&self, index: usize) -> LineText {
+        // The number of sections has 16 bits, so the index has.
+        let _count = self.sections();
+        let index = index as u16;
+        section_line(index, &self.section(index))
     }
 }
 
@@ -78,7 +70,7 @@ fn write_check<O: Sink>(bytes: &[u8], show: Show, out: &mut O) -> Result<(), Sin
     match Record::decode(bytes) {
         Ok((framed, size)) => {
             let head = record_line(&framed, size, bytes.len() - size);
-            show.write(head, &framed, out)
+            show.write(head, &InOrder { item: framed }, out)
         }
         Err(error) => write_refused(b"bad record ", &error, out),
     }

@@ -1,13 +1,11 @@
 // The lines of an Error Record Serialization Table.
-ghost use Rattle.std.specs.Prelude.{◌≡◌, ◌≤◌, ◌<◌, ◌^◌, length, Err, OnOk, OnErr};
-ghost use Rattle.base_model.specs.Faults.{HasCause};
+ghost use Rattle.std.specs.Prelude.{◌≡◌, ◌≤◌, ◌<◌, ◌^◌, length, Err, OnOk};
 ghost use Rattle.apei_check.specs.Shown.{Shows, ShowsPart, HasStopCause};
-ghost use Rattle.apei_check.specs.Written.{Writes, WritesPart};
-ghost use Rattle.apei_check.specs.TableLines.{erst_line, entry_line, entry_lines};
+ghost use Rattle.apei_check.specs.TableLines.{erst_line, entry_line};
 ghost use Rattle.apei_check.specs.Tables.{AreErstLines};
 
-use crate::text::{CheckStop, Parts, Show, write_line, write_refused};
-use apei_bytes::{Sink, SinkFault};
+use crate::text::{CheckStop, InOrder, Numbered, Show, write_refused};
+use apei_bytes::Sink;
 use erst_entries::{Entry, ErstError, ErstTable};
 use line_text::LineText;
 use std::alloc::Global;
@@ -28,7 +26,7 @@ pub fn check_erst<O: Sink>(
     match ErstTable::decode(alloc, bytes) {
         Ok((table, len)) => {
             let head = table_line(&table, len, bytes.len() - len);
-            Ok(show.write(head, &table, out)?)
+            Ok(show.write(head, &InOrder { item: table }, out)?)
         }
         Err(ErstError::Memory) => Err(CheckStop::Memory),
         Err(why) => Ok(write_refused(b"bad erst ", &why, out)?),
@@ -47,28 +45,18 @@ fn table_line(table: &ErstTable, len: usize, rest: usize) -> LineText
     line
 }
 
-impl Parts for ErstTable {
+impl Numbered for ErstTable {
     ghost use Rattle.apei_check.specs.TableLines.{entry_lines};
 
-    ghost is_decoded = { λ _. Unit {0} };
+    ghost part_lines = { λ table. entry_lines table.entries };
 
-    ghost lines = { λ table. entry_lines table.entries };
-
-    fn write_parts<O: Sink>(&self, out: &mut O) -> Result<(), SinkFault> {
-        write_entries(self, out)
+    fn count(&self) -> usize {
+        self.len()
     }
-}
 
-/// Writes a line for each entry.
-fn write_entries<O: Sink>(table: &ErstTable, out: &mut O) -> Result<(), SinkFault>
-    ensures all { OnOk result (Writes O.tells (entry_lines table.now.entries) (O.written out.old) (O.written out.new)) }
-    ensures part { OnErr result (WritesPart O.tells (entry_lines table.now.entries) (O.written out.old) (O.written out.new)) }
-    ensures cause { HasCause (O.faults out.old) (O.faults out.new) result }
-{
-    for index in 0..table.len() {
-        write_line(entry_line(index, &table.entry(index)), out)?;
+    fn part_line(&self, index: usize) -> LineText {
+        entry_line(index, &self.entry(index))
     }
-    Ok(())
 }
 
 /// The line on an entry.

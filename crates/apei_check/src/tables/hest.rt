@@ -1,15 +1,13 @@
 // The lines of a Hardware Error Source Table.
-ghost use Rattle.std.specs.Prelude.{◌≡◌, ◌≤◌, length, Err, OnOk, OnErr};
-ghost use Rattle.base_model.specs.Faults.{HasCause};
+ghost use Rattle.std.specs.Prelude.{◌≡◌, ◌≤◌, length, Err, OnOk};
 ghost use Rattle.apei_check.specs.Shown.{Shows, ShowsPart, HasStopCause};
-ghost use Rattle.apei_check.specs.Written.{Writes, WritesPart};
-ghost use Rattle.apei_check.specs.TableLines.{hest_line, kind_line, source_line, source_lines};
+ghost use Rattle.apei_check.specs.TableLines.{hest_line, kind_line, source_line};
 ghost use Rattle.apei_check.specs.Tables.{AreHestLines};
 ghost use Rattle.hest_sources.specs.declared.sources.HestSource.TheVariants.{Ghes as Generic};
 ghost use Rattle.hest_sources.specs.Layout.{type_of};
 
-use crate::text::{CheckStop, Parts, Show, write_line, write_refused};
-use apei_bytes::{Sink, SinkFault};
+use crate::text::{CheckStop, InOrder, Numbered, Show, write_refused};
+use apei_bytes::Sink;
 use hest_sources::{Ghes, Hest, HestError, HestSource};
 use line_text::LineText;
 use std::alloc::Global;
@@ -30,7 +28,7 @@ pub fn check_hest<O: Sink>(
     match Hest::decode(alloc, bytes) {
         Ok((table, len)) => {
             let head = table_line(table.sources(), len, bytes.len() - len);
-            Ok(show.write(head, &table, out)?)
+            Ok(show.write(head, &InOrder { item: table }, out)?)
         }
         Err(HestError::Memory) => Err(CheckStop::Memory),
         Err(why) => Ok(write_refused(b"bad hest ", &why, out)?),
@@ -49,28 +47,18 @@ fn table_line(sources: &[HestSource], len: usize, rest: usize) -> LineText
     line
 }
 
-impl Parts for Hest {
+impl Numbered for Hest {
     ghost use Rattle.apei_check.specs.TableLines.{source_lines};
 
-    ghost is_decoded = { λ _. Unit {0} };
+    ghost part_lines = { source_lines };
 
-    ghost lines = { source_lines };
-
-    fn write_parts<O: Sink>(&self, out: &mut O) -> Result<(), SinkFault> {
-        write_sources(self.sources(), out)
+    fn count(&self) -> usize {
+        self.sources().len()
     }
-}
 
-/// Writes a line for each source.
-fn write_sources<O: Sink>(sources: &[HestSource], out: &mut O) -> Result<(), SinkFault>
-    ensures all { OnOk result (Writes O.tells (source_lines sources.now) (O.written out.old) (O.written out.new)) }
-    ensures part { OnErr result (WritesPart O.tells (source_lines sources.now) (O.written out.old) (O.written out.new)) }
-    ensures cause { HasCause (O.faults out.old) (O.faults out.new) result }
-{
-    for index in 0..sources.len() {
-        write_line(source_line(index, &sources[index]), out)?;
+    fn part_line(&self, index: usize) -> LineText {
+        source_line(index, &self.sources()[index])
     }
-    Ok(())
 }
 
 /// The line on a source.

@@ -1,9 +1,9 @@
-use Rattle.std.proofs.Common.{◌≡◌, ◌<◌, length, get_or, [], sym, ◌∙◌, arith}
+use Rattle.std.proofs.Common.{◌≡◌, length, sym, ◌∙◌, arith}
 use Rattle.apei_check.proofs.WrittenLemmas.{wrote_nothing, wrote_next, wrote_part_of_next}
 use Rattle.ghes_block.specs.Entries.{value_of}
 use Rattle.apei_check.specs.Frames.{entry_lines}
-use Rattle.apei_check.proofs.PartLemmas.{length-entry_lines, entry_line_at}
-use Rattle.apei_check.proofs.PlaceLemmas.{place_none, is_here, same_place}
+use Rattle.apei_check.proofs.PartLemmas.{length-entry_lines, is_next_line}
+use Rattle.apei_check.proofs.PlaceLemmas.{place_none, same_place}
 use Rattle.base_model.proofs.FaultLemmas.{on_err}
 use Rattle.apei_check.proofs.AnswerLemmas.{wrote_all}
 use Rattle.apei_check.proofs.frames.block.write_entries.Goals as goal
@@ -19,31 +19,22 @@ loop-entry-init g c = record {
 
 pub returns-in_err-write_line-clause-part : goal.returns-in_err-write_line-clause-part
 returns-in_err-write_line-clause-part g c =
-    let entries = c.args.block.now.entries in
-    let lines = entry_lines entries in
-    let i = c.loop-entry.index in
-    let here = is_here entries i c.loop-entry.at c.in-Some.next (value_of c.in-Some.entry) c.loop-entry.invariant.within c.loop-entry.invariant.place c.in-Some.ensures.found in
-    let many = length-entry_lines entries in
-    let within : i < length lines = omega arith in
-    let is : c.entry_line.result ≡ get_or lines i [] = c.entry_line.ensures.text ∙ entry_line_at entries i (value_of c.in-Some.entry) here.found in
-    on_err _ (wrote_part_of_next _ lines i _ _ _ _ within is c.loop-entry.invariant.so_far c.in_err-write_line.ensures.part)
+    let at = c.loop-entry.invariant in
+    let line = is_next_line _ c.loop-entry.index c.loop-entry.at c.in-Some.next (value_of c.in-Some.entry) c.entry_line.result at.within at.place c.in-Some.ensures.found c.entry_line.ensures.text in
+    on_err _ (wrote_part_of_next _ (entry_lines c.args.block.now.entries) c.loop-entry.index _ _ _ _ line.within line.is at.so_far c.in_err-write_line.ensures.part)
 
 pub loop-entry-preserved : goal.loop-entry-preserved
 loop-entry-preserved g c =
-    let entries = c.args.block.now.entries in
-    let lines = entry_lines entries in
-    let i = c.loop-entry.index in
-    let here = is_here entries i c.loop-entry.at c.in-Some.next (value_of c.in-Some.entry) c.loop-entry.invariant.within c.loop-entry.invariant.place c.in-Some.ensures.found in
-    let many = length-entry_lines entries in
-    let within : i < length lines = omega arith in
-    let is : c.entry_line.result ≡ get_or lines i [] = c.entry_line.ensures.text ∙ entry_line_at entries i (value_of c.in-Some.entry) here.found in
+    let at = c.loop-entry.invariant in
+    let line = is_next_line _ c.loop-entry.index c.loop-entry.at c.in-Some.next (value_of c.in-Some.entry) c.entry_line.result at.within at.place c.in-Some.ensures.found c.entry_line.ensures.text in
+    let few = line.few in
     let on = c.in-Some.ensures.on in
     record {
       within = omega arith;
-      place = here.next_place;
+      place = line.next_place;
       low = omega arith;
-      no_fault = c.in_ok-write_line.ensures.cause.ok ∙ c.loop-entry.invariant.no_fault;
-      so_far = wrote_next _ lines i _ _ _ _ within is c.loop-entry.invariant.so_far c.in_ok-write_line.ensures.all;
+      no_fault = c.in_ok-write_line.ensures.cause.ok ∙ at.no_fault;
+      so_far = wrote_next _ (entry_lines c.args.block.now.entries) c.loop-entry.index _ _ _ _ line.within line.is at.so_far c.in_ok-write_line.ensures.all;
     }
 
 pub returns-clause-all : goal.returns-clause-all
