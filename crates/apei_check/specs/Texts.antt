@@ -1,6 +1,8 @@
 -- What the lines of a script show.
-use Rattle.std.specs.Prelude.{◌≡◌, ℕ, List, [], ◌∷◌, ◌++◌, Ok}
+use Rattle.std.specs.Prelude.{◌≡◌, ℕ, List, [], ◌∷◌, ◌++◌, None, Ok}
 use Rattle.hex.specs.Hex.{decode_of}
+use Rattle.erst_entries.specs.Tables.{refusal as erst_refusal}
+use Rattle.hest_sources.specs.Tables.{refusal as hest_refusal}
 use Rattle.script_lines.specs.Lines.{Line, IsTooLong}
 use Rattle.script_text.specs.CheckGrammar.{CheckedLine, IsCheckLine, blank, comment, erst, hest, bert, one_record, block}
 use Rattle.script_text.specs.CheckText.{IsCheckWritten}
@@ -25,10 +27,16 @@ AreShownBy show (bert hex) shown = ShowsBytes (AreBertLines show) hex shown
 AreShownBy show (one_record hex) shown = ShowsBytes (AreRecordLines show) hex shown
 AreShownBy show (block hex) shown = ShowsBytes (AreBlockLines show) hex shown
 
--- memory is taken for the parts of these tables alone
+-- digits stand for bytes that this is so of
+pub record Stands (Is : List ℕ → Type 0) (hex : List ℕ) : Type 0 where
+  pub bytes : List ℕ
+  pub decoded : decode_of hex ≡ Ok bytes
+  pub is : Is bytes
+
+-- memory is taken for the parts of these tables alone, where bytes begin with one
 abbrev pub TakesMemory : CheckedLine → Type 0
-TakesMemory (erst hex) = Unit {0}
-TakesMemory (hest hex) = Unit {0}
+TakesMemory (erst hex) = Stands (λ bytes. erst_refusal bytes ≡ None) hex
+TakesMemory (hest hex) = Stands (λ bytes. hest_refusal bytes ≡ None) hex
 TakesMemory line = ⊥
 
 -- a line of a script is this one, within the lengths

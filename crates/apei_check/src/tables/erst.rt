@@ -1,8 +1,9 @@
 // The lines of an Error Record Serialization Table.
-ghost use Rattle.std.specs.Prelude.{◌≡◌, ◌≤◌, ◌<◌, ◌^◌, length, Err, OnOk};
+ghost use Rattle.std.specs.Prelude.{◌≡◌, ◌≤◌, ◌<◌, ◌^◌, length, Err, None, OnOk};
 ghost use Rattle.apei_check.specs.Shown.{Shows, ShowsPart, HasStopCause};
 ghost use Rattle.apei_check.specs.TableLines.{erst_line, entry_line};
 ghost use Rattle.apei_check.specs.Tables.{AreErstLines};
+ghost use Rattle.erst_entries.specs.Tables.{refusal};
 
 use crate::text::{CheckStop, InOrder, Numbered, Show, write_refused};
 use apei_bytes::Sink;
@@ -20,7 +21,7 @@ pub fn check_erst<O: Sink>(
 ) -> Result<(), CheckStop>
     ensures shown { OnOk result (Shows O.tells (AreErstLines show bytes.now) (O.written out.old) (O.written out.new)) }
     ensures part { result ≡ Err CheckStop.SinkFault → ShowsPart O.tells (AreErstLines show bytes.now) (O.written out.old) (O.written out.new) }
-    ensures memory { result ≡ Err CheckStop.Memory → out.new ≡ out.old }
+    ensures memory { result ≡ Err CheckStop.Memory → (refusal bytes.now ≡ None) × (out.new ≡ out.old) }
     ensures cause { HasStopCause (O.faults out.old) (O.faults out.new) result }
 {
     match ErstTable::decode(alloc, bytes) {

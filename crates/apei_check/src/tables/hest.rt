@@ -1,10 +1,11 @@
 // The lines of a Hardware Error Source Table.
-ghost use Rattle.std.specs.Prelude.{◌≡◌, ◌≤◌, length, Err, OnOk};
+ghost use Rattle.std.specs.Prelude.{◌≡◌, ◌≤◌, length, Err, None, OnOk};
 ghost use Rattle.apei_check.specs.Shown.{Shows, ShowsPart, HasStopCause};
 ghost use Rattle.apei_check.specs.TableLines.{hest_line, kind_line, source_line};
 ghost use Rattle.apei_check.specs.Tables.{AreHestLines};
 ghost use Rattle.hest_sources.specs.declared.sources.HestSource.TheVariants.{Ghes as Generic};
 ghost use Rattle.hest_sources.specs.Layout.{type_of};
+ghost use Rattle.hest_sources.specs.Tables.{refusal};
 
 use crate::text::{CheckStop, InOrder, Numbered, Show, write_refused};
 use apei_bytes::Sink;
@@ -22,7 +23,7 @@ pub fn check_hest<O: Sink>(
 ) -> Result<(), CheckStop>
     ensures shown { OnOk result (Shows O.tells (AreHestLines show bytes.now) (O.written out.old) (O.written out.new)) }
     ensures part { result ≡ Err CheckStop.SinkFault → ShowsPart O.tells (AreHestLines show bytes.now) (O.written out.old) (O.written out.new) }
-    ensures memory { result ≡ Err CheckStop.Memory → out.new ≡ out.old }
+    ensures memory { result ≡ Err CheckStop.Memory → (refusal bytes.now ≡ None) × (out.new ≡ out.old) }
     ensures cause { HasStopCause (O.faults out.old) (O.faults out.new) result }
 {
     match Hest::decode(alloc, bytes) {
