@@ -106,7 +106,7 @@ pub fn search(table: &[Stretch], windows: &[Window], at: Place) -> Option<(usize
 }
 
 /// The same by a binary search in the order of the addresses. It misses only where memory and I/O are mixed up there.
-#[inline(always)]
+#[inline(never)]
 fn search_many(table: &[Stretch], windows: &[Window], at: Place) -> Option<(usize, u32)>
     requires few { total windows.now < 2 ^ 63 }
     requires apart { AreApart windows.now }
@@ -122,14 +122,5 @@ fn search_many(table: &[Stretch], windows: &[Window], at: Place) -> Option<(usiz
             return Some((stretch.start + (stretch.window.len - room) as usize, room));
         }
     }
-    spot_by_call(windows, at)
-}
-
-/// The same as `spot`, out of the way of those that find a window at once.
-#[inline(never)]
-fn spot_by_call(windows: &[Window], at: Place) -> Option<(usize, u32)>
-    requires { total windows.now < 2 ^ 63 }
-    ensures { result ≡ spot windows.now 0 at }
-{
     spot(windows, at)
 }
