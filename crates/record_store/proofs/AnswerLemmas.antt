@@ -5,15 +5,18 @@ use Rattle.std.specs.FinMap.{get, len}
 use Rattle.std.proofs.lemmas.List.{get_or_default}
 use Rattle.std.proofs.lemmas.Option.{none-some}
 use Rattle.erst_ids.specs.Next.{IsNextAfter}
-use Rattle.record_model.specs.Records.{Entry, selected}
+use Rattle.flash_words.specs.Layout.{Layout}
+use Rattle.record_model.specs.Records.{Entry, Stored, entry_at, selected}
 use Rattle.record_model.specs.RecordMap.{IsNextAbove}
 use Rattle.record_model.proofs.ChosenLemmas.{chosen_or_none, get-chosen, get-no_slot}
 use Rattle.record_recovery.specs.declared.found.Found.{Found}
 use Rattle.record_recovery.specs.declared.found.SlotOf.{SlotOf}
 use Rattle.record_recovery.specs.Listed.{IsPlaceOf, AreListed, IsListed}
 use Rattle.record_recovery.proofs.ListedLemmas.{get-listed, get-unlisted}
-use Rattle.record_store.specs.Index.{IsListing, IsListOf, IsPlaceFound, IsStoredAt}
+use Rattle.record_store.specs.Index.{IsListOf, IsPlaceFound, IsStoredAt}
+use Rattle.record_store.specs.Store.{StoreView, stored}
 use Rattle.record_store.proofs.CountLemmas.{len_stored}
+use Rattle.record_store.proofs.StoreLemmas.{KnowsMap, of_old}
 
 -- what a list has stands at an index of it
 contains_at : (xs : List ℕ) (x : ℕ) → Contains xs x → IsListed xs x
@@ -80,7 +83,34 @@ place_stored entry slots id place is = (
 pub no_place_stored : (entry : ℕ → Option Entry) (slots id : ℕ) → IsPlaceFound entry slots id None → get (selected entry slots) id ≡ None
 no_place_stored entry slots id none = get-no_slot entry slots id none
 
--- a store whose lists have no identifier has no record
-pub none_stored : (entry : ℕ → Option Entry) (slots size : ℕ) (found : Found) → IsListing slots size found → IsListOf entry slots found
-    → length found.ids.items ≡ 0 → len (selected entry slots) ≡ 0
-none_stored entry slots size found listing list none = len_stored entry slots size found listing list ∙ none
+-- What a store that has looked at its slots finds in its lists is what it had at first.
+
+-- how many records
+pub count_before : {tells : Type 0} {old now : StoreView} {found : Found} → KnowsMap tells old now found → tells → len (stored old) ≡ length found.ids.items
+count_before {tells} {old} {now} {found} is told =
+    of_old tells old now found (λ (layout : Layout) (s : Stored). len s ≡ length found.ids.items) is told
+    (len_stored (entry_at now.layout.slot_size now.layout.slots now.flash.told.image) now.layout.slots now.layout.slot_size found is.listing (is.knows told).list)
+
+-- no record of an identifier
+pub none_before : {tells : Type 0} {old now : StoreView} {found : Found} (id : ℕ) → KnowsMap tells old now found → tells
+    → ((entry : ℕ → Option Entry) (slots : ℕ) → IsListOf entry slots found → IsPlaceFound entry slots id None) → get (stored old) id ≡ None
+none_before {tells} {old} {now} {found} id is told none =
+    let entry = entry_at now.layout.slot_size now.layout.slots now.flash.told.image in
+    of_old tells old now found (λ (layout : Layout) (s : Stored). get s id ≡ None) is told (no_place_stored entry now.layout.slots id (none entry now.layout.slots (is.knows told).list))
+
+-- the entry of the slot at the place of an identifier
+pub stored_at : {tells : Type 0} {old now : StoreView} {found : Found} (id : ℕ) (place : SlotOf) → KnowsMap tells old now found → tells
+    → ((entry : ℕ → Option Entry) (slots : ℕ) → IsListOf entry slots found → IsPlaceFound entry slots id (Some place))
+    → (e : Entry) × IsStoredAt (entry_at now.layout.slot_size now.layout.slots now.flash.told.image) now.layout.slots id place e
+stored_at {tells} {old} {now} {found} id place is told placed =
+    let entry = entry_at now.layout.slot_size now.layout.slots now.flash.told.image in
+    place_stored entry now.layout.slots id place (placed entry now.layout.slots (is.knows told).list)
+
+-- and its record
+pub record_before : {tells : Type 0} {old now : StoreView} {found : Found} (id : ℕ) (place : SlotOf) → KnowsMap tells old now found → tells
+    → ((entry : ℕ → Option Entry) (slots : ℕ) → IsListOf entry slots found → IsPlaceFound entry slots id (Some place))
+    → (body : List ℕ) × ((generation : ℕ) × (get (stored old) id ≡ Some (body, generation))) × (place.len ≡ length body)
+record_before {tells} {old} {now} {found} id place is told placed =
+    let had = stored_at id place is told placed in
+    of_old tells old now found (λ (layout : Layout) (s : Stored). (body : List ℕ) × ((generation : ℕ) × (get s id ≡ Some (body, generation))) × (place.len ≡ length body)) is told
+    ((had.0).body, (place.generation, (had.1).stored), sym (had.1).is.len)

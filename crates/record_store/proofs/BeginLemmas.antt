@@ -22,7 +22,7 @@ use Rattle.record_recovery.proofs.FirstRecords.{free_slots-only}
 use Rattle.record_recovery.proofs.TakenLemmas.{least_free}
 use Rattle.record_store.specs.Index.{IsListing, IsPlaceFound}
 use Rattle.record_store.specs.Store.{StoreView, Pending, Idle, Writing, records_of, slots_for, IsReady}
-use Rattle.record_store.specs.Answers.{StartsWrite, RefusesWrite, ReadsExactly, is_flash}
+use Rattle.record_store.specs.Answers.{StartsWrite, RefusesWrite, ReadsExactly, HasDoubtAtStart, HasFaultsOf, EndsCopies, copies_of, is_flash}
 use Rattle.record_store.specs.Calls.{OnlyStarts}
 use Rattle.record_store.specs.Kept.{IsStore, IsWrite, IsUnderWay, Knows, KnowsSlots, KnowsDraft, view_of, pending_of, slots_in}
 use Rattle.record_store.specs.Start.{IsPlanned, IsRefusedBy, ReadsTimes, ReadsToPlan, generation_over}
@@ -31,7 +31,7 @@ use Rattle.record_store.specs.declared.errors.StoreError.TheVariants.{NoSpace, L
 use Rattle.record_store.specs.declared.work.Work.{Work}
 use Rattle.record_store.specs.declared.work.Work.TheVariants as works
 use Rattle.record_store.proofs.StartLemmas.{planned_draft, planned_takes, planned_stands, planned_generation, planned_replaces, planned_newest, planned_taken, first_made, refused_no_space, refused_at_last}
-use Rattle.record_store.proofs.FaultLemmas.{ends_none, ends_refused, ends_read, ends_read_failed}
+use Rattle.record_store.proofs.FaultLemmas.{ends_refused, ends_read, ends_read_failed}
 use Rattle.record_store.proofs.StoreLemmas.{idle_work, ready_inside, looks_ready, starts_by}
 
 -- a slice that was lent is a whole vector again
@@ -179,10 +179,27 @@ same_view geometry flash new doubt pending v is ready same =
     ap (λ (f : FlashState). view_of geometry f false pending) same
     ∙ ap (λ (b : Bool). view_of geometry flash b pending) (sym (ap (λ (u : StoreView). u.in_doubt) is ∙ ready.certain)) ∙ is
 
-starts_none : (tells : Type 0) (v : StoreView) → IsReady v → OnlyStarts tells v v (Err NotFound)
-starts_none tells v ready =
+-- a refusal by the lists, which leaves all as it was
+refused_by_lists : (tells : Type 0) (count : Unit {0} → ℕ) (v : StoreView) (id : ℕ) (bytes : List ℕ) (error : StoreError) → IsReady v → (error ≡ Flash → ⊥) → (tells → RefusesWrite v v id bytes error)
+    → ReadsExactly {T = Unit {0}} tells count v v (Err error) → ((tells → v.flash.steps ≡ v.flash.steps + copies_of v) → tells → EndsCopies {T = Unit {0}} v v (Err error))
+    → HasDoubtAtStart v (Err error) → HasFaultsOf {T = Unit {0}} v.flash.faults v.flash.faults (Err error) → RefusedStart tells count v v id bytes error
+refused_by_lists tells count v id bytes error ready other answer still ended doubt cause =
     let looks = looks_ready {T = Unit {0}} tells v tt ready in
-    record { kept = looks.kept; few = looks.few; ended = looks.ended; at_most = looks.at_most; doubt = ready; alike = looks.alike; power = looks.power; cause = refl; ends = ends_refused v.flash v.flash tt NotFound (λ e. cc) looks.ends }
+    record {
+      answer = answer;
+      still = still;
+      leaves = record {
+        kept = looks.kept;
+        few = looks.few;
+        ended = ended looks.ended;
+        at_most = looks.at_most;
+        doubt = doubt;
+        alike = looks.alike;
+        power = looks.power;
+        cause = cause;
+        ends = ends_refused {T = Unit {0}} v.flash v.flash tt error other looks.ends;
+      };
+    }
 
 pub refused_start : (tells : Type 0) (count : Unit {0} → ℕ) (reads : ℕ) (geometry : Geometry) (flash new : FlashState) (found : Found) (buffer : List ℕ) (doubt : Bool) (work : Work) (v : StoreView) (id : ℕ) (bytes : List ℕ)
     (error : StoreError) (T : Type 0) → IsStore tells geometry flash found buffer doubt work → view_of geometry flash doubt (pending_of (layout_of geometry) buffer work) ≡ v → IsReady v
@@ -190,30 +207,20 @@ pub refused_start : (tells : Type 0) (count : Unit {0} → ℕ) (reads : ℕ) (g
     → ReadsToPlan {T = T} tells reads flash new (Err error)
     → RefusedStart tells count v (view_of geometry new (is_flash error) (pending_of (layout_of geometry) buffer work)) id bytes error
 refused_start tells count reads geometry flash new found buffer doubt work v id bytes (NoSpace free) T store is ready sized by same =
-    let view = same_view geometry flash new doubt (pending_of (layout_of geometry) buffer work) v is ready same in
-    let none = starts_none tells v ready in
-    subst (λ (u : StoreView). RefusedStart tells count v u id bytes (NoSpace free)) (sym view) (record {
-      answer = λ told.
-          subst (λ (u : StoreView). RefusesWrite u u id bytes (NoSpace free)) is
-          (let known = ready_inside tells geometry flash found buffer doubt work v store is ready told in
-          let refused = refused_no_space geometry found flash.told.image id free bytes (by.1).0 by.0 (by.1).1 (by.1).2 (by.1).3 store.listing known (sized told) in
-          (refused.0, refused.1, refl));
-      still = refl;
-      leaves = record { kept = none.kept; few = none.few; ended = none.ended; at_most = none.at_most; doubt = ready; alike = none.alike; power = none.power; cause = refl; ends = ends_refused {T = Unit {0}} v.flash v.flash tt (NoSpace free) (λ e. cc) (ends_none {T = Unit {0}} v.flash tt) };
-    })
+    subst (λ (u : StoreView). RefusedStart tells count v u id bytes (NoSpace free)) (sym (same_view geometry flash new doubt (pending_of (layout_of geometry) buffer work) v is ready same))
+    (refused_by_lists tells count v id bytes (NoSpace free) ready (λ e. cc) (λ told.
+    subst (λ (u : StoreView). RefusesWrite u u id bytes (NoSpace free)) is
+    (let known = ready_inside tells geometry flash found buffer doubt work v store is ready told in
+    let refused = refused_no_space geometry found flash.told.image id free bytes (by.1).0 by.0 (by.1).1 (by.1).2 (by.1).3 store.listing known (sized told) in
+    (refused.0, refused.1, refl))) refl (λ ended. ended) ready refl)
 refused_start tells count reads geometry flash new found buffer doubt work v id bytes (LastGeneration number) T store is ready sized by same =
-    let view = same_view geometry flash new doubt (pending_of (layout_of geometry) buffer work) v is ready same in
-    let none = starts_none tells v ready in
-    subst (λ (u : StoreView). RefusedStart tells count v u id bytes (LastGeneration number)) (sym view) (record {
-      answer = λ told.
-          subst (λ (u : StoreView). RefusesWrite u u id bytes (LastGeneration number)) is
-          (let known = ready_inside tells geometry flash found buffer doubt work v store is ready told in
-          let place = by.2 in
-          let refused = refused_at_last geometry flash.told.image id bytes place.0 by.0 place.1 (place.2 (entry_at geometry.slot_size geometry.slots flash.told.image) known.list) in
-          (refused.0, by.1, refused.1, refl));
-      still = refl;
-      leaves = record { kept = none.kept; few = none.few; ended = none.ended; at_most = none.at_most; doubt = ready; alike = none.alike; power = none.power; cause = refl; ends = ends_refused {T = Unit {0}} v.flash v.flash tt (LastGeneration number) (λ e. cc) (ends_none {T = Unit {0}} v.flash tt) };
-    })
+    subst (λ (u : StoreView). RefusedStart tells count v u id bytes (LastGeneration number)) (sym (same_view geometry flash new doubt (pending_of (layout_of geometry) buffer work) v is ready same))
+    (refused_by_lists tells count v id bytes (LastGeneration number) ready (λ e. cc) (λ told.
+    subst (λ (u : StoreView). RefusesWrite u u id bytes (LastGeneration number)) is
+    (let known = ready_inside tells geometry flash found buffer doubt work v store is ready told in
+    let place = by.2 in
+    let refused = refused_at_last geometry flash.told.image id bytes place.0 by.0 place.1 (place.2 (entry_at geometry.slot_size geometry.slots flash.told.image) known.list) in
+    (refused.0, by.1, refused.1, refl))) refl (λ ended. ended) ready refl)
 refused_start tells count reads geometry flash new found buffer doubt work v id bytes NotFound T store is ready sized by same = absurd by
 refused_start tells count reads geometry flash new found buffer doubt work v id bytes Empty T store is ready sized by same = absurd by
 refused_start tells count reads geometry flash new found buffer doubt work v id bytes Flash T store is ready sized by read =

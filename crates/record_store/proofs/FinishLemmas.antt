@@ -207,29 +207,20 @@ way_crash tells old mid new way told step =
           | inr last ↦ inr (alike_stored image ∙ same ∙ sym (alike_stored mid.flash.told.image) ∙ last)
         ]
 
--- one more change was made
-pub record HasGoneOn (tells : Type 0) (old new : StoreView) : Type 0 where
-  pub left : new.flash.steps + changes_left new.layout new.pending ≡ old.flash.steps + changes_left old.layout old.pending
-  pub faults : new.flash.faults ≡ old.flash.faults
-  pub reads : new.flash.reads ≡ old.flash.reads
-  pub power : new.flash.powered ≡ old.flash.powered
-  pub lit : StaysLit old.flash new.flash
-  pub later : old.flash.steps ≤ new.flash.steps
-  pub alike : DividesAlike old new
-  pub end : tells → map_at_end new.layout new.pending (stored new) ≡ map_at_end old.layout old.pending (stored old)
-  pub crash : tells → KeepsOrMakes old new (map_at_end old.layout old.pending (stored old))
-
-pub gone_on : (tells : Type 0) (old mid new : StoreView) → IsOnWay tells old mid → new.pending ≡ pending_after mid.layout mid.pending
+-- one more change was made, and it was not the last
+pub IsOnWay-more : (tells : Type 0) (old mid new : StoreView) → IsOnWay tells old mid → new.pending ≡ pending_after mid.layout mid.pending → (new.pending ≡ Idle → ⊥)
     → (tells → stored new ≡ map_after mid.layout mid.pending (stored mid)) → (tells → KeepsOrMakes mid new (map_after mid.layout mid.pending (stored mid)))
     → new.flash.steps ≡ mid.flash.steps + 1 → DividesAlike mid new → new.flash.faults ≡ mid.flash.faults → new.flash.reads ≡ mid.flash.reads
-    → {T : Type 0} (x : T) → EndsAtFault {T = T} mid.flash new.flash (Ok x) → HasGoneOn tells old new
-gone_on tells old mid new way pending made crash step alike faults reads x ends =
+    → {T : Type 0} (x : T) → EndsAtFault {T = T} mid.flash new.flash (Ok x) → IsOnWay tells old new
+IsOnWay-more tells old mid new way pending goes_on made crash step alike faults reads x ends =
     let layout : new.layout ≡ mid.layout = alike.layout in
     let at_new : changes_left new.layout new.pending ≡ changes_left mid.layout (pending_after mid.layout mid.pending) =
     ap (λ (l : Layout). changes_left l new.pending) layout ∙ ap (changes_left mid.layout) pending in
     let one = step_left mid.layout mid.pending way.unfinished in
     let left = way.left in
     record {
+      unfinished = subst (λ (l : Layout). IsUnfinished l new.pending) (sym layout)
+          (subst (λ (p : Pending). IsUnfinished mid.layout p) (sym pending) (step_unfinished mid.layout mid.pending way.unfinished (λ idle. goes_on (pending ∙ idle))));
       left = omega arith;
       faults = faults ∙ way.faults;
       reads = reads ∙ way.reads;
@@ -237,6 +228,11 @@ gone_on tells old mid new way pending made crash step alike faults reads x ends 
       lit = lit_then old.flash mid.flash new.flash way.power way.lit ends.lit;
       later = let before = way.later in omega arith;
       alike = alike_then old mid new way.alike alike;
+      places = λ image at_end. way.places image
+          (subst (λ (l : Layout). PlacedAtEnd l mid.pending image) way.alike.layout
+          (step_places mid.layout mid.pending way.unfinished (λ idle. goes_on (pending ∙ idle)) image
+          (subst (λ (l : Layout). PlacedAtEnd l (pending_after mid.layout mid.pending) image) (sym way.alike.layout)
+          (subst (λ (p : Pending). PlacedAtEnd old.layout p image) pending at_end))));
       end = λ told.
           ap (λ (l : Layout). map_at_end l new.pending (stored new)) layout ∙ ap (λ (p : Pending). map_at_end mid.layout p (stored new)) pending
           ∙ ap (map_at_end mid.layout (pending_after mid.layout mid.pending)) (made told)
@@ -244,29 +240,7 @@ gone_on tells old mid new way pending made crash step alike faults reads x ends 
       crash = λ told. way_crash tells old mid new way told (crash told);
     }
 
--- and it was not the last
-pub IsOnWay-more : (tells : Type 0) (old mid new : StoreView) → IsOnWay tells old mid → new.pending ≡ pending_after mid.layout mid.pending → (new.pending ≡ Idle → ⊥) → new.layout ≡ mid.layout
-    → HasGoneOn tells old new → IsOnWay tells old new
-IsOnWay-more tells old mid new way pending goes_on layout gone = record {
-  unfinished = subst (λ (l : Layout). IsUnfinished l new.pending) (sym layout)
-      (subst (λ (p : Pending). IsUnfinished mid.layout p) (sym pending) (step_unfinished mid.layout mid.pending way.unfinished (λ idle. goes_on (pending ∙ idle))));
-  left = gone.left;
-  faults = gone.faults;
-  reads = gone.reads;
-  power = gone.power;
-  lit = gone.lit;
-  later = gone.later;
-  alike = gone.alike;
-  places = λ image at_end. way.places image
-      (subst (λ (l : Layout). PlacedAtEnd l mid.pending image) way.alike.layout
-      (step_places mid.layout mid.pending way.unfinished (λ idle. goes_on (pending ∙ idle)) image
-      (subst (λ (l : Layout). PlacedAtEnd l (pending_after mid.layout mid.pending) image) (sym way.alike.layout)
-      (subst (λ (p : Pending). PlacedAtEnd old.layout p image) pending at_end))));
-  end = gone.end;
-  crash = gone.crash;
-}
-
--- and it was: the record that was written is in its slots
+-- and where it was, the record that was written is in its slots
 pub way_placed : (tells : Type 0) (old mid new : StoreView) → IsOnWay tells old mid → new.pending ≡ pending_after mid.layout mid.pending → new.pending ≡ Idle
     → PlacedAfter mid.layout mid.pending new.flash.told.image → PlacedAtEnd old.layout old.pending new.flash.told.image
 way_placed tells old mid new way pending ends placed =

@@ -72,14 +72,4 @@ reads_ok tells n total old new x had is some = record {
 
 -- what a single call that reads says
 pub reads_of_ok : {T E : Type 0} (tells : Type 0) (k : ℕ) (old new : FlashState) (x : T) → OnlyReads {T = T} {E = E} tells k old new (Ok x) → ReadsTimes {T = T} {E = E} tells k old new (Ok x)
-reads_of_ok tells k old new x stays = record {
-  told = stays.told;
-  size = stays.size;
-  sector_size = stays.sector_size;
-  steps = stays.steps;
-  power = stays.power;
-  lit = stays.lit;
-  counted = stays.counted;
-  cause = stays.cause;
-  once = tt;
-}
+reads_of_ok tells k old new x stays = record { told = stays.told; size = stays.size; sector_size = stays.sector_size; steps = stays.steps; power = stays.power; lit = stays.lit; counted = stays.counted; cause = stays.cause; once = tt }

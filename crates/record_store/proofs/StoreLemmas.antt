@@ -84,10 +84,10 @@ kept_map old now kept alike =
     ap (λ (layout : Layout). records_of layout now.flash.told.image) alike.layout
     ∙ Leaves-exit old.flash.told now.flash.told (λ image. records_of old.layout image ≡ stored old) kept
 
-pub looked : {T : Type 0} (tells : Type 0) (geometry : Geometry) (flash : FlashState) (found : Found) (buffer : List ℕ) (doubt : Bool) (work : Work) (old now : StoreView) (x : T)
+pub looked : {T : Type 0} {tells : Type 0} {geometry : Geometry} {flash : FlashState} {found : Found} {buffer : List ℕ} {doubt : Bool} {work : Work} {old now : StoreView} {x : T}
     → IsStore tells geometry flash found buffer doubt work → view_of geometry flash doubt (pending_of (layout_of geometry) buffer work) ≡ now
     → OnlyLooks {T = T} tells old now (Ok x) → KnowsMap tells old now found
-looked tells geometry flash found buffer doubt work old now x store is leaves = record {
+looked {T} {tells} {geometry} {flash} {found} {buffer} {doubt} {work} {old} {now} store is leaves = record {
   listing = subst (λ (u : StoreView). IsListing u.layout.slots u.layout.slot_size found) is store.listing;
   knows = λ told. ready_knows tells geometry flash found buffer doubt work now store is leaves.doubt told;
   layout = leaves.alike.layout;

@@ -9,7 +9,7 @@ use Rattle.base_model.specs.Bytes.{SameOutside, number_at}
 use Rattle.base_model.proofs.BytesLemmas.{SameOutside-wider, SameOutside-refl, SameOutside-none}
 use Rattle.flash_model.specs.declared.geometry.Geometry.{Geometry}
 use Rattle.flash_model.specs.Layouts.{layout_of}
-use Rattle.flash_words.specs.Flash.{Told, Leaves, MayChange}
+use Rattle.flash_words.specs.Flash.{Told, Leaves, MayChange, IsErased}
 use Rattle.flash_words.specs.Layout.{Layout, reach_of}
 use Rattle.flash_words.proofs.CrashLemmas.{Leaves-weaker, Leaves-exit}
 use Rattle.record_model.specs.Records.{Entry, Stored, entry_at, entry_of, slot_at, head_at, is_up, selected, stored_in, parts_of, part_len, is_taken, holds, IsChosen, OnlyFirstUp, NearlyOnlyFirstUp, DiffersInFreeSlot, gate_open, kill_mark}
@@ -38,6 +38,7 @@ use Rattle.record_recovery.specs.declared.found.Found.{Found}
 use Rattle.record_recovery.specs.declared.found.SlotOf.{SlotOf}
 use Rattle.record_recovery.specs.Listed.{IsWithin}
 use Rattle.record_recovery.proofs.OpenedLemmas.{IsChosen-opened}
+use Rattle.record_recovery.proofs.SettledLemmas.{kill_can}
 use Rattle.record_store.specs.Index.{IsListOf, HasOpened, HasLost, HasItsParts, IsEntryOf, IsOlderCopy, IsOnlyCopy, IsPlaceFound}
 use Rattle.record_store.specs.Store.{Pending, Idle, Writing, records_of, IsAt, map_after, pending_after, changes_before_gate, changes_in_all}
 use Rattle.record_store.specs.Kept.{KnowsDraft, KnowsOldCopy, KnowsCleared, IsWrite, MayMake, HasMade, pending_of, work_after, slots_in, further_in, opened_place}
@@ -410,6 +411,14 @@ pub up_here : (size slots k : ℕ) (image : List ℕ) (e : Entry) → entry_at s
 unfolding entry_at
 up_here size slots k image e here = up_entry (size - 64) slots (slot_at size image) k e here
 
+-- so it can be killed
+pub can_be_killed : (geometry : Geometry) (slot : ℕ) (image : List ℕ) (e : Entry) → length image ≡ geometry.slot_size * geometry.slots → entry_at geometry.slot_size geometry.slots image slot ≡ Some e
+    → IsErased image (slot * geometry.slot_size + 1) 1
+can_be_killed geometry slot image e sized here =
+    let large = large_slot geometry in
+    let up = up_here geometry.slot_size geometry.slots slot image e here in
+    kill_can geometry.slot_size geometry.slots slot image (omega arith) up.0 sized up.1
+
 -- a slot was killed
 pub kill_lost : (geometry : Geometry) (slot : ℕ) (old new : List ℕ) (e : Entry) → entry_at geometry.slot_size geometry.slots old slot ≡ Some e → SameOutside (slot * geometry.slot_size + 1) 1 old new
     → number_at new (slot * geometry.slot_size + 1) 1 ≡ kill_mark → HasLost (entry_at geometry.slot_size geometry.slots old) (entry_at geometry.slot_size geometry.slots new) geometry.slots slot e
@@ -496,56 +505,57 @@ pub old_copy_spare : (geometry : Geometry) (found : Found) (draft : Draft) (plac
 old_copy_spare geometry found draft place old new known change =
     killed_nearly geometry place.slot old new (up_here geometry.slot_size geometry.slots place.slot old.image known.lost known.here).1 known.others change
 
--- the lists after the older record was killed
-pub old_copy_list : (geometry : Geometry) (found after : Found) (draft : Draft) (place : SlotOf) (old new : List ℕ) → length old ≡ geometry.slot_size * geometry.slots
+-- the lists without an older record
+abbrev pub EndsOlder : Geometry → Found → Found → SlotOf → Type 0
+EndsOlder geometry found after place = (entry other : ℕ → Option Entry) (id : ℕ) (lost : Entry) → HasLost entry other geometry.slots place.slot lost → IsEntryOf id place lost
+    → HasItsParts (geometry.slot_size - 64) lost → IsOlderCopy entry geometry.slots place.slot lost → IsListOf entry geometry.slots found → IsListOf other geometry.slots after
+
+old_copy_list : (geometry : Geometry) (found after : Found) (draft : Draft) (place : SlotOf) (old new : List ℕ) → length old ≡ geometry.slot_size * geometry.slots
     → KnowsOldCopy geometry found old draft place → SameOutside (place.slot * geometry.slot_size + 1) 1 old new → number_at new (place.slot * geometry.slot_size + 1) 1 ≡ kill_mark
-    → ((entry other : ℕ → Option Entry) (id : ℕ) (lost : Entry) → HasLost entry other geometry.slots place.slot lost → IsEntryOf id place lost
-    → HasItsParts (geometry.slot_size - 64) lost → IsOlderCopy entry geometry.slots place.slot lost → IsListOf entry geometry.slots found → IsListOf other geometry.slots after)
-    → IsListOf (entry_at geometry.slot_size geometry.slots new) geometry.slots after
+    → EndsOlder geometry found after place → IsListOf (entry_at geometry.slot_size geometry.slots new) geometry.slots after
 old_copy_list geometry found after draft place old new sized known same mark lists =
     lists (entry_at geometry.slot_size geometry.slots old) (entry_at geometry.slot_size geometry.slots new) draft.id known.lost
     (kill_lost geometry place.slot old new known.lost known.here same mark) known.is (its_parts geometry old place.slot known.lost sized known.here)
     (older_of geometry found old draft place known) known.list
 
-pub old_copy_made : (tells : Type 0) (geometry : Geometry) (before found : Found) (buffer : List ℕ) (draft : Draft) (place : SlotOf) (old new : List ℕ)
-    → (tells → KnowsOldCopy geometry before old draft place) → (tells → SameOutside (place.slot * geometry.slot_size + 1) 1 old new) → (tells → number_at new (place.slot * geometry.slot_size + 1) 1 ≡ kill_mark)
-    → (tells → IsListOf (entry_at geometry.slot_size geometry.slots new) geometry.slots found)
-    → HasMade tells geometry buffer old new found (OldCopy draft place) Nothing
-old_copy_made tells geometry before found buffer draft place old new knows same mark list = record {
+pub old_copy_made : (tells : Type 0) (geometry : Geometry) (before found : Found) (buffer : List ℕ) (draft : Draft) (place : SlotOf) (old new : Told) → (tells → length old.image ≡ geometry.slot_size * geometry.slots)
+    → (tells → KnowsOldCopy geometry before old.image draft place) → (tells → MayChange (place.slot * geometry.slot_size + 1) 1 old new) → (tells → number_at new.image (place.slot * geometry.slot_size + 1) 1 ≡ kill_mark)
+    → EndsOlder geometry before found place → HasMade tells geometry buffer old.image new.image found (OldCopy draft place) Nothing
+old_copy_made tells geometry before found buffer draft place old new sized knows may mark lists = record {
   form = tt;
-  pending = old_copy_ends layout draft.id (take draft.len buffer) (slots_in draft);
+  pending = old_copy_ends (layout_of geometry) draft.id (take draft.len buffer) (slots_in draft);
   knows = λ told.
       let known = knows told in
       record {
-        list = list told;
-        only = spare_killed geometry.slot_size geometry.slots place.slot old new large (up told) known.others (same told) (killed_is_not_erased (mark told));
+        list = old_copy_list geometry before found draft place old.image new.image (sized told) known (same told) (mark told) lists;
+        only = spare_killed geometry.slot_size geometry.slots place.slot old.image new.image large (up told) known.others (same told) (killed_is_not_erased (mark told));
       };
   made = λ told.
-      scan_kill geometry.slot_size geometry.slots place.slot old new large (low told) (up told) (older_not_first geometry before old draft place (knows told)) (same told)
-      ∙ sym (after_gate layout draft.id (take draft.len buffer) (slots_in draft) (records_of layout old));
+      scan_kill geometry.slot_size geometry.slots place.slot old.image new.image large (low told) (up told) (older_not_first geometry before old.image draft place (knows told)) (same told)
+      ∙ sym (after_gate (layout_of geometry) draft.id (take draft.len buffer) (slots_in draft) (records_of (layout_of geometry) old.image));
   placed = λ told late.
       let known = knows told in
-      let lost = kill_lost geometry place.slot old new known.lost known.here (same told) (mark told) in
+      let lost = kill_lost geometry place.slot old.image new.image known.lost known.here (same told) (mark told) in
       record {
         entry = known.newer.entry;
         of_id = known.newer.of_id;
         in_further = known.newer.in_further;
-        chosen = IsChosen-without (entry_at geometry.slot_size geometry.slots old) (entry_at geometry.slot_size geometry.slots new) geometry.slots place.slot (get_or draft.slots 0 0) known.newer.entry
+        chosen = IsChosen-without (entry_at geometry.slot_size geometry.slots old.image) (entry_at geometry.slot_size geometry.slots new.image) geometry.slots place.slot (get_or draft.slots 0 0) known.newer.entry
             lost.same lost.gone known.apart known.newer.chosen;
       };
 }
   where
-    layout : Layout
-    layout = layout_of geometry
+    same : tells → SameOutside (place.slot * geometry.slot_size + 1) 1 old.image new.image
+    same told = MayChange-same (place.slot * geometry.slot_size + 1) 1 old new (may told)
 
     large : 64 ≤ geometry.slot_size
     large = omega (arith, geometry.least_slot)
 
     low : tells → place.slot < geometry.slots
-    low told = (up_here geometry.slot_size geometry.slots place.slot old (knows told).lost (knows told).here).0
+    low told = (up_here geometry.slot_size geometry.slots place.slot old.image (knows told).lost (knows told).here).0
 
-    up : tells → is_up (geometry.slot_size - 64) geometry.slots (slot_at geometry.slot_size old place.slot) ≡ true
-    up told = (up_here geometry.slot_size geometry.slots place.slot old (knows told).lost (knows told).here).1
+    up : tells → is_up (geometry.slot_size - 64) geometry.slots (slot_at geometry.slot_size old.image place.slot) ≡ true
+    up told = (up_here geometry.slot_size geometry.slots place.slot old.image (knows told).lost (knows told).here).1
 
 -- the clearing
 made_by-clear : (id : ℕ) (stored : Stored) → made_by (clear id) stored ≡ remove stored id
@@ -583,40 +593,42 @@ unfolding entry_at
 only_copy geometry found id place image known k e h at_k is =
     only_single (geometry.slot_size - 64) geometry.slots (slot_at geometry.slot_size image) known.slots.only k place.slot e known.held.chosen h (known.held.is).within at_k (known.held.is).here (is ∙ sym known.held.of_id)
 
-pub cleared_list : (geometry : Geometry) (found after : Found) (id : ℕ) (place : SlotOf) (old new : List ℕ) → length old ≡ geometry.slot_size * geometry.slots
+-- the lists without a record
+abbrev pub EndsRecord : Geometry → Found → Found → ℕ → Type 0
+EndsRecord geometry found after id = (entry other : ℕ → Option Entry) (j : ℕ) (lost : Entry) → j < geometry.slots → HasLost entry other geometry.slots j lost → lost.id ≡ id
+    → HasItsParts (geometry.slot_size - 64) lost → IsOnlyCopy entry geometry.slots j id → IsListOf entry geometry.slots found → IsListOf other geometry.slots after
+
+cleared_list : (geometry : Geometry) (found after : Found) (id : ℕ) (place : SlotOf) (old new : List ℕ) → length old ≡ geometry.slot_size * geometry.slots
     → KnowsCleared geometry found old id place → SameOutside (place.slot * geometry.slot_size + 1) 1 old new → number_at new (place.slot * geometry.slot_size + 1) 1 ≡ kill_mark
-    → ((entry other : ℕ → Option Entry) (j : ℕ) (lost : Entry) → j < geometry.slots → HasLost entry other geometry.slots j lost → lost.id ≡ id
-    → HasItsParts (geometry.slot_size - 64) lost → IsOnlyCopy entry geometry.slots j id → IsListOf entry geometry.slots found → IsListOf other geometry.slots after)
-    → IsListOf (entry_at geometry.slot_size geometry.slots new) geometry.slots after
+    → EndsRecord geometry found after id → IsListOf (entry_at geometry.slot_size geometry.slots new) geometry.slots after
 cleared_list geometry found after id place old new sized known same mark lists =
     let held = known.held in
     lists (entry_at geometry.slot_size geometry.slots old) (entry_at geometry.slot_size geometry.slots new) place.slot held.chosen (held.is).within
     (kill_lost geometry place.slot old new held.chosen (held.is).here same mark) held.of_id (its_parts geometry old place.slot held.chosen sized (held.is).here)
     (only_copy geometry found id place old known) known.slots.list
 
-pub cleared_made : (tells : Type 0) (geometry : Geometry) (before found : Found) (buffer : List ℕ) (id : ℕ) (place : SlotOf) (old new : List ℕ)
-    → (tells → KnowsCleared geometry before old id place) → (tells → SameOutside (place.slot * geometry.slot_size + 1) 1 old new) → (tells → number_at new (place.slot * geometry.slot_size + 1) 1 ≡ kill_mark)
-    → (tells → IsListOf (entry_at geometry.slot_size geometry.slots new) geometry.slots found)
-    → HasMade tells geometry buffer old new found (Clear id place) Nothing
-cleared_made tells geometry before found buffer id place old new knows same mark list = record {
+pub cleared_made : (tells : Type 0) (geometry : Geometry) (before found : Found) (buffer : List ℕ) (id : ℕ) (place : SlotOf) (old new : Told) → (tells → length old.image ≡ geometry.slot_size * geometry.slots)
+    → (tells → KnowsCleared geometry before old.image id place) → (tells → MayChange (place.slot * geometry.slot_size + 1) 1 old new) → (tells → number_at new.image (place.slot * geometry.slot_size + 1) 1 ≡ kill_mark)
+    → EndsRecord geometry before found id → HasMade tells geometry buffer old.image new.image found (Clear id place) Nothing
+cleared_made tells geometry before found buffer id place old new sized knows may mark lists = record {
   form = tt;
   pending = refl;
   knows = λ told.
       let known = knows told in
       record {
-        list = list told;
-        only = spare_killed geometry.slot_size geometry.slots place.slot old new large
-            (up_here geometry.slot_size geometry.slots place.slot old known.held.chosen (known.held.is).here).1 (λ k h apart up. only_each geometry.slot_size geometry.slots old known.slots.only k h up) (same told) (killed_is_not_erased (mark told));
+        list = cleared_list geometry before found id place old.image new.image (sized told) known (same told) (mark told) lists;
+        only = spare_killed geometry.slot_size geometry.slots place.slot old.image new.image large
+            (up_here geometry.slot_size geometry.slots place.slot old.image known.held.chosen (known.held.is).here).1 (λ k h apart up. only_each geometry.slot_size geometry.slots old.image known.slots.only k h up) (same told) (killed_is_not_erased (mark told));
       };
   made = λ told.
       let known = knows told in
-      cleared_is id (records_of layout old) (records_of layout new) known.held.chosen known.held.of_id
-      (cleared geometry.slot_size geometry.slots place.slot old new known.held.chosen large known.slots.only (known.held.is).here (same told) (mark told));
+      cleared_is id (records_of (layout_of geometry) old.image) (records_of (layout_of geometry) new.image) known.held.chosen known.held.of_id
+      (cleared geometry.slot_size geometry.slots place.slot old.image new.image known.held.chosen large known.slots.only (known.held.is).here (same told) (mark told));
   placed = λ told. tt;
 }
   where
-    layout : Layout
-    layout = layout_of geometry
+    same : tells → SameOutside (place.slot * geometry.slot_size + 1) 1 old.image new.image
+    same told = MayChange-same (place.slot * geometry.slot_size + 1) 1 old new (may told)
 
     large : 64 ≤ geometry.slot_size
     large = omega (arith, geometry.least_slot)

@@ -1,6 +1,6 @@
 use Rattle.std.proofs.Common.{inl, inr}
 use Rattle.std.proofs.lemmas.Bool.{both_ways}
-use Rattle.record_store.proofs.FinishLemmas.{IsOnWay-none, way_crash, way_placed, gone_on, IsOnWay-more}
+use Rattle.record_store.proofs.FinishLemmas.{IsOnWay-none, way_crash, way_placed, IsOnWay-more}
 use Rattle.record_store.proofs.store.Store.finish.Goals as goal
 
 pub loop-init : goal.loop-init
@@ -15,9 +15,7 @@ loop-preserved g c =
     let stepped = c.in_ok-step.ensures.stepped in
     IsOnWay-more g.F.Flash.tells c.args.self.now c.loop.self c.step.new.self c.loop.invariant stepped.1
     (λ idle. elim stepped.2 [ inl last ↦ absurd (both_ways c.in_ok-step.field-0 c.if-not-branch.true last) | inr more ↦ more.1 idle ])
-    c.step.ensures.alike.layout
-    (gone_on g.F.Flash.tells c.args.self.now c.loop.self c.step.new.self c.loop.invariant stepped.1 c.in_ok-step.ensures.answer c.step.ensures.crash
-    c.in_ok-step.ensures.one c.step.ensures.alike c.in_ok-step.ensures.cause c.step.ensures.reads c.in_ok-step.field-0 c.in_ok-step.ensures.ends)
+    c.in_ok-step.ensures.answer c.step.ensures.crash c.in_ok-step.ensures.one c.step.ensures.alike c.in_ok-step.ensures.cause c.step.ensures.reads c.in_ok-step.field-0 c.in_ok-step.ensures.ends
 
 pub returns-clause-crash : goal.returns-clause-crash
 returns-clause-crash g c tells =

@@ -6,8 +6,7 @@ use Rattle.record_store.proofs.store.Store.next.Goals as goal
 
 pub returns-clause-answer : goal.returns-clause-answer
 returns-clause-answer g c tells =
-    let i = c.self.inside in
     let now = c.settle.new.self in
-    let is = looked g.F.Flash.tells i.geometry (g.F.Flash.state i.flash) i.found i.buffer.items i.in_doubt i.work c.args.self.now now _ c.self.invariant c.self.view_is c.in_ok-settle.ensures.leaves in
-    of_old g.F.Flash.tells c.args.self.now now i.found (λ (layout : Layout) (s : Stored). IsNextAbove c.args.cursor s c.next_id.result) is tells
+    let is = looked c.self.invariant c.self.view_is c.in_ok-settle.ensures.leaves in
+    of_old g.F.Flash.tells c.args.self.now now c.self.inside.found (λ (layout : Layout) (s : Stored). IsNextAbove c.args.cursor s c.next_id.result) is tells
     (c.next_id.ensures.next (entry_at now.layout.slot_size now.layout.slots now.flash.told.image) now.layout.slots (is.knows tells).list)

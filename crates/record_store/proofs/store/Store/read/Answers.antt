@@ -1,58 +1,42 @@
 use Rattle.std.proofs.Common.{◌≡◌, ℕ, ◌-◌, ◌<◌, ◌≤◌, true, List, ◌++◌, length, drop, Some, refl, sym, ap, subst, ◌∙◌, arith}
 use Rattle.std.specs.Prelude.{vec_len}
-use Rattle.std.specs.FinMap.{get}
+use Rattle.std.specs.FinMap.{get, len}
 use Rattle.std.proofs.lemmas.Bool.{eqb-true, eqb-false}
 use Rattle.flash_words.specs.Layout.{Layout, reach_of}
-use Rattle.record_model.specs.Records.{Stored, entry_at, selected}
-use Rattle.record_model.specs.RecordMap.{Read, NotFound, Empty, refusal_of}
+use Rattle.record_model.specs.Records.{Stored, entry_at}
 use Rattle.record_model.proofs.RefusalLemmas.{read_empty, read_missing}
 use Rattle.record_store.specs.Index.{IsStoredAt}
-use Rattle.record_store.specs.Store.{StoreView}
+use Rattle.record_store.specs.Store.{StoreView, stored}
 use Rattle.flash_model.specs.Layouts.{layout_of}
 use Rattle.record_store.specs.Kept.{IsStore, pending_of}
-use Rattle.record_store.proofs.AnswerLemmas.{place_stored, no_place_stored, none_stored}
+use Rattle.record_store.proofs.AnswerLemmas.{count_before, none_before, stored_at, record_before}
 use Rattle.record_store.proofs.BeginLemmas.{written_back}
-use Rattle.record_store.proofs.CountLemmas.{len_stored}
 use Rattle.record_store.proofs.PartLemmas.{bytes_are}
 use Rattle.record_store.proofs.StoreLemmas.{looked, of_old, read_store, read_leaves, read_failed_leaves, read_still, read_reads}
 use Rattle.record_store.proofs.store.Store.read.Goals as goal
 
 pub returns-then-is_empty-clause-answer : goal.returns-then-is_empty-clause-answer
 returns-then-is_empty-clause-answer g c tells =
-    let i = c.self.inside in
-    let now = c.settle.new.self in
-    let is = looked g.F.Flash.tells i.geometry (g.F.Flash.state i.flash) i.found i.buffer.items i.in_doubt i.work c.args.self.now now _ c.self.invariant c.self.view_is c.in_ok-settle.ensures.leaves in
-    let entry = entry_at now.layout.slot_size now.layout.slots now.flash.told.image in
-    let none : vec_len i.found.ids ≡ 0 = eqb-true (vec_len i.found.ids) 0 (sym c.if-is_empty.ensures) in (
-      of_old g.F.Flash.tells c.args.self.now now i.found (λ (layout : Layout) (s : Stored). refusal_of layout (Read c.args.id) s ≡ Some Empty) is tells
-          (read_empty now.layout c.args.id (selected entry now.layout.slots) (none_stored entry now.layout.slots now.layout.slot_size i.found is.listing (is.knows tells).list (omega (arith, i.found.ids.ok.0)))),
-      refl,
-    )
+    let ids = c.self.inside.found.ids in
+    let none : vec_len ids ≡ 0 = eqb-true (vec_len ids) 0 (sym c.if-is_empty.ensures) in
+    let long : len (stored c.args.self.now) ≡ length ids.items = count_before (looked c.self.invariant c.self.view_is c.in_ok-settle.ensures.leaves) tells in
+    (read_empty c.args.self.now.layout c.args.id (stored c.args.self.now) (omega (arith, ids.ok.0)), refl)
 
 pub returns-in_default-clause-answer : goal.returns-in_default-clause-answer
 returns-in_default-clause-answer g c tells =
-    let i = c.self.inside in
-    let now = c.settle.new.self in
-    let is = looked g.F.Flash.tells i.geometry (g.F.Flash.state i.flash) i.found i.buffer.items i.in_doubt i.work c.args.self.now now _ c.self.invariant c.self.view_is c.in_ok-settle.ensures.leaves in
-    let entry = entry_at now.layout.slot_size now.layout.slots now.flash.told.image in
-    let some = eqb-false (vec_len i.found.ids) 0 (sym c.if-is_empty.ensures) in
-    let long = len_stored entry now.layout.slots now.layout.slot_size i.found is.listing (is.knows tells).list in (
-      of_old g.F.Flash.tells c.args.self.now now i.found (λ (layout : Layout) (s : Stored). refusal_of layout (Read c.args.id) s ≡ Some NotFound) is tells
-          (read_missing now.layout c.args.id (selected entry now.layout.slots) (λ none. some (omega (arith, i.found.ids.ok.0))) c.place_of.ensures.allowed
-          (no_place_stored entry now.layout.slots c.args.id (c.in_default.ensures.place entry now.layout.slots (is.knows tells).list))),
+    let ids = c.self.inside.found.ids in
+    let is = looked c.self.invariant c.self.view_is c.in_ok-settle.ensures.leaves in
+    let some = eqb-false (vec_len ids) 0 (sym c.if-is_empty.ensures) in
+    let long : len (stored c.args.self.now) ≡ length ids.items = count_before is tells in (
+      read_missing c.args.self.now.layout c.args.id (stored c.args.self.now) (λ none. some (omega (arith, ids.ok.0))) c.place_of.ensures.allowed
+          (none_before c.args.id is tells c.in_default.ensures.place),
       refl,
     )
 
 pub returns-then-out-size-clause-answer : goal.returns-then-out-size-clause-answer
 returns-then-out-size-clause-answer g c tells =
-    let i = c.self.inside in
-    let now = c.settle.new.self in
-    let is = looked g.F.Flash.tells i.geometry (g.F.Flash.state i.flash) i.found i.buffer.items i.in_doubt i.work c.args.self.now now _ c.self.invariant c.self.view_is c.in_ok-settle.ensures.leaves in
-    let entry = entry_at now.layout.slot_size now.layout.slots now.flash.told.image in
-    let had = place_stored entry now.layout.slots c.args.id c.in-Some.place (c.in-Some.ensures.place entry now.layout.slots (is.knows tells).list) in (
-      of_old g.F.Flash.tells c.args.self.now now i.found
-          (λ (layout : Layout) (s : Stored). (body : List ℕ) × ((generation : ℕ) × (get s c.args.id ≡ Some (body, generation))) × (c.from.result ≡ length body)) is tells
-          ((had.0).body, (c.in-Some.place.generation, (had.1).stored), c.from.ensures ∙ sym (had.1).is.len),
+    let had = record_before c.args.id c.in-Some.place (looked c.self.invariant c.self.view_is c.in_ok-settle.ensures.leaves) tells c.in-Some.ensures.place in (
+      (had.0, had.1, c.from.ensures ∙ had.2),
       subst (λ (n : ℕ). length c.args.out.now < n) (sym c.from.ensures) c.if-out-size.true,
       refl,
     )
@@ -60,12 +44,10 @@ returns-then-out-size-clause-answer g c tells =
 pub returns-in-Ok-clause-answer : goal.returns-in-Ok-clause-answer
 returns-in-Ok-clause-answer g c tells =
     let i = c.self.inside in
-    let now = c.settle.new.self in
-    let is = looked g.F.Flash.tells i.geometry (g.F.Flash.state i.flash) i.found i.buffer.items i.in_doubt i.work c.args.self.now now _ c.self.invariant c.self.view_is c.in_ok-settle.ensures.leaves in
-    let entry = entry_at now.layout.slot_size now.layout.slots now.flash.told.image in
-    let had = place_stored entry now.layout.slots c.args.id c.in-Some.place (c.in-Some.ensures.place entry now.layout.slots (is.knows tells).list) in
+    let is = looked c.self.invariant c.self.view_is c.in_ok-settle.ensures.leaves in
+    let had = stored_at c.args.id c.in-Some.place is tells c.in-Some.ensures.place in
     let inside = subst (λ (v : StoreView). IsStoredAt (entry_at v.layout.slot_size v.layout.slots v.flash.told.image) v.layout.slots c.args.id c.in-Some.place had.0) (sym c.self.view_is) had.1 in
-    of_old g.F.Flash.tells c.args.self.now now i.found
+    of_old g.F.Flash.tells c.args.self.now c.settle.new.self i.found
     (λ (layout : Layout) (s : Stored). (body : List ℕ) × ((generation : ℕ) × (get s c.args.id ≡ Some (body, generation))) × (c.in-Some.place.len ≡ length body) × (c.read_record.new.out ≡ body ++ drop c.in-Some.place.len c.args.out.now)) is tells (
       (had.0).body,
       (c.in-Some.place.generation, (had.1).stored),
