@@ -95,16 +95,19 @@ is_record_head bytes h k = record {
 }
 
 pub is_section_head : (bytes : List ℕ) → AreBytes bytes → length bytes ≡ 72 → IsSectionHead (section_head_at bytes)
-is_section_head bytes h k = record {
-  revision = number_at-lt bytes 8 2 h (omega arith);
-  validation = number_at-lt bytes 10 1 h (omega arith);
-  reserved = number_at-lt bytes 11 1 h (omega arith);
-  flags = number_at-lt bytes 12 4 h (omega arith);
-  kind = length-part bytes 16 16 (omega arith);
-  fru = length-part bytes 32 16 (omega arith);
-  severity = number_at-lt bytes 48 4 h (omega arith);
-  fru_text = length-part bytes 52 20 (omega arith);
-}
+is_section_head bytes h k =
+    let number = λ (at n : ℕ) (within : at + n ≤ 72). number_at-lt bytes at n h (omega arith) in
+    let field = λ (at n : ℕ) (within : at + n ≤ 72). length-part bytes at n (omega arith) in
+    record {
+      revision = number 8 2 (omega arith);
+      validation = number 10 1 (omega arith);
+      reserved = number 11 1 (omega arith);
+      flags = number 12 4 (omega arith);
+      kind = field 16 16 (omega arith);
+      fru = field 32 16 (omega arith);
+      severity = number 48 4 (omega arith);
+      fru_text = field 52 20 (omega arith);
+    }
 
 -- the fields of a descriptor, spelled again, where its body has the length that it says
 descriptor_again : (bytes d : List ℕ) → AreBytes d → length d ≡ 72 → number_at d 0 4 + number_at d 4 4 ≤ length bytes → descriptor (section_in bytes d) ≡ parts descriptor_sizes 0 d

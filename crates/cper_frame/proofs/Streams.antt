@@ -121,13 +121,7 @@ is_partial limit have s e n len bad w h =
     let d = need_unless (nat_lt len (bodies_from n)) _ (Length len) w refl b.1 in
     let f = need_unless (nat_lt limit len) _ (Limit len) w refl d.1 in
     let g = last_test (nat_lt have len) (len - have) len bad w f.1 in (
-      record {
-        start = eqb-true s signature a.0;
-        end = eqb-true e (2 ^ 32 - 1) b.0;
-        heads = ltb-false len (bodies_from n) d.0;
-        within = ltb-false limit len f.0;
-        less = ltb-true have len g.0;
-      },
+      record { start = eqb-true s signature a.0; end = eqb-true e (2 ^ 32 - 1) b.0; heads = ltb-false len (bodies_from n) d.0; within = ltb-false limit len f.0; less = ltb-true have len g.0 },
       g.1,
     )
 

@@ -36,16 +36,7 @@ record_length bytes = number_at bytes 20 4
 
 -- the fields at their places in a descriptor
 abbrev pub section_head_at : List ℕ → SectionHead
-section_head_at descriptor = record {
-  revision = number_at descriptor 8 2;
-  validation = number_at descriptor 10 1;
-  reserved = number_at descriptor 11 1;
-  flags = number_at descriptor 12 4;
-  kind = part descriptor 16 16;
-  fru = part descriptor 32 16;
-  severity = number_at descriptor 48 4;
-  fru_text = part descriptor 52 20;
-}
+section_head_at descriptor = record { revision = number_at descriptor 8 2; validation = number_at descriptor 10 1; reserved = number_at descriptor 11 1; flags = number_at descriptor 12 4; kind = part descriptor 16 16; fru = part descriptor 32 16; severity = number_at descriptor 48 4; fru_text = part descriptor 52 20 }
 
 abbrev pub section_in : List ℕ → List ℕ → SectionValue
 section_in bytes descriptor = record {
