@@ -1,13 +1,13 @@
 -- The walk over a block's entries.
-use Rattle.std.proofs.Common.{◌≡◌, ℕ, ◌+◌, ◌≤◌, List, [], ◌∷◌, ◌++◌, length, take, drop, Ok, Err, refl, sym, ap, ◌∙◌, arith, length-append}
-use Rattle.std.specs.Prelude.{All, nat_lt}
+use Rattle.std.proofs.Common.{◌≡◌, ℕ, ◌+◌, ◌<◌, ◌≤◌, false, List, [], ◌∷◌, ◌++◌, length, take, drop, Ok, Err, refl, sym, ap, ◌∙◌, arith, length-append, length-drop}
+use Rattle.std.specs.Prelude.{All, nat_lt, ◌==◌}
 use Rattle.std.proofs.lemmas.Bool.{eqb-true, eq-eqb, ne_eqb, ltb-false, le-ltb, cond-false}
-use Rattle.std.proofs.lemmas.List.{nil_from_length, drop_at}
+use Rattle.std.proofs.lemmas.List.{nil_from_length, drop_at, drop-drop}
 use Rattle.std.proofs.lemmas.List.Elements.{All-nil, All-cons, All-head, All-tail}
 use Rattle.base_model.specs.Bytes.{part, AreBytes}
-use Rattle.apei_fields.specs.Walk.{AreItems}
+use Rattle.apei_fields.specs.Walk.{AreItems, item_count}
 use Rattle.apei_fields.proofs.Tests.{ok_unless}
-use Rattle.apei_fields.proofs.Walks.{GetsOn, IsFaithful, counts as items_counted, counts_again as items_again}
+use Rattle.apei_fields.proofs.Walks.{GetsOn, IsFaithful, count_on, counts as items_counted, counts_again as items_again}
 use Rattle.ghes_block.specs.declared.error.BlockError.TheVariants.{Entry, Rest}
 use Rattle.ghes_block.specs.Grammar.{EntryValue, entry_bytes, entries_bytes, IsEntry}
 use Rattle.ghes_block.specs.Reading.{entry_size, first_entry, whole_entry_size, entry_walk, entries_in, count_in}
@@ -42,6 +42,16 @@ gets_on = record {
       let fits = w.fits in
       (omega arith, omega arith);
 }
+
+-- one more entry is counted
+pub count_more : (content : List ℕ) (index at len : ℕ) → at < length content → whole_entry_size index (20 + at) (drop at content) ≡ Ok len
+    → item_count entry_walk (length content) (index + 1) (20 + (at + len)) (drop (at + len) content) ≡ item_count entry_walk (length content) index (20 + at) (drop at content)
+count_more content index at len some here =
+    let size = length-drop at content in
+    let left : (length (drop at content) == 0) ≡ false = ne_eqb (length (drop at content)) 0 (λ z. omega arith) in
+    ap (item_count entry_walk (length content) (index + 1) (20 + (at + len))) (sym (drop-drop len at content))
+    ∙ ap (λ (n : ℕ). item_count entry_walk (length content) (index + 1) n (drop len (drop at content))) (omega arith)
+    ∙ sym (count_on entry_walk (length content) index (20 + at) len (drop at content) gets_on left (omega arith) here)
 
 -- the bytes of an entry, and nothing
 IsEntryAt : ℕ → EntryValue → List ℕ → Type 0

@@ -19,16 +19,7 @@ stamp_at stamped bytes = if stamped then number_at bytes 64 8 else 0
 
 -- the fields at their places in an entry
 abbrev pub entry_head_at : List ℕ → EntryHead
-entry_head_at bytes = record {
-  kind = part bytes 0 16;
-  severity = number_at bytes 16 4;
-  revision = number_at bytes 20 2;
-  validation = number_at bytes 22 1;
-  flags = number_at bytes 23 1;
-  fru = part bytes 28 16;
-  fru_text = part bytes 44 20;
-  stamp = stamp_at (is_stamped (number_at bytes 20 2)) bytes;
-}
+entry_head_at bytes = record { kind = part bytes 0 16; severity = number_at bytes 16 4; revision = number_at bytes 20 2; validation = number_at bytes 22 1; flags = number_at bytes 23 1; fru = part bytes 28 16; fru_text = part bytes 44 20; stamp = stamp_at (is_stamped (number_at bytes 20 2)) bytes }
 
 unfoldable pub first_entry : List ℕ → EntryValue
 first_entry bytes = record { head = entry_head_at bytes; body = part bytes (head_size bytes) (number_at bytes 24 4) }

@@ -1,13 +1,12 @@
-use Rattle.std.proofs.Common.{◌≡◌, ℕ, ◌+◌, false, length, drop, Ok, Err, sym, ap, ◌∙◌, arith, length-drop}
+use Rattle.std.proofs.Common.{◌≡◌, ◌+◌, false, length, drop, Ok, Err, sym, ap, ◌∙◌, arith, length-drop}
 use Rattle.std.specs.Prelude.{◌==◌}
 use Rattle.std.proofs.lemmas.Bool.{ne_eqb, eq-eqb}
-use Rattle.std.proofs.lemmas.List.{take_rest, drop-drop}
+use Rattle.std.proofs.lemmas.List.{take_rest}
 use Rattle.std.proofs.lemmas.Result.{err_from_is_err_and}
-use Rattle.apei_fields.specs.Walk.{item_count}
-use Rattle.apei_fields.proofs.Walks.{count_done, count_fault, count_on}
+use Rattle.apei_fields.proofs.Walks.{count_done, count_fault}
 use Rattle.ghes_block.specs.declared.error.BlockError.{BlockError}
 use Rattle.ghes_block.specs.Reading.{whole_entry_size, entry_walk}
-use Rattle.ghes_block.proofs.Walks.{gets_on}
+use Rattle.ghes_block.proofs.Walks.{gets_on, count_more}
 use Rattle.ghes_block.proofs.block.count_entries.Goals as goal
 
 pub returns-in_err-at : goal.returns-in_err-at
@@ -28,31 +27,25 @@ returns-in_err-at c =
 
 pub loop-at-preserved : goal.loop-at-preserved
 loop-at-preserved c =
-    let content = c.args.content.now in
     let at = c.loop-at.at in
-    let len = c.in_ok-at.field-0 in
-    let rest = take_rest content at in
-    let size = length-drop at content in
+    let rest = take_rest c.args.content.now at in
+    let size = length-drop at c.args.content.now in
     let sizes = ap length rest in
-    let here : whole_entry_size c.loop-at.index (20 + at) (drop at content) ≡ Ok len = ap (whole_entry_size c.loop-at.index (20 + at)) (sym rest) ∙ sym c.whole_entry_size.ensures.exact ∙ c.in_ok-at.was in
     let within = c.in_ok-at.ensures.within in
     let low = within.0 in
     let fits = within.1 in
     let some = c.loop-at-test.true in
-    let left : (length (drop at content) == 0) ≡ false = ne_eqb (length (drop at content)) 0 (λ z. omega arith) in
     record {
       within = omega arith;
       few = let before = c.loop-at.invariant.few in omega arith;
       same =
-          ap (item_count entry_walk (length content) (c.loop-at.index + 1) (20 + (at + len))) (sym (drop-drop len at content))
-          ∙ ap (λ (n : ℕ). item_count entry_walk (length content) (c.loop-at.index + 1) n (drop len (drop at content))) (omega arith)
-          ∙ sym (count_on entry_walk (length content) c.loop-at.index (20 + at) len (drop at content) gets_on left (omega arith) here)
+          count_more c.args.content.now c.loop-at.index at c.in_ok-at.field-0 (omega arith)
+          (ap (whole_entry_size c.loop-at.index (20 + at)) (sym rest) ∙ sym c.whole_entry_size.ensures.exact ∙ c.in_ok-at.was)
           ∙ c.loop-at.invariant.same;
     }
 
 pub returns : goal.returns
 returns c =
-    let content = c.args.content.now in
-    let at = c.loop-at.at in
-    let size = length-drop at content in
-    sym (sym c.loop-at.invariant.same ∙ count_done entry_walk (length content) c.loop-at.index (20 + at) (drop at content) (eq-eqb (length (drop at content)) 0 (omega arith)))
+    let rest = drop c.loop-at.at c.args.content.now in
+    let size = length-drop c.loop-at.at c.args.content.now in
+    sym (sym c.loop-at.invariant.same ∙ count_done entry_walk (length c.args.content.now) c.loop-at.index (20 + c.loop-at.at) rest (eq-eqb (length rest) 0 (omega arith)))

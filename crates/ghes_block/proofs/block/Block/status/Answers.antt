@@ -7,7 +7,4 @@ pub get_u32-requires : goal.get_u32-requires
 get_u32-requires c = let header = (whole c.self.inside.bytes.now c.self.inside.entries c.self.invariant).header in omega arith
 
 pub returns : goal.returns
-returns c =
-    c.get_u32.ensures
-    ∙ sym (whole c.self.inside.bytes.now c.self.inside.entries c.self.invariant).status_is
-    ∙ ap (λ (b : BlockValue). b.status) c.self.view_is
+returns c = c.get_u32.ensures ∙ sym (whole c.self.inside.bytes.now c.self.inside.entries c.self.invariant).status_is ∙ ap (λ (b : BlockValue). b.status) c.self.view_is
