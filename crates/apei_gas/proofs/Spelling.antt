@@ -8,13 +8,7 @@ use Rattle.apei_gas.specs.Layout.{spelling, IsGas}
 
 -- the structure that stands in 12 bytes
 abbrev pub found : List ℕ → Gas
-found bytes = record {
-  space = get_or bytes 0 0;
-  width = get_or bytes 1 0;
-  offset = get_or bytes 2 0;
-  access = get_or bytes 3 0;
-  address = number_at bytes 4 8;
-}
+found bytes = record { space = get_or bytes 0 0; width = get_or bytes 1 0; offset = get_or bytes 2 0; access = get_or bytes 3 0; address = number_at bytes 4 8 }
 
 pub spelling-found : (bytes : List ℕ) → length bytes ≡ 12 → AreBytes bytes → bytes ≡ spelling (found bytes)
 unfolding part
