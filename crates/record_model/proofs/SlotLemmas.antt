@@ -7,7 +7,7 @@ use Rattle.std.proofs.lemmas.Bool.{cases_eq, cases_order, eqb-true, and_parts, b
 use Rattle.base_model.specs.Bytes.{part, little, number_at, SameOutside}
 use Rattle.base_model.proofs.BytesLemmas.{part-before, part-after, number_at-before, number_at-after, part-part, part-append, SameOutside-wider}
 use Rattle.flash_words.specs.Flash.{IsErased}
-use Rattle.record_model.specs.Records.{Head, head_at, tail_at, is_upright, slot_at, is_up, Entry, entry_at, selected, stored_in, is_taken, OnlyFirstUp, DiffersInFreeSlot, gate_open, tail_mark, not_killed}
+use Rattle.record_model.specs.Records.{Head, Slot, head_at, tail_at, is_upright, slot_at, is_up, Entry, entry_at, selected, stored_in, is_taken, OnlyFirstUp, DiffersInFreeSlot, gate_open, tail_mark, not_killed}
 use Rattle.record_model.proofs.LiveLemmas.{law_entries, law_only, IsKilled}
 
 -- a slot ends before a later one begins
@@ -47,6 +47,10 @@ pub tail_at-after : (place len at size : ℕ) (old new : List ℕ) → SameOutsi
 unfolding tail_at
 tail_at-after place len at size old new same some h = number_at-after place len (at + (size - 1)) 1 old new same h
 
+-- slots of which the same is seen
+seen_same : (a b : Slot) → a.head ≡ b.head → a.tail ≡ b.tail → a.body ≡ b.body → a ≡ b
+seen_same a b head tail body = λ i. record { head = head i; tail = tail i; body = body i }
+
 -- a change within slot j leaves what is seen of every other slot
 pub slot_at-other : (size j k : ℕ) (old new : List ℕ) → 64 ≤ size → SameOutside (j * size) size old new → k ≢ j → slot_at size new k ≡ slot_at size old k
 unfolding slot_at
@@ -55,16 +59,14 @@ slot_at-other size j k old new some same apart = elim (cases_order k j) [
   | inr order ↦ elim order [
     | inl before ↦
         let gap = slots_apart k j size before in
-        let head = head_at-before (j * size) size (k * size) old new same (omega arith) in
-        let tail = tail_at-before (j * size) size (k * size) size old new same (omega arith) (omega arith) in
-        let body = part-before (j * size) size (k * size + 32) (size - 64) old new same (omega arith) in
-        λ i. record { head = head i; tail = tail i; body = body i }
+        seen_same (slot_at size new k) (slot_at size old k) (head_at-before (j * size) size (k * size) old new same (omega arith))
+        (tail_at-before (j * size) size (k * size) size old new same (omega arith) (omega arith))
+        (part-before (j * size) size (k * size + 32) (size - 64) old new same (omega arith))
     | inr after ↦
         let gap = slots_apart j k size after in
-        let head = head_at-after (j * size) size (k * size) old new same (omega arith) in
-        let tail = tail_at-after (j * size) size (k * size) size old new same (omega arith) (omega arith) in
-        let body = part-after (j * size) size (k * size + 32) (size - 64) old new same (omega arith) in
-        λ i. record { head = head i; tail = tail i; body = body i }
+        seen_same (slot_at size new k) (slot_at size old k) (head_at-after (j * size) size (k * size) old new same (omega arith))
+        (tail_at-after (j * size) size (k * size) size old new same (omega arith) (omega arith))
+        (part-after (j * size) size (k * size + 32) (size - 64) old new same (omega arith))
   ]
 ]
 
