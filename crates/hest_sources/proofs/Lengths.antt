@@ -123,6 +123,17 @@ measures at n rest m =
     ∙ ap (length_if_there at rest) m.by_kind
     ∙ cond-false (nat_lt (length rest) n) (Err (Cut at)) (Ok n) (le-ltb (length rest) n m.fits)
 
+-- a structure is as long as its type says
+record IsOfType (n size : ℕ) (rest : List ℕ) : Type 0 where
+  size : n ≡ size
+  there : size ≤ length rest
+
+of_type : (at n kind size : ℕ) (rest : List ℕ) → Measured at n rest → number_at rest 0 2 ≡ kind → length_by_type kind at rest ≡ Ok size → IsOfType n size rest
+of_type at n kind size rest m is by_type =
+    let same : n ≡ size = same_ok n size (sym m.by_kind ∙ ap (λ (k : ℕ). length_by_type k at rest) is ∙ by_type) in
+    let fits = m.fits in
+    record { size = same; there = omega arith }
+
 -- what is read of a structure is a source
 pub source_is : (at n : ℕ) (rest : List ℕ) → AreBytes rest → structure_length at rest ≡ Ok n → IsSource at (source_at at rest n) (take n rest)
 unfolding source_at part
@@ -135,17 +146,13 @@ source_is at n rest h e =
           subst (λ (s : HestSource). IsSource at s (take n rest)) (sym (cond-true ((kind == 9) || (kind == 10)) _ (Other kind at n) generic))
           (elim (or_cases (kind == 9) (kind == 10) generic) [
             | inl nine ↦
-                let nine_is = eqb-true kind 9 nine in
-                let size : n ≡ 64 = same_ok n 64 (sym m.by_kind ∙ ap (λ (k : ℕ). length_by_type k at rest) nine_is) in
-                let fits = m.fits in
-                let g = ghes_nine rest h (omega arith) nine_is in
-                (g.is_ghes, ap (λ (k : ℕ). take k rest) size ∙ g.bytes_are)
+                let long = of_type at n 9 64 rest m (eqb-true kind 9 nine) refl in
+                let g = ghes_nine rest h long.there (eqb-true kind 9 nine) in
+                (g.is_ghes, ap (λ (k : ℕ). take k rest) long.size ∙ g.bytes_are)
             | inr ten ↦
-                let ten_is = eqb-true kind 10 ten in
-                let size : n ≡ 92 = same_ok n 92 (sym m.by_kind ∙ ap (λ (k : ℕ). length_by_type k at rest) ten_is) in
-                let fits = m.fits in
-                let g = ghes_ten rest h (omega arith) ten_is in
-                (g.is_ghes, ap (λ (k : ℕ). take k rest) size ∙ g.bytes_are)
+                let long = of_type at n 10 92 rest m (eqb-true kind 10 ten) refl in
+                let g = ghes_ten rest h long.there (eqb-true kind 10 ten) in
+                (g.is_ghes, ap (λ (k : ℕ). take k rest) long.size ∙ g.bytes_are)
           ])
       | inr other ↦
           let fits = m.fits in
@@ -225,15 +232,7 @@ read_other at n rest h k =
     rw (nine, ten) refl
 
 pub nine_size : (at n : ℕ) (rest : List ℕ) → structure_length at rest ≡ Ok n → number_at rest 0 2 ≡ 9 → 64 ≤ length rest
-nine_size at n rest e kind =
-    let m = measured at n rest e in
-    let size : n ≡ 64 = same_ok n 64 (sym m.by_kind ∙ ap (λ (k : ℕ). length_by_type k at rest) kind) in
-    let fits = m.fits in
-    omega arith
+nine_size at n rest e kind = (of_type at n 9 64 rest (measured at n rest e) kind refl).there
 
 pub ten_size : (at n : ℕ) (rest : List ℕ) → structure_length at rest ≡ Ok n → number_at rest 0 2 ≡ 10 → 92 ≤ length rest
-ten_size at n rest e kind =
-    let m = measured at n rest e in
-    let size : n ≡ 92 = same_ok n 92 (sym m.by_kind ∙ ap (λ (k : ℕ). length_by_type k at rest) kind) in
-    let fits = m.fits in
-    omega arith
+ten_size at n rest e kind = (of_type at n 10 92 rest (measured at n rest e) kind refl).there
