@@ -3,7 +3,7 @@ ghost use Rattle.std.specs.Prelude.{◌≡◌, ◌/◌, ◌%◌, ◌^◌};
 ghost use Rattle.erst_client.specs.Attaching.{Attaches, AsksTimings, client_result, found_result};
 
 use crate::errors::AttachError;
-use crate::requests::{perform, program_for};
+use crate::requests::{ask, program_for};
 use apei_space::Space;
 use cper_frame::HEADER;
 use erst_entries::{Action, ErstTable};
@@ -28,24 +28,17 @@ pub fn find<S: Space>(
 ) -> Result<Found, AttachError>
     ensures { Attaches S.allows table.now budget.old (S.state space.old) (client_result table.now result) budget.new (S.state space.new) }
 {
-    let address = match perform(table, Action::GetErrorLogAddressRange, 0, budget, space) {
+    let address = match ask(table, Action::GetErrorLogAddressRange, budget, space) {
         Ok(address) => address,
         Err(stop) => return Err(AttachError::Stopped(stop)),
     };
-    let len = match perform(
-        table,
-        Action::GetErrorLogAddressRangeLength,
-        0,
-        budget,
-        space,
-    ) {
+    let len = match ask(table, Action::GetErrorLogAddressRangeLength, budget, space) {
         Ok(len) => len,
         Err(stop) => return Err(AttachError::Stopped(stop)),
     };
-    let attributes = match perform(
+    let attributes = match ask(
         table,
         Action::GetErrorLogAddressRangeAttributes,
-        0,
         budget,
         space,
     ) {
@@ -70,7 +63,7 @@ fn ask_timings<S: Space>(
     if program_for(table, Action::GetExecuteOperationTimings).is_empty() {
         return Ok(None);
     }
-    match perform(table, Action::GetExecuteOperationTimings, 0, budget, space) {
+    match ask(table, Action::GetExecuteOperationTimings, budget, space) {
         Ok(answer) => Ok(Some(((answer >> 32) as u32, (answer % (1 << 32)) as u32))),
         Err(stop) => Err(stop),
     }

@@ -6,7 +6,7 @@ ghost use Rattle.erst_client.specs.Sequences.{Sequence, read_requests, clear_req
 
 use crate::attaching::Found;
 use crate::errors::ClientError;
-use crate::requests::{Request, perform};
+use crate::requests::{Request, ask};
 use crate::sequences::sequence;
 use apei_bytes::get_u32;
 use apei_space::Space;
@@ -93,7 +93,7 @@ pub fn read_record<S: Space>(
 ) -> Result<usize, ClientError>
     ensures { Reads S.allows (client_with table.now found) id out.old budget.old (S.state space.old) result out.new budget.new (S.state space.new) }
 {
-    ask_read(table, found, id, budget, space)?;
+    sequence(table, found.timings, &requests_to_read(id), budget, space)?;
     let mut field = [0; 4];
     match space.read_bytes(found.address.wrapping_add(LENGTH_AT as u64), &mut field) {
         Ok(()) => {}
@@ -109,17 +109,11 @@ pub fn read_record<S: Space>(
     }
 }
 
-/// Has the firmware read a record into the range.
-fn ask_read<S: Space>(
-    table: &ErstTable,
-    found: Found,
-    id: u64,
-    budget: &mut Budget,
-    space: &mut S,
-) -> Result<(), ClientError>
-    ensures { Sequence S.allows table.now.entries found.timings (read_requests id) budget.old (S.state space.old) result budget.new (S.state space.new) }
+/// What has the firmware read a record into the range.
+fn requests_to_read(id: u64) -> [Request; 4]
+    ensures { result ≡ read_requests id }
 {
-    let requests = [
+    [
         plain(Action::BeginReadOperation),
         plain(Action::SetRecordOffset),
         Request {
@@ -127,8 +121,7 @@ fn ask_read<S: Space>(
             given: id,
         },
         plain(Action::ExecuteOperation),
-    ];
-    sequence(table, found.timings, &requests, budget, space)
+    ]
 }
 
 /// Why a record of this length is not copied out of the range into so much room.
@@ -190,7 +183,7 @@ pub fn count_records<S: Space>(
 ) -> Result<u64, ClientError>
     ensures { Counts S.allows table.now.entries budget.old (S.state space.old) result budget.new (S.state space.new) }
 {
-    match perform(table, Action::GetRecordCount, 0, budget, space) {
+    match ask(table, Action::GetRecordCount, budget, space) {
         Ok(count) => {
             if count == u64::from(u32::MAX) {
                 Err(ClientError::Hardware)
@@ -210,7 +203,7 @@ pub fn next_identifier<S: Space>(
 ) -> Result<Option<u64>, ClientError>
     ensures { Names S.allows table.now.entries budget.old (S.state space.old) result budget.new (S.state space.new) }
 {
-    match perform(table, Action::GetRecordIdentifier, 0, budget, space) {
+    match ask(table, Action::GetRecordIdentifier, budget, space) {
         Ok(0) => Err(ClientError::Hardware),
         Ok(u64::MAX) => Ok(None),
         Ok(id) => Ok(Some(id)),

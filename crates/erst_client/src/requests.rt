@@ -22,8 +22,20 @@ pub fn program_for(table: &ErstTable, action: Action) -> Program<'_>
     table.program(action.code())
 }
 
+/// Runs the program of an action that is given no value.
+pub fn ask<S: Space>(
+    table: &ErstTable,
+    action: Action,
+    budget: &mut Budget,
+    space: &mut S,
+) -> Result<u64, RunStop>
+    ensures { Performs S.allows table.now.entries action 0 budget.old (S.state space.old) result budget.new (S.state space.new) }
+{
+    perform(table, action, 0, budget, space)
+}
+
 /// Runs the program of an action.
-pub fn perform<S: Space>(
+fn perform<S: Space>(
     table: &ErstTable,
     action: Action,
     given: u64,

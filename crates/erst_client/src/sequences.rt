@@ -4,7 +4,7 @@ ghost use Rattle.erst_client.specs.Sequences.{Waits, UntilStatus, Sequence, judg
 ghost use Rattle.erst_client.specs.Waiting.{Paused};
 
 use crate::errors::ClientError;
-use crate::requests::{Request, ask_all, perform, program_for};
+use crate::requests::{Request, ask, ask_all, program_for};
 use apei_space::Space;
 use erst_entries::{Action, ErstTable};
 use erst_interp::{Budget, run};
@@ -28,10 +28,9 @@ pub fn sequence<S: Space>(
     ensures { Sequence S.allows table.now.entries timings requests.now budget.old (S.state space.old) result budget.new (S.state space.new) }
 {
     let outcome = command(table, timings, requests, budget, space);
-    let ended = perform(
+    let ended = ask(
         table,
         Action::EndOperation,
-        0,
         &mut Budget::new(END_STEPS),
         space,
     );
@@ -60,7 +59,7 @@ fn command<S: Space>(
         Err(stop) => return Err(ClientError::Stopped(stop)),
     }
     wait(table, timings, budget, space)?;
-    match perform(table, Action::GetCommandStatus, 0, budget, space) {
+    match ask(table, Action::GetCommandStatus, budget, space) {
         Ok(status) => judge(status),
         Err(stop) => Err(ClientError::Stopped(stop)),
     }

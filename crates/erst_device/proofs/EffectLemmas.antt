@@ -2,13 +2,12 @@
 use Rattle.std.proofs.Common.{◌≡◌, ℕ, ◌+◌, ◌-◌, ◌^◌, ◌≤◌, ◌⊎◌, Bool, true, false, cond, List, Option, Some, None, Result, Ok, Err, refl, sym, ap, subst, ◌∙◌, arith, inl, inr}
 use Rattle.std.specs.Prelude.{is_some, if◌then◌else◌}
 use Rattle.base_model.specs.Faults.{Rose}
-use Rattle.flash_words.specs.Flash.{FlashState, LosesOnlyByChange}
-use Rattle.flash_words.specs.Layout.{Layout}
-use Rattle.flash_words.proofs.CrashLemmas.{Leaves-none, Leaves-weaker, Leaves-exit}
+use Rattle.flash_words.specs.Flash.{LosesOnlyByChange}
+use Rattle.flash_words.proofs.CrashLemmas.{Leaves-none, Leaves-weaker}
 use Rattle.record_model.specs.Records.{Stored}
 use Rattle.record_model.proofs.RefusalLemmas.{allowed_not_zero}
-use Rattle.record_store.specs.Store.{StoreView, Pending, Idle, Writing, Clearing, stored, records_of, map_after, doubt_after, IsBusy, DividesAlike, KeepsMap, KeepsOrMakes, abandoned}
-use Rattle.record_store.specs.Answers.{HasFaultsOf, EndsCopies, copies_in, copies_of}
+use Rattle.record_store.specs.Store.{StoreView, Pending, Idle, Writing, Clearing, stored, map_after, doubt_after, IsBusy, DividesAlike, KeepsMap, KeepsOrMakes, abandoned}
+use Rattle.record_store.specs.Answers.{HasFaultsOf, EndsCopies, UnlessFlash, copies_in, copies_of}
 use Rattle.record_store.specs.declared.errors.StoreError.{StoreError}
 use Rattle.record_store.specs.declared.errors.StoreError.TheVariants as errors
 use Rattle.erst_entries.specs.declared.actions.Action.{Action}
@@ -23,12 +22,7 @@ use Rattle.erst_device.specs.DeviceState.{DeviceState, records, IsStill, IsRunni
 use Rattle.erst_device.specs.Starts.{Starts, NoneBegun, WritesDummy, NoDraft, Writes, LookFails, FindsNone, Misses, GoesBeyond, Finds, NoneToClear, Clears, status_after}
 use Rattle.erst_device.specs.Actions.{Acts, Begins, Ends, SetsOffset, SetsId, Waits, Executes, NoneRuns, Steps, Shows, Tells, FindsNext, Counts, Ignores, told_by, begun_by, waits, IsAllowed, stepped, shown, found, counted}
 use Rattle.erst_device.specs.Effects.{start_asks, asks, makes_change, Effect}
-
-alike_refl : (store : StoreView) → DividesAlike store store
-alike_refl store = record { layout = refl; size = refl; sector_size = refl }
-
-power_refl : (flash : FlashState) → LosesOnlyByChange flash flash
-power_refl flash = record { never_back = λ on. on; lost = inl refl }
+use Rattle.erst_device.proofs.ActionLemmas.{kept_map}
 
 -- Between two states of the store: the records that are made, and by how many changes
 
@@ -41,29 +35,24 @@ record Keeps (tells : Type 0) (old new : StoreView) (map : Stored) (changes : �
   alike : DividesAlike old new
   power : LosesOnlyByChange old.flash new.flash
 
--- nothing was asked of the store
-keeps_same : (tells : Type 0) (store : StoreView) → Keeps tells store store (stored store) 0
-keeps_same tells store = record {
-  crash = λ told. Leaves-none store.flash.told _ (inl refl);
-  made = λ told quiet. refl;
-  exact = λ told quiet. omega arith;
-  few = λ told. omega arith;
-  never_falls = omega arith;
-  alike = alike_refl store;
-  power = power_refl store.flash;
-}
-
--- or only to give up what was pending
-keeps_abandoned : (tells : Type 0) (store : StoreView) → Keeps tells store (abandoned store) (stored store) 0
-keeps_abandoned tells store = record {
+-- nothing was asked of the store: what it has begun, and whether it is in doubt, may be other
+keeps_unasked : (tells : Type 0) (store : StoreView) (pending : Pending) (doubt : Bool) → Keeps tells store (record store { in_doubt = doubt; pending = pending }) (stored store) 0
+keeps_unasked tells store pending doubt = record {
   crash = λ told. Leaves-none store.flash.told _ (inl refl);
   made = λ told quiet. refl;
   exact = λ told quiet. omega arith;
   few = λ told. omega arith;
   never_falls = omega arith;
   alike = record { layout = refl; size = refl; sector_size = refl };
-  power = power_refl store.flash;
+  power = record { never_back = λ on. on; lost = inl refl };
 }
+
+keeps_same : (tells : Type 0) (store : StoreView) → Keeps tells store store (stored store) 0
+keeps_same tells store = keeps_unasked tells store store.pending store.in_doubt
+
+-- or only to give up what was pending
+keeps_abandoned : (tells : Type 0) (store : StoreView) → Keeps tells store (abandoned store) (stored store) 0
+keeps_abandoned tells store = keeps_unasked tells store Idle (doubt_after store.pending store.in_doubt)
 
 pub faults_rise : {T : Type 0} (before after : ℕ) (result : Result T StoreError) → HasFaultsOf before after result → before ≤ after
 faults_rise before after (Ok done) cause = omega arith
@@ -86,20 +75,15 @@ status_rose T before after (errors.Small need) cause is = absurd (cc)
 error_rose : (T : Type 0) (before after : ℕ) (error : StoreError) → HasFaultsOf {T = T} before after (Err error) → error ≡ errors.Flash → Rose before after
 error_rose T before after error cause is = status_rose T before after error cause (ap status_of is)
 
-ends_exactly : {T : Type 0} (old new : StoreView) (result : Result T StoreError) → HasFaultsOf old.flash.faults new.flash.faults result → EndsCopies old new result
-    → (Rose old.flash.faults new.flash.faults → ⊥) → new.flash.steps ≡ old.flash.steps + copies_of old
-ends_exactly old new (Ok done) cause ends quiet = ends
-ends_exactly old new (Err (errors.NoSpace free)) cause ends quiet = ends
-ends_exactly old new (Err (errors.LastGeneration id)) cause ends quiet = ends
-ends_exactly old new (Err errors.NotFound) cause ends quiet = ends
-ends_exactly old new (Err errors.Empty) cause ends quiet = ends
-ends_exactly old new (Err errors.Flash) cause ends quiet = absurd (quiet cause.1)
-ends_exactly old new (Err (errors.Small need)) cause ends quiet = ends
-
-kept_map : (old new : StoreView) → KeepsMap old new → DividesAlike old new → stored new ≡ stored old
-kept_map old new kept alike =
-    ap (λ (layout : Layout). records_of layout new.flash.told.image) alike.layout
-    ∙ Leaves-exit old.flash.told new.flash.told (λ image. records_of old.layout image ≡ stored old) kept
+-- what holds of every answer but a fault holds where no fault was counted
+pub without_fault : {T : Type 0} (P : Type 0) (before after : ℕ) (result : Result T StoreError) → HasFaultsOf before after result → UnlessFlash result P → (Rose before after → ⊥) → P
+without_fault P before after (Ok done) cause holds quiet = holds
+without_fault P before after (Err (errors.NoSpace free)) cause holds quiet = holds
+without_fault P before after (Err (errors.LastGeneration id)) cause holds quiet = holds
+without_fault P before after (Err errors.NotFound) cause holds quiet = holds
+without_fault P before after (Err errors.Empty) cause holds quiet = holds
+without_fault P before after (Err errors.Flash) cause holds quiet = absurd (quiet cause.1)
+without_fault P before after (Err (errors.Small need)) cause holds quiet = holds
 
 -- the store was asked, and ended its second copies first
 keeps_asked : {T : Type 0} (tells : Type 0) (old new : StoreView) (result : Result T StoreError) → (tells → KeepsMap old new) → (tells → new.flash.steps ≤ old.flash.steps + 1) → (tells → EndsCopies old new result)
@@ -107,7 +91,7 @@ keeps_asked : {T : Type 0} (tells : Type 0) (old new : StoreView) (result : Resu
 keeps_asked tells old new result kept few ended alike power cause = record {
   crash = λ told. Leaves-weaker old.flash.told new.flash.told _ _ (kept told) (λ image same. inl same);
   made = λ told quiet. kept_map old new (kept told) alike;
-  exact = λ told quiet. ends_exactly old new result cause (ended told) quiet;
+  exact = λ told quiet. without_fault (new.flash.steps ≡ old.flash.steps + copies_of old) old.flash.faults new.flash.faults result cause (ended told) quiet;
   few = few;
   never_falls = faults_rise old.flash.faults new.flash.faults result cause;
   alike = alike;
@@ -362,16 +346,8 @@ effect_of_show tells old range id store before after result read =
 -- an execution is abandoned, and the store is asked
 keeps_given_up : (tells : Type 0) (old new : StoreView) (map : Stored) (changes : ℕ) → Keeps tells (abandoned old) new map changes → Keeps tells old new map changes
 keeps_given_up tells old new map changes keeps =
-    let alike = keeps.alike in
-    record {
-      crash = keeps.crash;
-      made = keeps.made;
-      exact = keeps.exact;
-      few = keeps.few;
-      never_falls = keeps.never_falls;
-      power = keeps.power;
-      alike = record { layout = alike.layout; size = alike.size; sector_size = alike.sector_size };
-    }
+    let alike : DividesAlike old new = record { layout = keeps.alike.layout; size = keeps.alike.size; sector_size = keeps.alike.sector_size } in
+    record { crash = keeps.crash; made = keeps.made; exact = keeps.exact; few = keeps.few; never_falls = keeps.never_falls; alike = alike; power = keeps.power }
 
 effect_of_look : (tells : Type 0) (old : DeviceState) (range : List ℕ) (store : StoreView) (result : Result (Option ℕ) StoreError) → FoundNext tells (given_up old).store store old.cursor result → IsAllowed result
     → Effect tells old range (Some GetRecordIdentifier) (found result store (given_up old))

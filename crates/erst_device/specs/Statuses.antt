@@ -7,12 +7,7 @@ use Rattle.erst_device.specs.declared.status.CommandStatus.TheVariants.{Success,
 
 -- the number of a status (ACPI 6.4, section 18.5.1)
 abbrev pub number_of : CommandStatus → ℕ
-number_of Success = 0
-number_of NotEnoughSpace = 1
-number_of HardwareNotAvailable = 2
-number_of Failed = 3
-number_of RecordStoreEmpty = 4
-number_of RecordNotFound = 5
+number_of status = elim status [ Success ↦ 0 | NotEnoughSpace ↦ 1 | HardwareNotAvailable ↦ 2 | Failed ↦ 3 | RecordStoreEmpty ↦ 4 | RecordNotFound ↦ 5 ]
 
 -- the status by which an error of the store is told
 abbrev pub status_of : StoreError → CommandStatus

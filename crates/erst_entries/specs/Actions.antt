@@ -4,22 +4,24 @@ use Rattle.erst_entries.specs.declared.actions.Action.{Action}
 use Rattle.erst_entries.specs.declared.actions.Action.TheVariants.{BeginWriteOperation, BeginReadOperation, BeginClearOperation, EndOperation, SetRecordOffset, ExecuteOperation, CheckBusyStatus, GetCommandStatus, GetRecordIdentifier, SetRecordIdentifier, GetRecordCount, BeginDummyWriteOperation, GetErrorLogAddressRange, GetErrorLogAddressRangeLength, GetErrorLogAddressRangeAttributes, GetExecuteOperationTimings}
 
 abbrev pub code_of : Action → ℕ
-code_of BeginWriteOperation = 0x0
-code_of BeginReadOperation = 0x1
-code_of BeginClearOperation = 0x2
-code_of EndOperation = 0x3
-code_of SetRecordOffset = 0x4
-code_of ExecuteOperation = 0x5
-code_of CheckBusyStatus = 0x6
-code_of GetCommandStatus = 0x7
-code_of GetRecordIdentifier = 0x8
-code_of SetRecordIdentifier = 0x9
-code_of GetRecordCount = 0xA
-code_of BeginDummyWriteOperation = 0xB
-code_of GetErrorLogAddressRange = 0xD
-code_of GetErrorLogAddressRangeLength = 0xE
-code_of GetErrorLogAddressRangeAttributes = 0xF
-code_of GetExecuteOperationTimings = 0x10
+code_of action = elim action [
+  | BeginWriteOperation ↦ 0x0
+  | BeginReadOperation ↦ 0x1
+  | BeginClearOperation ↦ 0x2
+  | EndOperation ↦ 0x3
+  | SetRecordOffset ↦ 0x4
+  | ExecuteOperation ↦ 0x5
+  | CheckBusyStatus ↦ 0x6
+  | GetCommandStatus ↦ 0x7
+  | GetRecordIdentifier ↦ 0x8
+  | SetRecordIdentifier ↦ 0x9
+  | GetRecordCount ↦ 0xA
+  | BeginDummyWriteOperation ↦ 0xB
+  | GetErrorLogAddressRange ↦ 0xD
+  | GetErrorLogAddressRangeLength ↦ 0xE
+  | GetErrorLogAddressRangeAttributes ↦ 0xF
+  | GetExecuteOperationTimings ↦ 0x10
+]
 
 -- in the order of their codes, from 0 on
 abbrev pub actions : List (Option Action)
@@ -37,19 +39,21 @@ abbrev pub action_of : ℕ → Option Action
 action_of code = listed (slice_get actions code)
 
 abbrev pub action_name : Action → List ℕ
-action_name BeginWriteOperation = codes "BEGIN_WRITE_OPERATION"
-action_name BeginReadOperation = codes "BEGIN_READ_OPERATION"
-action_name BeginClearOperation = codes "BEGIN_CLEAR_OPERATION"
-action_name EndOperation = codes "END_OPERATION"
-action_name SetRecordOffset = codes "SET_RECORD_OFFSET"
-action_name ExecuteOperation = codes "EXECUTE_OPERATION"
-action_name CheckBusyStatus = codes "CHECK_BUSY_STATUS"
-action_name GetCommandStatus = codes "GET_COMMAND_STATUS"
-action_name GetRecordIdentifier = codes "GET_RECORD_IDENTIFIER"
-action_name SetRecordIdentifier = codes "SET_RECORD_IDENTIFIER"
-action_name GetRecordCount = codes "GET_RECORD_COUNT"
-action_name BeginDummyWriteOperation = codes "BEGIN_DUMMY_WRITE_OPERATION"
-action_name GetErrorLogAddressRange = codes "GET_ERROR_LOG_ADDRESS_RANGE"
-action_name GetErrorLogAddressRangeLength = codes "GET_ERROR_LOG_ADDRESS_RANGE_LENGTH"
-action_name GetErrorLogAddressRangeAttributes = codes "GET_ERROR_LOG_ADDRESS_RANGE_ATTRIBUTES"
-action_name GetExecuteOperationTimings = codes "GET_EXECUTE_OPERATION_TIMINGS"
+action_name action = elim action [
+  | BeginWriteOperation ↦ codes "BEGIN_WRITE_OPERATION"
+  | BeginReadOperation ↦ codes "BEGIN_READ_OPERATION"
+  | BeginClearOperation ↦ codes "BEGIN_CLEAR_OPERATION"
+  | EndOperation ↦ codes "END_OPERATION"
+  | SetRecordOffset ↦ codes "SET_RECORD_OFFSET"
+  | ExecuteOperation ↦ codes "EXECUTE_OPERATION"
+  | CheckBusyStatus ↦ codes "CHECK_BUSY_STATUS"
+  | GetCommandStatus ↦ codes "GET_COMMAND_STATUS"
+  | GetRecordIdentifier ↦ codes "GET_RECORD_IDENTIFIER"
+  | SetRecordIdentifier ↦ codes "SET_RECORD_IDENTIFIER"
+  | GetRecordCount ↦ codes "GET_RECORD_COUNT"
+  | BeginDummyWriteOperation ↦ codes "BEGIN_DUMMY_WRITE_OPERATION"
+  | GetErrorLogAddressRange ↦ codes "GET_ERROR_LOG_ADDRESS_RANGE"
+  | GetErrorLogAddressRangeLength ↦ codes "GET_ERROR_LOG_ADDRESS_RANGE_LENGTH"
+  | GetErrorLogAddressRangeAttributes ↦ codes "GET_ERROR_LOG_ADDRESS_RANGE_ATTRIBUTES"
+  | GetExecuteOperationTimings ↦ codes "GET_EXECUTE_OPERATION_TIMINGS"
+]
