@@ -71,12 +71,10 @@ apart_end base n other m at apart e low high = elim apart [
 other_end : (place : Place) (n : ℕ) (other : Place) (m : ℕ) (at : Place) → IsApart place n other m → EndsAt other m at → Holds place n at → ⊥
 other_end (Memory base) n (Memory other) m (Memory at) apart ends held = apart_end base n other m at apart ends held.0 held.1
 other_end (Io base) n (Io other) m (Io at) apart ends held = apart_end base n other m at apart ends held.0 held.1
-other_end (Memory base) n (Memory other) m (Io at) apart ends held = ends
-other_end (Memory base) n (Io other) m (Io at) apart ends held = held
 other_end (Memory base) n (Io other) m (Memory at) apart ends held = ends
-other_end (Io base) n (Memory other) m (Memory at) apart ends held = held
 other_end (Io base) n (Memory other) m (Io at) apart ends held = ends
-other_end (Io base) n (Io other) m (Memory at) apart ends held = ends
+other_end (Memory base) n other m (Io at) apart ends held = held
+other_end (Io base) n other m (Memory at) apart ends held = held
 
 flipped : (place : Place) (n : ℕ) (other : Place) (m : ℕ) → IsApart place n other m → IsApart other m place n
 flipped (Memory base) n (Memory other) m apart = elim apart [ inl before ↦ inr before | inr behind ↦ inl behind ]

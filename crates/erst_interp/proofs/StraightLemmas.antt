@@ -1,38 +1,24 @@
 -- A run of a straight program.
-use Rattle.std.proofs.Common.{◌≡◌, ℕ, zero, suc, ◌+◌, ◌<◌, ◌≤◌, true, List, [], ◌∷◌, length, Some, None, Result, Ok, Err, refl, sym, ap, subst, ◌∙◌, arith}
+use Rattle.std.proofs.Common.{◌≡◌, ℕ, zero, suc, ◌+◌, ◌<◌, ◌≤◌, List, [], ◌∷◌, length, Some, Result, Ok, Err, refl, sym, ap, subst, ◌∙◌, arith}
 use Rattle.std.specs.Prelude.{slice_get, bit_and}
 use Rattle.std.proofs.lemmas.Option.{none-some, same_Some}
 use Rattle.apei_gas.specs.declared.registers.Register.{Register}
-use Rattle.apei_gas.specs.declared.registers.BadRegister.{BadRegister}
 use Rattle.apei_gas.specs.Check.{checked}
 use Rattle.apei_gas.specs.Fields.{field, stored}
 use Rattle.apei_space.specs.declared.faults.SpaceFault.{SpaceFault}
 use Rattle.apei_space.specs.Calls.{Call, Read, Write}
 use Rattle.erst_entries.specs.declared.entries.Entry.{Entry}
-use Rattle.erst_entries.specs.declared.instructions.Instruction.{Instruction}
-use Rattle.erst_entries.specs.Instructions.{instruction_of}
 use Rattle.erst_entries.specs.Programs.{Listed}
 use Rattle.erst_interp.specs.declared.configurations.Configuration.{Configuration}
 use Rattle.erst_interp.specs.declared.configurations.Task.{Task}
 use Rattle.erst_interp.specs.declared.stops.RunStop.{RunStop}
-use Rattle.erst_interp.specs.Instructions.{Work, GoOn, GoTo, WaitFor, TakeField, StoreValue, ChangeField, CompareField, MoveBytes, work_of, HasWork, reads_first}
+use Rattle.erst_interp.specs.Instructions.{Work}
 use Rattle.erst_interp.specs.Configurations.{begin}
 use Rattle.erst_interp.specs.Accesses.{FieldRead, Got, Refused, Store, Whole, Beside, Unread}
-use Rattle.erst_interp.specs.Steps.{Step, Computes, Goes, Stalls, Takes, Stores, Changes, Compares, Moves, Refusal, NotRead, NotCompared, NotStored, NotChanged, Halt, Unknown, Unregistered, Outside, IsRefused, TooLong, Unpaid, NotCopied}
+use Rattle.erst_interp.specs.Steps.{Step, Halt}
 use Rattle.erst_interp.specs.Runs.{Walk, Begun, Then, Run, NoProgram, Finishes, Exhausted, Halts, task_of}
 use Rattle.erst_interp.specs.Straight.{IsStraight, TakesOnly, StoresOnly, Does, Serves, AreStraight, NoEntry, OneEntry, DoFirst, RanStraight, Through, OutOfSteps}
-
--- an entry has one instruction, one work and one register
-same_work : (task : Task) (i : Instruction) (work other : Work) → instruction_of task.entry.code ≡ Some i → work_of task i ≡ work → HasWork task other → other ≡ work
-same_work task i work other code is has =
-    let same : has.instruction ≡ i = same_Some _ _ (sym has.code ∙ code) in
-    sym has.work_is ∙ ap (work_of task) same ∙ is
-
-same_register : (r s : Register) (answer : Result Register BadRegister) → answer ≡ Ok r → answer ≡ Ok s → s ≡ r
-same_register r s answer e f = cc
-
-no_register : (r : Register) (why : BadRegister) (answer : Result Register BadRegister) → answer ≡ Ok r → answer ≡ Err why → ⊥
-no_register r why answer e f = absurd (cc)
+use Rattle.erst_interp.proofs.StepLemmas.{same_register, StepBy, step_by, HaltBy, halt_by}
 
 pub whole_of : {W : Type 0} (allows : W → Call → W → Type 0) (register : Register) (entry : Entry) (value : ℕ) (old : W) (answer : Result (Unit {0}) SpaceFault) (new : W) →
     Store allows register entry value old answer new → bit_and entry.flags 1 ≡ 0 → allows old (Write register.place register.access (stored value register.offset entry.mask) answer) new
@@ -66,130 +52,36 @@ pub record DoesStep {W : Type 0} (allows : W → Call → W → Type 0) (program
   pub place : d.place ≡ c.place + 1
   pub does : Does allows program given entry straight c old d new
 
-step_takes : {W : Type 0} (allows : W → Call → W → Type 0) (program : Listed) (given : ℕ) (entry : Entry) (c : Configuration)
-    (i : Instruction) (taken : Task → ℕ → Configuration) (register : Register) (code : instruction_of entry.code ≡ Some i)
-    (work : (task : Task) → task.entry ≡ entry → work_of task i ≡ TakeField (taken task)) (on : (task : Task) (x : ℕ) → (taken task x).place ≡ task.at.place + 1)
-    (region : checked entry.region ≡ Ok register) (old : W) (d : Configuration) (more : ℕ) (new : W) →
-    Step allows (task_of program given entry c) old d more new → DoesStep allows program given entry (TakesOnly i taken register code work on region) c old d more new
-step_takes allows program given entry c i taken register code work on region old d more new step =
-    let task : Task = task_of program given entry c in
-    let is : work_of task i ≡ TakeField (taken task) = work task refl in
-    elim step as (λ d more new step. DoesStep allows program given entry (TakesOnly i taken register code work on region) c old d more new) [
-      | Computes d has ↦ let clash = same_work task i (TakeField (taken task)) (GoOn d) code is has in absurd (cc clash)
-      | Goes to has within ↦ let clash = same_work task i (TakeField (taken task)) (GoTo to) code is has in absurd (cc clash)
-      | Stalls micros new has h ↦ let clash = same_work task i (TakeField (taken task)) (WaitFor micros) code is has in absurd (cc clash)
-      | Takes how other x new has at h ↦
-          let same = same_work task i (TakeField (taken task)) (TakeField how) code is has in
-          let also : how ≡ taken task = cc same in
-          let read = subst (λ (r : Register). FieldRead allows r entry.mask old (Ok x) new) (same_register register other (checked entry.region) region at) h in
-          let got = got_of allows register entry.mask old (Ok x) new x read refl in
-          let so : how x ≡ taken task x = ap (λ (f : ℕ → Configuration). f x) also in
-          record {
-            only = refl;
-            place = ap (λ (b : Configuration). b.place) so ∙ on task x;
-            does = (got.0, (so ∙ ap (taken task) got.1.0, got.1.1));
-          }
-      | Stores value other new has at h ↦ let clash = same_work task i (TakeField (taken task)) (StoreValue value) code is has in absurd (cc clash)
-      | Changes changed other x mid new has at h k ↦ let clash = same_work task i (TakeField (taken task)) (ChangeField changed) code is has in absurd (cc clash)
-      | Compares other x mid new has at h k ↦ let clash = same_work task i (TakeField (taken task)) CompareField code is has in absurd (cc clash)
-      | Moves other x mid new has at h less k ↦ let clash = same_work task i (TakeField (taken task)) MoveBytes code is has in absurd (cc clash)
-    ]
-
-step_stores : {W : Type 0} (allows : W → Call → W → Type 0) (program : Listed) (given : ℕ) (entry : Entry) (c : Configuration)
-    (i : Instruction) (value : Task → ℕ) (register : Register) (code : instruction_of entry.code ≡ Some i)
-    (work : (task : Task) → task.entry ≡ entry → work_of task i ≡ StoreValue (value task)) (flags : bit_and entry.flags 1 ≡ 0)
-    (region : checked entry.region ≡ Ok register) (old : W) (d : Configuration) (more : ℕ) (new : W) →
-    Step allows (task_of program given entry c) old d more new → DoesStep allows program given entry (StoresOnly i value register code work flags region) c old d more new
-step_stores allows program given entry c i value register code work flags region old d more new step =
-    let task : Task = task_of program given entry c in
-    let is : work_of task i ≡ StoreValue (value task) = work task refl in
-    elim step as (λ d more new step. DoesStep allows program given entry (StoresOnly i value register code work flags region) c old d more new) [
-      | Computes d has ↦ let clash = same_work task i (StoreValue (value task)) (GoOn d) code is has in absurd (cc clash)
-      | Goes to has within ↦ let clash = same_work task i (StoreValue (value task)) (GoTo to) code is has in absurd (cc clash)
-      | Stalls micros new has h ↦ let clash = same_work task i (StoreValue (value task)) (WaitFor micros) code is has in absurd (cc clash)
-      | Takes how other x new has at h ↦ let clash = same_work task i (StoreValue (value task)) (TakeField how) code is has in absurd (cc clash)
-      | Stores put other new has at h ↦
-          let same = same_work task i (StoreValue (value task)) (StoreValue put) code is has in
-          let also : put ≡ value task = cc same in
-          let stands = subst (λ (r : Register). Store allows r entry put old (Ok tt) new) (same_register register other (checked entry.region) region at) h in
-          let wrote = subst (λ (n : ℕ). Store allows register entry n old (Ok tt) new) also stands in
-          record { only = refl; place = refl; does = (refl, whole_of allows register entry (value task) old (Ok tt) new wrote flags) }
-      | Changes changed other x mid new has at h k ↦ let clash = same_work task i (StoreValue (value task)) (ChangeField changed) code is has in absurd (cc clash)
-      | Compares other x mid new has at h k ↦ let clash = same_work task i (StoreValue (value task)) CompareField code is has in absurd (cc clash)
-      | Moves other x mid new has at h less k ↦ let clash = same_work task i (StoreValue (value task)) MoveBytes code is has in absurd (cc clash)
-    ]
-
 pub step_does : {W : Type 0} (allows : W → Call → W → Type 0) (program : Listed) (given : ℕ) (entry : Entry) (straight : IsStraight entry) (c : Configuration) (old : W) (d : Configuration) (more : ℕ) (new : W) →
     Step allows (task_of program given entry c) old d more new → DoesStep allows program given entry straight c old d more new
-step_does allows program given entry (TakesOnly i taken register code work on region) c old d more new step = step_takes allows program given entry c i taken register code work on region old d more new step
-step_does allows program given entry (StoresOnly i value register code work flags region) c old d more new step = step_stores allows program given entry c i value register code work flags region old d more new step
-
-refusal_never : {W : Type 0} (allows : W → Call → W → Type 0) (program : Listed) (given : ℕ) (entry : Entry) (straight : IsStraight entry) → Serves allows entry straight → (c : Configuration) (old : W) (fault : SpaceFault) (new : W) →
-    Refusal allows (task_of program given entry c) old fault new → ⊥
-refusal_never allows program given entry (TakesOnly i taken register code work on region) serves c old fault new refusal =
+step_does allows program given entry (TakesOnly i taken register code work on region) c old d more new step =
     let task : Task = task_of program given entry c in
-    let is : work_of task i ≡ TakeField (taken task) = work task refl in
-    elim refusal as (λ fault new refusal. ⊥) [
-      | NotRead other r fault new has early at h ↦
-          let read = subst (λ (x : Register). FieldRead allows x entry.mask old (Err fault) new) (same_register register r (checked entry.region) region at) h in
-          serves old new fault (refused_of allows register entry.mask old (Err fault) new fault read refl)
-      | NotCompared r fault mid new has at h k ↦ let clash = same_work task i (TakeField (taken task)) CompareField code is has in absurd (cc clash)
-      | NotStored value r fault new has at h ↦ let clash = same_work task i (TakeField (taken task)) (StoreValue value) code is has in absurd (cc clash)
-      | NotChanged changed r x fault mid new has at h k ↦ let clash = same_work task i (TakeField (taken task)) (ChangeField changed) code is has in absurd (cc clash)
-    ]
-refusal_never allows program given entry (StoresOnly i value register code work flags region) serves c old fault new refusal =
+    let did = subst (λ (w : Work). StepBy allows task old w d more new) (work task refl) (step_by allows task i code old d more new step) in
+    let read = subst (λ (r : Register). FieldRead allows r entry.mask old (Ok did.1) new) (same_register register did.0 (checked entry.region) region did.4) did.5 in
+    let got = got_of allows register entry.mask old (Ok did.1) new did.1 read refl in
+    record {
+      only = did.3;
+      place = ap (λ (b : Configuration). b.place) did.2 ∙ on task did.1;
+      does = (got.0, (did.2 ∙ ap (taken task) got.1.0, got.1.1));
+    }
+step_does allows program given entry (StoresOnly i value register code work flags region) c old d more new step =
     let task : Task = task_of program given entry c in
-    let is : work_of task i ≡ StoreValue (value task) = work task refl in
-    elim refusal as (λ fault new refusal. ⊥) [
-      | NotRead other r fault new has early at h ↦
-          let same = same_work task i (StoreValue (value task)) other code is has in
-          let first : reads_first (StoreValue (value task)) ≡ true = subst (λ (w : Work). reads_first w ≡ true) same early in
-          absurd (cc first)
-      | NotCompared r fault mid new has at h k ↦ let clash = same_work task i (StoreValue (value task)) CompareField code is has in absurd (cc clash)
-      | NotStored put r fault new has at h ↦
-          let stands = subst (λ (x : Register). Store allows x entry put old (Err fault) new) (same_register register r (checked entry.region) region at) h in
-          serves old new _ fault (whole_of allows register entry put old (Err fault) new stands flags)
-      | NotChanged changed r x fault mid new has at h k ↦ let clash = same_work task i (StoreValue (value task)) (ChangeField changed) code is has in absurd (cc clash)
-    ]
-
--- a straight entry has an instruction, whose register serves, and which neither goes elsewhere nor moves
-record IsNoOther (task : Task) : Type 0 where
-  known : instruction_of task.entry.code ≡ None → ⊥
-  placed : (why : BadRegister) → checked task.entry.region ≡ Err why → ⊥
-  no_going : (to : ℕ) → HasWork task (GoTo to) → ⊥
-  no_moving : HasWork task MoveBytes → ⊥
-
-no_other : (task : Task) → IsStraight task.entry → IsNoOther task
-no_other task (TakesOnly i taken register code work on region) =
-    let is : work_of task i ≡ TakeField (taken task) = work task refl in
-    record {
-      known = λ none. none-some i (sym none ∙ code);
-      placed = λ why bad. no_register register why (checked task.entry.region) region bad;
-      no_going = λ to has. let clash = same_work task i (TakeField (taken task)) (GoTo to) code is has in absurd (cc clash);
-      no_moving = λ has. let clash = same_work task i (TakeField (taken task)) MoveBytes code is has in absurd (cc clash);
-    }
-no_other task (StoresOnly i value register code work flags region) =
-    let is : work_of task i ≡ StoreValue (value task) = work task refl in
-    record {
-      known = λ none. none-some i (sym none ∙ code);
-      placed = λ why bad. no_register register why (checked task.entry.region) region bad;
-      no_going = λ to has. let clash = same_work task i (StoreValue (value task)) (GoTo to) code is has in absurd (cc clash);
-      no_moving = λ has. let clash = same_work task i (StoreValue (value task)) MoveBytes code is has in absurd (cc clash);
-    }
+    let did = subst (λ (w : Work). StepBy allows task old w d more new) (work task refl) (step_by allows task i code old d more new step) in
+    let wrote = subst (λ (r : Register). Store allows r entry (value task) old (Ok tt) new) (same_register register did.0 (checked entry.region) region did.3) did.4 in
+    record { only = did.2; place = ap (λ (b : Configuration). b.place) did.1; does = (did.1, whole_of allows register entry (value task) old (Ok tt) new wrote flags) }
 
 pub halt_never : {W : Type 0} (allows : W → Call → W → Type 0) (program : Listed) (given : ℕ) (entry : Entry) (straight : IsStraight entry) → Serves allows entry straight → (c : Configuration) (paid : ℕ) (old : W)
     (stop : RunStop) (left : ℕ) (new : W) → Halt allows (task_of program given entry c) paid old stop left new → ⊥
-halt_never allows program given entry straight serves c paid old stop left new halt =
-    let other = no_other (task_of program given entry c) straight in
-    elim halt as (λ stop left new halt. ⊥) [
-      | Unknown e ↦ other.known e
-      | Unregistered work why has used is ↦ other.placed why is
-      | Outside to has beyond ↦ other.no_going to has
-      | IsRefused fault new h ↦ refusal_never allows program given entry straight serves c old fault new h
-      | TooLong register x new has is h more ↦ other.no_moving has
-      | Unpaid register x new has is h less short ↦ other.no_moving has
-      | NotCopied register x fault mid new has is h less enough k ↦ other.no_moving has
-    ]
+halt_never allows program given entry (TakesOnly i taken register code work on region) serves c paid old stop left new halt =
+    let task : Task = task_of program given entry c in
+    let bad = subst (λ (w : Work). HaltBy allows task paid old w stop left new) (work task refl) (halt_by allows task i code (λ used. (register, region)) paid old stop left new halt) in
+    let read = subst (λ (r : Register). FieldRead allows r entry.mask old (Err bad.1) new) (same_register register bad.0 (checked entry.region) region bad.2) bad.3 in
+    serves old new bad.1 (refused_of allows register entry.mask old (Err bad.1) new bad.1 read refl)
+halt_never allows program given entry (StoresOnly i value register code work flags region) serves c paid old stop left new halt =
+    let task : Task = task_of program given entry c in
+    let bad = subst (λ (w : Work). HaltBy allows task paid old w stop left new) (work task refl) (halt_by allows task i code (λ used. (register, region)) paid old stop left new halt) in
+    let wrote = subst (λ (r : Register). Store allows r entry (value task) old (Err bad.1) new) (same_register register bad.0 (checked entry.region) region bad.2) bad.3 in
+    serves old new _ bad.1 (whole_of allows register entry (value task) old (Err bad.1) new wrote flags)
 
 -- the entry at a place is straight, and serves
 nth : {W : Type 0} (allows : W → Call → W → Type 0) (entries : List Entry) → AreStraight allows entries → (n : ℕ) (entry : Entry) → slice_get entries n ≡ Some entry →

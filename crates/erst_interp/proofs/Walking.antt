@@ -1,5 +1,5 @@
 -- One instruction more, or the stop that it makes.
-use Rattle.std.proofs.Common.{◌≡◌, ℕ, ◌+◌, Some, Ok, Err, Result, slice_get, arith}
+use Rattle.std.proofs.Common.{◌≡◌, ℕ, ◌+◌, length, Some, Ok, Err, Result, slice_get, subst, arith}
 use Rattle.apei_space.specs.Calls.{Call}
 use Rattle.erst_entries.specs.declared.entries.Entry.{Entry}
 use Rattle.erst_entries.specs.Programs.{Listed}
@@ -13,7 +13,7 @@ abbrev pub Comes : {W : Type 0} → (W → Call → W → Type 0) → Listed →
 Comes allows program given budget first (Ok d) left new = Walk allows program given budget first left d new
 Comes allows program given budget first (Err stop) left new = Run allows program given budget first (Err stop) left new
 
-pub comes : {W : Type 0} (allows : W → Call → W → Type 0) (program : Listed) (given budget : ℕ) (first : W) (paid : ℕ) (c : Configuration) (mid : W) (entry : Entry)
+comes : {W : Type 0} (allows : W → Call → W → Type 0) (program : Listed) (given budget : ℕ) (first : W) (paid : ℕ) (c : Configuration) (mid : W) (entry : Entry)
     (answer : Result Configuration RunStop) (left : ℕ) (new : W) →
     HasProgram program → Walk allows program given budget first (paid + 1) c mid → slice_get program.entries c.place ≡ Some entry →
     Executes allows (task_of program given entry c) paid mid answer left new → Comes allows program given budget first answer left new
@@ -24,3 +24,12 @@ comes allows program given budget first paid c mid entry answer left new has wal
           Then (paid + 1) c mid entry d more left new walk here step all
       | Stops stop left new halt ↦ Halts paid c mid entry stop left new has walk here halt
     ]
+
+-- the same of an instruction whose step was taken from the budget
+pub comes_by : {W : Type 0} (allows : W → Call → W → Type 0) (program : Listed) (given budget : ℕ) (first : W) (before paid len : ℕ) (c : Configuration) (mid : W) (entry : Entry)
+    (answer : Result Configuration RunStop) (left : ℕ) (new : W) →
+    HasProgram program → Walk allows program given budget first before c mid → before ≡ paid + 1 → len ≡ length program.entries → slice_get program.entries c.place ≡ Some entry →
+    Executes allows (record { entry = entry; given = given; len = len; at = c }) paid mid answer left new → Comes allows program given budget first answer left new
+comes_by allows program given budget first before paid len c mid entry answer left new has walk paid_is len_is here executes =
+    comes allows program given budget first paid c mid entry answer left new has (subst (λ (n : ℕ). Walk allows program given budget first n c mid) paid_is walk) here
+    (subst (λ (n : ℕ). Executes allows (record { entry = entry; given = given; len = n; at = c }) paid mid answer left new) len_is executes)

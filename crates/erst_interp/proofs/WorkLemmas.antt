@@ -1,15 +1,16 @@
 -- What a GOTO is, and which work uses a register.
-use Rattle.std.proofs.Common.{◌≡◌, ℕ, true, refl, arith, Result}
+use Rattle.std.proofs.Common.{◌≡◌, ℕ, true, refl, subst, arith, Result}
 use Rattle.apei_space.specs.Calls.{Call}
 use Rattle.erst_interp.specs.declared.configurations.Configuration.{Configuration}
 use Rattle.erst_interp.specs.declared.configurations.Task.{Task}
+use Rattle.erst_interp.specs.declared.works.Changing.{Changing}
 use Rattle.erst_interp.specs.declared.works.FieldUse.{FieldUse}
 use Rattle.erst_interp.specs.declared.works.FieldUse.TheVariants.{Take, Change}
 use Rattle.erst_interp.specs.declared.works.Access.{Access}
 use Rattle.erst_interp.specs.declared.works.Access.TheVariants.{Field, Store, Compare, Copy}
 use Rattle.erst_interp.specs.declared.stops.RunStop.{RunStop}
-use Rattle.erst_interp.specs.Instructions.{GoTo, HasWork, uses_register, reads_first}
-use Rattle.erst_interp.specs.Works.{use_meaning, access_meaning}
+use Rattle.erst_interp.specs.Instructions.{GoTo, ChangeField, HasWork, uses_register, reads_first}
+use Rattle.erst_interp.specs.Works.{changed, use_meaning, access_meaning}
 use Rattle.erst_interp.specs.Steps.{GoesTo, Within, Beyond, Executes, GoesOn, Stops, Goes, Outside}
 
 pub uses_register-access : (access : Access) (task : Task) → uses_register (access_meaning access task) ≡ true
@@ -18,6 +19,10 @@ uses_register-access (Field (Change how)) task = refl
 uses_register-access (Store value) task = refl
 uses_register-access Compare task = refl
 uses_register-access Copy task = refl
+
+-- what a use that changes the field is
+pub change_work : (task : Task) (how : FieldUse) (change : Changing) → how ≡ Change change → HasWork task (use_meaning how task) → HasWork task (ChangeField (changed change task))
+change_work task how change is has = subst (λ (u : FieldUse). HasWork task (use_meaning u task)) is has
 
 pub reads_first-use : (how : FieldUse) (task : Task) → reads_first (use_meaning how task) ≡ true
 reads_first-use (Take how) task = refl

@@ -3,7 +3,6 @@ use Rattle.std.proofs.Common.{◌≡◌, ◌∙◌, ℕ, ◌+◌, ◌-◌, ◌*�
 use Rattle.std.specs.Prelude.{◌==◌, if◌then◌else◌}
 use Rattle.std.proofs.lemmas.Nat.{and_mask}
 use Rattle.apei_gas.specs.declared.registers.Register.{Register}
-use Rattle.apei_gas.specs.declared.registers.BadRegister.{BadRegister}
 use Rattle.apei_gas.specs.declared.registers.Place.TheVariants.{Memory}
 use Rattle.apei_gas.specs.declared.widths.Width.TheVariants.{B64}
 use Rattle.apei_gas.specs.Check.{checked}
@@ -17,6 +16,7 @@ use Rattle.erst_entries.specs.declared.instructions.Instruction.TheVariants.{Wri
 use Rattle.erst_entries.specs.Instructions.{instruction_of}
 use Rattle.erst_entries.specs.Programs.{Listed}
 use Rattle.erst_interp.specs.declared.configurations.Configuration.{Configuration}
+use Rattle.erst_interp.specs.declared.configurations.Task.{Task}
 use Rattle.erst_interp.specs.Configurations.{next}
 use Rattle.erst_interp.specs.Instructions.{Work, TakeField, work_of}
 use Rattle.erst_interp.specs.Accesses.{FieldRead, Store}
@@ -25,15 +25,12 @@ use Rattle.erst_interp.specs.Runs.{task_of}
 use Rattle.erst_interp.proofs.StraightLemmas.{whole_of, got_of, refused_of}
 use Rattle.erst_moves.specs.MoveEntries.{MoveRegister, address_of, region_of, no_region, plain_entry, put_number, use_register}
 use Rattle.erst_moves.specs.MoveSpaces.{ServesMove}
-use Rattle.erst_moves.proofs.WorkLemmas.{StepBy, step_by}
+use Rattle.erst_interp.proofs.StepLemmas.{same_register, StepBy, step_by}
 
 -- Whole registers
 
 abbrev pub register_at : MoveRegister → Register
 register_at r = record { place = Memory (address_of r); access = B64; offset = 0 }
-
-same_register : (r s : Register) (answer : Result Register BadRegister) → answer ≡ Ok r → answer ≡ Ok s → s ≡ r
-same_register r s answer e f = cc
 
 -- a number below 2 ^ 64 is stored and read whole
 stored_whole : (n : ℕ) → n < 2 ^ 64 → stored n 0 (2 ^ 64 - 1) ≡ n
@@ -54,36 +51,25 @@ pub record HasDone {W : Type 0} (d : Configuration) (more : ℕ) (new : W) (to :
   pub only : more ≡ extra
   pub left : new ≡ there
 
--- what an instruction of a move takes a register's number as
-pub data Taken : Type 0 where
-  OfSource : Taken
-  OfTarget : Taken
-  OfVar1 : Taken
-  OfVar2 : Taken
+-- what an instruction of a move takes a register's number as: the instruction, and where a run goes on that was to go on in a configuration
+pub record Taken : Type 0 where
+  pub code : ℕ
+  pub instruction : Instruction
+  pub has_code : instruction_of code ≡ Some instruction
+  pub taken : ℕ → Configuration → Configuration
+  pub works : (task : Task) → work_of task instruction ≡ TakeField (λ x. taken x (next task.at))
 
-abbrev pub code_of : Taken → ℕ
-code_of OfSource = 0x10
-code_of OfTarget = 0x11
-code_of OfVar1 = 0x05
-code_of OfVar2 = 0x06
+abbrev pub of_source : Taken
+of_source = record { code = 0x10; instruction = SetSourceBase; has_code = refl; taken = λ n c. record c { source = n }; works = λ task. refl }
 
-abbrev pub instruction_in : Taken → Instruction
-instruction_in OfSource = SetSourceBase
-instruction_in OfTarget = SetTargetBase
-instruction_in OfVar1 = LoadVar1
-instruction_in OfVar2 = LoadVar2
+abbrev pub of_target : Taken
+of_target = record { code = 0x11; instruction = SetTargetBase; has_code = refl; taken = λ n c. record c { target = n }; works = λ task. refl }
 
-pub has_code : (into : Taken) → instruction_of (code_of into) ≡ Some (instruction_in into)
-has_code OfSource = refl
-has_code OfTarget = refl
-has_code OfVar1 = refl
-has_code OfVar2 = refl
+abbrev pub of_var1 : Taken
+of_var1 = record { code = 0x05; instruction = LoadVar1; has_code = refl; taken = λ n c. record c { var1 = n }; works = λ task. refl }
 
-abbrev pub with_taken : Taken → ℕ → Configuration → Configuration
-with_taken OfSource n c = record c { source = n }
-with_taken OfTarget n c = record c { target = n }
-with_taken OfVar1 n c = record c { var1 = n }
-with_taken OfVar2 n c = record c { var2 = n }
+abbrev pub of_var2 : Taken
+of_var2 = record { code = 0x06; instruction = LoadVar2; has_code = refl; taken = λ n c. record c { var2 = n }; works = λ task. refl }
 
 module _ {W : Type 0} (allows : W → Call → W → Type 0) (fits : W → Type 0) (from target count : ℕ) (space : ServesMove allows fits from target count) where
   pub reads_number : (r : MoveRegister) (register : Register) (old new : W) (x known : ℕ) → checked (region_of r) ≡ Ok register → FieldRead allows register (2 ^ 64 - 1) old (Ok x) new → fits old → space.value r old ≡ known → known < 2 ^ 64
@@ -133,21 +119,14 @@ module _ {W : Type 0} (allows : W → Call → W → Type 0) (fits : W → Type 
         record { goes = did.1; only = did.2; left = writes_number r did.0 action 0x07 0 c.var1 old new did.3 did.4 fit small }
 
     -- an instruction that takes what a register of a move holds
-    pub works : (into : Taken) (r : MoveRegister) (c : Configuration)
-        → work_of (task_of program given (use_register action (code_of into) r) c) (instruction_in into) ≡ TakeField (λ x. with_taken into x (next c))
-    works OfSource r c = refl
-    works OfTarget r c = refl
-    works OfVar1 r c = refl
-    works OfVar2 r c = refl
-
-    pub takes : (into : Taken) (r : MoveRegister) (known : ℕ) (entry : Entry) (c : Configuration) (old : W) (d : Configuration) (more : ℕ) (new : W) → use_register action (code_of into) r ≡ entry → space.value r old ≡ known → known < 2 ^ 64 → fits old
-        → Step allows (task_of program given entry c) old d more new → HasDone d more new (with_taken into known (next c)) 0 old
+    pub takes : (into : Taken) (r : MoveRegister) (known : ℕ) (entry : Entry) (c : Configuration) (old : W) (d : Configuration) (more : ℕ) (new : W) → use_register action into.code r ≡ entry → space.value r old ≡ known → known < 2 ^ 64 → fits old
+        → Step allows (task_of program given entry c) old d more new → HasDone d more new (into.taken known (next c)) 0 old
     takes into r known entry c old d more new is value_is small fit step =
-        let task = task_of program given (use_register action (code_of into) r) c in
-        let did = subst (λ (w : Work). StepBy allows task old w d more new) (works into r c)
-        (step_by allows task (instruction_in into) (has_code into) old d more new (subst (λ (e : Entry). Step allows (task_of program given e c) old d more new) (sym is) step)) in
+        let task = task_of program given (use_register action into.code r) c in
+        let did = subst (λ (w : Work). StepBy allows task old w d more new) (into.works task)
+        (step_by allows task into.instruction into.has_code old d more new (subst (λ (e : Entry). Step allows (task_of program given e c) old d more new) (sym is) step)) in
         let read = reads_number r did.0 old new did.1 known did.4 did.5 fit value_is small in
-        record { goes = did.2 ∙ ap (λ (n : ℕ). with_taken into n (next c)) read.0; only = did.3; left = read.1 }
+        record { goes = did.2 ∙ ap (λ (n : ℕ). into.taken n (next c)) read.0; only = did.3; left = read.1 }
 
     pub adds_both : (entry : Entry) (c : Configuration) (old : W) (d : Configuration) (more : ℕ) (new : W) → plain_entry action 0x08 no_region 0 0 ≡ entry
         → Step allows (task_of program given entry c) old d more new → HasDone d more new (record (next c) { var1 = (c.var1 + c.var2) % 2 ^ 64 }) 0 old

@@ -16,8 +16,8 @@ use Rattle.erst_interp.specs.Runs.{task_of}
 use Rattle.erst_moves.specs.MoveEntries.{MoveRegister, Offset, Source, Target, Length, region_of, no_region, plain_entry, put_number, use_register, move_entries}
 use Rattle.erst_moves.specs.MoveSpaces.{ServesMove, AreAddressable}
 use Rattle.erst_moves.specs.MoveRuns.{move_then, move_steps}
-use Rattle.erst_moves.proofs.WorkLemmas.{IsUnpaid, IsTooLong, IsNotRead, IsNotCopied, HaltBy, halt_by}
-use Rattle.erst_moves.proofs.EntryLemmas.{Taken, OfSource, OfTarget, OfVar1, OfVar2, code_of, instruction_in, has_code, works, register_at, no_fault, reads_number, reads_always, writes_always}
+use Rattle.erst_interp.proofs.StepLemmas.{IsUnpaid, IsTooLong, IsNotRead, IsNotCopied, HaltBy, halt_by}
+use Rattle.erst_moves.proofs.EntryLemmas.{Taken, of_source, of_target, of_var1, of_var2, register_at, no_fault, reads_number, reads_always, writes_always}
 use Rattle.erst_moves.proofs.StageLemmas.{Stage, First, Second, Third, Fourth, Fifth, Sixth, Seventh, Head, Copied, Loaded, Added, Kept, Again, Done, cost, IsStage, stage_at, stage_in, stage_fits, rounds_hold}
 
 -- the budget had fewer steps than were needed
@@ -43,12 +43,12 @@ module _ {W : Type 0} (allows : W → Call → W → Type 0) (fits : W → Type 
         (subst (λ (e : Entry). Halt allows (task_of program given e c) paid old stop left new) (sym is) halt) in
         writes_always allows fits from target count space r why.0 action 0x07 0 c.var1 old new why.1 why.2 why.3 fit
 
-    no_stop_taking : (into : Taken) (r : MoveRegister) (entry : Entry) (c : Configuration) (paid : ℕ) (old : W) (stop : RunStop) (left : ℕ) (new : W) → use_register action (code_of into) r ≡ entry → fits old
+    no_stop_taking : (into : Taken) (r : MoveRegister) (entry : Entry) (c : Configuration) (paid : ℕ) (old : W) (stop : RunStop) (left : ℕ) (new : W) → use_register action into.code r ≡ entry → fits old
         → Halt allows (task_of program given entry c) paid old stop left new → ⊥
     no_stop_taking into r entry c paid old stop left new is fit halt =
-        let task = task_of program given (use_register action (code_of into) r) c in
-        let why = subst (λ (w : Work). HaltBy allows task paid old w stop left new) (works allows fits from target count space program given action into r c)
-        (halt_by allows task (instruction_in into) (has_code into) (λ used. (register_at r, refl)) paid old stop left new (subst (λ (e : Entry). Halt allows (task_of program given e c) paid old stop left new) (sym is) halt)) in
+        let task = task_of program given (use_register action into.code r) c in
+        let why = subst (λ (w : Work). HaltBy allows task paid old w stop left new) (into.works task)
+        (halt_by allows task into.instruction into.has_code (λ used. (register_at r, refl)) paid old stop left new (subst (λ (e : Entry). Halt allows (task_of program given e c) paid old stop left new) (sym is) halt)) in
         reads_always allows fits from target count space r why.0 old new why.1 why.2 why.3 fit
 
     no_stop_skip : (r : MoveRegister) (size : ℕ) (entry : Entry) (c : Configuration) (paid : ℕ) (old : W) (stop : RunStop) (left : ℕ) (new : W) → plain_entry action 0x0E (region_of r) size (2 ^ 64 - 1) ≡ entry → fits old
@@ -109,18 +109,18 @@ module _ {W : Type 0} (allows : W → Call → W → Type 0) (fits : W → Type 
     stage_stops Fourth is not entry here paid stop left new halt =
         absurd (no_stop_put (move_then action from target count behind) given action Offset 0 entry _ paid _ stop left new (same_Some _ _ here) (stage_fits allows fits from target count space below first fit Fourth tt) halt)
     stage_stops Fifth is not entry here paid stop left new halt =
-        absurd (no_stop_taking (move_then action from target count behind) given action OfSource Source entry _ paid _ stop left new (same_Some _ _ here) (stage_fits allows fits from target count space below first fit Fifth tt) halt)
+        absurd (no_stop_taking (move_then action from target count behind) given action of_source Source entry _ paid _ stop left new (same_Some _ _ here) (stage_fits allows fits from target count space below first fit Fifth tt) halt)
     stage_stops Sixth is not entry here paid stop left new halt =
-        absurd (no_stop_taking (move_then action from target count behind) given action OfTarget Target entry _ paid _ stop left new (same_Some _ _ here) (stage_fits allows fits from target count space below first fit Sixth tt) halt)
+        absurd (no_stop_taking (move_then action from target count behind) given action of_target Target entry _ paid _ stop left new (same_Some _ _ here) (stage_fits allows fits from target count space below first fit Sixth tt) halt)
     stage_stops Seventh is not entry here paid stop left new halt =
-        absurd (no_stop_taking (move_then action from target count behind) given action OfVar2 Length entry _ paid _ stop left new (same_Some _ _ here) (stage_fits allows fits from target count space below first fit Seventh tt) halt)
+        absurd (no_stop_taking (move_then action from target count behind) given action of_var2 Length entry _ paid _ stop left new (same_Some _ _ here) (stage_fits allows fits from target count space below first fit Seventh tt) halt)
     stage_stops (Head i) is not entry here paid stop left new halt =
         let holds = rounds_hold allows fits from target count space below first fit i (omega arith) in (
           stop_copy (move_then action from target count behind) given action Offset i entry _ paid _ stop left new (same_Some _ _ here) holds.offset is below.source below.target_is refl refl refl holds.fit halt,
           omega arith,
         )
     stage_stops (Copied i) is not entry here paid stop left new halt =
-        absurd (no_stop_taking (move_then action from target count behind) given action OfVar1 Offset entry _ paid _ stop left new (same_Some _ _ here) (stage_fits allows fits from target count space below first fit (Copied i) is) halt)
+        absurd (no_stop_taking (move_then action from target count behind) given action of_var1 Offset entry _ paid _ stop left new (same_Some _ _ here) (stage_fits allows fits from target count space below first fit (Copied i) is) halt)
     stage_stops (Loaded i) is not entry here paid stop left new halt =
         absurd (no_stop_add (move_then action from target count behind) given action entry _ paid _ stop left new (same_Some _ _ here) halt)
     stage_stops (Added i) is not entry here paid stop left new halt =

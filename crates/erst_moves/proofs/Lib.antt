@@ -1,4 +1,3 @@
-pub mod WorkLemmas
 pub mod EntryLemmas
 pub mod StageLemmas
 pub mod HaltLemmas

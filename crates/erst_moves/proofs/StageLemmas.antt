@@ -13,7 +13,7 @@ use Rattle.erst_interp.specs.Runs.{task_of}
 use Rattle.erst_moves.specs.MoveEntries.{Offset, Source, Target, Length, move_entries}
 use Rattle.erst_moves.specs.MoveSpaces.{ServesMove, AreAddressable, prepared, after_rounds}
 use Rattle.erst_moves.specs.MoveRuns.{move_then, standing}
-use Rattle.erst_moves.proofs.EntryLemmas.{OfSource, OfTarget, OfVar1, OfVar2, HasDone, puts_number, stores_var1, takes, adds_both, goes_to, skips_or_goes, copies_piece}
+use Rattle.erst_moves.proofs.EntryLemmas.{of_source, of_target, of_var1, of_var2, HasDone, puts_number, stores_var1, takes, adds_both, goes_to, skips_or_goes, copies_piece}
 
 -- where a run stands: before one of the first seven entries, at the head of round i, behind each of its entries, and behind the move
 pub data Stage : Type 0 where
@@ -200,14 +200,14 @@ module _ {W : Type 0} (allows : W → Call → W → Type 0) (fits : W → Type 
     stage_leads Fifth is not entry here d more new step =
         let holds = begun_holds first fit in
         let fits_from = below.source in
-        by first Fifth Sixth d more new 0 tt (takes allows fits from target count space (move_then action from target count behind) given action OfSource Source from entry _ _ d more new (same_Some _ _ here) holds.source (omega arith) holds.fit step) refl
+        by first Fifth Sixth d more new 0 tt (takes allows fits from target count space (move_then action from target count behind) given action of_source Source from entry _ _ d more new (same_Some _ _ here) holds.source (omega arith) holds.fit step) refl
     stage_leads Sixth is not entry here d more new step =
         let holds = begun_holds first fit in
         let fits_target = below.target_is in
-        by first Sixth Seventh d more new 0 tt (takes allows fits from target count space (move_then action from target count behind) given action OfTarget Target target entry _ _ d more new (same_Some _ _ here) holds.target_is (omega arith) holds.fit step) refl
+        by first Sixth Seventh d more new 0 tt (takes allows fits from target count space (move_then action from target count behind) given action of_target Target target entry _ _ d more new (same_Some _ _ here) holds.target_is (omega arith) holds.fit step) refl
     stage_leads Seventh is not entry here d more new step =
         let holds = begun_holds first fit in
-        by first Seventh (Head 0) d more new 0 below.some (takes allows fits from target count space (move_then action from target count behind) given action OfVar2 Length 128 entry _ _ d more new (same_Some _ _ here) holds.size (omega arith) holds.fit step) refl
+        by first Seventh (Head 0) d more new 0 below.some (takes allows fits from target count space (move_then action from target count behind) given action of_var2 Length 128 entry _ _ d more new (same_Some _ _ here) holds.size (omega arith) holds.fit step) refl
     stage_leads (Head i) is not entry here d more new step =
         let holds = rounds_hold first fit i (omega arith) in
         by first (Head i) (Copied i) d more new 2 is
@@ -216,7 +216,7 @@ module _ {W : Type 0} (allows : W → Call → W → Type 0) (fits : W → Type 
         let holds = copied_holds i (after_rounds space i first) is (rounds_hold first fit i (omega arith)) in
         let fits_from = below.source in
         by first (Copied i) (Loaded i) d more new 0 is
-        (takes allows fits from target count space (move_then action from target count behind) given action OfVar1 Offset (128 * i) entry _ _ d more new (same_Some _ _ here) holds.offset (omega arith) holds.fit step) (omega arith)
+        (takes allows fits from target count space (move_then action from target count behind) given action of_var1 Offset (128 * i) entry _ _ d more new (same_Some _ _ here) holds.offset (omega arith) holds.fit step) (omega arith)
     stage_leads (Loaded i) is not entry here d more new step =
         let did = adds_both allows fits from target count space (move_then action from target count behind) given action entry _ _ d more new (same_Some _ _ here) step in
         let fits_from = below.source in

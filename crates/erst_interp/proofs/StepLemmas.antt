@@ -24,6 +24,10 @@ the_work task i work code has =
     let same : has.instruction ≡ i = same_Some _ _ (sym has.code ∙ code) in
     sym has.work_is ∙ ap (work_of task) same
 
+-- and one register
+pub same_register : (r s : Register) (answer : Result Register BadRegister) → answer ≡ Ok r → answer ≡ Ok s → s ≡ r
+same_register r s answer e f = cc
+
 -- what was done
 abbrev pub StepBy : {W : Type 0} → (W → Call → W → Type 0) → Task → W → Work → Configuration → ℕ → W → Type 0
 StepBy allows task old (GoOn e) d more new = (d ≡ e) × (more ≡ 0) × (new ≡ old)
