@@ -1,10 +1,10 @@
 -- Windows with the places of their bytes: each is where a place that it holds is found.
-use Rattle.std.proofs.Common.{◌≡◌, ◌∙◌, ℕ, zero, suc, ◌+◌, ◌-◌, ◌<◌, List, [], ◌∷◌, length, take, drop, get_or, Some, sym, ap, subst, arith}
+use Rattle.std.proofs.Common.{◌≡◌, ◌∙◌, ℕ, zero, suc, ◌+◌, ◌-◌, ◌<◌, ◌^◌, All, List, [], ◌∷◌, length, take, drop, get_or, Some, sym, ap, subst, arith}
 use Rattle.apei_gas.specs.declared.registers.Place.{Place}
 use Rattle.apei_space.specs.declared.windows.Window.{Window}
 use Rattle.apei_space.specs.declared.windows.Stretch.{Stretch}
 use Rattle.apei_space.specs.Windows.{room, spot, total, AreApart}
-use Rattle.apei_space.specs.Stretches.{IsStretch}
+use Rattle.apei_space.specs.Stretches.{IsStretch, IsTableOf}
 use Rattle.apei_space.proofs.Placed.{spot_at}
 
 taken : (windows : List Window) (i : ℕ) (d : Window) → i < length windows → total (take (suc i) windows) ≡ total (take i windows) + (get_or windows i d).len
@@ -30,3 +30,6 @@ stretch_spot windows at stretch r apart is room_is more =
     let start = is.start_is in
     subst (λ (n : ℕ). Some (stretch.start + (stretch.window.len - n), n) ≡ spot windows 0 at) (sym room_is)
     (ap (λ (n : ℕ). Some (n + (stretch.window.len - room stretch.window at), room stretch.window at)) (omega (arith, start)) ∙ sym there)
+
+pub table_of : (windows : List Window) (table same : List Stretch) → same ≡ table → total windows < 2 ^ 63 → AreApart windows → All (IsStretch windows) table → IsTableOf windows same
+table_of windows table same is few apart are = record { few = few; apart = apart; are = subst (All (IsStretch windows)) (sym is) are }

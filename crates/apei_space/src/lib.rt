@@ -3,6 +3,7 @@
 
 mod bytes;
 mod faults;
+mod guesses;
 mod laws;
 mod plain;
 mod spaces;

@@ -9,7 +9,7 @@ ghost use Rattle.apei_space.specs.RamState.{RamState, FillsWindows, Allows, loca
 use crate::bytes::{copy_part, get_number, get_part, put_number, put_part};
 use crate::faults::SpaceFault;
 use crate::spaces::Space;
-use crate::windows::{Stretch, Window, address, search, stretches};
+use crate::windows::{Table, Window, address, search, tabulate};
 use apei_bytes::Memory;
 use apei_gas::{Place, Width};
 use std::alloc::Global;
@@ -19,8 +19,8 @@ use std::marker::Model;
 #[derive(Drop)]
 pub struct Ram {
     windows: Vec<Window>,
-    /// The windows in the order of their places.
-    table: Vec<Stretch>,
+    /// The windows in the order of their addresses.
+    table: Table,
     /// The bytes of the windows, one window after another.
     bytes: Vec<u8>,
     waited: u64,
@@ -36,7 +36,7 @@ impl Model for Ram {
 
     ghost view = { λ r. record { windows = r.windows.items; bytes = r.bytes.items; waited = r.waited } };
 
-    ghost invariant = { λ r. (total r.windows.items ≡ length r.bytes.items) × (length r.bytes.items < 2 ^ 63) × AreApart r.windows.items × All (IsStretch r.windows.items) r.table.items };
+    ghost invariant = { λ r. (total r.windows.items ≡ length r.bytes.items) × (length r.bytes.items < 2 ^ 63) × AreApart r.windows.items × All (IsStretch r.windows.items) r.table.stretches.items };
 }
 
 impl Ram {
@@ -49,7 +49,7 @@ impl Ram {
             return Err(Memory);
         };
         let bytes = vec![in alloc; 0; len]?;
-        let table = stretches(alloc, windows)?;
+        let table = tabulate(alloc, windows)?;
         let windows = Vec::from_slice(alloc, windows)?;
         Ok(Ram {
             windows,

@@ -1,8 +1,9 @@
 // A stretch of plain bytes, and where an access stands in one.
 ghost use Rattle.std.specs.Prelude.{◌≡◌, ◌+◌, ◌<◌, ◌≤◌, ◌^◌, ◌-◌, All, length, IfOk, IfSome};
 ghost use Rattle.apei_space.specs.Windows.{address_of, room, room_in, spot, total, AreApart};
-ghost use Rattle.apei_space.specs.Stretches.{IsStretch};
+ghost use Rattle.apei_space.specs.Stretches.{IsStretch, IsTable, Tells};
 
+use crate::guesses::{Guess, Guesses};
 use apei_bytes::Memory;
 use apei_gas::Place;
 use std::alloc::Global;
@@ -70,8 +71,25 @@ pub struct Stretch {
     start: usize,
 }
 
+/// Windows in the order of their addresses, and guesses which of them holds an address.
+#[derive(Drop)]
+pub struct Table {
+    stretches: Vec<Stretch>,
+    guesses: Guesses,
+}
+
+/// The table of some windows.
+pub fn tabulate(alloc: Global, windows: &[Window]) -> Result<Table, Memory>
+    requires { total windows.now < 2 ^ 63 }
+    ensures { IfOk result (λ table. All (IsStretch windows.now) table.stretches.items) }
+{
+    let stretches = stretches(alloc, windows)?;
+    let guesses = guesses(alloc, &stretches)?;
+    Ok(Table { stretches, guesses })
+}
+
 /// The windows in the order of their addresses.
-pub fn stretches(alloc: Global, windows: &[Window]) -> Result<Vec<Stretch>, Memory>
+fn stretches(alloc: Global, windows: &[Window]) -> Result<Vec<Stretch>, Memory>
     requires { total windows.now < 2 ^ 63 }
     ensures { IfOk result (λ table. All (IsStretch windows.now) table.items) }
 {
@@ -88,15 +106,24 @@ pub fn stretches(alloc: Global, windows: &[Window]) -> Result<Vec<Stretch>, Memo
     Ok(table)
 }
 
+fn guesses(alloc: Global, stretches: &[Stretch]) -> Result<Guesses, Memory> {
+    let mut guesses = Guesses::new(alloc)?;
+    for (number, stretch) in stretches.iter().enumerate() {
+        let window = stretch.window;
+        guesses.note(address(window.place), window.len, number);
+    }
+    Ok(guesses)
+}
+
 /// So many windows are looked at one by one as fast as by a search.
 const FEW: usize = 4;
 
 /// The same as `spot`: few windows are looked at one by one.
 #[inline(always)]
-pub fn search(table: &[Stretch], windows: &[Window], at: Place) -> Option<(usize, u32)>
+pub fn search(table: &Table, windows: &[Window], at: Place) -> Option<(usize, u32)>
     requires few { total windows.now < 2 ^ 63 }
     requires apart { AreApart windows.now }
-    requires table { All (IsStretch windows.now) table.now }
+    requires table { All (IsStretch windows.now) table.now.stretches.items }
     ensures { result ≡ spot windows.now 0 at }
 {
     if windows.len() > FEW {
@@ -105,21 +132,67 @@ pub fn search(table: &[Stretch], windows: &[Window], at: Place) -> Option<(usize
     spot(windows, at)
 }
 
-/// The same by a binary search in the order of the addresses. It misses only where memory and I/O are mixed up there.
+/// The same by a guess, where one is right.
 #[inline(never)]
-fn search_many(table: &[Stretch], windows: &[Window], at: Place) -> Option<(usize, u32)>
+fn search_many(table: &Table, windows: &[Window], at: Place) -> Option<(usize, u32)>
     requires few { total windows.now < 2 ^ 63 }
     requires apart { AreApart windows.now }
-    requires table { All (IsStretch windows.now) table.now }
+    requires table { All (IsStretch windows.now) table.now.stretches.items }
+    ensures { result ≡ spot windows.now 0 at }
+{
+    let stretches = table.stretches.as_slice();
+    let first = address(at);
+    if let Some(found) = spot_guessed(stretches, table.guesses.by_word(first), at) {
+        return Some(found);
+    }
+    if let Some(found) = spot_guessed(stretches, table.guesses.by_page(first), at) {
+        return Some(found);
+    }
+    search_in_order(stretches, windows, at)
+}
+
+/// Where the byte of a place stands, if one of two stretches holds it.
+#[inline(always)]
+fn spot_guessed(stretches: &[Stretch], guess: Guess, at: Place) -> Option<(usize, u32)>
+    requires { IsTable stretches.now }
+    ensures { Tells stretches.now at result }
+{
+    if let Some(found) = spot_in(stretches, guess.first, at) {
+        return Some(found);
+    }
+    spot_in(stretches, guess.second, at)
+}
+
+/// Where the byte of a place stands, if the stretch of this number holds it.
+#[inline(always)]
+fn spot_in(stretches: &[Stretch], number: usize, at: Place) -> Option<(usize, u32)>
+    requires { IsTable stretches.now }
+    ensures { Tells stretches.now at result }
+{
+    if number >= stretches.len() {
+        return None;
+    }
+    let stretch = stretches[number];
+    let room = stretch.window.room(at);
+    if room > 0 {
+        return Some((stretch.start + (stretch.window.len - room) as usize, room));
+    }
+    None
+}
+
+/// The same by a binary search in the order of the addresses. It misses only where memory and I/O are mixed up there.
+#[inline(never)]
+fn search_in_order(stretches: &[Stretch], windows: &[Window], at: Place) -> Option<(usize, u32)>
+    requires few { total windows.now < 2 ^ 63 }
+    requires apart { AreApart windows.now }
+    requires table { All (IsStretch windows.now) stretches.now }
     ensures { result ≡ spot windows.now 0 at }
 {
     let first = address(at);
-    let behind = table.partition_point(|stretch| address(stretch.window.place) <= first);
+    let behind = stretches.partition_point(|stretch| address(stretch.window.place) <= first);
     if behind > 0 {
-        let stretch = table[behind - 1];
-        let room = stretch.window.room(at);
-        if room > 0 {
-            return Some((stretch.start + (stretch.window.len - room) as usize, room));
+        if let Some(found) = spot_in(stretches, behind - 1, at) {
+            return Some(found);
         }
     }
     spot(windows, at)

@@ -26,6 +26,10 @@ block_ends at ram w =
     let last = held_ends ram.windows (at.block + (at.len - 1)) w.fills.apart (w.block (at.len - 1) (omega arith)) in
     omega (arith, last, some)
 
+-- an address inside the window
+pub address_fits : (at : BlockWindow) (ram : RamState) (k n : ℕ) → HasBlock at ram → k + n ≤ at.len → at.block + k < 2 ^ 64
+address_fits at ram k n w inside = let ends = block_ends at ram w in omega (arith, ends, inside)
+
 pub length-block : (at : BlockWindow) (ram : RamState) → HasBlock at ram → length (block_bytes at ram) ≡ at.len
 length-block at ram w = let b = block_placed at ram w in length-bytes_at ram (Memory at.block) at.len b.0 w.fills b.1
 

@@ -1,18 +1,19 @@
-use Rattle.std.proofs.Common.{◌-◌, sym, arith}
-use Rattle.apei_space.proofs.Spots.{spot_fits}
-use Rattle.apei_space.proofs.StretchLemmas.{stretch_spot}
+use Rattle.std.proofs.Common.{All, sym, subst}
+use Rattle.apei_space.specs.Stretches.{IsStretch}
+use Rattle.apei_space.proofs.StretchLemmas.{table_of}
 use Rattle.apei_space.proofs.windows.search_many.Goals as goal
 
-pub overflow_add-result : goal.overflow_add-result
-overflow_add-result c =
-    let behind = c.partition_point-behind.ensures.bound in
-    let is = c.requires.table (c.partition_point-behind.result - 1) _ (omega (arith, behind, c.if-behind-gt0.true)) in
-    let there = stretch_spot c.args.windows.now c.args.at _ c.room-room.result c.requires.apart is c.room-room.ensures c.if-room-gt0.true in
-    let fits = spot_fits c.args.windows.now 0 c.args.at _ c.requires.apart (sym there) in
-    omega (arith, fits.within, c.requires.few)
+pub spot_guessed-requires : goal.spot_guessed-requires
+spot_guessed-requires c = (c.args.windows.now, table_of _ _ _ c.as_slice-stretches.ensures.value c.requires.few c.requires.apart c.requires.table)
 
-pub returns-then-room-gt0 : goal.returns-then-room-gt0
-returns-then-room-gt0 c =
-    let behind = c.partition_point-behind.ensures.bound in
-    let is = c.requires.table (c.partition_point-behind.result - 1) _ (omega (arith, behind, c.if-behind-gt0.true)) in
-    stretch_spot c.args.windows.now c.args.at _ c.room-room.result c.requires.apart is c.room-room.ensures c.if-room-gt0.true
+pub returns-in-Some : goal.returns-in-Some
+returns-in-Some c = c.in-Some.ensures c.args.windows.now (table_of _ _ _ c.as_slice-stretches.ensures.value c.requires.few c.requires.apart c.requires.table)
+
+pub spot_guessed-requires-2 : goal.spot_guessed-requires-2
+spot_guessed-requires-2 c = (c.args.windows.now, table_of _ _ _ c.as_slice-stretches.ensures.value c.requires.few c.requires.apart c.requires.table)
+
+pub returns-in-Some-spot_guessed : goal.returns-in-Some-spot_guessed
+returns-in-Some-spot_guessed c = c.in-Some-spot_guessed.ensures c.args.windows.now (table_of _ _ _ c.as_slice-stretches.ensures.value c.requires.few c.requires.apart c.requires.table)
+
+pub search_in_order-requires-clause-table : goal.search_in_order-requires-clause-table
+search_in_order-requires-clause-table c = subst (All (IsStretch c.args.windows.now)) (sym c.as_slice-stretches.ensures.value) c.requires.table
