@@ -6,18 +6,13 @@ use Rattle.script_text.specs.CheckGrammar.{CheckedLine, blank, comment, erst, he
 use Rattle.script_text.specs.CheckWords.{check_codes_of, all_check_words, CheckFollows}
 use Rattle.script_text.specs.declared.check_line.CheckWord.{CheckWord}
 use Rattle.script_text.specs.declared.check_line.CheckWord.TheVariants.{Comment, Erst, Hest, Bert, Record, Block}
-use Rattle.line_grammar.proofs.BehindLemmas.{IsBehind, IsOne, IsAlone}
+use Rattle.line_grammar.proofs.BehindLemmas.{IsOne, IsAlone}
 use Rattle.line_grammar.proofs.KeywordLemmas.{IsLanguage, one_of_all, language}
 use Rattle.line_grammar.proofs.PairLemmas.{one_pair}
 
 -- no keyword begins another
 pub alone : (word : CheckWord) → IsAlone check_codes_of all_check_words word
-alone Comment = refl
-alone Erst = refl
-alone Hest = refl
-alone Bert = refl
-alone Record = refl
-alone Block = refl
+alone = elim [ Comment ↦ refl | word ↦ refl ]
 
 line_behind : (word : CheckWord) (rest : List ℕ) → CheckFollows word rest → IsCheckLine (check_codes_of word ++ rest)
 line_behind Comment rest follows = (comment rest, tt, refl)
@@ -27,25 +22,22 @@ line_behind Bert rest follows = (bert rest, follows, refl)
 line_behind Record rest follows = (one_record rest, follows, refl)
 line_behind Block rest follows = (block rest, follows, refl)
 
-one_of : (word : CheckWord) (text : List ℕ) → IsBehind check_codes_of CheckFollows word text → IsOne check_codes_of CheckFollows all_check_words text
-one_of = one_of_all check_codes_of CheckFollows all_check_words alone
+-- a keyword and what follows it
+reads : (word : CheckWord) (rest text : List ℕ) → CheckFollows word rest → text ≡ check_codes_of word ++ rest → (text ≡ []) ⊎ IsOne check_codes_of CheckFollows all_check_words text
+reads word rest text follows e = inr (one_of_all check_codes_of CheckFollows all_check_words alone word text (record { rest = rest; is = e; follows = follows }))
 
 line_is : (line : CheckedLine) → IsValidCheck line → (text : List ℕ) → text ≡ check_text_of line → (text ≡ []) ⊎ IsOne check_codes_of CheckFollows all_check_words text
 line_is blank valid text e = inl e
-line_is (comment rest) valid text e = inr (one_of Comment text (record { rest = rest; is = e; follows = tt }))
-line_is (erst hex) valid text e = inr (one_of Erst text (record { rest = hex; is = e; follows = valid }))
-line_is (hest hex) valid text e = inr (one_of Hest text (record { rest = hex; is = e; follows = valid }))
-line_is (bert hex) valid text e = inr (one_of Bert text (record { rest = hex; is = e; follows = valid }))
-line_is (one_record hex) valid text e = inr (one_of Record text (record { rest = hex; is = e; follows = valid }))
-line_is (block hex) valid text e = inr (one_of Block text (record { rest = hex; is = e; follows = valid }))
+line_is (comment rest) valid text e = reads Comment rest text tt e
+line_is (erst hex) valid text e = reads Erst hex text valid e
+line_is (hest hex) valid text e = reads Hest hex text valid e
+line_is (bert hex) valid text e = reads Bert hex text valid e
+line_is (one_record hex) valid text e = reads Record hex text valid e
+line_is (block hex) valid text e = reads Block hex text valid e
 
 sample : (word : CheckWord) → Begins (CheckFollows word) []
 sample Comment = ([], tt)
-sample Erst = (codes "00", one_pair)
-sample Hest = (codes "00", one_pair)
-sample Bert = (codes "00", one_pair)
-sample Record = (codes "00", one_pair)
-sample Block = (codes "00", one_pair)
+sample word = (codes "00", one_pair)
 
 -- the lines that are checked
 pub checks : IsLanguage check_codes_of CheckFollows all_check_words IsCheckLine

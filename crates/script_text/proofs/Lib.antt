@@ -1,4 +1,5 @@
 pub mod CheckLemmas
+pub mod FaultLemmas
 pub mod HexText
 pub mod OneCheckLine
 pub mod OneLine
