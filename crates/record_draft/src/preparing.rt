@@ -1,16 +1,16 @@
 // One change of a write before its gate, and what comes next.
 ghost use Rattle.std.specs.Prelude.{ℕ, List, ◌≡◌, ◌<◌, ◌≤◌, ◌+◌, ◌*◌, ◌==◌, ◌⊎◌, false, nat_lt, if◌then◌else◌, slice_index, slice_index_or, length, OnOk, IfOk};
+ghost use Rattle.std.specs.FinMap.{insert};
 ghost use Rattle.flash_words.specs.Flash.{AsksChange, Leaves};
+ghost use Rattle.flash_model.specs.Layouts.{layout_of};
 ghost use Rattle.record_model.specs.Filling as TheStep;
 ghost use Rattle.record_model.specs.Filling.{IsStep, place_of, len_of};
 ghost use Rattle.record_model.specs.Plan as ThePlan;
 ghost use Rattle.record_model.specs.Plan.{KnowsPlan, StandsAtStage, stage_after};
+ghost use Rattle.record_model.specs.Records.{stored_in};
 ghost use Rattle.record_model.proofs.PlanLemmas.{StaysKnown, Opens};
 ghost use Rattle.record_model.proofs.StepLemmas.{first_stage};
-ghost use Rattle.record_model.specs.Records.{stored_in};
-ghost use Rattle.std.specs.FinMap.{insert};
 ghost use Rattle.record_slots.specs.Slots.{Fits};
-ghost use Rattle.flash_model.specs.Layouts.{layout_of};
 ghost use Rattle.record_draft.specs.Drafts.{IsDraft, target_in, IsStage, plan_of, step_of, stage_of};
 
 use crate::filling::fill;
