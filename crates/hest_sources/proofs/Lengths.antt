@@ -125,14 +125,14 @@ measures at n rest m =
 
 -- a structure is as long as its type says
 record IsOfType (n size : ℕ) (rest : List ℕ) : Type 0 where
-  size : n ≡ size
+  is : n ≡ size
   there : size ≤ length rest
 
 of_type : (at n kind size : ℕ) (rest : List ℕ) → Measured at n rest → number_at rest 0 2 ≡ kind → length_by_type kind at rest ≡ Ok size → IsOfType n size rest
 of_type at n kind size rest m is by_type =
     let same : n ≡ size = same_ok n size (sym m.by_kind ∙ ap (λ (k : ℕ). length_by_type k at rest) is ∙ by_type) in
     let fits = m.fits in
-    record { size = same; there = omega arith }
+    record { is = same; there = omega arith }
 
 -- what is read of a structure is a source
 pub source_is : (at n : ℕ) (rest : List ℕ) → AreBytes rest → structure_length at rest ≡ Ok n → IsSource at (source_at at rest n) (take n rest)
@@ -148,11 +148,11 @@ source_is at n rest h e =
             | inl nine ↦
                 let long = of_type at n 9 64 rest m (eqb-true kind 9 nine) refl in
                 let g = ghes_nine rest h long.there (eqb-true kind 9 nine) in
-                (g.is_ghes, ap (λ (k : ℕ). take k rest) long.size ∙ g.bytes_are)
+                (g.is_ghes, ap (λ (k : ℕ). take k rest) long.is ∙ g.bytes_are)
             | inr ten ↦
                 let long = of_type at n 10 92 rest m (eqb-true kind 10 ten) refl in
                 let g = ghes_ten rest h long.there (eqb-true kind 10 ten) in
-                (g.is_ghes, ap (λ (k : ℕ). take k rest) long.size ∙ g.bytes_are)
+                (g.is_ghes, ap (λ (k : ℕ). take k rest) long.is ∙ g.bytes_are)
           ])
       | inr other ↦
           let fits = m.fits in

@@ -1,16 +1,16 @@
 // One change of a write before its gate, and what comes next.
 ghost use Rattle.std.specs.Prelude.{ℕ, List, ◌≡◌, ◌<◌, ◌≤◌, ◌+◌, ◌*◌, ◌==◌, ◌⊎◌, false, nat_lt, if◌then◌else◌, slice_index, slice_index_or, length, OnOk, IfOk};
+ghost use Rattle.std.specs.FinMap.{insert};
 ghost use Rattle.flash_words.specs.Flash.{AsksChange, Leaves};
+ghost use Rattle.flash_model.specs.Layouts.{layout_of};
 ghost use Rattle.record_model.specs.Filling as TheStep;
 ghost use Rattle.record_model.specs.Filling.{IsStep, place_of, len_of};
 ghost use Rattle.record_model.specs.Plan as ThePlan;
 ghost use Rattle.record_model.specs.Plan.{KnowsPlan, StandsAtStage, stage_after};
+ghost use Rattle.record_model.specs.Records.{stored_in};
 ghost use Rattle.record_model.proofs.PlanLemmas.{StaysKnown, Opens};
 ghost use Rattle.record_model.proofs.StepLemmas.{first_stage};
-ghost use Rattle.record_model.specs.Records.{stored_in};
-ghost use Rattle.std.specs.FinMap.{insert};
 ghost use Rattle.record_slots.specs.Slots.{Fits};
-ghost use Rattle.flash_model.specs.Layouts.{layout_of};
 ghost use Rattle.record_draft.specs.Drafts.{IsDraft, target_in, IsStage, plan_of, step_of, stage_of};
 
 use crate::filling::fill;
@@ -53,8 +53,14 @@ fn next_stage(geometry: &Geometry, draft: &Draft, number: u32, step: Step, body:
     ensures form { IsStage geometry.now draft.now body.now result }
 {
     match step {
-        Step::EraseFromHead { done } => after_head_sector(geometry, number, done),
-        Step::EraseFromTail { done } => after_tail_sector(geometry, number, done),
+        Step::EraseFromHead { done } => {
+            let next = Step::EraseFromHead { done: done + 1 };
+            after_sector(geometry, number, done, next)
+        }
+        Step::EraseFromTail { done } => {
+            let next = Step::EraseFromTail { done: done + 1 };
+            after_sector(geometry, number, done, next)
+        }
         Step::PutHead => Stage::Fill {
             number,
             step: Step::Piece { piece: 0 },
@@ -64,34 +70,13 @@ fn next_stage(geometry: &Geometry, draft: &Draft, number: u32, step: Step, body:
     }
 }
 
+// The stage after a sector of a slot: the next one, or the head.
 #[tactic(auto, using(std::proofs::lemmas::Bool::Decides::nat_tests))]
-fn after_head_sector(geometry: &Geometry, number: u32, done: u32) -> Stage
-    requires { done < geometry.now.per_slot }
-    ensures is { stage_of result ≡ (if nat_lt (done + 1) geometry.now.per_slot then ThePlan.Fill number (TheStep.EraseFromHead (done + 1)) else ThePlan.Fill number TheStep.PutHead) }
+fn after_sector(geometry: &Geometry, number: u32, done: u32, next: Step) -> Stage
+    ensures is { stage_of result ≡ (if nat_lt (done + 1) geometry.now.per_slot then ThePlan.Fill number (step_of next) else ThePlan.Fill number TheStep.PutHead) }
 {
     if u64::from(done) + 1 < geometry.per_slot {
-        Stage::Fill {
-            number,
-            step: Step::EraseFromHead { done: done + 1 },
-        }
-    } else {
-        Stage::Fill {
-            number,
-            step: Step::PutHead,
-        }
-    }
-}
-
-#[tactic(auto, using(std::proofs::lemmas::Bool::Decides::nat_tests))]
-fn after_tail_sector(geometry: &Geometry, number: u32, done: u32) -> Stage
-    requires { done < geometry.now.per_slot }
-    ensures is { stage_of result ≡ (if nat_lt (done + 1) geometry.now.per_slot then ThePlan.Fill number (TheStep.EraseFromTail (done + 1)) else ThePlan.Fill number TheStep.PutHead) }
-{
-    if u64::from(done) + 1 < geometry.per_slot {
-        Stage::Fill {
-            number,
-            step: Step::EraseFromTail { done: done + 1 },
-        }
+        Stage::Fill { number, step: next }
     } else {
         Stage::Fill {
             number,

@@ -7,15 +7,7 @@ use Rattle.record_slots.specs.declared.head.Head.{Head}
 
 -- the numbers of a head
 abbrev pub numbers_of : Head → records.Head
-numbers_of head = record {
-  gate = head.gate;
-  kill = head.kill;
-  format = head.format;
-  generation = head.generation;
-  id = head.id;
-  len = head.len;
-  next = head.next;
-}
+numbers_of head = record { gate = head.gate; kill = head.kill; format = head.format; generation = head.generation; id = head.id; len = head.len; next = head.next }
 
 -- the flash has the geometry's size and sector size
 pub record Fits (geometry : Geometry) (flash : FlashState) : Type 0 where

@@ -189,21 +189,13 @@ ReadsExactly tells count old new (Err (Small need)) = new ≡ old
 abbrev pub StartsByItself : {T : Type 0} → StoreView → StoreView → Result T StoreError → Type 0
 StartsByItself old new (Ok done) = new.flash ≡ old.flash
 StartsByItself old new (Err NotFound) = new ≡ old
-StartsByItself old new (Err (NoSpace free)) = ⊥
-StartsByItself old new (Err (LastGeneration id)) = ⊥
-StartsByItself old new (Err Empty) = ⊥
-StartsByItself old new (Err Flash) = ⊥
-StartsByItself old new (Err (Small need)) = ⊥
+StartsByItself old new (Err error) = ⊥
 
 -- a store that knows its records answers by itself: it is left as it was, and so is its flash
 abbrev pub AnswersByItself : {T : Type 0} → StoreView → StoreView → Result T StoreError → Type 0
 AnswersByItself old new (Ok done) = new ≡ old
 AnswersByItself old new (Err NotFound) = new ≡ old
-AnswersByItself old new (Err (NoSpace free)) = ⊥
-AnswersByItself old new (Err (LastGeneration id)) = ⊥
-AnswersByItself old new (Err Empty) = ⊥
-AnswersByItself old new (Err Flash) = ⊥
-AnswersByItself old new (Err (Small need)) = ⊥
+AnswersByItself old new (Err error) = ⊥
 
 -- the opening of a flash that has the geometry's size
 abbrev pub OpensOn : {T : Type 0} → Geometry → FlashState → FlashState → Result T ScanError → Type 0
