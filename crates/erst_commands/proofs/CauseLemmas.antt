@@ -27,7 +27,7 @@ use Rattle.erst_device.specs.Actions.{IsAllowed, found, counted}
 use Rattle.erst_machine.specs.MachineState.{MachineState}
 use Rattle.erst_machine.specs.Allowed.{Allows, ActsOn}
 use Rattle.erst_machine.specs.OwnTables.{own_entries}
-use Rattle.erst_commands.specs.OwnPrograms.{OwnRun, with_value, takes_value, given_to, IsMade, StopsAtOnce, StopsBefore, StopsBehind, OwnProgramsRun}
+use Rattle.erst_commands.specs.OwnPrograms.{OwnRun, with_value, takes_value, given_to, answer_of, IsMade, StopsAtOnce, StopsBefore, StopsBehind, OwnProgramsRun}
 use Rattle.erst_commands.specs.Causes.{HasItsCause}
 use Rattle.erst_commands.proofs.ActionCases.{finds_next, counts}
 use Rattle.erst_commands.proofs.MachineSteps.{on_device}
@@ -203,6 +203,27 @@ module _ (tells : Type 0) (own : OwnProgramsRun tells) (first : MachineState) wh
             record { never_falls = is.never_falls; hardware = λ e. absurd (not_stopped stop e) }
       ]
 
+-- A command of one program, by what its action makes
+
+module _ {T : Type 0} (tells : Type 0) (own : OwnProgramsRun tells) (budget : ℕ) (first : MachineState) (action : Action) (judges : Result ℕ RunStop → Result T ClientError)
+    (stopped : judges (Err Budget) ≡ Err Hardware → ⊥)
+    (made : (last : MachineState) → ActsOn tells (given_to action 0 first) (code_of action) last → judges (Ok (answer_of action 0 last.device.value)) ≡ Err Hardware
+    → Rose first.device.store.flash.faults last.device.store.flash.faults) where
+  run_rose : (answer : Result ℕ RunStop) (left : ℕ) (last : MachineState) → OwnRun tells action 0 budget first answer left last → judges answer ≡ Err Hardware
+      → Rose first.device.store.flash.faults last.device.store.flash.faults
+  run_rose answer left last run = elim run as (λ answer left last run. judges answer ≡ Err Hardware → Rose first.device.store.flash.faults last.device.store.flash.faults) [
+    | IsMade left last acted spent ↦ made last acted
+    | StopsAtOnce none ↦ λ e. absurd (stopped e)
+    | StopsBefore one takes ↦ λ e. absurd (stopped e)
+    | StopsBehind last one shows acted ↦ λ e. absurd (stopped e)
+  ]
+
+  run_cause : (answer : Result ℕ RunStop) (result : Result T ClientError) (left : ℕ) (last : MachineState) → Performs (Allows tells) own_entries action 0 budget first answer left last
+      → result ≡ judges answer → HasItsCause first last result
+  run_cause answer result left last asks result_is =
+      let is = run_grounded (Unit {0}) tells own first action 0 budget first answer left last (grounded_itself first) asks in
+      record { never_falls = is.never_falls; hardware = λ e. run_rose answer left last (own action 0 budget first answer left last asks) (sym result_is ∙ e) }
+
 -- A count
 
 count_hardware : (n : ℕ) → count_answer (Ok n) ≡ Err Hardware → n ≡ 2 ^ 32 - 1
@@ -222,24 +243,12 @@ module _ (tells : Type 0) (own : OwnProgramsRun tells) (budget : ℕ) (first : M
       absurd (omega arith)
   count_by last store (Err error) count is acted full = acted.effect.count refl (ap (λ (d : DeviceState). d.value) is)
 
-  count_rose : (answer : Result ℕ RunStop) (left : ℕ) (last : MachineState) → OwnRun tells GetRecordCount 0 budget first answer left last → count_answer answer ≡ Err Hardware
-      → Rose first.device.store.flash.faults last.device.store.flash.faults
-  count_rose answer left last run = elim run as (λ answer left last run. count_answer answer ≡ Err Hardware → Rose first.device.store.flash.faults last.device.store.flash.faults) [
-    | IsMade left last acted spent ↦ λ e.
-        let made = counts tells first.device first.memory.range last.device last.memory.range acted.acts in
-        count_by last made.store made.result made.count made.new_is acted (count_hardware (last.device.value % 2 ^ 32) e)
-    | StopsAtOnce none ↦ λ e. absurd (not_stopped Budget e)
-    | StopsBefore one takes ↦ λ e. absurd (not_stopped Budget e)
-    | StopsBehind last one shows acted ↦ λ e. absurd (not_stopped Budget e)
-  ]
-
   pub count_cause : (result : Result ℕ ClientError) (left : ℕ) (last : MachineState) → Counts (Allows tells) own_entries budget first result left last → HasItsCause first last result
   count_cause result left last asked =
-      let is = run_grounded (Unit {0}) tells own first GetRecordCount 0 budget first asked.answer left last (grounded_itself first) asked.asks in
-      record {
-        never_falls = is.never_falls;
-        hardware = λ e. count_rose asked.answer left last (own GetRecordCount 0 budget first asked.answer left last asked.asks) (sym asked.result_is ∙ e);
-      }
+      run_cause tells own budget first GetRecordCount count_answer (λ e. not_stopped Budget e) (λ last acted e.
+      let made = counts tells first.device first.memory.range last.device last.memory.range acted.acts in
+      count_by last made.store made.result made.count made.new_is acted (count_hardware (last.device.value % 2 ^ 32) e))
+      asked.answer result left last asked.asks asked.result_is
 
 -- Next
 
@@ -267,21 +276,9 @@ module _ (tells : Type 0) (own : OwnProgramsRun tells) (budget : ℕ) (first : M
       absurd (omega arith)
   next_by last store (Err error) allowed is acted zero_value = acted.effect.next refl (ap (λ (d : DeviceState). d.value) is)
 
-  next_rose : (answer : Result ℕ RunStop) (left : ℕ) (last : MachineState) → OwnRun tells GetRecordIdentifier 0 budget first answer left last → next_answer answer ≡ Err Hardware
-      → Rose first.device.store.flash.faults last.device.store.flash.faults
-  next_rose answer left last run = elim run as (λ answer left last run. next_answer answer ≡ Err Hardware → Rose first.device.store.flash.faults last.device.store.flash.faults) [
-    | IsMade left last acted spent ↦ λ e.
-        let made = finds_next tells first.device first.memory.range last.device last.memory.range acted.acts in
-        next_by last made.store made.result made.allowed made.new_is acted (next_hardware (last.device.value % 2 ^ 64) e)
-    | StopsAtOnce none ↦ λ e. absurd (not_stopped Budget e)
-    | StopsBefore one takes ↦ λ e. absurd (not_stopped Budget e)
-    | StopsBehind last one shows acted ↦ λ e. absurd (not_stopped Budget e)
-  ]
-
   pub next_cause : (result : Result (Option ℕ) ClientError) (left : ℕ) (last : MachineState) → Names (Allows tells) own_entries budget first result left last → HasItsCause first last result
   next_cause result left last asked =
-      let is = run_grounded (Unit {0}) tells own first GetRecordIdentifier 0 budget first asked.answer left last (grounded_itself first) asked.asks in
-      record {
-        never_falls = is.never_falls;
-        hardware = λ e. next_rose asked.answer left last (own GetRecordIdentifier 0 budget first asked.answer left last asked.asks) (sym asked.result_is ∙ e);
-      }
+      run_cause tells own budget first GetRecordIdentifier next_answer (λ e. not_stopped Budget e) (λ last acted e.
+      let made = finds_next tells first.device first.memory.range last.device last.memory.range acted.acts in
+      next_by last made.store made.result made.allowed made.new_is acted (next_hardware (last.device.value % 2 ^ 64) e))
+      asked.answer result left last asked.asks asked.result_is

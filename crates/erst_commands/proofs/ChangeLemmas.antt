@@ -22,6 +22,7 @@ use Rattle.erst_device.specs.declared.status.CommandStatus.TheVariants.{Success,
 use Rattle.erst_device.specs.Statuses.{number_of}
 use Rattle.erst_device.specs.Timings.{most_changes}
 use Rattle.erst_device.specs.DeviceState.{DeviceState, IsStill}
+use Rattle.erst_device.proofs.ActionLemmas.{kept_map}
 use Rattle.erst_machine.specs.MachineState.{MachineState, records_of}
 use Rattle.erst_machine.specs.Allowed.{Allows}
 use Rattle.erst_machine.specs.OwnTables.{own_entries}
@@ -30,7 +31,7 @@ use Rattle.erst_commands.specs.Attached.{own_client}
 use Rattle.erst_commands.specs.Changes.{IsErrorOf, copies_first, waits_after, ChangeLeaves, ChangeCommand, IsTaken, IsRefused, IsFailed, IsStopped}
 use Rattle.erst_commands.proofs.MachineSteps.{on_device}
 use Rattle.erst_commands.proofs.SequenceLemmas.{Untouched, Opened, StillWaited, IsAtOnce, IsShort, wait_still, ended_from, status_in, HasTold, HasNotTold, HasNotWaited, HasNotAsked, sequence_ends, opened_ok, opened_short}
-use Rattle.erst_commands.proofs.WayLemmas.{Leads, OnWay, Broken, Midway, of_way, of_broken, WayWaited, WayEnds, WayBreaks, WayStops, wait_way}
+use Rattle.erst_commands.proofs.WayLemmas.{Leads, OnWay, Broken, Midway, of_way, WayWaited, WayEnds, WayBreaks, WayStops, wait_way}
 use Rattle.erst_commands.proofs.SharedLemmas.{alike_then}
 
 -- what a start leaves, whatever it answers
@@ -67,10 +68,6 @@ pub record UnstartedChange (first start : MachineState) (id : ℕ) (command : Co
   pub base : Base first start
   pub still : IsStill start.device
   pub answer : UnstartedAnswer first start id command
-
-pub kept_map : (old new : StoreView) → KeepsMap old new → DividesAlike old new → stored new ≡ stored old
-kept_map old new kept alike =
-    ap (λ (layout : Layout). records_in layout new.flash.told.image) alike.layout ∙ Leaves-exit old.flash.told new.flash.told (λ image. records_in old.layout image ≡ stored old) kept
 
 -- the start keeps the records, and what follows keeps them or makes these
 begun_then : (old mid new : StoreView) (made : Stored) → KeepsMap old mid → DividesAlike old mid → KeepsOrMakes mid new made → KeepsOrMakes old new made
@@ -212,8 +209,7 @@ module _ (tells : Type 0) (own : OwnProgramsRun tells) (told : tells) (first : M
           → left + 2 ≡ waited → ChangeCommand first (ended_from (with_value (status_in idle) idle)) id command requests budget (judged (status_in idle)) left
       breaks busy waited idle broken few sum behind =
           let last = ended_from (with_value (status_in idle) idle) in
-          let midway = of_broken start (after first.device.store.layout command (records_of first)) (suc started.more) busy idle broken in
-          let leaves = leaves_from first start command (suc started.more) busy (status_in idle) idle started.base (omega (arith, started.all)) midway in
+          let leaves = leaves_from first start command (suc started.more) busy (status_in idle) idle started.base (omega (arith, started.all)) broken.midway in
           let answer : judged (status_in idle) ≡ Err Hardware = ap (λ (s : CommandStatus). judged (number_of s)) broken.status in
           subst (λ (r : Result (Unit {0}) ClientError). ChangeCommand first last id command requests budget r left) (sym answer)
           (IsFailed busy left started.usable (subst (λ (n : ℕ). Rose n idle.device.store.flash.faults) started.faults broken.rose)
@@ -279,7 +275,7 @@ module _ (tells : Type 0) (own : OwnProgramsRun tells) (told : tells) (first : M
             | WayEnds busy waited idle way sum ↦ λ e same few.
                 cut start (suc started.more) busy idle other same started.base (omega (arith, started.all)) (of_way start _ (suc started.more) (busy + 1) 0 busy idle way) (omega (arith, way.sum)) (omega (arith, opened, sum, few))
             | WayBreaks busy waited idle broken checks sum ↦ λ e same few.
-                cut start (suc started.more) busy idle other same started.base (omega (arith, started.all)) (of_broken start _ (suc started.more) busy idle broken) (omega (arith, checks)) (omega (arith, opened, sum, few))
+                cut start (suc started.more) busy idle other same started.base (omega (arith, started.all)) broken.midway (omega (arith, checks)) (omega (arith, opened, sum, few))
             | WayStops busy idle midway checks cut_short ↦ λ e same few. absurd (cc e)
           ]) is same short
 

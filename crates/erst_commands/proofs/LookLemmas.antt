@@ -11,23 +11,29 @@ use Rattle.record_store.specs.Answers.{HasFaultsOf}
 use Rattle.record_store.specs.Calls.{OnlyLooks}
 use Rattle.record_store.specs.declared.errors.StoreError.{StoreError}
 use Rattle.record_store.specs.declared.errors.StoreError.TheVariants as errors
+use Rattle.erst_entries.specs.declared.actions.Action.{Action}
 use Rattle.erst_entries.specs.declared.actions.Action.TheVariants.{GetRecordIdentifier, GetRecordCount}
+use Rattle.erst_entries.specs.Actions.{code_of}
 use Rattle.erst_interp.specs.declared.stops.RunStop.{RunStop}
+use Rattle.erst_interp.specs.declared.stops.RunStop.TheVariants.{Budget}
 use Rattle.erst_client.specs.declared.errors.ClientError.{ClientError}
-use Rattle.erst_client.specs.declared.errors.ClientError.TheVariants.{Hardware}
+use Rattle.erst_client.specs.declared.errors.ClientError.TheVariants.{Hardware, Stopped}
+use Rattle.erst_client.specs.Requests.{Performs}
 use Rattle.erst_client.specs.Commands.{Counts, Names, counted as count_answer, named as next_answer}
+use Rattle.erst_client.specs.Steps.{steps_of}
 use Rattle.erst_device.specs.StoreCalls.{FoundNext, Counted}
 use Rattle.erst_device.specs.DeviceState.{DeviceState, given_up}
 use Rattle.erst_device.specs.Actions.{IsAllowed, found, counted}
+use Rattle.erst_device.proofs.EffectLemmas.{faults_rise}
 use Rattle.erst_machine.specs.MachineState.{MachineState, records_of}
 use Rattle.erst_machine.specs.Allowed.{Allows, ActsOn}
 use Rattle.erst_machine.specs.OwnTables.{own_entries}
-use Rattle.erst_commands.specs.OwnPrograms.{OwnRun, IsMade, StopsAtOnce as none_made, StopsBefore, StopsBehind as one_made, OwnProgramsRun}
+use Rattle.erst_commands.specs.OwnPrograms.{takes_value, given_to, answer_of, OwnRun, IsMade, StopsAtOnce as none_made, StopsBefore, StopsBehind as one_made, OwnProgramsRun}
 use Rattle.erst_commands.specs.Looks.{OnlyLooked, HasAsked, HasFailed, CountMade, IsCounted, IsNotCounted, NextMade, IsFound, IsAtEnd, IsNotFound, AsksOnce, Answers, StopsBehind, StopsAtOnce}
 use Rattle.erst_commands.proofs.ActionCases.{finds_next, counts}
 use Rattle.erst_commands.proofs.OwnProgramLemmas.{steps-count, steps-next}
 use Rattle.erst_commands.proofs.MachineSteps.{acted_is}
-use Rattle.erst_commands.proofs.SharedLemmas.{never_falls}
+use Rattle.erst_commands.proofs.SharedLemmas.{differ}
 
 -- what the store says of a call that only looks, from the store with its execution given up
 alike_from : (old new : StoreView) → DividesAlike (abandoned old) new → DividesAlike old new
@@ -41,7 +47,7 @@ only_looked tells told first last store result leaves there elsewhere = subst (�
       few = leaves.few told;
       idle = leaves.idle;
       alike = alike_from first.device.store store leaves.alike;
-      never_falls = never_falls first.device.store.flash.faults store.flash.faults result leaves.cause;
+      never_falls = faults_rise first.device.store.flash.faults store.flash.faults result leaves.cause;
       elsewhere = ap (λ (m : MachineState). record m { device = record last.device { store = store } }) elsewhere;
     })
 
@@ -65,6 +71,28 @@ has_failed {T = T} tells told first last store error leaves flash there elsewher
       rose = subst (λ (s : StoreView). Rose first.device.store.flash.faults s.flash.faults) (sym there) cause.1;
       cursor = cursor;
     }
+
+-- A command of one program of two steps, by what its action makes
+
+module _ {T : Type 0} (tells : Type 0) (own : OwnProgramsRun tells) (budget : ℕ) (first : MachineState) (action : Action) (judges : Result ℕ RunStop → Result T ClientError)
+    (Made : MachineState → Result T ClientError → Type 0) (given : given_to action 0 first ≡ first) (takes : takes_value action ≡ false) (two : steps_of own_entries action ≡ 2)
+    (stops : judges (Err Budget) ≡ Err (Stopped Budget)) (made : (last : MachineState) → ActsOn tells first (code_of action) last → Made last (judges (Ok (answer_of action 0 last.device.value)))) where
+  has_stopped : (last : MachineState) → AsksOnce (Made last) budget first last (Err (Stopped Budget)) 0 → AsksOnce (Made last) budget first last (judges (Err Budget)) 0
+  has_stopped last = subst (λ (r : Result T ClientError). AsksOnce (Made last) budget first last r 0) (sym stops)
+
+  by_run : (answer : Result ℕ RunStop) (left : ℕ) (last : MachineState) → OwnRun tells action 0 budget first answer left last → AsksOnce (Made last) budget first last (judges answer) left
+  by_run answer left last run = elim run as (λ answer left last run. AsksOnce (Made last) budget first last (judges answer) left) [
+    | IsMade left last acted spent ↦
+        Answers _ left (made last (subst (λ (w : MachineState). ActsOn tells w (code_of action) last) given acted)) (ap (λ (n : ℕ). left + n) (sym two) ∙ spent)
+    | none_made none ↦ has_stopped first (StopsAtOnce none refl)
+    | StopsBefore one also ↦ differ (sym also ∙ takes)
+    | one_made last one shows acted ↦ has_stopped last (StopsBehind _ (made last acted) one)
+  ]
+
+  asks_once : (answer : Result ℕ RunStop) (result : Result T ClientError) (left : ℕ) (last : MachineState) → Performs (Allows tells) own_entries action 0 budget first answer left last
+      → result ≡ judges answer → AsksOnce (Made last) budget first last result left
+  asks_once answer result left last asks is =
+      subst (λ (r : Result T ClientError). AsksOnce (Made last) budget first last r left) (sym is) (by_run answer left last (own action 0 budget first answer left last asks))
 
 -- Count
 
@@ -99,15 +127,8 @@ module _ (tells : Type 0) (told : tells) (first last : MachineState) where
 pub count_command : (tells : Type 0) → OwnProgramsRun tells → tells → (budget : ℕ) (first : MachineState) (result : Result ℕ ClientError) (left : ℕ) (last : MachineState)
     → Counts (Allows tells) own_entries budget first result left last → AsksOnce (CountMade first last) budget first last result left
 count_command tells own told budget first result left last asked =
-    subst (λ (r : Result ℕ ClientError). AsksOnce (CountMade first last) budget first last r left) (sym asked.result_is) (by_run asked.answer left last (own GetRecordCount 0 budget first asked.answer left last asked.asks))
-  where
-    by_run : (answer : Result ℕ RunStop) (left : ℕ) (last : MachineState) → OwnRun tells GetRecordCount 0 budget first answer left last → AsksOnce (CountMade first last) budget first last (count_answer answer) left
-    by_run answer left last run = elim run as (λ answer left last run. AsksOnce (CountMade first last) budget first last (count_answer answer) left) [
-      | IsMade left last acted spent ↦ Answers _ left (count_made tells told first last acted) (ap (λ (n : ℕ). left + n) (sym steps-count) ∙ spent)
-      | none_made none ↦ StopsAtOnce none refl
-      | StopsBefore one takes ↦ absurd (cc)
-      | one_made last one shows acted ↦ StopsBehind _ (count_made tells told first last acted) one
-    ]
+    asks_once tells own budget first GetRecordCount count_answer (CountMade first) refl refl steps-count refl (λ last acted. count_made tells told first last acted)
+    asked.answer result left last asked.asks asked.result_is
 
 -- Next
 
@@ -153,13 +174,5 @@ module _ (tells : Type 0) (told : tells) (first last : MachineState) where
 pub next_command : (tells : Type 0) → OwnProgramsRun tells → tells → (budget : ℕ) (first : MachineState) (result : Result (Option ℕ) ClientError) (left : ℕ) (last : MachineState)
     → Names (Allows tells) own_entries budget first result left last → AsksOnce (NextMade first last) budget first last result left
 next_command tells own told budget first result left last asked =
-    subst (λ (r : Result (Option ℕ) ClientError). AsksOnce (NextMade first last) budget first last r left) (sym asked.result_is)
-    (by_run asked.answer left last (own GetRecordIdentifier 0 budget first asked.answer left last asked.asks))
-  where
-    by_run : (answer : Result ℕ RunStop) (left : ℕ) (last : MachineState) → OwnRun tells GetRecordIdentifier 0 budget first answer left last → AsksOnce (NextMade first last) budget first last (next_answer answer) left
-    by_run answer left last run = elim run as (λ answer left last run. AsksOnce (NextMade first last) budget first last (next_answer answer) left) [
-      | IsMade left last acted spent ↦ Answers _ left (next_made tells told first last acted) (ap (λ (n : ℕ). left + n) (sym steps-next) ∙ spent)
-      | none_made none ↦ StopsAtOnce none refl
-      | StopsBefore one takes ↦ absurd (cc)
-      | one_made last one shows acted ↦ StopsBehind _ (next_made tells told first last acted) one
-    ]
+    asks_once tells own budget first GetRecordIdentifier next_answer (NextMade first) refl refl steps-next refl (λ last acted. next_made tells told first last acted)
+    asked.answer result left last asked.asks asked.result_is

@@ -1,8 +1,9 @@
 -- The requests that start an operation, up to EXECUTE_OPERATION.
-use Rattle.std.proofs.Common.{◌≡◌, ℕ, ◌^◌, ◌<◌, List, [], ◌∷◌, Result, refl}
+use Rattle.std.proofs.Common.{◌≡◌, ℕ, ◌+◌, ◌^◌, ◌<◌, List, [], ◌∷◌, Result, refl}
 use Rattle.erst_entries.specs.declared.actions.Action.{Action}
 use Rattle.erst_entries.specs.declared.actions.Action.TheVariants.{BeginWriteOperation, BeginReadOperation, BeginClearOperation, BeginDummyWriteOperation, SetRecordOffset, SetRecordIdentifier, ExecuteOperation}
 use Rattle.erst_interp.specs.declared.stops.RunStop.{RunStop}
+use Rattle.erst_client.specs.declared.requests.Request.{Request}
 use Rattle.erst_client.specs.Requests.{Performs, Asks}
 use Rattle.erst_client.specs.Sequences.{write_requests, read_requests, clear_requests, dummy_requests}
 use Rattle.erst_device.specs.declared.registers.Operation.{Operation}
@@ -40,22 +41,34 @@ module _ (tells : Type 0) (own : OwnProgramsRun tells) (first : MachineState) wh
       (λ budget mid result left last mid_is asks. ask_none tells first (IsOn tells first device) budget mid result left last mid_is asks)
       asks
 
+  -- what begins an operation and sets its offset, and the requests behind them
+  offset_then : (action : Action) (operation : Operation) (device : DeviceState) (more : ℕ) (rest : List Request)
+      → ((budget : ℕ) (result : Result ℕ RunStop) (left : ℕ) (last : MachineState) → Performs (Allows tells) own_entries action 0 budget first result left last → RunTo first (λ w. w ≡ on_device first (begun_device operation first.device)) 1 budget result left last)
+      → ((budget : ℕ) (mid : MachineState) (result : Result (List ℕ) RunStop) (left : ℕ) (last : MachineState) → mid ≡ on_device first (offset_device operation first.device)
+      → Asks (Allows tells) own_entries rest budget mid result left last → Opened first (IsOn tells first device) more budget result left last)
+      → (budget : ℕ) (result : Result (List ℕ) RunStop) (left : ℕ) (last : MachineState)
+      → Asks (Allows tells) own_entries (record { action = action; given = 0 } ∷ record { action = SetRecordOffset; given = 0 } ∷ rest) budget first result left last
+      → Opened first (IsOn tells first device) (1 + (2 + more)) budget result left last
+  offset_then action operation device more rest begins goes_on budget result left last asks =
+      ask_more tells first (λ w. w ≡ on_device first (begun_device operation first.device)) (IsOn tells first device) 1 (2 + more) _ _ budget first result left last
+      (λ result left last run. begins budget result left last run)
+      (λ budget mid result left last mid_is asks.
+      ask_more tells first (λ w. w ≡ on_device first (offset_device operation first.device)) (IsOn tells first device) 2 more _ _ budget mid result left last
+      (λ result left last run. offset_run tells own first (begun_device operation first.device) (record { no_read = refl; no_change = refl })
+      (record { flash = refl; layout = refl; cursor = refl; given_up = refl; elsewhere = refl }) budget mid result left last mid_is run)
+      goes_on
+      asks)
+      asks
+
   -- the requests of a write, and of a dummy write
   offset_opens : (action : Action) (operation : Operation)
       → ((budget : ℕ) (result : Result ℕ RunStop) (left : ℕ) (last : MachineState) → Performs (Allows tells) own_entries action 0 budget first result left last → RunTo first (λ w. w ≡ on_device first (begun_device operation first.device)) 1 budget result left last)
       → (budget : ℕ) (result : Result (List ℕ) RunStop) (left : ℕ) (last : MachineState)
       → Asks (Allows tells) own_entries (record { action = action; given = 0 } ∷ record { action = SetRecordOffset; given = 0 } ∷ record { action = ExecuteOperation; given = 0 } ∷ []) budget first result left last
       → Opened first (IsOn tells first (offset_device operation first.device)) 4 budget result left last
-  offset_opens action operation begins budget result left last asks =
-      ask_more tells first (λ w. w ≡ on_device first (begun_device operation first.device)) (IsOn tells first (offset_device operation first.device)) 1 3 _ _ budget first result left last
-      (λ result left last run. begins budget result left last run)
-      (λ budget mid result left last mid_is asks.
-      ask_more tells first (λ w. w ≡ on_device first (offset_device operation first.device)) (IsOn tells first (offset_device operation first.device)) 2 1 _ _ budget mid result left last
-      (λ result left last run. offset_run tells own first (begun_device operation first.device) (record { no_read = refl; no_change = refl })
-      (record { flash = refl; layout = refl; cursor = refl; given_up = refl; elsewhere = refl }) budget mid result left last mid_is run)
+  offset_opens action operation begins =
+      offset_then action operation (offset_device operation first.device) 1 (record { action = ExecuteOperation; given = 0 } ∷ []) begins
       (execute_opens (offset_device operation first.device) (record { no_read = refl; no_change = refl }) (record { flash = refl; layout = refl; cursor = refl; given_up = refl; elsewhere = refl }))
-      asks)
-      asks
 
   pub write_opens : (budget : ℕ) (result : Result (List ℕ) RunStop) (left : ℕ) (last : MachineState) → Asks (Allows tells) own_entries write_requests budget first result left last
       → Opened first (IsOn tells first (offset_device operations.Write first.device)) 4 budget result left last
@@ -87,14 +100,8 @@ module _ (tells : Type 0) (own : OwnProgramsRun tells) (first : MachineState) wh
 
   pub read_opens : (id : ℕ) → id < 2 ^ 64 → (budget : ℕ) (result : Result (List ℕ) RunStop) (left : ℕ) (last : MachineState) → Asks (Allows tells) own_entries (read_requests id) budget first result left last
       → Opened first (IsOn tells first (reading_device first.device id)) 6 budget result left last
-  read_opens id small budget result left last asks =
-      ask_more tells first (λ w. w ≡ on_device first (begun_device operations.Read first.device)) (IsOn tells first (reading_device first.device id)) 1 5 _ _ budget first result left last
-      (λ result left last run. begin_run tells own first BeginReadOperation operations.Read refl refl refl (λ m. refl) steps-begin_read refl budget result left last run)
-      (λ budget mid result left last mid_is asks.
-      ask_more tells first (λ w. w ≡ on_device first (offset_device operations.Read first.device)) (IsOn tells first (reading_device first.device id)) 2 3 _ _ budget mid result left last
-      (λ result left last run. offset_run tells own first (begun_device operations.Read first.device) (record { no_read = refl; no_change = refl })
-      (record { flash = refl; layout = refl; cursor = refl; given_up = refl; elsewhere = refl }) budget mid result left last mid_is run)
+  read_opens id small =
+      offset_then BeginReadOperation operations.Read (reading_device first.device id) 3 (record { action = SetRecordIdentifier; given = id } ∷ record { action = ExecuteOperation; given = 0 } ∷ [])
+      (begin_run tells own first BeginReadOperation operations.Read refl refl refl (λ m. refl) steps-begin_read refl)
       (identifier_opens id small (offset_device operations.Read first.device) (record { no_read = refl; no_change = refl }) (record { flash = refl; layout = refl; cursor = refl; given_up = refl; elsewhere = refl })
       (record { no_read = refl; no_change = refl }) (record { flash = refl; layout = refl; cursor = refl; given_up = refl; elsewhere = refl }))
-      asks)
-      asks

@@ -36,6 +36,8 @@ use Rattle.erst_device.specs.StoreCalls.{FoundNext, ReadOut}
 use Rattle.erst_device.specs.DeviceState.{DeviceState, IsStill}
 use Rattle.erst_device.specs.Starts.{Starts, NoneBegun, WritesDummy, NoDraft, Writes, LookFails, FindsNone, Misses, GoesBeyond, Finds, NoneToClear, Clears, HasLength, named}
 use Rattle.erst_device.specs.Actions.{shown}
+use Rattle.erst_device.proofs.ActionLemmas.{kept_map}
+use Rattle.erst_device.proofs.EffectLemmas.{faults_rise}
 use Rattle.erst_machine.specs.MachineState.{MachineState, IsMachine, records_of}
 use Rattle.erst_machine.specs.Allowed.{Allows, ActsOn}
 use Rattle.erst_machine.specs.OwnTables.{own_entries}
@@ -48,10 +50,10 @@ use Rattle.erst_commands.proofs.MachineSteps.{on_device, acted_range}
 use Rattle.erst_commands.proofs.OwnProgramLemmas.{steps-check}
 use Rattle.erst_commands.proofs.LookLemmas.{has_asked, has_failed}
 use Rattle.erst_commands.proofs.RangeLemmas.{at-start}
-use Rattle.erst_commands.proofs.ChangeLemmas.{kept_map, abandoned_idle}
+use Rattle.erst_commands.proofs.ChangeLemmas.{abandoned_idle}
 use Rattle.erst_commands.proofs.SequenceLemmas.{Untouched, StillWaited, IsAtOnce, IsShort, wait_still, ended_from, status_in, HasTold, HasNotTold, HasNotWaited, HasNotAsked, sequence_ends, opened_ok, opened_short}
 use Rattle.erst_commands.proofs.OpenLemmas.{IsOn, reading_device, read_opens}
-use Rattle.erst_commands.proofs.SharedLemmas.{alike_then, never_falls, no_answer, no_stop, same_stop, same_number}
+use Rattle.erst_commands.proofs.SharedLemmas.{alike_then, no_answer, no_stop, same_stop, same_number}
 
 pub needs-read : (id : ℕ) → steps_needed own_entries (read_requests id) 1 ≡ 10
 unfolding own_entries entries_of
@@ -273,7 +275,7 @@ module _ (tells : Type 0) (told : tells) (first start : MachineState) (id found 
         idle = ap (λ (s : StoreView). s.pending) there ∙ leaves.idle;
         alike = subst (λ (s : StoreView). DividesAlike first.device.store s) (sym there) (alike_then first.device.store start.device.store store looked.alike leaves.alike);
         never_falls = subst (λ (s : StoreView). first.device.store.flash.faults ≤ s.flash.faults) (sym there)
-            (omega (arith, looked.never_falls, never_falls start.device.store.flash.faults store.flash.faults result leaves.cause));
+            (omega (arith, looked.never_falls, faults_rise start.device.store.flash.faults store.flash.faults result leaves.cause));
         elsewhere = elsewhere ∙ ap (λ (m : MachineState). record m { device = new.device; memory = record m.memory { range = new.memory.range } }) looked.elsewhere;
       }
 

@@ -1,9 +1,6 @@
 -- Small facts that several lemmas share.
-use Rattle.std.proofs.Common.{◌≡◌, ℕ, ◌≤◌, true, false, Result, Ok, Err, ◌∙◌, subst, arith}
+use Rattle.std.proofs.Common.{◌≡◌, ℕ, true, false, Result, Ok, Err, ◌∙◌, subst}
 use Rattle.record_store.specs.Store.{StoreView, Pending, Idle, IsBusy, DividesAlike}
-use Rattle.record_store.specs.Answers.{HasFaultsOf}
-use Rattle.record_store.specs.declared.errors.StoreError.{StoreError}
-use Rattle.record_store.specs.declared.errors.StoreError.TheVariants as errors
 use Rattle.erst_interp.specs.declared.stops.RunStop.{RunStop}
 
 -- the answers of runs
@@ -25,15 +22,6 @@ alike_then a b c first second = record { layout = second.layout ∙ first.layout
 
 pub idle_busy : (pending : Pending) → pending ≡ Idle → IsBusy pending → ⊥
 idle_busy pending idle busy = subst (λ (p : Pending). IsBusy p) idle busy
-
-pub never_falls : {T : Type 0} (before after : ℕ) (result : Result T StoreError) → HasFaultsOf before after result → before ≤ after
-never_falls before after (Ok done) h = omega (arith, h)
-never_falls before after (Err (errors.NoSpace free)) h = omega (arith, h)
-never_falls before after (Err (errors.LastGeneration id)) h = omega (arith, h)
-never_falls before after (Err errors.NotFound) h = omega (arith, h)
-never_falls before after (Err errors.Empty) h = omega (arith, h)
-never_falls before after (Err errors.Flash) h = h.0
-never_falls before after (Err (errors.Small need)) h = omega (arith, h)
 
 pub differ : {P : Type 0} → true ≡ false → P
 differ e = absurd (cc)

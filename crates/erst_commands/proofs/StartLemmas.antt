@@ -1,7 +1,6 @@
 -- The starts of a write and of a clear by the machine's own table.
 use Rattle.std.proofs.Common.{◌≡◌, ◌⊎◌, ℕ, suc, ◌+◌, ◌-◌, ◌*◌, ◌^◌, ◌<◌, ◌≤◌, Bool, true, false, cond, List, length, Option, Some, None, Result, Ok, Err, refl, sym, ap, subst, ◌∙◌, arith, inl, inr}
-use Rattle.std.specs.Prelude.{nat_lt, is_some}
-use Rattle.std.specs.FinMap.{get}
+use Rattle.std.specs.Prelude.{nat_lt}
 use Rattle.std.proofs.lemmas.Bool.{le-ltb}
 use Rattle.std.proofs.lemmas.Option.{none-some, same_Some}
 use Rattle.base_model.specs.Bytes.{part, number_at}
@@ -10,10 +9,10 @@ use Rattle.base_model.specs.Faults.{Rose}
 use Rattle.flash_words.specs.Layout.{Layout, room_of, reach_of}
 use Rattle.flash_words.proofs.CrashLemmas.{Leaves-none}
 use Rattle.record_model.specs.Records.{Stored, is_reserved}
-use Rattle.record_model.specs.RecordMap.{Write, Clear, Refusal, Failed as refused_for_good, NoSpace as no_space, NotFound as not_found, refusal_of, after, changes_of, made_by}
+use Rattle.record_model.specs.RecordMap.{Command, Write, Clear, Refusal, Failed as refused_for_good, NoSpace as no_space, NotFound as not_found, refusal_of, after, changes_of, made_by}
 use Rattle.record_model.proofs.MapLemmas.{after-done}
 use Rattle.record_model.proofs.RefusalLemmas.{changes_of-clear, changes_of-refused}
-use Rattle.record_store.specs.Store.{StoreView, Pending, Idle, Writing, stored, slots_for, KeepsMap, DividesAlike, abandoned}
+use Rattle.record_store.specs.Store.{StoreView, Pending, Idle, stored, slots_for, KeepsMap, DividesAlike, abandoned}
 use Rattle.record_store.specs.Answers.{HasFaultsOf, HasDoubtAtStart, RefusesWrite, RefusesClear, EndsCopies, copies_of}
 use Rattle.record_store.specs.Calls.{OnlyStarts}
 use Rattle.record_store.specs.declared.errors.StoreError.{StoreError}
@@ -35,6 +34,8 @@ use Rattle.erst_device.specs.Timings.{most_changes}
 use Rattle.erst_device.specs.StoreCalls.{StartedWrite, StartedClear}
 use Rattle.erst_device.specs.DeviceState.{DeviceState, IsStill}
 use Rattle.erst_device.specs.Starts.{Starts, NoneBegun, WritesDummy, NoDraft, Writes, LookFails, FindsNone, Misses, GoesBeyond, Finds, NoneToClear, Clears, status_after}
+use Rattle.erst_device.proofs.ActionLemmas.{kept_map}
+use Rattle.erst_device.proofs.EffectLemmas.{faults_rise}
 use Rattle.erst_machine.specs.MachineState.{MachineState, records_of}
 use Rattle.erst_machine.specs.Allowed.{Allows}
 use Rattle.erst_machine.specs.OwnTables.{own_entries}
@@ -46,8 +47,8 @@ use Rattle.erst_commands.proofs.LimitLemmas.{changes-most}
 use Rattle.erst_commands.proofs.SequenceLemmas.{Untouched, Opened, opened_weaker, opened_ok, opened_short, StillWaited, IsAtOnce, IsShort, wait_still, ended_from, status_in, HasTold, HasNotTold, HasNotWaited, HasNotAsked, sequence_ends}
 use Rattle.erst_commands.proofs.OpenLemmas.{IsOn, offset_device, clearing_device, write_opens, dummy_opens, clear_opens}
 use Rattle.erst_commands.proofs.WayLemmas.{Leads, write_leads, some_changes}
-use Rattle.erst_commands.proofs.ChangeLemmas.{Base, StartedChange, UnstartedChange, UnstartedAnswer, RefusedBy, FailedBy, kept_map, change_command}
-use Rattle.erst_commands.proofs.SharedLemmas.{never_falls, differ}
+use Rattle.erst_commands.proofs.ChangeLemmas.{Base, StartedChange, UnstartedChange, UnstartedAnswer, RefusedBy, FailedBy, change_command}
+use Rattle.erst_commands.proofs.SharedLemmas.{differ}
 
 -- the steps of a sequence of three requests, with one that gives a value
 pub needs-write : (checks : ℕ) → steps_needed own_entries write_requests checks ≡ 6 + 2 * checks
@@ -69,7 +70,7 @@ base_started tells told first start store result starts there cursor elsewhere =
   kept = subst (λ (s : StoreView). KeepsMap first.device.store s) (sym there) (starts.kept told);
   alike = subst (λ (s : StoreView). DividesAlike first.device.store s) (sym there) (record { layout = starts.alike.layout; size = starts.alike.size; sector_size = starts.alike.sector_size });
   few = subst (λ (s : StoreView). s.flash.steps ≤ first.device.store.flash.steps + 1) (sym there) (starts.few told);
-  never_falls = subst (λ (s : StoreView). first.device.store.flash.faults ≤ s.flash.faults) (sym there) (never_falls first.device.store.flash.faults store.flash.faults result starts.cause);
+  never_falls = subst (λ (s : StoreView). first.device.store.flash.faults ≤ s.flash.faults) (sym there) (faults_rise first.device.store.flash.faults store.flash.faults result starts.cause);
   cursor = cursor;
   elsewhere = elsewhere;
 }
@@ -140,6 +141,58 @@ clear-few state id = by_refusal (refusal_of state.device.store.layout (Clear id)
     by_refusal None taken = omega (arith, changes_of-clear state.device.store.layout id (records_of state) taken)
     by_refusal (Some refusal) refused = omega (arith, changes_of-refused state.device.store.layout (Clear id) (records_of state) refusal refused)
 
+-- A start that came to this, from a device that is otherwise this one
+
+module _ (tells : Type 0) (told : tells) (first start : MachineState) (id : ℕ) (command : Command) (device : DeviceState) (no_read : device.reading ≡ None) (cursor : device.cursor ≡ first.device.cursor)
+    (elsewhere : start ≡ on_device first start.device) where
+  -- the store has begun what leads to the map that the command makes
+  taken_start : (store : StoreView) (more : ℕ) → is_reserved id ≡ false → OnlyStarts tells (abandoned first.device.store) store (Ok tt) → start.device ≡ record device { status = statuses.Success; store = store }
+      → refusal_of first.device.store.layout command (records_of first) ≡ None → changes_of first.device.store.layout command (records_of first) ≡ suc more
+      → Leads (suc more) first.device.store.layout store.pending (records_of first) (made_by command (records_of first)) → StartedChange first start id command
+  taken_start store more usable leaves is taken all leads =
+      let there : start.device.store ≡ store = ap (λ (d : DeviceState). d.store) is in
+      let base = base_started tells told first start store (Ok tt) leaves there (ap (λ (d : DeviceState). d.cursor) is ∙ cursor) elsewhere in
+      let same = kept_map first.device.store start.device.store base.kept base.alike in
+      record {
+        base = base;
+        usable = usable;
+        taken = taken;
+        steps = ap (λ (s : StoreView). s.flash.steps) there ∙ leaves.ended told;
+        faults = ap (λ (s : StoreView). s.flash.faults) there ∙ leaves.cause;
+        certain = ap (λ (s : StoreView). s.in_doubt) there ∙ leaves.doubt;
+        no_read = ap (λ (d : DeviceState). d.reading) is ∙ no_read;
+        status = ap (λ (d : DeviceState). d.status) is;
+        more = more;
+        all = all;
+        leads = subst (λ (m : Stored). Leads (suc more) start.device.store.layout start.device.store.pending (stored start.device.store) m) (sym (after-done first.device.store.layout command (records_of first) taken))
+            (subst (λ (m : Stored). Leads (suc more) start.device.store.layout start.device.store.pending m (made_by command (records_of first))) (sym same)
+            (subst (λ (p : Pending). Leads (suc more) start.device.store.layout p (records_of first) (made_by command (records_of first))) (sym (ap (λ (s : StoreView). s.pending) there))
+            (subst (λ (l : Layout). Leads (suc more) l store.pending (records_of first) (made_by command (records_of first))) (sym base.alike.layout) leads)));
+      }
+
+  -- it answered an error
+  failed_start : (store : StoreView) (error : StoreError) → OnlyStarts tells (abandoned first.device.store) store (Err error) → start.device ≡ record device { status = status_of error; store = store }
+      → UnstartedAnswer first start id command → UnstartedChange first start id command
+  failed_start store error leaves is answer =
+      let there : start.device.store ≡ store = ap (λ (d : DeviceState). d.store) is in
+      record {
+        base = base_started tells told first start store (Err error) leaves there (ap (λ (d : DeviceState). d.cursor) is ∙ cursor) elsewhere;
+        still = record { no_read = ap (λ (d : DeviceState). d.reading) is ∙ no_read; no_change = ap (λ (s : StoreView). s.pending) there ∙ idle_after store error leaves.doubt };
+        answer = answer;
+      }
+
+  -- no record can have the identifier, and the store was not asked
+  reserved_refused : is_reserved id ≡ true → device.store ≡ abandoned first.device.store → refusal_of first.device.store.layout command (records_of first) ≡ Some refused_for_good
+      → start.device ≡ record device { status = statuses.Failed } → UnstartedChange first start id command
+  reserved_refused reserved unasked refused is =
+      let there : start.device.store ≡ abandoned first.device.store = ap (λ (d : DeviceState). d.store) is ∙ unasked in
+      let facts = reserved_start first start id reserved there in
+      record {
+        base = base_unasked first start there (ap (λ (d : DeviceState). d.cursor) is ∙ cursor) elsewhere;
+        still = record { no_read = ap (λ (d : DeviceState). d.reading) is ∙ no_read; no_change = ap (λ (s : StoreView). s.pending) there };
+        answer = RefusedBy refused_for_good Failed refused OfFailed (ap (λ (d : DeviceState). judged_number d.status) is) facts.0 facts.1 facts.2 facts.3;
+      }
+
 -- A write
 
 draft : (range bytes : List ℕ) (id : ℕ) → HoldsRecord range id bytes
@@ -175,51 +228,25 @@ module _ (tells : Type 0) (told : tells) (first start : MachineState) (id : ℕ)
   write_ok : (store : StoreView) → is_reserved id ≡ false → StartedWrite tells (abandoned first.device.store) store id bytes (Ok tt) → start.device ≡ record (offset_device operations.Write first.device) { status = statuses.Success; store = store }
       → StartedChange first start id (Write id bytes)
   write_ok store usable begun is =
-      let there : start.device.store ≡ store = ap (λ (d : DeviceState). d.store) is in
       let answer = begun.answer told in
-      let leaves = begun.leaves in
       let taken : refusal_of first.device.store.layout (Write id bytes) (records_of first) ≡ None = answer.0 in
-      let base = base_started tells told first start store (Ok tt) leaves there (ap (λ (d : DeviceState). d.cursor) is) elsewhere in
-      let same = kept_map first.device.store start.device.store base.kept base.alike in
       let some = some_changes first.device.store.layout id bytes (records_of first) taken in
       let all : changes_of first.device.store.layout (Write id bytes) (records_of first) ≡ suc (changes_of first.device.store.layout (Write id bytes) (records_of first) - 1) = omega (arith, some.0) in
-      let slots = answer.1 in
-      record {
-        base = base;
-        usable = usable;
-        taken = taken;
-        steps = ap (λ (s : StoreView). s.flash.steps) there ∙ leaves.ended told;
-        faults = ap (λ (s : StoreView). s.flash.faults) there ∙ leaves.cause;
-        certain = ap (λ (s : StoreView). s.in_doubt) there ∙ leaves.doubt;
-        no_read = ap (λ (d : DeviceState). d.reading) is;
-        status = ap (λ (d : DeviceState). d.status) is;
-        more = changes_of first.device.store.layout (Write id bytes) (records_of first) - 1;
-        all = all;
-        leads = subst (λ (n : ℕ). Leads n start.device.store.layout start.device.store.pending (stored start.device.store) (after first.device.store.layout (Write id bytes) (records_of first))) all
-            (subst (λ (m : Stored). Leads (changes_of first.device.store.layout (Write id bytes) (records_of first)) start.device.store.layout start.device.store.pending (stored start.device.store) m)
-            (sym (after-done first.device.store.layout (Write id bytes) (records_of first) taken))
-            (subst (λ (m : Stored). Leads (changes_of first.device.store.layout (Write id bytes) (records_of first)) start.device.store.layout start.device.store.pending m (made_by (Write id bytes) (records_of first))) (sym same)
-            (subst (λ (p : Pending). Leads (changes_of first.device.store.layout (Write id bytes) (records_of first)) start.device.store.layout p (records_of first) (made_by (Write id bytes) (records_of first)))
-            (sym (ap (λ (s : StoreView). s.pending) there ∙ slots))
-            (subst (λ (l : Layout). Leads (changes_of first.device.store.layout (Write id bytes) (records_of first)) l (Writing id bytes (slots_for store (length bytes)) (is_some (get (records_of first) id)) 0) (records_of first) (made_by (Write id bytes) (records_of first))) (sym base.alike.layout)
-            (write_leads first.device.store.layout id bytes (slots_for store (length bytes)) (records_of first) taken)))));
-      }
+      taken_start tells told first start id (Write id bytes) (offset_device operations.Write first.device) refl refl elsewhere store
+      (changes_of first.device.store.layout (Write id bytes) (records_of first) - 1) usable begun.leaves is taken all
+      (subst (λ (n : ℕ). Leads n first.device.store.layout store.pending (records_of first) (made_by (Write id bytes) (records_of first))) all
+      (subst (λ (p : Pending). Leads (changes_of first.device.store.layout (Write id bytes) (records_of first)) first.device.store.layout p (records_of first) (made_by (Write id bytes) (records_of first)))
+      (sym answer.1) (write_leads first.device.store.layout id bytes (slots_for store (length bytes)) (records_of first) taken)))
 
   write_error : (store : StoreView) (error : StoreError) → is_reserved id ≡ false → RefusesWrite (abandoned first.device.store) store id bytes error → HasFaultsOf {T = Unit {0}} first.device.store.flash.faults store.flash.faults (Err error)
       → HasDoubtAtStart store (Err error) → EndsCopies {T = Unit {0}} (abandoned first.device.store) store (Err error) → start.device.store ≡ store → start.device.status ≡ status_of error
       → UnstartedAnswer first start id (Write id bytes)
   write_error store (errors.NoSpace free) usable refuses cause doubt ended there status =
       let facts = refused_start first start store id usable there doubt.certain cause ended in
-      RefusedBy no_space NoSpace refuses.0 OfNoSpace (answered status) facts.0 facts.1 facts.2 facts.3
-    where
-      answered : start.device.status ≡ statuses.NotEnoughSpace → judged_number start.device.status ≡ Err NoSpace
-      answered is = ap (λ (s : CommandStatus). judged_number s) is
+      RefusedBy no_space NoSpace refuses.0 OfNoSpace (ap (λ (s : CommandStatus). judged_number s) status) facts.0 facts.1 facts.2 facts.3
   write_error store (errors.LastGeneration number) usable refuses cause doubt ended there status =
       let facts = refused_start first start store id usable there doubt.certain cause ended in
-      RefusedBy refused_for_good Failed refuses.0 OfFailed (answered status) facts.0 facts.1 facts.2 facts.3
-    where
-      answered : start.device.status ≡ statuses.Failed → judged_number start.device.status ≡ Err Failed
-      answered is = ap (λ (s : CommandStatus). judged_number s) is
+      RefusedBy refused_for_good Failed refuses.0 OfFailed (ap (λ (s : CommandStatus). judged_number s) status) facts.0 facts.1 facts.2 facts.3
   write_error store errors.NotFound usable refuses cause doubt ended there status = absurd refuses
   write_error store errors.Empty usable refuses cause doubt ended there status = absurd refuses
   write_error store errors.Flash usable refuses cause doubt ended there status =
@@ -230,24 +257,13 @@ module _ (tells : Type 0) (told : tells) (first start : MachineState) (id : ℕ)
       → start.device ≡ record (offset_device operations.Write first.device) { status = status_after result; store = store } → (StartedChange first start id (Write id bytes)) ⊎ (UnstartedChange first start id (Write id bytes))
   write_by store (Ok done) usable begun is = inl (write_ok store usable begun is)
   write_by store (Err error) usable begun is =
-      let there : start.device.store ≡ store = ap (λ (d : DeviceState). d.store) is in
       let leaves = begun.leaves in
-      inr (record {
-        base = base_started tells told first start store (Err error) leaves there (ap (λ (d : DeviceState). d.cursor) is) elsewhere;
-        still = record { no_read = ap (λ (d : DeviceState). d.reading) is; no_change = ap (λ (s : StoreView). s.pending) there ∙ idle_after store error leaves.doubt };
-        answer = write_error store error usable (begun.answer told) leaves.cause leaves.doubt (leaves.ended told) there (ap (λ (d : DeviceState). d.status) is);
-      })
+      inr (failed_start tells told first start id (Write id bytes) (offset_device operations.Write first.device) refl refl elsewhere store error leaves is
+      (write_error store error usable (begun.answer told) leaves.cause leaves.doubt (leaves.ended told) (ap (λ (d : DeviceState). d.store) is) (ap (λ (d : DeviceState). d.status) is)))
 
-  -- no record can have the identifier
   write_refused : is_reserved id ≡ true → start.device ≡ record (offset_device operations.Write first.device) { status = statuses.Failed } → UnstartedChange first start id (Write id bytes)
-  write_refused reserved is =
-      let there : start.device.store ≡ abandoned first.device.store = ap (λ (d : DeviceState). d.store) is in
-      let facts = reserved_start first start id reserved there in
-      record {
-        base = base_unasked first start there (ap (λ (d : DeviceState). d.cursor) is) elsewhere;
-        still = record { no_read = ap (λ (d : DeviceState). d.reading) is; no_change = ap (λ (s : StoreView). s.pending) there };
-        answer = RefusedBy refused_for_good Failed (write_reserved first.device.store.layout id bytes (records_of first) reserved) OfFailed (ap (λ (d : DeviceState). judged_number d.status) is) facts.0 facts.1 facts.2 facts.3;
-      }
+  write_refused reserved is = reserved_refused tells told first start id (Write id bytes) (offset_device operations.Write first.device) refl refl elsewhere reserved refl
+      (write_reserved first.device.store.layout id bytes (records_of first) reserved) is
 
   write_started : HoldsRecord first.memory.range id bytes → Starts tells (offset_device operations.Write first.device) first.memory.range start.device
       → (StartedChange first start id (Write id bytes)) ⊎ (UnstartedChange first start id (Write id bytes))
@@ -300,28 +316,10 @@ module _ (tells : Type 0) (told : tells) (first start : MachineState) (id : ℕ)
   clear_ok : (store : StoreView) → is_reserved id ≡ false → StartedClear tells (abandoned first.device.store) store id (Ok tt) → start.device ≡ record (clearing_device first.device id) { status = statuses.Success; store = store }
       → StartedChange first start id (Clear id)
   clear_ok store usable begun is =
-      let there : start.device.store ≡ store = ap (λ (d : DeviceState). d.store) is in
       let answer = begun.answer told in
-      let leaves = begun.leaves in
-      let taken : refusal_of first.device.store.layout (Clear id) (records_of first) ≡ None = answer.0 in
-      let base = base_started tells told first start store (Ok tt) leaves there (ap (λ (d : DeviceState). d.cursor) is) elsewhere in
-      let same = kept_map first.device.store start.device.store base.kept base.alike in
-      record {
-        base = base;
-        usable = usable;
-        taken = taken;
-        steps = ap (λ (s : StoreView). s.flash.steps) there ∙ leaves.ended told;
-        faults = ap (λ (s : StoreView). s.flash.faults) there ∙ leaves.cause;
-        certain = ap (λ (s : StoreView). s.in_doubt) there ∙ leaves.doubt;
-        no_read = ap (λ (d : DeviceState). d.reading) is;
-        status = ap (λ (d : DeviceState). d.status) is;
-        more = 0;
-        all = changes_of-clear first.device.store.layout id (records_of first) taken;
-        leads = subst (λ (m : Stored). Leads 1 start.device.store.layout start.device.store.pending (stored start.device.store) m) (sym (after-done first.device.store.layout (Clear id) (records_of first) taken))
-            (subst (λ (m : Stored). Leads 1 start.device.store.layout start.device.store.pending m (made_by (Clear id) (records_of first))) (sym same)
-            (subst (λ (p : Pending). Leads 1 start.device.store.layout p (records_of first) (made_by (Clear id) (records_of first))) (sym (ap (λ (s : StoreView). s.pending) there ∙ answer.1))
-            (tt, inr refl, (refl, refl))));
-      }
+      taken_start tells told first start id (Clear id) (clearing_device first.device id) refl refl elsewhere store 0 usable begun.leaves is answer.0
+      (changes_of-clear first.device.store.layout id (records_of first) answer.0)
+      (subst (λ (p : Pending). Leads 1 first.device.store.layout p (records_of first) (made_by (Clear id) (records_of first))) (sym answer.1) (tt, inr refl, (refl, refl)))
 
   clear_error : (store : StoreView) (error : StoreError) → is_reserved id ≡ false → RefusesClear (abandoned first.device.store) store id error → HasFaultsOf {T = Unit {0}} first.device.store.flash.faults store.flash.faults (Err error)
       → HasDoubtAtStart store (Err error) → EndsCopies {T = Unit {0}} (abandoned first.device.store) store (Err error) → start.device.store ≡ store → start.device.status ≡ status_of error
@@ -340,23 +338,13 @@ module _ (tells : Type 0) (told : tells) (first start : MachineState) (id : ℕ)
       → start.device ≡ record (clearing_device first.device id) { status = status_after result; store = store } → (StartedChange first start id (Clear id)) ⊎ (UnstartedChange first start id (Clear id))
   clear_by store (Ok done) usable begun is = inl (clear_ok store usable begun is)
   clear_by store (Err error) usable begun is =
-      let there : start.device.store ≡ store = ap (λ (d : DeviceState). d.store) is in
       let leaves = begun.leaves in
-      inr (record {
-        base = base_started tells told first start store (Err error) leaves there (ap (λ (d : DeviceState). d.cursor) is) elsewhere;
-        still = record { no_read = ap (λ (d : DeviceState). d.reading) is; no_change = ap (λ (s : StoreView). s.pending) there ∙ idle_after store error leaves.doubt };
-        answer = clear_error store error usable (begun.answer told) leaves.cause leaves.doubt (leaves.ended told) there (ap (λ (d : DeviceState). d.status) is);
-      })
+      inr (failed_start tells told first start id (Clear id) (clearing_device first.device id) refl refl elsewhere store error leaves is
+      (clear_error store error usable (begun.answer told) leaves.cause leaves.doubt (leaves.ended told) (ap (λ (d : DeviceState). d.store) is) (ap (λ (d : DeviceState). d.status) is)))
 
   clear_refused : is_reserved id ≡ true → start.device ≡ record (clearing_device first.device id) { status = statuses.Failed } → UnstartedChange first start id (Clear id)
-  clear_refused reserved is =
-      let there : start.device.store ≡ abandoned first.device.store = ap (λ (d : DeviceState). d.store) is in
-      let facts = reserved_start first start id reserved there in
-      record {
-        base = base_unasked first start there (ap (λ (d : DeviceState). d.cursor) is) elsewhere;
-        still = record { no_read = ap (λ (d : DeviceState). d.reading) is; no_change = ap (λ (s : StoreView). s.pending) there };
-        answer = RefusedBy refused_for_good Failed (clear_reserved first.device.store.layout id (records_of first) reserved) OfFailed (ap (λ (d : DeviceState). judged_number d.status) is) facts.0 facts.1 facts.2 facts.3;
-      }
+  clear_refused reserved is = reserved_refused tells told first start id (Clear id) (clearing_device first.device id) refl refl elsewhere reserved refl
+      (clear_reserved first.device.store.layout id (records_of first) reserved) is
 
   clear_started : Starts tells (clearing_device first.device id) first.memory.range start.device → (StartedChange first start id (Clear id)) ⊎ (UnstartedChange first start id (Clear id))
   clear_started starts = by_case start.device starts refl

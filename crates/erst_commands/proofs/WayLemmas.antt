@@ -140,18 +140,6 @@ pub record OnWay (start : MachineState) (made : Stored) (all n left pauses : ℕ
   pub cursor : w.device.cursor ≡ start.device.cursor
   pub elsewhere : w ≡ record start { device = w.device; waited = waits_after pauses start.waited }
 
--- one whose flash failed a change
-pub record Broken (start : MachineState) (made : Stored) (all pauses : ℕ) (w : MachineState) : Type 0 where
-  pub crash : KeepsOrMakes start.device.store w.device.store made
-  pub few : w.device.store.flash.steps ≤ start.device.store.flash.steps + all
-  pub rose : Rose start.device.store.flash.faults w.device.store.flash.faults
-  pub never_falls : start.device.store.flash.faults ≤ w.device.store.flash.faults
-  pub idle : w.device.store.pending ≡ Idle
-  pub alike : DividesAlike start.device.store w.device.store
-  pub status : w.device.status ≡ HardwareNotAvailable
-  pub cursor : w.device.cursor ≡ start.device.cursor
-  pub elsewhere : w ≡ record start { device = w.device; waited = waits_after pauses start.waited }
-
 -- whatever came
 pub record Midway (start : MachineState) (made : Stored) (all pauses : ℕ) (w : MachineState) : Type 0 where
   pub crash : KeepsOrMakes start.device.store w.device.store made
@@ -161,13 +149,16 @@ pub record Midway (start : MachineState) (made : Stored) (all pauses : ℕ) (w :
   pub cursor : w.device.cursor ≡ start.device.cursor
   pub elsewhere : w ≡ record start { device = w.device; waited = waits_after pauses start.waited }
 
+-- its flash failed a change
+pub record Broken (start : MachineState) (made : Stored) (all pauses : ℕ) (w : MachineState) : Type 0 where
+  pub midway : Midway start made all pauses w
+  pub rose : Rose start.device.store.flash.faults w.device.store.flash.faults
+  pub idle : w.device.store.pending ≡ Idle
+  pub status : w.device.status ≡ HardwareNotAvailable
+
 pub of_way : (start : MachineState) (made : Stored) (all n left pauses : ℕ) (w : MachineState) → OnWay start made all n left pauses w → Midway start made all pauses w
 of_way start made all n left pauses w way =
     record { crash = way.crash; few = omega (arith, way.sum, way.steps); never_falls = omega (arith, way.faults); alike = way.alike; cursor = way.cursor; elsewhere = way.elsewhere }
-
-pub of_broken : (start : MachineState) (made : Stored) (all pauses : ℕ) (w : MachineState) → Broken start made all pauses w → Midway start made all pauses w
-of_broken start made all pauses w broken =
-    record { crash = broken.crash; few = broken.few; never_falls = broken.never_falls; alike = broken.alike; cursor = broken.cursor; elsewhere = broken.elsewhere }
 
 -- a check answers 1 where changes are left
 abbrev value_of : ℕ → ℕ
@@ -260,15 +251,17 @@ module _ (tells : Type 0) (told : tells) (start : MachineState) (made : Stored) 
       let most : store.flash.steps ≤ mid.device.store.flash.steps + 1 = step.at_most in
       Broke
       (record {
-        crash = subst (λ (s : StoreView). KeepsOrMakes start.device.store s made) store_is (crashed store (step.crash told));
-        few = subst (λ (s : StoreView). s.flash.steps ≤ start.device.store.flash.steps + all) store_is (omega (arith, most, way.steps, way.sum));
+        midway = record {
+          crash = subst (λ (s : StoreView). KeepsOrMakes start.device.store s made) store_is (crashed store (step.crash told));
+          few = subst (λ (s : StoreView). s.flash.steps ≤ start.device.store.flash.steps + all) store_is (omega (arith, most, way.steps, way.sum));
+          never_falls = subst (λ (s : StoreView). start.device.store.flash.faults ≤ s.flash.faults) store_is (omega (arith, way.faults, cause.0));
+          alike = subst (λ (s : StoreView). DividesAlike start.device.store s) store_is (alike_then start.device.store mid.device.store store way.alike step.alike);
+          cursor = ap (λ (d : DeviceState). d.cursor) is ∙ way.cursor;
+          elsewhere = there ∙ ap (λ (m : MachineState). on_device m new.device) way.elsewhere;
+        };
         rose = subst (λ (s : StoreView). Rose start.device.store.flash.faults s.flash.faults) store_is (subst (λ (k : ℕ). Rose k store.flash.faults) way.faults cause.1);
-        never_falls = subst (λ (s : StoreView). start.device.store.flash.faults ≤ s.flash.faults) store_is (omega (arith, way.faults, cause.0));
         idle = subst (λ (s : StoreView). s.pending ≡ Idle) store_is step.stepped.idle;
-        alike = subst (λ (s : StoreView). DividesAlike start.device.store s) store_is (alike_then start.device.store mid.device.store store way.alike step.alike);
         status = ap (λ (d : DeviceState). d.status) is ∙ ap status_of flash;
-        cursor = ap (λ (d : DeviceState). d.cursor) is ∙ way.cursor;
-        elsewhere = there ∙ ap (λ (m : MachineState). on_device m new.device) way.elsewhere;
       })
       (ap (λ (d : DeviceState). d.value) is)
 
@@ -286,7 +279,7 @@ data BusyChecked (start : MachineState) (made : Stored) (all n left pauses : ℕ
 of_moved : (start : MachineState) (made : Stored) (all n left pauses : ℕ) (new : MachineState) → Moved start made all n left pauses new → Midway start made all pauses new
 of_moved start made all n left pauses new moved = elim moved [
   | MovedOn way value ↦ of_way start made all (n + 1) left pauses new way
-  | Broke broken value ↦ of_broken start made all pauses new broken
+  | Broke broken value ↦ broken.midway
 ]
 
 check_busy : (tells : Type 0) → OwnProgramsRun tells → tells → (start : MachineState) (made : Stored) (all n left pauses : ℕ) (w : MachineState) → OnWay start made all n (suc left) pauses w → (budget : ℕ) (result : Result ℕ RunStop)

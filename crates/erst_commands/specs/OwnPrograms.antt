@@ -1,12 +1,13 @@
 -- The programs of the machine's own table over the machine: what a run of each does. `tells` says whether the flash tells its content.
-use Rattle.std.specs.Prelude.{◌≡◌, ℕ, ◌+◌, ◌%◌, ◌^◌, Bool, true, false, ◌==◌, if◌then◌else◌, Result, Ok, Err}
+use Rattle.std.specs.Prelude.{◌≡◌, ℕ, ◌+◌, ◌%◌, ◌^◌, Bool, true, false, ◌==◌, ◌||◌, not, is_some, if◌then◌else◌, Result, Ok, Err}
 use Rattle.erst_entries.specs.declared.actions.Action.{Action}
-use Rattle.erst_entries.specs.declared.actions.Action.TheVariants.{BeginWriteOperation, BeginReadOperation, BeginClearOperation, BeginDummyWriteOperation, EndOperation, SetRecordOffset, SetRecordIdentifier, ExecuteOperation, CheckBusyStatus, GetCommandStatus, GetRecordCount}
+use Rattle.erst_entries.specs.declared.actions.Action.TheVariants.{EndOperation, SetRecordOffset, SetRecordIdentifier, CheckBusyStatus, GetCommandStatus, GetRecordCount}
 use Rattle.erst_entries.specs.Actions.{code_of}
 use Rattle.erst_interp.specs.declared.stops.RunStop.{RunStop}
 use Rattle.erst_interp.specs.declared.stops.RunStop.TheVariants.{Budget}
 use Rattle.erst_client.specs.Requests.{Performs}
 use Rattle.erst_client.specs.Steps.{steps_of}
+use Rattle.erst_device.specs.Actions.{begun_by, waits}
 use Rattle.erst_machine.specs.MachineState.{MachineState}
 use Rattle.erst_machine.specs.Allowed.{Allows, ActsOn}
 use Rattle.erst_machine.specs.OwnTables.{own_entries}
@@ -17,21 +18,12 @@ with_value value state = record state { device = record state.device { value = v
 
 -- the actions whose programs write the given value to VALUE first
 abbrev pub takes_value : Action → Bool
-takes_value SetRecordOffset = true
-takes_value SetRecordIdentifier = true
-takes_value action = false
+takes_value action = elim action [ SetRecordOffset ↦ true | SetRecordIdentifier ↦ true | other ↦ false ]
 
 -- those whose programs read VALUE at their end: all but those that begin, end, set or execute something
 abbrev pub tells_value : Action → Bool
-tells_value BeginWriteOperation = false
-tells_value BeginReadOperation = false
-tells_value BeginClearOperation = false
-tells_value BeginDummyWriteOperation = false
 tells_value EndOperation = false
-tells_value SetRecordOffset = false
-tells_value SetRecordIdentifier = false
-tells_value ExecuteOperation = false
-tells_value action = true
+tells_value action = not (is_some (begun_by action) || waits action)
 
 -- the machine in which an action is made
 abbrev pub given_to : Action → ℕ → MachineState → MachineState

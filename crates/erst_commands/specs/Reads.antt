@@ -5,7 +5,7 @@ use Rattle.base_model.specs.Bytes.{part, number_at, put_at}
 use Rattle.base_model.specs.Faults.{Rose}
 use Rattle.record_model.specs.RecordMap.{Read, Refusal, refusal_of}
 use Rattle.record_model.specs.History.{Refused, IsNamed, cursor_after}
-use Rattle.record_store.specs.Store.{Idle, KeepsMap, DividesAlike, abandoned}
+use Rattle.record_store.specs.Store.{abandoned}
 use Rattle.record_store.specs.Answers.{copies_of}
 use Rattle.erst_interp.specs.declared.stops.RunStop.TheVariants.{Budget}
 use Rattle.erst_client.specs.declared.errors.ClientError.{ClientError}
@@ -16,16 +16,11 @@ use Rattle.erst_client.specs.Steps.{steps_needed}
 use Rattle.erst_machine.specs.MachineState.{MachineState, reach_in, records_of}
 use Rattle.erst_machine.specs.OwnTables.{own_entries}
 use Rattle.erst_commands.specs.Changes.{IsErrorOf}
+use Rattle.erst_commands.specs.Looks.{OnlyLooked}
 
--- whatever is answered: power lost on the way leaves the records, there is at most one change, nothing is pending, and beside the device
--- and the log range all is as it was
-pub record ReadLeaves (first last : MachineState) : Type 0 where
-  pub kept : KeepsMap first.device.store last.device.store
-  pub few : last.device.store.flash.steps ≤ first.device.store.flash.steps + 1
-  pub idle : last.device.store.pending ≡ Idle
-  pub alike : DividesAlike first.device.store last.device.store
-  pub never_falls : first.device.store.flash.faults ≤ last.device.store.flash.faults
-  pub elsewhere : last ≡ record first { device = last.device; memory = record first.memory { range = last.memory.range } }
+-- whatever is answered: what a call that only looks leaves, but for the log range
+abbrev pub ReadLeaves : MachineState → MachineState → Type 0
+ReadLeaves first last = OnlyLooked (record first { memory = record first.memory { range = last.memory.range } }) last
 
 -- the flash failed nothing: the changes that end second copies, and no other; the store knows its records
 pub record ReadAsked (first last : MachineState) : Type 0 where

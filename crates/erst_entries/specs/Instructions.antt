@@ -13,7 +13,7 @@ abbrev pub instruction_of : ℕ → Option Instruction
 instruction_of code = slice_get instructions code
 
 abbrev pub instruction_name : Instruction → List ℕ
-instruction_name instruction = elim instruction [
+instruction_name = elim [
   | ReadRegister ↦ codes "READ_REGISTER"
   | ReadRegisterValue ↦ codes "READ_REGISTER_VALUE"
   | WriteRegister ↦ codes "WRITE_REGISTER"
