@@ -234,6 +234,7 @@ pub fn write_bytes(
 }
 
 /// The place of a copy's source or target in plain memory.
+#[inline(always)]
 fn plain_place(spot: Spot, at: u64) -> Result<(Area, usize), SpaceFault>
     ensures { MatchResult result (λ place. (copy_fault spot at ≡ None) × (spot ≡ Spot.Inside place.0 place.1) × (is_plain place.0 ≡ true))
         (λ fault. copy_fault spot at ≡ Some fault) }
@@ -258,6 +259,7 @@ fn plain_place(spot: Spot, at: u64) -> Result<(Area, usize), SpaceFault>
 }
 
 /// A copy of `n` bytes.
+#[inline(always)]
 pub fn copy_bytes(
     contents: &mut Contents,
     source: Spot,

@@ -1,5 +1,5 @@
 // The machine's memory map, and where an access of it stands.
-ghost use Rattle.std.specs.Prelude.{◌≡◌, ◌+◌, ◌<◌, ◌≤◌, ◌^◌, IfSome};
+ghost use Rattle.std.specs.Prelude.{◌≡◌, ℕ, ◌+◌, ◌<◌, ◌≤◌, ◌^◌, IfSome, unwrap_or};
 ghost use Rattle.erst_machine.specs.Areas.{base_of, size_of, area_spot, memory_spot, port_spot, place_spot, IsPlaced, is_plain, register_at};
 
 use apei_gas::{Place, Width};
@@ -74,16 +74,24 @@ pub enum Register {
     NoRegister,
 }
 
-/// The areas of memory.
-const MEMORY: [Area; 5] = [
-    Area::Device,
-    Area::Scratch,
-    Area::Handover,
-    Area::BootErrors,
-    Area::LogRange,
-];
-
 impl Area {
+    /// The one area of memory that may have the byte of an address.
+    fn around(at: u64) -> Area
+        ensures { (reach n : ℕ) → reach ≤ 65536 → 0 < n → memory_spot reach at n ≡ unwrap_or (area_spot reach result at n) (Spot.Nowhere at) }
+    {
+        if at < LOG_RANGE {
+            Area::Scratch
+        } else if at < ACTION {
+            Area::LogRange
+        } else if at < STATUS {
+            Area::Device
+        } else if at < BOOT_ERRORS {
+            Area::Handover
+        } else {
+            Area::BootErrors
+        }
+    }
+
     /// The address of its first byte.
     pub fn base(self) -> u64
         ensures value { result ≡ base_of self }
@@ -144,7 +152,7 @@ impl Area {
 
 /// Where `n` bytes of memory stand.
 pub fn memory_spot(reach: usize, at: u64, n: usize) -> Spot
-    requires reach { reach < 2 ^ 32 }
+    requires reach { reach ≤ 65536 }
     requires n { n < 2 ^ 63 }
     ensures value { result ≡ memory_spot reach at n }
     ensures placed { IsPlaced reach n result }
@@ -152,12 +160,10 @@ pub fn memory_spot(reach: usize, at: u64, n: usize) -> Spot
     if n == 0 {
         return Spot::Inside(Area::Scratch, 0);
     }
-    for area in MEMORY {
-        if let Some(spot) = area.spot(reach, at, n) {
-            return spot;
-        }
+    match Area::around(at).spot(reach, at, n) {
+        Some(spot) => spot,
+        None => Spot::Nowhere(at),
     }
-    Spot::Nowhere(at)
 }
 
 /// Where `n` bytes of ports stand.
@@ -175,7 +181,7 @@ pub fn port_spot(reach: usize, at: u64, n: usize) -> Spot
 
 /// Where `n` bytes stand.
 pub fn place_spot(reach: usize, at: Place, n: usize) -> Spot
-    requires reach { reach < 2 ^ 32 }
+    requires reach { reach ≤ 65536 }
     requires n { n < 2 ^ 63 }
     ensures value { result ≡ place_spot reach at n }
     ensures placed { IsPlaced reach n result }

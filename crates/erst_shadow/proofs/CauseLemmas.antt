@@ -9,6 +9,7 @@ use Rattle.erst_client.specs.declared.requests.Request.{Request}
 use Rattle.erst_client.specs.Sequences.{write_requests, read_requests, clear_requests, dummy_requests, Sequence}
 use Rattle.erst_machine.specs.MachineState.{MachineState, IsMachine}
 use Rattle.erst_machine.specs.Allowed.{Allows}
+use Rattle.erst_machine.specs.OwnTables.{own_entries}
 use Rattle.erst_commands.specs.OwnPrograms.{OwnProgramsRun}
 use Rattle.erst_commands.specs.Attached.{own_client}
 use Rattle.erst_commands.specs.Causes.{HasItsCause}
@@ -20,36 +21,29 @@ use Rattle.erst_shadow.specs.ShadowCommands.{pieces_in, shadow_client}
 use Rattle.erst_shadow.proofs.SequenceLemmas.{write_as_own, clear_as_own, read_as_own, dummy_as_own}
 use Rattle.erst_shadow.proofs.CommandLemmas.{holds_pieces}
 
--- the device of the machine beside the last is that of the last
-moved_cause : (tells : Type 0) (pieces : ℕ) (timings : Option (ℕ × ℕ)) (requests : List Request) (budget : ℕ) (first : MachineState) (result : Result (Unit {0}) ClientError) (left : ℕ) (last : MachineState)
-    (is : SequenceAsOwn tells pieces timings requests budget first result left last) → HasItsCause (holding (range_with_record pieces first) is.scratch first) is.own_last result → HasItsCause first last result
-moved_cause tells pieces timings requests budget first result left last is cause =
-    let same = ap (λ (m : MachineState). m.device.store.flash.faults) is.last_is in
-    record {
-      never_falls = subst (λ (n : ℕ). first.device.store.flash.faults ≤ n) (sym same) cause.never_falls;
-      hardware = λ e. subst (λ (n : ℕ). Rose first.device.store.flash.faults n) (sym same) (cause.hardware e);
-    }
-
 module _ (tells : Type 0) (own : OwnProgramsRun tells) (pieces : ℕ) (timings : Option (ℕ × ℕ)) (budget : ℕ) (first : MachineState) (rooms : HoldsPieces first pieces) (result : Result (Unit {0}) ClientError) (left : ℕ) (last : MachineState) where
+  -- the device of the machine beside the last is that of the last
+  moved_cause : (requests : List Request) → SequenceAsOwn tells pieces timings requests budget first result left last
+      → ((b : ℕ) (m : MachineState) (l : ℕ) (v : MachineState) → Sequence (Allows tells) own_entries timings requests b m result l v → HasItsCause m v result) → HasItsCause first last result
+  moved_cause requests is causes =
+      let cause = causes is.own_budget (holding (range_with_record pieces first) is.scratch first) is.own_left is.own_last is.sequence in
+      let same = ap (λ (m : MachineState). m.device.store.flash.faults) is.last_is in
+      record {
+        never_falls = subst (λ (n : ℕ). first.device.store.flash.faults ≤ n) (sym same) cause.never_falls;
+        hardware = λ e. subst (λ (n : ℕ). Rose first.device.store.flash.faults n) (sym same) (cause.hardware e);
+      }
+
   pub shadow_write_cause : Sequence (Allows tells) (shadow_entries pieces) timings write_requests budget first result left last → HasItsCause first last result
-  shadow_write_cause sequence =
-      let is = write_as_own tells own pieces timings budget first rooms result left last sequence in
-      moved_cause tells pieces timings write_requests budget first result left last is (write_cause tells own timings is.own_budget (holding (range_with_record pieces first) is.scratch first) result is.own_left is.own_last is.sequence)
+  shadow_write_cause sequence = moved_cause write_requests (write_as_own tells own pieces timings budget first rooms result left last sequence) (λ b m l v s. write_cause tells own timings b m result l v s)
 
   pub shadow_clear_cause : (id : ℕ) → Sequence (Allows tells) (shadow_entries pieces) timings (clear_requests id) budget first result left last → HasItsCause first last result
-  shadow_clear_cause id sequence =
-      let is = clear_as_own tells own pieces timings budget first rooms result left last id sequence in
-      moved_cause tells pieces timings (clear_requests id) budget first result left last is (clear_cause tells own id timings is.own_budget (holding (range_with_record pieces first) is.scratch first) result is.own_left is.own_last is.sequence)
+  shadow_clear_cause id sequence = moved_cause (clear_requests id) (clear_as_own tells own pieces timings budget first rooms result left last id sequence) (λ b m l v s. clear_cause tells own id timings b m result l v s)
 
   pub shadow_dummy_cause : Sequence (Allows tells) (shadow_entries pieces) timings dummy_requests budget first result left last → HasItsCause first last result
-  shadow_dummy_cause sequence =
-      let is = dummy_as_own tells own pieces timings budget first rooms result left last sequence in
-      moved_cause tells pieces timings dummy_requests budget first result left last is (dummy_cause tells own timings is.own_budget (holding (range_with_record pieces first) is.scratch first) result is.own_left is.own_last is.sequence)
+  shadow_dummy_cause sequence = moved_cause dummy_requests (dummy_as_own tells own pieces timings budget first rooms result left last sequence) (λ b m l v s. dummy_cause tells own timings b m result l v s)
 
   pub shadow_read_cause : (id : ℕ) → Sequence (Allows tells) (shadow_entries pieces) timings (read_requests id) budget first result left last → HasItsCause first last result
-  shadow_read_cause id sequence =
-      let is = read_as_own tells own pieces timings budget first rooms result left last id sequence in
-      moved_cause tells pieces timings (read_requests id) budget first result left last is (read_cause tells own id timings is.own_budget (holding (range_with_record pieces first) is.scratch first) result is.own_left is.own_last is.sequence)
+  shadow_read_cause id sequence = moved_cause (read_requests id) (read_as_own tells own pieces timings budget first rooms result left last id sequence) (λ b m l v s. read_cause tells own id timings b m result l v s)
 
 -- A client's write and read
 

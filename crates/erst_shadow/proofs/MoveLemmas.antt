@@ -108,6 +108,43 @@ pub record KeepsRange (first w : MachineState) : Type 0 where
   pub comes : KeepsOthers first w
   pub kept : w.memory.range ≡ first.memory.range
 
+-- a copy between two places that are found
+copied_by : (tells : Type 0) (w v : MachineState) (from target n : ℕ) (source sink : Spot) (answer : Result (Unit {0}) SpaceFault) → spot_at w from n ≡ source → spot_at w target n ≡ sink
+    → Allows tells w (Copy from target n answer) v → (answer ≡ (copy_of source sink w from target n).0) × (v ≡ (copy_of source sink w from target n).1)
+copied_by tells w v from target n source sink answer source_is sink_is h =
+    let outcome : copy_of (spot_at w from n) (spot_at w target n) w from target n ≡ copy_of source sink w from target n =
+    ap (λ (s : Spot). copy_of s (spot_at w target n) w from target n) source_is ∙ ap (λ (s : Spot). copy_of source s w from target n) sink_is in
+    (h.0 ∙ ap (λ (o : Result (Unit {0}) SpaceFault × MachineState). o.0) outcome, h.1 ∙ ap (λ (o : Result (Unit {0}) SpaceFault × MachineState). o.1) outcome)
+
+-- what a move needs of the machine, whichever way it goes, by what is asked of its pieces
+abbrev served : (tells : Type 0) (first : MachineState) (fits : MachineState → Type 0) (from target count : ℕ) (piece : ℕ → MachineState → MachineState)
+    → ((w : MachineState) → fits w → KeepsOthers first w)
+    → ((w : MachineState) (r : MoveRegister) (n : ℕ) → fits w → fits (put r n w))
+    → ((w v : MachineState) (i : ℕ) (answer : Result (Unit {0}) SpaceFault) → fits w → i < count → Allows tells w (Copy (from + 128 * i) (target + 128 * i) 128 answer) v → (answer ≡ Ok tt) × (v ≡ piece i w))
+    → ((w : MachineState) (i : ℕ) → fits w → i < count → fits (piece i w))
+    → ((w : MachineState) (r : MoveRegister) (i : ℕ) → fits w → i < count → value r (piece i w) ≡ value r w)
+    → ServesMove (Allows tells) fits from target count
+served tells first fits from target count piece comes puts copies moves behind = record {
+  value = value;
+  put = put;
+  copied = piece;
+  reads = λ w v r answer is h. register_read tells w v r answer h;
+  writes = λ w v r n answer is h. register_written tells w v r n answer h;
+  copies = copies;
+  put_fits = puts;
+  copied_fits = moves;
+  value_put = λ w r n is small. value_put first w r n (comes w is) small;
+  value_beside = λ w r other n is not. value_beside first w r other n (comes w is) not;
+  value_behind = behind;
+}
+
+-- a piece of bytes that have so many, and its room in others
+piece_long : (count i : ℕ) (bytes : List ℕ) → 128 * count ≤ length bytes → i < count → length (part bytes (128 * i) 128) ≡ 128
+piece_long count i bytes room less = length-part bytes (128 * i) 128 (omega (arith, room, less))
+
+piece_fits : (count i : ℕ) (bytes others : List ℕ) → 128 * count ≤ length bytes → 128 * count ≤ length others → i < count → 128 * i + length (part bytes (128 * i) 128) ≤ length others
+piece_fits count i bytes others room fits less = omega (arith, piece_long count i bytes room less, fits, less)
+
 module _ (tells : Type 0) (first : MachineState) (count : ℕ) (room : HoldsPieces first count) where
   pub below_in : AreAddressable scratch_at LOG_RANGE count
   below_in = let few = room.few in record { source = omega arith; target_is = omega arith; some = room.some }
@@ -121,42 +158,32 @@ module _ (tells : Type 0) (first : MachineState) (count : ℕ) (room : HoldsPiec
   range_spot : (w : MachineState) (i : ℕ) → KeepsOthers first w → i < count → spot_at w (LOG_RANGE + 128 * i) 128 ≡ Inside LogRange (128 * i)
   range_spot w i comes less = area_found (length w.memory.range) LogRange (128 * i) 128 (omega (arith, comes.range, room.small)) (omega arith) (omega (arith, comes.range, room.range))
 
+  scratch_room : (w : MachineState) → KeepsOthers first w → 128 * count ≤ length w.memory.scratch
+  scratch_room w comes = omega (arith, comes.scratch, room.few)
+
+  range_room : (w : MachineState) → KeepsOthers first w → 128 * count ≤ length w.memory.range
+  range_room w comes = omega (arith, comes.range, room.range)
+
+  fits_range : (w : MachineState) (i : ℕ) → KeepsOthers first w → i < count → 128 * i + length (part w.memory.scratch (128 * i) 128) ≤ length w.memory.range
+  fits_range w i comes less = piece_fits count i w.memory.scratch w.memory.range (scratch_room w comes) (range_room w comes) less
+
+  fits_scratch : (w : MachineState) (i : ℕ) → KeepsOthers first w → i < count → 128 * i + length (part w.memory.range (128 * i) 128) ≤ length w.memory.scratch
+  fits_scratch w i comes less = piece_fits count i w.memory.range w.memory.scratch (range_room w comes) (scratch_room w comes) less
+
   -- In
 
   abbrev piece_in : ℕ → MachineState → MachineState
   piece_in i w = record w { memory = record w.memory { range = put_at w.memory.range (128 * i) (part w.memory.scratch (128 * i) 128) } }
 
-  scratch_long : (w : MachineState) (i : ℕ) → KeepsOthers first w → i < count → length (part w.memory.scratch (128 * i) 128) ≡ 128
-  scratch_long w i comes less = length-part w.memory.scratch (128 * i) 128 (omega (arith, comes.scratch, room.few))
-
-  fits_range : (w : MachineState) (i : ℕ) → KeepsOthers first w → i < count → 128 * i + length (part w.memory.scratch (128 * i) 128) ≤ length w.memory.range
-  fits_range w i comes less = omega (arith, scratch_long w i comes less, comes.range, room.range)
-
-  copies_in : (w v : MachineState) (i : ℕ) (answer : Result (Unit {0}) SpaceFault) → KeepsOthers first w → i < count → Allows tells w (Copy (scratch_at + 128 * i) (LOG_RANGE + 128 * i) 128 answer) v → (answer ≡ Ok tt) × (v ≡ piece_in i w)
-  copies_in w v i answer comes less h =
-      let outcome : copy_of (spot_at w (scratch_at + 128 * i) 128) (spot_at w (LOG_RANGE + 128 * i) 128) w (scratch_at + 128 * i) (LOG_RANGE + 128 * i) 128 ≡ (Ok tt, piece_in i w) =
-      ap (λ (s : Spot). copy_of s (spot_at w (LOG_RANGE + 128 * i) 128) w (scratch_at + 128 * i) (LOG_RANGE + 128 * i) 128) (scratch_spot w i comes less)
-      ∙ ap (λ (s : Spot). copy_of (Inside Scratch (128 * i)) s w (scratch_at + 128 * i) (LOG_RANGE + 128 * i) 128) (range_spot w i comes less) in
-      (h.0 ∙ ap (λ (o : Result (Unit {0}) SpaceFault × MachineState). o.0) outcome, h.1 ∙ ap (λ (o : Result (Unit {0}) SpaceFault × MachineState). o.1) outcome)
-
   pub space_in : ServesMove (Allows tells) (KeepsOthers first) scratch_at LOG_RANGE count
-  space_in = record {
-    value = value;
-    put = put;
-    copied = piece_in;
-    reads = λ w v r answer comes h. register_read tells w v r answer h;
-    writes = λ w v r n answer comes h. register_written tells w v r n answer h;
-    copies = copies_in;
-    put_fits = λ w r n comes. put_comes first w r n comes;
-    copied_fits = λ w i comes less. record {
-      range = length-put_at w.memory.range (128 * i) (part w.memory.scratch (128 * i) 128) (fits_range w i comes less) ∙ comes.range;
-      scratch = comes.scratch;
-      elsewhere = ap (λ (m : MachineState). holding (put_at w.memory.range (128 * i) (part w.memory.scratch (128 * i) 128)) w.memory.scratch m) comes.elsewhere;
-    };
-    value_put = λ w r n comes small. value_put first w r n comes small;
-    value_beside = λ w r other n comes not. value_beside first w r other n comes not;
-    value_behind = λ w r i comes less. refl;
-  }
+  space_in = served tells first (KeepsOthers first) scratch_at LOG_RANGE count piece_in (λ w comes. comes) (λ w r n comes. put_comes first w r n comes)
+      (λ w v i answer comes less h. copied_by tells w v (scratch_at + 128 * i) (LOG_RANGE + 128 * i) 128 (Inside Scratch (128 * i)) (Inside LogRange (128 * i)) answer (scratch_spot w i comes less) (range_spot w i comes less) h)
+      (λ w i comes less. record {
+        range = length-put_at w.memory.range (128 * i) (part w.memory.scratch (128 * i) 128) (fits_range w i comes less) ∙ comes.range;
+        scratch = comes.scratch;
+        elsewhere = ap (λ (m : MachineState). holding (put_at w.memory.range (128 * i) (part w.memory.scratch (128 * i) 128)) w.memory.scratch m) comes.elsewhere;
+      })
+      (λ w r i comes less. refl)
 
   -- what was moved in so far
   record WentIn (size : ℕ) (w : MachineState) : Type 0 where
@@ -183,7 +210,7 @@ module _ (tells : Type 0) (first : MachineState) (count : ℕ) (room : HoldsPiec
   unfolding space_in
   piece_moved i w less is =
       let others = part w.memory.scratch (128 * i) 128 in
-      let size = scratch_long w i is.comes less in
+      let size = piece_long count i w.memory.scratch (scratch_room w is.comes) less in
       let fits = fits_range w i is.comes less in
       record {
         comes = space_in.copied_fits w i is.comes less;
@@ -223,43 +250,21 @@ module _ (tells : Type 0) (first : MachineState) (count : ℕ) (room : HoldsPiec
   abbrev piece_out : ℕ → MachineState → MachineState
   piece_out i w = record w { memory = record w.memory { scratch = put_at w.memory.scratch (128 * i) (part w.memory.range (128 * i) 128) } }
 
-  range_long : (w : MachineState) (i : ℕ) → KeepsOthers first w → i < count → length (part w.memory.range (128 * i) 128) ≡ 128
-  range_long w i comes less = length-part w.memory.range (128 * i) 128 (omega (arith, comes.range, room.range))
-
-  fits_scratch : (w : MachineState) (i : ℕ) → KeepsOthers first w → i < count → 128 * i + length (part w.memory.range (128 * i) 128) ≤ length w.memory.scratch
-  fits_scratch w i comes less = omega (arith, range_long w i comes less, comes.scratch, room.few)
-
-  copies_out : (w v : MachineState) (i : ℕ) (answer : Result (Unit {0}) SpaceFault) → KeepsOthers first w → i < count → Allows tells w (Copy (LOG_RANGE + 128 * i) (scratch_at + 128 * i) 128 answer) v → (answer ≡ Ok tt) × (v ≡ piece_out i w)
-  copies_out w v i answer comes less h =
-      let outcome : copy_of (spot_at w (LOG_RANGE + 128 * i) 128) (spot_at w (scratch_at + 128 * i) 128) w (LOG_RANGE + 128 * i) (scratch_at + 128 * i) 128 ≡ (Ok tt, piece_out i w) =
-      ap (λ (s : Spot). copy_of s (spot_at w (scratch_at + 128 * i) 128) w (LOG_RANGE + 128 * i) (scratch_at + 128 * i) 128) (range_spot w i comes less)
-      ∙ ap (λ (s : Spot). copy_of (Inside LogRange (128 * i)) s w (LOG_RANGE + 128 * i) (scratch_at + 128 * i) 128) (scratch_spot w i comes less) in
-      (h.0 ∙ ap (λ (o : Result (Unit {0}) SpaceFault × MachineState). o.0) outcome, h.1 ∙ ap (λ (o : Result (Unit {0}) SpaceFault × MachineState). o.1) outcome)
-
-  -- on the way out the log range stays as it is
+  -- the log range stays as it is
   pub space_out : ServesMove (Allows tells) (KeepsRange first) LOG_RANGE scratch_at count
-  space_out = record {
-    value = value;
-    put = put;
-    copied = piece_out;
-    reads = λ w v r answer stays h. register_read tells w v r answer h;
-    writes = λ w v r n answer stays h. register_written tells w v r n answer h;
-    copies = λ w v i answer stays less h. copies_out w v i answer stays.comes less h;
-    put_fits = λ w r n stays. record { comes = put_comes first w r n stays.comes; kept = stays.kept };
-    copied_fits = λ w i stays less. record {
-      comes = record {
-        range = stays.comes.range;
-        scratch = length-put_at w.memory.scratch (128 * i) (part w.memory.range (128 * i) 128) (fits_scratch w i stays.comes less) ∙ stays.comes.scratch;
-        elsewhere = ap (λ (m : MachineState). holding w.memory.range (put_at w.memory.scratch (128 * i) (part w.memory.range (128 * i) 128)) m) stays.comes.elsewhere;
-      };
-      kept = stays.kept;
-    };
-    value_put = λ w r n stays small. value_put first w r n stays.comes small;
-    value_beside = λ w r other n stays not. value_beside first w r other n stays.comes not;
-    value_behind = λ w r i stays less.
-        number-beside w.memory.scratch (part w.memory.range (128 * i) 128) (128 * i) (place_in r) (fits_scratch w i stays.comes less)
-        (inr (let low = (register_low r).0 in omega (arith, range_long w i stays.comes less, room.few)));
-  }
+  space_out = served tells first (KeepsRange first) LOG_RANGE scratch_at count piece_out (λ w stays. stays.comes) (λ w r n stays. record { comes = put_comes first w r n stays.comes; kept = stays.kept })
+      (λ w v i answer stays less h. copied_by tells w v (LOG_RANGE + 128 * i) (scratch_at + 128 * i) 128 (Inside LogRange (128 * i)) (Inside Scratch (128 * i)) answer (range_spot w i stays.comes less) (scratch_spot w i stays.comes less) h)
+      (λ w i stays less. record {
+        comes = record {
+          range = stays.comes.range;
+          scratch = length-put_at w.memory.scratch (128 * i) (part w.memory.range (128 * i) 128) (fits_scratch w i stays.comes less) ∙ stays.comes.scratch;
+          elsewhere = ap (λ (m : MachineState). holding w.memory.range (put_at w.memory.scratch (128 * i) (part w.memory.range (128 * i) 128)) m) stays.comes.elsewhere;
+        };
+        kept = stays.kept;
+      })
+      (λ w r i stays less.
+      number-beside w.memory.scratch (part w.memory.range (128 * i) 128) (128 * i) (place_in r) (fits_scratch w i stays.comes less)
+      (inr (let low = (register_low r).0 in omega (arith, piece_long count i w.memory.range (range_room w stays.comes) less, room.few))))
 
   record CameOut (size : ℕ) (w : MachineState) : Type 0 where
     comes : KeepsOthers first w
@@ -277,7 +282,7 @@ module _ (tells : Type 0) (first : MachineState) (count : ℕ) (room : HoldsPiec
   unfolding space_out
   piece_fetched i w less is =
       let others = part w.memory.range (128 * i) 128 in
-      let size = range_long w i is.comes less in
+      let size = piece_long count i w.memory.range (range_room w is.comes) less in
       let fits = fits_scratch w i is.comes less in
       record {
         comes = (space_out.copied_fits w i (record { comes = is.comes; kept = is.kept }) less).comes;

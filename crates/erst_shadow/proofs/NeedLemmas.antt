@@ -64,6 +64,15 @@ both_paid pieces budget result left own_budget own_left ended paid =
       | PaysPart error left own_budget own_left short less more ↦ λ ended. absurd (ended error refl short)
     ]) ended
 
+-- so a command that was not cut short took so many steps more
+paid_more : (pieces budget : ℕ) (result : Result (Unit {0}) ClientError) (left own_budget own_left steps : ℕ) → Ended result → PaysMoves pieces budget result left own_budget own_left → own_left + steps ≡ own_budget
+    → left + (16 * pieces + 12 + steps) ≡ budget
+paid_more pieces budget result left own_budget own_left steps ended paid spent =
+    let both = both_paid pieces budget result left own_budget own_left ended paid in
+    let all = both.0 in
+    let same = both.1 in
+    omega (arith, spent, all, same)
+
 -- A write and a clear
 
 abbrev pub changes_in : Command → MachineState → ℕ
@@ -124,19 +133,15 @@ module _ (pieces : ℕ) (first last : MachineState) (id : ℕ) (command : Comman
   pub change_needs : GoesThrough result → (checks : ℕ) × (left + (16 * pieces + 18 + 2 * checks) ≡ budget) × (checks ≤ changes_in command first)
   change_needs goes =
       let own = own_need change.own_first change.own_last id command requests change.own_budget result change.own_left needs change.own (goes.not_stopped Budget) in
-      let paid = both_paid pieces budget result left change.own_budget change.own_left own.ended change.paid in
-      let all = paid.0 in
-      let same = paid.1 in
-      (own.checks, omega (arith, own.spent, all, same), omega (arith, own.few, same_changes))
+      let spent = paid_more pieces budget result left change.own_budget change.own_left (6 + 2 * own.checks) own.ended change.paid own.spent in
+      (own.checks, omega (arith, spent), omega (arith, own.few, same_changes))
 
   pub taken_needs : result ≡ Ok tt → left + (16 * pieces + 18 + 2 * changes_in command first) ≡ budget
   taken_needs taken =
       let own = own_need change.own_first change.own_last id command requests change.own_budget result change.own_left needs change.own (λ e. absurd (cc taken)) in
-      let paid = both_paid pieces budget result left change.own_budget change.own_left own.ended change.paid in
-      let all = paid.0 in
-      let same = paid.1 in
+      let spent = paid_more pieces budget result left change.own_budget change.own_left (6 + 2 * own.checks) own.ended change.paid own.spent in
       let exact = own.taken taken in
-      omega (arith, own.spent, exact, all, same, same_changes)
+      omega (arith, spent, exact, same_changes)
 
   pub change_enough : 16 * pieces + 18 + 2 * changes_in command first ≤ budget → GoesThrough result
   change_enough enough =
@@ -162,11 +167,8 @@ module _ (pieces : ℕ) (first last : MachineState) (budget : ℕ) (result : Res
   pub dummy_needs : GoesThrough result → left + (16 * pieces + 20) ≡ budget
   dummy_needs goes =
       let own = own_dummy_need dummy.own_first dummy.own_last dummy.own_budget result dummy.own_left dummy.own (goes.not_stopped Budget) in
-      let paid = both_paid pieces budget result left dummy.own_budget dummy.own_left own.0 dummy.paid in
-      let spent = own.1 in
-      let all = paid.0 in
-      let same = paid.1 in
-      omega (arith, spent, all, same)
+      let spent = paid_more pieces budget result left dummy.own_budget dummy.own_left 8 own.0 dummy.paid own.1 in
+      omega (arith, spent)
 
   pub dummy_enough : 16 * pieces + 20 ≤ budget → GoesThrough result
   dummy_enough enough =
@@ -200,11 +202,8 @@ module _ (pieces : ℕ) (first last : MachineState) (id budget : ℕ) (result : 
   pub read_needs : GoesThrough result → left + (16 * pieces + 22) ≡ budget
   read_needs goes =
       let own = own_read_need read.own_first read.own_last id read.own_budget result read.own_left read.own (goes.not_stopped Budget) in
-      let paid = both_paid pieces budget result left read.own_budget read.own_left own.0 read.paid in
-      let spent = own.1 in
-      let all = paid.0 in
-      let same = paid.1 in
-      omega (arith, spent, all, same)
+      let spent = paid_more pieces budget result left read.own_budget read.own_left 10 own.0 read.paid own.1 in
+      omega (arith, spent)
 
   pub read_enough : 16 * pieces + 22 ≤ budget → GoesThrough result
   read_enough enough =

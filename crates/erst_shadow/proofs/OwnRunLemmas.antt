@@ -64,6 +64,11 @@ one_step tells program given action c w =
     let has : HasWork (task_of program given (is_one action) c) (TakeField (λ x. record (next c) { result = Some (if x == 1 then 1 else 0) })) = record { instruction = ReadRegisterValue; code = refl; work_is = refl } in
     Takes (λ x. record (next c) { result = Some (if x == 1 then 1 else 0) }) value_at (field w.device.value 0 (2 ^ 64 - 1)) w has refl (Got w.device.value w (refl, refl))
 
+-- from where an action is carried out: a value that it takes stands in VALUE then
+starts : (action : Action) (given : ℕ) (first : MachineState) (takes : Bool) → takes_value action ≡ takes
+    → (if takes_value action then with_value (given % 2 ^ 64) first else first) ≡ (if takes then with_value (given % 2 ^ 64) first else first)
+starts action given first takes is = ap (λ (b : Bool). if b then with_value (given % 2 ^ 64) first else first) is
+
 -- programs of one entry
 
 abbrev one_entry : Action → Listed
@@ -74,8 +79,7 @@ one_back : (tells : Type 0) (action : Action) (given budget : ℕ) (first : Mach
     → OwnRun tells action given budget first result left last → Run (Allows tells) (one_entry action) given budget first result left last
 one_back tells action given budget first result left last takes_none tells_none says steps code run = elim run as (λ result left last run. Run (Allows tells) (one_entry action) given budget first result left last) [
   | IsMade left last acted spent ↦
-      let from = ap (λ (b : Bool). if b then with_value (given % 2 ^ 64) first else first) takes_none in
-      let done = act_step tells (one_entry action) given action begin first last code (subst (λ (w : MachineState). ActsOn tells w (code_of action) last) from acted) in
+      let done = act_step tells (one_entry action) given action begin first last code (subst (λ (w : MachineState). ActsOn tells w (code_of action) last) (starts action given first false takes_none) acted) in
       subst (λ (n : ℕ). Run (Allows tells) (one_entry action) given budget first (Ok n) left last) (sym (says last.device.value))
       (Finishes left (next begin) last (HasEntry (omega arith)) (Then budget begin first (act action) (next begin) 0 left last Begun refl done (omega (arith, spent, steps))) (omega arith))
   | StopsAtOnce none ↦ Exhausted begin first (HasEntry (omega arith)) (subst (λ (n : ℕ). Walk (Allows tells) (one_entry action) given budget first n begin first) none Begun) (omega arith)
@@ -93,20 +97,18 @@ give_back : (tells : Type 0) (action : Action) (given budget : ℕ) (first : Mac
     → OwnRun tells action given budget first result left last → Run (Allows tells) (give_entries action) given budget first result left last
 give_back tells action given budget first result left last takes tells_none says steps code run = elim run as (λ result left last run. Run (Allows tells) (give_entries action) given budget first result left last) [
   | IsMade left last acted spent ↦
-      let from = ap (λ (b : Bool). if b then with_value (given % 2 ^ 64) first else first) takes in
       let mid = with_value (given % 2 ^ 64) first in
-      let done = act_step tells (give_entries action) given action (next begin) mid last code (subst (λ (w : MachineState). ActsOn tells w (code_of action) last) from acted) in
+      let done = act_step tells (give_entries action) given action (next begin) mid last code (subst (λ (w : MachineState). ActsOn tells w (code_of action) last) (starts action given first true takes) acted) in
       let gave : Walk (Allows tells) (give_entries action) given budget first (left + 1) (next begin) mid =
       Then budget begin first (give action) (next begin) 0 (left + 1) mid Begun refl (give_step tells (give_entries action) given action begin first) (omega (arith, spent, steps)) in
       subst (λ (n : ℕ). Run (Allows tells) (give_entries action) given budget first (Ok n) left last) (sym (says last.device.value))
       (Finishes left (next (next begin)) last (HasEntry (omega arith)) (Then (left + 1) (next begin) mid (act action) (next (next begin)) 0 left last gave refl done (omega arith)) (omega arith))
   | StopsAtOnce none ↦ Exhausted begin first (HasEntry (omega arith)) (subst (λ (n : ℕ). Walk (Allows tells) (give_entries action) given budget first n begin first) none Begun) (omega arith)
   | StopsBefore one taken ↦
-      let from = ap (λ (b : Bool). if b then with_value (given % 2 ^ 64) first else first) takes in
       let mid = with_value (given % 2 ^ 64) first in
       let gave : Walk (Allows tells) (give_entries action) given budget first 0 (next begin) mid =
       Then budget begin first (give action) (next begin) 0 0 mid Begun refl (give_step tells (give_entries action) given action begin first) (omega (arith, one)) in
-      subst (λ (w : MachineState). Run (Allows tells) (give_entries action) given budget first (Err Budget) 0 w) (sym from) (Exhausted (next begin) mid (HasEntry (omega arith)) gave (omega arith))
+      subst (λ (w : MachineState). Run (Allows tells) (give_entries action) given budget first (Err Budget) 0 w) (sym (starts action given first true takes)) (Exhausted (next begin) mid (HasEntry (omega arith)) gave (omega arith))
   | StopsBehind last one shows acted ↦ absurd (cc (sym shows ∙ tells_none))
 ]
 
@@ -121,8 +123,7 @@ tell_back : (tells : Type 0) (action : Action) (given budget : ℕ) (first : Mac
     → OwnRun tells action given budget first result left last → Run (Allows tells) (tell_entries action reader) given budget first result left last
 tell_back tells action given budget first reader taken result left last reads takes_none says steps code run = elim run as (λ result left last run. Run (Allows tells) (tell_entries action reader) given budget first result left last) [
   | IsMade left last acted spent ↦
-      let from = ap (λ (b : Bool). if b then with_value (given % 2 ^ 64) first else first) takes_none in
-      let done = act_step tells (tell_entries action reader) given action begin first last code (subst (λ (w : MachineState). ActsOn tells w (code_of action) last) from acted) in
+      let done = act_step tells (tell_entries action reader) given action begin first last code (subst (λ (w : MachineState). ActsOn tells w (code_of action) last) (starts action given first false takes_none) acted) in
       let walk : Walk (Allows tells) (tell_entries action reader) given budget first (left + 1) (next begin) last =
       Then budget begin first (act action) (next begin) 0 (left + 1) last Begun refl done (omega (arith, spent, steps)) in
       subst (λ (n : ℕ). Run (Allows tells) (tell_entries action reader) given budget first (Ok n) left last) (sym (says last))
@@ -131,7 +132,6 @@ tell_back tells action given budget first reader taken result left last reads ta
   | StopsAtOnce none ↦ Exhausted begin first (HasEntry (omega arith)) (subst (λ (n : ℕ). Walk (Allows tells) (tell_entries action reader) given budget first n begin first) none Begun) (omega arith)
   | StopsBefore one takes ↦ absurd (cc (sym takes ∙ takes_none))
   | StopsBehind last one shows acted ↦
-      let from = ap (λ (b : Bool). if b then with_value (given % 2 ^ 64) first else first) takes_none in
       let done = act_step tells (tell_entries action reader) given action begin first last code acted in
       let walk : Walk (Allows tells) (tell_entries action reader) given budget first 0 (next begin) last =
       Then budget begin first (act action) (next begin) 0 0 last Begun refl done (omega (arith, one)) in
