@@ -190,13 +190,10 @@ whole_keeps m block taken h = record {
 }
 
 emptied_keeps : (m : Machine) (block : List ℕ) (ahead : ℕ) → IsEmptied m ahead → IsEmptied (submitted m block) ahead
-emptied_keeps m block ahead h = record {
-  published = h.published;
-  taken = h.taken;
-  all = let n = longer m block in let t = h.all in omega (arith, n, t);
-  none_filled = h.none_filled;
-  status = h.status;
-}
+emptied_keeps m block ahead h =
+    let n = longer m block in
+    let t = h.all in
+    record { published = h.published; taken = h.taken; all = omega (arith, n, t); none_filled = h.none_filled; status = h.status }
 
 filling_keeps : (m : Machine) (block : List ℕ) → IsFilling m → IsFilling (submitted m block)
 filling_keeps m block h = go (cases_lt m.acknowledged (length m.blocks)) where

@@ -24,7 +24,7 @@ reader_one m Cleared is = absurd cc
 reader_one m Acknowledged is = absurd cc
 
 -- no more are taken than there are
-few_taken : (m : Machine) (s : Situation) → InSituation m s → m.taken ≤ length m.blocks
+pub few_taken : (m : Machine) (s : Situation) → InSituation m s → m.taken ≤ length m.blocks
 few_taken m Filling h = omega (arith, h.taken, h.all)
 few_taken m Published h = omega (arith, h.taken_is, h.there)
 few_taken m Reading h = elim h [ inl x ↦ omega (arith, x.1.taken_is, x.1.there) | inr x ↦ omega (arith, x.1.taken_is, x.1.there) ]

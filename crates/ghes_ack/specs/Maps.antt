@@ -9,7 +9,7 @@ use Rattle.ghes_window.specs.declared.window.BlockWindow.{BlockWindow}
 pub use Rattle.ghes_window.specs.Places.{bytes_in, bytes_at}
 use Rattle.ghes_ack.specs.declared.maps.HandoverMap.{HandoverMap}
 use Rattle.ghes_ack.specs.declared.events.Event.{Event}
-use Rattle.ghes_ack.specs.declared.events.Event.TheVariants.{Idle, Fill, Publish, Free, Wait, Nothing, Found, Copied, Took, Clear, Ack}
+use Rattle.ghes_ack.specs.declared.events.Event.TheVariants.{Fill, Publish, Clear, Ack}
 use Rattle.ghes_ack.specs.Machine.{with_status}
 
 -- where the block's window lies
@@ -92,17 +92,11 @@ memory_started map ram =
 -- what a turn leaves of a memory, where the window then holds these bytes: all else is as before, but that a publication
 -- clears the acknowledge bits, and an acknowledgement writes the register
 abbrev pub memory_after : HandoverMap → Event → RamState → List ℕ → RamState
-memory_after map Idle ram bytes = ram
 memory_after map Fill ram bytes = with_window map ram bytes
 memory_after map Publish ram bytes = with_window map (with_ack map ram (with_clear map (ack_read map ram))) bytes
-memory_after map Free ram bytes = ram
-memory_after map Wait ram bytes = ram
-memory_after map Nothing ram bytes = ram
-memory_after map Found ram bytes = ram
-memory_after map Copied ram bytes = ram
-memory_after map Took ram bytes = ram
 memory_after map Clear ram bytes = with_window map ram bytes
 memory_after map Ack ram bytes = with_ack map ram (acknowledged map (ack_read map ram))
+memory_after map _ ram bytes = ram
 
 -- what turns leave of a memory, one after another: each what its own event leaves
 abbrev pub AreLeft : HandoverMap → List Event → RamState → RamState → Type 0

@@ -66,51 +66,36 @@ off_both (Memory w) k (Io a) n (Io b) m some e h g = tt
 off_both w k (Memory a) n (Io b) m some e h g = absurd e
 off_both w k (Io a) n (Memory b) m some e h g = absurd e
 
--- a window off one and apart from the other is off the two joined
-number_mixed : (w k a n b m : ℕ) → a + n ≡ b → ((w + k ≤ a) ⊎ (a + n ≤ w)) → ((w + k < b) ⊎ (b + m < w)) → (w + k ≤ a) ⊎ (a + (n + m) ≤ w)
-number_mixed w k a n b m e (inl h) g = inl h
-number_mixed w k a n b m e (inr h) (inl g) = absurd (omega (arith, e, h, g))
-number_mixed w k a n b m e (inr h) (inr g) = inr (omega (arith, e, g))
+-- two windows that adjoin, of which a third is apart from one and off the other
+abbrev IsMixed : Place → ℕ → Place → ℕ → Place → ℕ → Type 0
+IsMixed p n q m r k = (IsApart p n r k × AreDisjoint q m r k) ⊎ (AreDisjoint p n r k × IsApart q m r k)
 
-number_mixed_front : (w k a n b m : ℕ) → a + n ≡ b → ((w + k < a) ⊎ (a + n < w)) → ((w + k ≤ b) ⊎ (b + m ≤ w)) → (w + k ≤ a) ⊎ (a + (n + m) ≤ w)
-number_mixed_front w k a n b m e (inl h) g = inl (omega (arith, h))
-number_mixed_front w k a n b m e (inr h) (inl g) = absurd (omega (arith, e, h, g))
-number_mixed_front w k a n b m e (inr h) (inr g) = inr (omega (arith, e, g))
+number_mixed : (a n b m w k : ℕ) → a + n ≡ b → IsMixed (Memory a) n (Memory b) m (Memory w) k → (a + (n + m) ≤ w) ⊎ (w + k ≤ a)
+number_mixed a n b m w k e (inl (inr h, g)) = inr (omega (arith, h))
+number_mixed a n b m w k e (inl (inl h, inl g)) = inl (omega (arith, e, g))
+number_mixed a n b m w k e (inl (inl h, inr g)) = absurd (omega (arith, e, h, g))
+number_mixed a n b m w k e (inr (inr h, g)) = inr h
+number_mixed a n b m w k e (inr (inl h, inl g)) = inl (omega (arith, e, g))
+number_mixed a n b m w k e (inr (inl h, inr g)) = absurd (omega (arith, e, h, g))
 
-flip : (p : Place) (n : ℕ) (q : Place) (m : ℕ) → IsApart p n q m → IsApart q m p n
-flip (Memory a) n (Memory b) m (inl h) = inr h
-flip (Memory a) n (Memory b) m (inr h) = inl h
-flip (Io a) n (Io b) m (inl h) = inr h
-flip (Io a) n (Io b) m (inr h) = inl h
-flip (Memory a) n (Io b) m h = tt
-flip (Io a) n (Memory b) m h = tt
-
--- `r` is off the new window and apart from one that it is joined to, which stands before it (or behind)
-mixed_before : (r : Place) (k : ℕ) (p : Place) (n : ℕ) (q : Place) (m : ℕ) → Adjoins p n q → IsApart p n r k → AreDisjoint q m r k → AreDisjoint p (n + m) r k
-mixed_before (Memory w) k (Memory a) n (Memory b) m e h g = disjoint_sym (Memory w) k (Memory a) (n + m) (number_mixed_front w k a n b m e (flip (Memory a) n (Memory w) k h) (disjoint_sym (Memory b) m (Memory w) k g))
-mixed_before (Io w) k (Io a) n (Io b) m e h g = disjoint_sym (Io w) k (Io a) (n + m) (number_mixed_front w k a n b m e (flip (Io a) n (Io w) k h) (disjoint_sym (Io b) m (Io w) k g))
-mixed_before (Io w) k (Memory a) n (Memory b) m e h g = tt
-mixed_before (Memory w) k (Io a) n (Io b) m e h g = tt
-mixed_before r k (Memory a) n (Io b) m e h g = absurd e
-mixed_before r k (Io a) n (Memory b) m e h g = absurd e
-
-mixed_behind : (r : Place) (k : ℕ) (p : Place) (n : ℕ) (q : Place) (m : ℕ) → Adjoins p n q → AreDisjoint p n r k → IsApart q m r k → AreDisjoint p (n + m) r k
-mixed_behind (Memory w) k (Memory a) n (Memory b) m e h g = disjoint_sym (Memory w) k (Memory a) (n + m) (number_mixed w k a n b m e (disjoint_sym (Memory a) n (Memory w) k h) (flip (Memory b) m (Memory w) k g))
-mixed_behind (Io w) k (Io a) n (Io b) m e h g = disjoint_sym (Io w) k (Io a) (n + m) (number_mixed w k a n b m e (disjoint_sym (Io a) n (Io w) k h) (flip (Io b) m (Io w) k g))
-mixed_behind (Io w) k (Memory a) n (Memory b) m e h g = tt
-mixed_behind (Memory w) k (Io a) n (Io b) m e h g = tt
-mixed_behind r k (Memory a) n (Io b) m e h g = absurd e
-mixed_behind r k (Io a) n (Memory b) m e h g = absurd e
+-- it is off the two joined
+mixed : (p : Place) (n : ℕ) (q : Place) (m : ℕ) (r : Place) (k : ℕ) → Adjoins p n q → IsMixed p n q m r k → AreDisjoint p (n + m) r k
+mixed (Memory a) n (Memory b) m (Memory w) k e h = number_mixed a n b m w k e h
+mixed (Io a) n (Io b) m (Io w) k e h = number_mixed a n b m w k e h
+mixed (Memory a) n (Memory b) m (Io w) k e h = tt
+mixed (Io a) n (Io b) m (Memory w) k e h = tt
+mixed (Memory a) n (Io b) m r k e h = absurd e
+mixed (Io a) n (Memory b) m r k e h = absurd e
 
 off_before : (window new : Window) (windows : List Window) → Adjoins window.place window.len new.place → IsApartFrom window windows → IsOff windows new.place new.len → IsOff windows (both window new).place (both window new).len
 off_before window new [] e h g = tt
 off_before window new (other ∷ others) e h g =
-    (mixed_before other.place other.len window.place window.len new.place new.len e h.0 g.0, off_before window new others e h.1 g.1)
+    (mixed window.place window.len new.place new.len other.place other.len e (inl (h.0, g.0)), off_before window new others e h.1 g.1)
 
 off_behind : (window new : Window) (windows : List Window) → Adjoins new.place new.len window.place → IsApartFrom window windows → IsOff windows new.place new.len → IsOff windows (both new window).place (both new window).len
 off_behind window new [] e h g = tt
 off_behind window new (other ∷ others) e h g =
-    (mixed_behind other.place other.len new.place new.len window.place window.len e g.0 h.0, off_behind window new others e h.1 g.1)
+    (mixed new.place new.len window.place window.len other.place other.len e (inr (g.0, h.0)), off_behind window new others e h.1 g.1)
 
 pub join_before : (window : Window) (windows : List Window) (new : Window) → follows window new ≡ true → MayJoin (window ∷ windows) new → MayJoin windows (both window new)
 join_before window windows new e h =

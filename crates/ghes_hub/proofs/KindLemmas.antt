@@ -3,7 +3,7 @@ use Rattle.std.proofs.Common.{◌≡◌, ◌∙◌, ℕ, List, [], ◌∷◌, �
 use Rattle.ghes_ack.specs.declared.events.Side.{Side}
 use Rattle.ghes_ack.specs.declared.events.Side.TheVariants.{Reader}
 use Rattle.ghes_ack.specs.declared.events.Event.{Event}
-use Rattle.ghes_ack.specs.declared.events.Event.TheVariants.{Idle, Fill, Publish, Free, Wait, Nothing, Found, Copied, Took, Clear, Ack}
+use Rattle.ghes_ack.specs.declared.events.Event.TheVariants.{Took, Ack}
 use Rattle.ghes_ack.specs.Machine.{Machine, Situation, Filling, Published, Reading, Cleared, Acknowledged, Turned, turned, reader_turn, IsState}
 use Rattle.ghes_ack.specs.Schedules.{Step, Submit, Turn, Watched, watched, after, run, AreFitting, submissions}
 use Rattle.ghes_ack.proofs.StepLemmas.{turn_keeps}
@@ -27,17 +27,8 @@ spread w (Turn side ∷ steps) = Turn side ∷ (extra (turned side w.machine).1.
 
 -- what the observer sees is kept by an acknowledgement
 watched_ack : (w : Watched) (event : Event) (m k : Machine) → watched (watched w event m) Ack k ≡ watched w event k
-watched_ack w Idle m k = refl
-watched_ack w Fill m k = refl
-watched_ack w Publish m k = refl
-watched_ack w Free m k = refl
-watched_ack w Wait m k = refl
-watched_ack w Nothing m k = refl
-watched_ack w Found m k = refl
-watched_ack w Copied m k = refl
 watched_ack w Took m k = refl
-watched_ack w Clear m k = refl
-watched_ack w Ack m k = refl
+watched_ack w _ m k = refl
 
 -- a settled machine is one step of the reader further, or none
 settled_turn : (m : Machine) (s : Situation) → s ≡ Cleared → reader_turn m s ≡ (Ack, settled m s)

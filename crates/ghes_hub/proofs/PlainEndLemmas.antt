@@ -2,11 +2,13 @@
 use Rattle.std.proofs.Common.{◌≡◌, ℕ, ◌<◌, inl, inr, Vec, Option, Some, None, refl, sym, ap, subst, arith}
 use Rattle.std.specs.declared.alloc.Global.{Global}
 use Rattle.apei_space.specs.RamState.{RamState}
+use Rattle.ghes_ack.specs.declared.events.Side.{Side}
 use Rattle.ghes_ack.specs.declared.events.Side.TheVariants.{Firmware, Reader}
 use Rattle.ghes_ack.specs.declared.events.Event.{Event}
 use Rattle.ghes_ack.specs.declared.events.Event.TheVariants.{Free, Wait, Nothing, Found}
 use Rattle.ghes_ack.specs.Machine.{Machine, Situation, Filling, Published, Reading, Cleared, Acknowledged}
 use Rattle.ghes_ack.specs.Sides.{looking_at, waiting_at, state_of, handover_of, in_work, AreApart, IsCopiedSoFar}
+use Rattle.ghes_ack.specs.declared.ends.Ends.{Ends}
 use Rattle.ghes_ack.specs.declared.ends.FirmwareEnd.{FirmwareEnd}
 use Rattle.ghes_ack.specs.declared.ends.FirmwareEnd.TheVariants.{Writes, Waits}
 use Rattle.ghes_ack.specs.declared.ends.ReaderEnd.{ReaderEnd}
@@ -36,21 +38,12 @@ reader_able (Writes write) (Acknowledges end) b ram all stands = absurd all.apar
 reader_able (Waits wait) (Acknowledges end) b ram all stands = absurd all.sound.under_way
 
 -- it has the same blocks and memory
-firmware_as : (event other : Event) (firmware end : FirmwareEnd) (reader : ReaderEnd) (old new after : Blocks PlainMap) (ram memory left : RamState) → event ≡ other → new ≡ after → memory ≡ left →
-    SideDone Firmware other (record { firmware = firmware; reader = reader }) (record { firmware = end; reader = reader }) old after ram left →
-    SideDone Firmware event (record { firmware = firmware; reader = reader }) (record { firmware = end; reader = reader }) old new ram memory
-firmware_as event other firmware end reader old new after ram memory left is_event is_new is_memory done =
-    subst (λ (e : Event). SideDone Firmware e (record { firmware = firmware; reader = reader }) (record { firmware = end; reader = reader }) old new ram memory) (sym is_event)
-    (subst (λ (n : Blocks PlainMap). SideDone Firmware other (record { firmware = firmware; reader = reader }) (record { firmware = end; reader = reader }) old n ram memory) (sym is_new)
-    (subst (λ (r : RamState). SideDone Firmware other (record { firmware = firmware; reader = reader }) (record { firmware = end; reader = reader }) old after ram r) (sym is_memory) done))
-
-reader_as : (event other : Event) (firmware : FirmwareEnd) (reader end : ReaderEnd) (old new after : Blocks PlainMap) (ram memory left : RamState) → event ≡ other → new ≡ after → memory ≡ left →
-    SideDone Reader other (record { firmware = firmware; reader = reader }) (record { firmware = firmware; reader = end }) old after ram left →
-    SideDone Reader event (record { firmware = firmware; reader = reader }) (record { firmware = firmware; reader = end }) old new ram memory
-reader_as event other firmware reader end old new after ram memory left is_event is_new is_memory done =
-    subst (λ (e : Event). SideDone Reader e (record { firmware = firmware; reader = reader }) (record { firmware = firmware; reader = end }) old new ram memory) (sym is_event)
-    (subst (λ (n : Blocks PlainMap). SideDone Reader other (record { firmware = firmware; reader = reader }) (record { firmware = firmware; reader = end }) old n ram memory) (sym is_new)
-    (subst (λ (r : RamState). SideDone Reader other (record { firmware = firmware; reader = reader }) (record { firmware = firmware; reader = end }) old after ram r) (sym is_memory) done))
+same_done : (side : Side) (event other : Event) (ends next : Ends) (old new after : Blocks PlainMap) (ram memory left : RamState) → event ≡ other → new ≡ after → memory ≡ left →
+    SideDone side other ends next old after ram left → SideDone side event ends next old new ram memory
+same_done side event other ends next old new after ram memory left is_event is_new is_memory done =
+    subst (λ (e : Event). SideDone side e ends next old new ram memory) (sym is_event)
+    (subst (λ (n : Blocks PlainMap). SideDone side other ends next old n ram memory) (sym is_new)
+    (subst (λ (r : RamState). SideDone side other ends next old after ram r) (sym is_memory) done))
 
 -- the firmware waits while the block status is not 0
 waits_by : (h : PlainState) (ram : RamState) (m : Machine) (s : Situation) → h.situation ≡ s → 0 < plain_status h.map ram → PlainStands h ram m → Turns Firmware Wait h ram h ram m
@@ -94,7 +87,7 @@ firmware_done (Writes write) (Waits wait) (Looks look) b new ram memory event al
 firmware_done (Writes write) end (Reads read) b new ram memory event all stands makes = absurd all.apart
 firmware_done (Writes write) end (Acknowledges acknowledge) b new ram memory event all stands makes = absurd all.apart
 firmware_done (Waits wait) (Writes write) reader b new ram memory event all stands (found, is_new, is_memory) =
-    firmware_as event Free (Waits wait) (Writes write) reader b new b ram memory ram found.1 is_new is_memory
+    same_done Firmware event Free (record { firmware = Waits wait; reader = reader }) (record { firmware = Writes write; reader = reader }) b new b ram memory ram found.1 is_new is_memory
     (record {
       consistent = record {
         apart = (returned (Writes write) reader b ram b.at_work refl found.0 stands.0 stands.1).apart;
@@ -103,7 +96,7 @@ firmware_done (Waits wait) (Writes write) reader b new ram memory event all stan
       turns = λ m st. (returned (Writes write) reader b ram b.at_work refl found.0 m st).turns;
     })
 firmware_done (Waits wait) (Waits later) reader b new ram memory event all stands (found, is_new, is_memory) =
-    firmware_as event Wait (Waits wait) (Waits later) reader b new b ram memory ram found.1 is_new is_memory
+    same_done Firmware event Wait (record { firmware = Waits wait; reader = reader }) (record { firmware = Waits later; reader = reader }) b new b ram memory ram found.1 is_new is_memory
     (record {
       consistent = record { apart = tt; sound = all.sound };
       turns = λ m st. waits_by (state_of (waiting_at reader b.at_work) b) ram m (waiting_at reader b.at_work) refl found.0 st;
@@ -146,20 +139,20 @@ pub reader_done : (firmware : FirmwareEnd) (reader end : ReaderEnd) (b new : Blo
     Stands (handover_of (record { firmware = firmware; reader = reader }) b) ram → ReaderTurns reader b ram event end new memory →
     SideDone Reader event (record { firmware = firmware; reader = reader }) (record { firmware = firmware; reader = end }) b new ram memory
 reader_done (Writes write) (Looks look) (Looks later) b new ram memory event all stands (found, is_memory) =
-    reader_as event Nothing (Writes write) (Looks look) (Looks later) b new b ram memory ram found.1 found.2 is_memory
+    same_done Reader event Nothing (record { firmware = Writes write; reader = Looks look }) (record { firmware = Writes write; reader = Looks later }) b new b ram memory ram found.1 found.2 is_memory
     (record {
       consistent = record { apart = tt; sound = all.sound };
       turns = λ m st. nothing_by (Writes write) b ram b.at_work found.0 m st;
     })
 reader_done (Waits wait) (Looks look) (Looks later) b new ram memory event all stands (found, is_memory) =
-    reader_as event Nothing (Waits wait) (Looks look) (Looks later) b new b ram memory ram found.1 found.2 is_memory
+    same_done Reader event Nothing (record { firmware = Waits wait; reader = Looks look }) (record { firmware = Waits wait; reader = Looks later }) b new b ram memory ram found.1 found.2 is_memory
     (record {
       consistent = record { apart = tt; sound = all.sound };
       turns = λ m st. nothing_by (Waits wait) b ram b.at_work found.0 m st;
     })
 reader_done (Writes write) (Looks look) (Reads read) b new ram memory event all (m, st) (found, is_memory) = absurd (found_by (Writes write) (Reads read) b ram b.at_work refl found.0 m st).apart
 reader_done (Waits wait) (Looks look) (Reads read) b new ram memory event all (m, st) (found, is_memory) =
-    reader_as event Found (Waits wait) (Looks look) (Reads read) b new (record b { copied = 0 }) ram memory ram found.1 found.2 is_memory
+    same_done Reader event Found (record { firmware = Waits wait; reader = Looks look }) (record { firmware = Waits wait; reader = Reads read }) b new (record b { copied = 0 }) ram memory ram found.1 found.2 is_memory
     (record {
       consistent = record { apart = tt; sound = at_first (looking_at b.at_work) b all.sound (found_by (Waits wait) (Reads read) b ram b.at_work refl found.0 m st).far };
       turns = λ n stands. (found_by (Waits wait) (Reads read) b ram b.at_work refl found.0 n stands).turns;

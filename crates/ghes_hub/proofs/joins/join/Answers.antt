@@ -1,21 +1,16 @@
-use Rattle.std.proofs.Common.{◌≡◌, ◌∙◌, ◌+◌, List, ◌++◌, ◌∷◌, drop, sym, ap, subst, arith}
+use Rattle.std.proofs.Common.{◌∙◌, ◌+◌, List, ◌++◌, drop, sym, ap, subst, arith}
 use Rattle.apei_space.specs.declared.windows.Window.{Window}
 use Rattle.apei_space.specs.Windows.{total}
 use Rattle.ghes_hub.specs.Joins.{MayJoin, joins}
 use Rattle.ghes_hub.proofs.JoinLemmas.{next_at}
 use Rattle.ghes_hub.proofs.joins.join.Goals as goal
-use Rattle.ghes_hub.proofs.joins.join.Goals.{In-Some}
-
--- the windows from here on
-behind : (c : In-Some) → drop c.loop-window.at c.args.windows.now ≡ c.in-Some.window.now ∷ drop (c.loop-window.at + 1) c.args.windows.now
-behind c = next_at c.args.windows.now c.loop-window.at c.in-Some.window.now c.in-Some.ensures.lookup.3.0 c.in-Some.ensures.lookup.1
 
 pub loop-window-preserved : goal.loop-window-preserved
 loop-window-preserved c =
     let windows = c.args.windows.now in
     let at = c.loop-window.at in
     let inv = c.loop-window.invariant in
-    let here = behind (goal.at.loop-window-preserved c).In-Some in
+    let here = next_at c.args.windows.now c.loop-window.at c.in-Some.window.now c.in-Some.ensures.lookup.3.0 c.in-Some.ensures.lookup.1 in
     let more = c.in-Some.ensures.lookup.3.0 in
     let few = inv.1 in
     let k = c.join_one.ensures.few in
@@ -33,14 +28,10 @@ loop-window-preserved c =
 pub join_one-requires-clause-ends : goal.join_one-requires-clause-ends
 join_one-requires-clause-ends c =
     let inv = c.loop-window.invariant in
-    let here = behind (goal.at.join_one-requires-clause-ends c).In-Some in
+    let here = next_at c.args.windows.now c.loop-window.at c.in-Some.window.now c.in-Some.ensures.lookup.3.0 c.in-Some.ensures.lookup.1 in
     (subst (λ (ws : List Window). MayJoin ws c.loop-window.grown) here inv.3).apart.0
 
 pub join_one-requires-clause-small : goal.join_one-requires-clause-small
 join_one-requires-clause-small c =
-    let inv = c.loop-window.invariant in
-    let here = behind (goal.at.join_one-requires-clause-small c).In-Some in
-    let t = ap total here in
-    let small = inv.4 in
-    let all = c.requires.small in
-    omega (arith, t, small, all)
+    let t = ap total (next_at c.args.windows.now c.loop-window.at c.in-Some.window.now c.in-Some.ensures.lookup.3.0 c.in-Some.ensures.lookup.1) in
+    omega (arith, t, c.loop-window.invariant.4, c.requires.small)

@@ -4,11 +4,6 @@ use Rattle.apei_space.specs.Windows.{total}
 use Rattle.ghes_hub.specs.Joins.{AreFree, AreJoined, MayJoin, joins}
 use Rattle.ghes_hub.proofs.JoinLemmas.{next_at, may_join, one_joined, joins_sums, mapped_more}
 use Rattle.ghes_hub.proofs.joins.join_all.Goals as goal
-use Rattle.ghes_hub.proofs.joins.join_all.Goals.{In-Some}
-
--- the ranges from here on
-behind : (c : In-Some) → drop c.loop-range.at c.args.ranges.now ≡ c.in-Some.range.now ∷ drop (c.loop-range.at + 1) c.args.ranges.now
-behind c = next_at c.args.ranges.now c.loop-range.at c.in-Some.range.now c.in-Some.ensures.lookup.3.0 c.in-Some.ensures.lookup.1
 
 pub loop-range-preserved : goal.loop-range-preserved
 loop-range-preserved c =
@@ -18,7 +13,7 @@ loop-range-preserved c =
     let range = c.in-Some.range.now in
     let windows = c.loop-range.windows.items in
     let more = c.in-Some.ensures.lookup.3.0 in
-    let here = behind (goal.at.loop-range-preserved c).In-Some in
+    let here = next_at c.args.ranges.now c.loop-range.at c.in-Some.range.now c.in-Some.ensures.lookup.3.0 c.in-Some.ensures.lookup.1 in
     let (earlier, (free_at, (joined_at, mapped_at))) = inv.5 in
     let free : AreFree earlier (range ∷ drop (at + 1) ranges) = subst (AreFree earlier) here free_at in
     let new_is : c.swap.new.x.items ≡ joins windows range =
@@ -54,16 +49,12 @@ join-requires-clause-may c =
     let at = c.loop-range.at in
     let inv = c.loop-range.invariant in
     let range = c.in-Some.range.now in
-    let here = behind (goal.at.join-requires-clause-may c).In-Some in
+    let here = next_at c.args.ranges.now c.loop-range.at c.in-Some.range.now c.in-Some.ensures.lookup.3.0 c.in-Some.ensures.lookup.1 in
     let (earlier, (free_at, (joined_at, mapped_at))) = inv.5 in
     subst (λ (ws : List Window). MayJoin ws range) (sym c.deref.ensures.value) (may_join earlier c.loop-range.windows.items range (drop (at + 1) ranges) (subst (AreFree earlier) here free_at) joined_at)
 
 pub join-requires-clause-small : goal.join-requires-clause-small
 join-requires-clause-small c =
-    let inv = c.loop-range.invariant in
-    let here = behind (goal.at.join-requires-clause-small c).In-Some in
-    let t = ap total here in
-    let all = inv.4 in
-    let small = c.requires.small in
+    let t = ap total (next_at c.args.ranges.now c.loop-range.at c.in-Some.range.now c.in-Some.ensures.lookup.3.0 c.in-Some.ensures.lookup.1) in
     let d = ap total c.deref.ensures.value in
-    omega (arith, t, all, small, d)
+    omega (arith, t, c.loop-range.invariant.4, c.requires.small, d)
