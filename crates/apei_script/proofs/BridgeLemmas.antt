@@ -385,20 +385,11 @@ shows_at_start tells told client budget old line (step ∷ rest) next last are s
 pub shows_at_first : (tells : Type 0) → tells → (counts : List ℕ) (old : PlayerState) (line : Line) (said : List Reply) (blocks : List (List ℕ)) (steps : List Step) (new : PlayerState)
     → Plays tells counts old line said blocks steps new → (s : ℕ) (shown : Stored) → s < changes_of old.machine → shown ≡ records_of old.machine → ShowsLine s old line steps shown
 shows_at_first tells told counts old line said blocks steps now plays s shown before same = elim plays as (λ line said blocks steps new plays. ShowsLine s old line steps shown) [
-  | Blank ↦ inl same
-  | ByClient line words machine commanded ↦ inl same
-  | GivenTable hex bytes words machine other decoded gives ↦ inl same
-  | OwnTable ↦ inl same
-  | GivenShadow machine gives ↦ inl same
-  | OnMachine line said blocks machine alone happened ↦ inl same
   | ByTheBridge line said blocks steps next machine by ↦ elim by as (λ line said blocks steps next machine by. ShowsLine s old line steps shown) [
-    | Enters id none ↦ inl same
-    | StaysAs id why refuses ↦ inl same
     | BridgesTurns letters steps next machine on are sides counted ↦ shows_at_start tells told old.own (budget_of old) old (turns letters) steps next machine are s shown before same
+    | other ↦ inl same
   ]
-  | OnlyTells line words told ↦ inl same
-  | Reset n machine warms ↦ inl same
-  | Power n machine powers ↦ inl same
+  | other ↦ inl same
 ]
 
 -- As the code has them

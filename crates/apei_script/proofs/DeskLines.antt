@@ -68,19 +68,15 @@ module _ (tells : Type 0) (old : MachineState) (own : ClientState) (steps : Opti
       → MakesReply tells (player old own other steps state) line (player new own other steps state) reply
   by_machine other line words new reply alone happened made = record { words = words; plays = λ counts. OnMachine line (words ∷ []) [] new alone happened; made = made }
 
-  pub by_block : (other : Option ClientState) (hex items lent : List ℕ) (len : ℕ) (result : Result ℕ SubmitError) (new : MachineState) (reply : List ℕ) → decode_of hex ≡ Ok (take len items)
-      → lent ≡ items → Submits old (take len lent) result new → IsMade reply (words_of_submission result)
-      → MakesReply tells (player old own other steps state) (error hex) (player new own other steps state) reply
-  by_block other hex items lent len result new reply decoded is submits made =
-      by_machine other (error hex) (words_of_submission result) new reply tt
-      (Once (error hex) (Submitted (take len lent) result) (words_of_submission result) new (as_lent hex items lent len decoded is, refl) submits) made
+  -- the bytes of a line's digits are handed to the machine
+  module _ (other : Option ClientState) (hex items lent : List ℕ) (len : ℕ) (new : MachineState) (reply : List ℕ) (decoded : decode_of hex ≡ Ok (take len items)) (is : lent ≡ items) where
+    pub by_block : (result : Result ℕ SubmitError) → Submits old (take len lent) result new → IsMade reply (words_of_submission result) → MakesReply tells (player old own other steps state) (error hex) (player new own other steps state) reply
+    by_block result submits made = by_machine other (error hex) (words_of_submission result) new reply tt
+        (Once (error hex) (Submitted (take len lent) result) (words_of_submission result) new (as_lent hex items lent len decoded is, refl) submits) made
 
-  pub by_fatal : (other : Option ClientState) (hex items lent : List ℕ) (len : ℕ) (result : Result ℕ FatalError) (new : MachineState) (reply : List ℕ) → decode_of hex ≡ Ok (take len items)
-      → lent ≡ items → LaysFatal old (take len lent) result new → IsMade reply (words_of_laid result)
-      → MakesReply tells (player old own other steps state) (fatal hex) (player new own other steps state) reply
-  by_fatal other hex items lent len result new reply decoded is lays made =
-      by_machine other (fatal hex) (words_of_laid result) new reply tt
-      (Once (fatal hex) (Laid (take len lent) result) (words_of_laid result) new (as_lent hex items lent len decoded is, refl) lays) made
+    pub by_fatal : (result : Result ℕ FatalError) → LaysFatal old (take len lent) result new → IsMade reply (words_of_laid result) → MakesReply tells (player old own other steps state) (fatal hex) (player new own other steps state) reply
+    by_fatal result lays made = by_machine other (fatal hex) (words_of_laid result) new reply tt
+        (Once (fatal hex) (Laid (take len lent) result) (words_of_laid result) new (as_lent hex items lent len decoded is, refl) lays) made
 
   pub by_table : (other : Option ClientState) (hex bytes words : List ℕ) (new : MachineState) (new_other : Option ClientState) (reply : List ℕ) → decode_of hex ≡ Ok bytes
       → GivesTable tells old other bytes words new new_other → IsMade reply words → MakesReply tells (player old own other steps state) (table hex) (player new own new_other steps state) reply

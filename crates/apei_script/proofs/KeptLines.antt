@@ -31,7 +31,7 @@ use Rattle.apei_script.specs.Players.{PlayerState, client_of, budget_of, GivenNo
 use Rattle.apei_script.specs.Words.{Reply}
 use Rattle.apei_script.specs.Mapped.{after_write, after_line}
 use Rattle.apei_script.specs.Bridged.{ByBridge, Enters, StaysAs, BridgesTurns, KeepsBlocks}
-use Rattle.apei_script.specs.Plays.{Plays, Blank, ByClient, GivenTable, OwnTable, GivenShadow, OnMachine, ByTheBridge, OnlyTells, Reset, Power, LinePlayed, IsOwnLine}
+use Rattle.apei_script.specs.Plays.{Plays, ByTheBridge, LinePlayed, IsOwnLine}
 use Rattle.apei_script.specs.History.{Played, heard_after, Follows, ShowsLine, ShowsLines, AreOwnLines}
 use Rattle.apei_script.specs.Spares.{Spares, SpareTurns, SpareLines, KeepsAll}
 use Rattle.apei_script.proofs.KeptTurns.{kept_turns, blocks_kept}
@@ -83,16 +83,8 @@ module _ (tells : Type 0) where
       → (steps ≡ []) ⊎ AreTurns tells old.own (budget_of old) old.bridge old.machine steps new.bridge new.machine
   line_turns counts old line said blocks steps new plays =
       elim plays as (λ line said blocks steps new plays. (steps ≡ []) ⊎ AreTurns tells old.own (budget_of old) old.bridge old.machine steps new.bridge new.machine) [
-        | Blank ↦ inl refl
-        | ByClient line words machine commanded ↦ inl refl
-        | GivenTable hex bytes words machine other decoded gives ↦ inl refl
-        | OwnTable ↦ inl refl
-        | GivenShadow machine gives ↦ inl refl
-        | OnMachine line said blocks machine alone happened ↦ inl refl
         | ByTheBridge line said blocks steps state machine by ↦ of_bridge line said blocks steps state machine by
-        | OnlyTells line words told ↦ inl refl
-        | Reset n machine warms ↦ inl refl
-        | Power n machine powers ↦ inl refl
+        | other ↦ inl refl
       ]
     where
       of_bridge : (line : Line) (said : List Reply) (blocks : List (List ℕ)) (steps : List Step) (state : BridgeState) (machine : MachineState) → ByBridge tells old line said blocks steps state machine

@@ -33,31 +33,36 @@ pub record IsAskedAlike (event also : Event) (words others : List ℕ) : Type 0 
   pub question : asked_event event ≡ asked_event also
   pub words_are : answered_event event ≡ answered_event also → words ≡ others
 
+-- so it is with whatever else the line asks for
+abbrev pub IsAlwaysAlike : Line → Event → List ℕ → Type 0
+IsAlwaysAlike line event words = (also : Event) (others : List ℕ) → AsksFor line also others → IsAskedAlike event also words others
+
 -- what is so of each
 pub record OneEvent (line : Line) (event : Event) (words : List ℕ) : Type 0 where
   pub quiet : IsQuiet event
   pub alone : asks_once line ≡ true
   pub untold : (counts : List ℕ) (old : PlayerState) → words_told counts old line ≡ None
   pub unnamed : names_command line ≡ false
-  pub alike : (also : Event) (others : List ℕ) → AsksFor line also others → IsAskedAlike event also words others
+  pub alike : IsAlwaysAlike line event words
 
 pub same_bytes : (hex bytes others : List ℕ) → decode_of hex ≡ Ok bytes → decode_of hex ≡ Ok others → bytes ≡ others
 same_bytes hex bytes others first second = let both : ◌≡◌ {A = Result (List ℕ) FromHexError} (Ok bytes) (Ok others) = sym first ∙ second in cc both
 
-given_alike : (hex block : List ℕ) (result : Result ℕ SubmitError) (words : List ℕ) → AsksFor (error hex) (Submitted block result) words → (also : Event) (others : List ℕ) → AsksFor (error hex) also others
-    → IsAskedAlike (Submitted block result) also words others
-given_alike hex block result words asks (Submitted other found) others asks_too = record {
-  question = ap (λ (bs : List ℕ). Submitted bs (Ok 0)) (same_bytes hex block other asks.0 asks_too.0);
-  words_are = λ e. let same : result ≡ found = cc e in asks.1 ∙ ap words_of_submission same ∙ sym asks_too.1;
-}
+-- of the same digits the same bytes are handed over, and the same answer has the same words
+handed_alike : {E : Type 0} (event : List ℕ → Event) (says : Result ℕ E → List ℕ) (hex block other words others : List ℕ) (result found : Result ℕ E) → (decode_of hex ≡ Ok block) × (words ≡ says result)
+    → (decode_of hex ≡ Ok other) × (others ≡ says found) → (event block ≡ event other) × (result ≡ found → words ≡ others)
+handed_alike event says hex block other words others result found asks asks_too = (ap event (same_bytes hex block other asks.0 asks_too.0), λ same. asks.1 ∙ ap says same ∙ sym asks_too.1)
+
+given_alike : (hex block : List ℕ) (result : Result ℕ SubmitError) (words : List ℕ) → AsksFor (error hex) (Submitted block result) words → IsAlwaysAlike (error hex) (Submitted block result) words
+given_alike hex block result words asks (Submitted other found) others asks_too =
+    let both = handed_alike (λ (bs : List ℕ). Submitted bs (Ok 0)) words_of_submission hex block other words others result found asks asks_too in
+    record { question = both.0; words_are = λ e. both.1 (cc e) }
 given_alike hex block result words asks also others asks_too = absurd asks_too
 
-laid_alike : (hex block : List ℕ) (result : Result ℕ FatalError) (words : List ℕ) → AsksFor (fatal hex) (Laid block result) words → (also : Event) (others : List ℕ) → AsksFor (fatal hex) also others
-    → IsAskedAlike (Laid block result) also words others
-laid_alike hex block result words asks (Laid other found) others asks_too = record {
-  question = ap (λ (bs : List ℕ). Laid bs (Ok 0)) (same_bytes hex block other asks.0 asks_too.0);
-  words_are = λ e. let same : result ≡ found = cc e in asks.1 ∙ ap words_of_laid same ∙ sym asks_too.1;
-}
+laid_alike : (hex block : List ℕ) (result : Result ℕ FatalError) (words : List ℕ) → AsksFor (fatal hex) (Laid block result) words → IsAlwaysAlike (fatal hex) (Laid block result) words
+laid_alike hex block result words asks (Laid other found) others asks_too =
+    let both = handed_alike (λ (bs : List ℕ). Laid bs (Ok 0)) words_of_laid hex block other words others result found asks asks_too in
+    record { question = both.0; words_are = λ e. both.1 (cc e) }
 laid_alike hex block result words asks also others asks_too = absurd asks_too
 
 same_peek_words : (answer also : Result (Unit {0}) SpaceFault) (after afterwards : List ℕ) → answer ≡ also → bytes_shown answer after ≡ bytes_shown also afterwards → words_of_peek after answer ≡ words_of_peek afterwards also
@@ -66,8 +71,8 @@ same_peek_words (Ok done) (Err why) after afterwards same bytes = absurd (cc)
 same_peek_words (Err fault) (Ok well) after afterwards same bytes = absurd (cc)
 same_peek_words (Err fault) (Err why) after afterwards same bytes = ap (words_of_peek after) same
 
-peeked_alike : (at len from : ℕ) (before after : List ℕ) (answer : Result (Unit {0}) SpaceFault) (words : List ℕ) → AsksFor (peek at len) (Accessed (ReadBytes from before after answer)) words → (also : Event) (others : List ℕ)
-    → AsksFor (peek at len) also others → IsAskedAlike (Accessed (ReadBytes from before after answer)) also words others
+peeked_alike : (at len from : ℕ) (before after : List ℕ) (answer : Result (Unit {0}) SpaceFault) (words : List ℕ) → AsksFor (peek at len) (Accessed (ReadBytes from before after answer)) words
+    → IsAlwaysAlike (peek at len) (Accessed (ReadBytes from before after answer)) words
 peeked_alike at len from before after answer words asks (Accessed (ReadBytes place room shown found)) others asks_too = record {
   question = ap (λ (n : ℕ). Accessed (ReadBytes n (replicate (length before) 0) [] (Ok tt))) (asks.0 ∙ sym asks_too.0)
       ∙ ap (λ (n : ℕ). Accessed (ReadBytes place (replicate n 0) [] (Ok tt))) (asks.1 ∙ sym asks_too.1);

@@ -25,9 +25,9 @@ use Rattle.erst_client.specs.Commands.{ClientState, Writes}
 use Rattle.erst_client.specs.Sequences.{clear_requests, dummy_requests}
 use Rattle.erst_machine.specs.MachineState.{MachineState, IsMachine}
 use Rattle.erst_machine.specs.Allowed.{Allows}
-use Rattle.erst_machine.specs.Events.{Warmed, Powered}
+use Rattle.erst_machine.specs.Events.{Event as MachineEvent, Warmed, Powered, Happens}
 use Rattle.erst_machine.proofs.EventLemmas.{events_keep}
-use Rattle.erst_twins.specs.Alike.{MachineOutline, machine_outline, AlikeMachines, FailedNothing, BootsFrom, record_in}
+use Rattle.erst_twins.specs.Alike.{MachineOutline, machine_outline, AlikeMachines, FailedNothing, BootsFrom, asked_event, answered_event, record_in}
 use Rattle.erst_machine.specs.OwnTables.{own_erst}
 use Rattle.erst_commands.specs.OwnPrograms.{with_value}
 use Rattle.erst_twins.proofs.TrailOutlines.{boots_from_alike}
@@ -272,6 +272,19 @@ module _ (tells : Type 0) (told : tells) where
     restarts_alike : (one also : MachineState) → AlikeMachines one also → AlikePlayers (restarted one old) (restarted also twin)
     restarts_alike one also machines = record { machines = machines; own = refl; other = refl; steps = refl; bridges = refl }
 
+    -- both restart, by what happens then and what is said of it
+    restart_alike : (event : ℕ → MachineEvent) (words : ℕ → List ℕ) → ((n m : ℕ) → asked_event (event n) ≡ asked_event (event m)) → ((n m : ℕ) → answered_event (event n) ≡ answered_event (event m) → n ≡ m)
+        → (said also_said : List Reply) (blocks also_blocks : List (List ℕ)) (new also_new : PlayerState) (n m : ℕ) (one also : MachineState)
+        → Happens tells old.machine (event n) one → Left said blocks new (said_at (changes_in one) (words n ∷ [])) [] (restarted one old) → FailedNothing old.machine new.machine
+        → Happens tells machine_too (event m) also → Left also_said also_blocks also_new (said_at (changes_in also) (words m ∷ [])) [] (restarted also twin) → FailedNothing machine_too also_new.machine
+        → LineAlike said also_said blocks also_blocks new also_new
+    restart_alike event words asked answered said also_said blocks also_blocks new also_new n m one also first left quiet second also_left also_quiet =
+        let both = happens_alike old.machine machine_too alike tells told machine (event n) (event m) one also (asked n m)
+        first (quiet_at old.machine one new (restarted one old) refl left.new_is quiet)
+        second (quiet_at machine_too also also_new (restarted also twin) refl also_left.new_is also_quiet) in
+        close said also_said blocks also_blocks (said_at (changes_in one) (words n ∷ [])) (said_at (changes_in also) (words m ∷ [])) [] [] new also_new (restarted one old) (restarted also twin) left also_left
+        (same_said one also (words n ∷ []) (words m ∷ []) both.1 (ap (λ (k : ℕ). words k ∷ []) (answered n m both.0))) refl (restarts_alike one also both.1)
+
     bridges_alike : (one also : MachineState) (state also_state : BridgeState) → AlikeMachines one also → state ≡ also_state → AlikePlayers (record old { machine = one; bridge = state }) (record twin { machine = also; bridge = also_state })
     bridges_alike one also state also_state machines states = record { machines = machines; own = refl; other = refl; steps = refl; bridges = states }
 
@@ -364,21 +377,9 @@ module _ (tells : Type 0) (told : tells) where
     other_alike (bridge id) said also_said blocks also_blocks new also_new first quiet second also_quiet = entered_alike id said also_said blocks also_blocks new also_new first second
     other_alike bert said also_said blocks also_blocks new also_new first quiet second also_quiet = by_itself_alike bert said also_said blocks also_blocks new also_new first second
     other_alike reset said also_said blocks also_blocks new also_new first quiet second also_quiet =
-        let both = happens_alike old.machine machine_too alike tells told machine (Warmed (Ok first.0)) (Warmed (Ok second.0)) first.1 second.1 refl
-        first.2 (quiet_at old.machine first.1 new (restarted first.1 old) refl first.3.new_is quiet)
-        second.2 (quiet_at machine_too second.1 also_new (restarted second.1 twin) refl second.3.new_is also_quiet) in
-        let n : first.0 ≡ second.0 = let e = both.0 in cc in
-        close said also_said blocks also_blocks (said_at (changes_in first.1) (words_of_reset first.0 ∷ [])) (said_at (changes_in second.1) (words_of_reset second.0 ∷ [])) [] [] new also_new
-        (restarted first.1 old) (restarted second.1 twin) first.3 second.3
-        (same_said first.1 second.1 (words_of_reset first.0 ∷ []) (words_of_reset second.0 ∷ []) both.1 (ap (λ (k : ℕ). words_of_reset k ∷ []) n)) refl (restarts_alike first.1 second.1 both.1)
+        restart_alike (λ n. Warmed (Ok n)) words_of_reset (λ n m. refl) (λ n m e. cc e) said also_said blocks also_blocks new also_new first.0 second.0 first.1 second.1 first.2 first.3 quiet second.2 second.3 also_quiet
     other_alike power said also_said blocks also_blocks new also_new first quiet second also_quiet =
-        let both = happens_alike old.machine machine_too alike tells told machine (Powered (Ok first.0)) (Powered (Ok second.0)) first.1 second.1 refl
-        first.2 (quiet_at old.machine first.1 new (restarted first.1 old) refl first.3.new_is quiet)
-        second.2 (quiet_at machine_too second.1 also_new (restarted second.1 twin) refl second.3.new_is also_quiet) in
-        let n : first.0 ≡ second.0 = let e = both.0 in cc in
-        close said also_said blocks also_blocks (said_at (changes_in first.1) (words_of_power first.0 ∷ [])) (said_at (changes_in second.1) (words_of_power second.0 ∷ [])) [] [] new also_new
-        (restarted first.1 old) (restarted second.1 twin) first.3 second.3
-        (same_said first.1 second.1 (words_of_power first.0 ∷ []) (words_of_power second.0 ∷ []) both.1 (ap (λ (k : ℕ). words_of_power k ∷ []) n)) refl (restarts_alike first.1 second.1 both.1)
+        restart_alike (λ n. Powered (Ok n)) words_of_power (λ n m. refl) (λ n m e. cc e) said also_said blocks also_blocks new also_new first.0 second.0 first.1 second.1 first.2 first.3 quiet second.2 second.3 also_quiet
     other_alike line said also_said blocks also_blocks new also_new first quiet second also_quiet = absurd first
 
     by_event_alike : (line : Line) (said also_said : List Reply) (blocks also_blocks : List (List ℕ)) (new also_new : PlayerState) → ByOneEvent tells old line said blocks new → FailedNothing old.machine new.machine

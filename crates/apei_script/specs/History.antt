@@ -87,22 +87,21 @@ abbrev pub AreOwnLines : List Played → Type 0
 AreOwnLines [] = Unit {0}
 AreOwnLines (played ∷ rest) = IsOwnLine played.line × AreOwnLines rest
 
--- a line is the record map's, in one reply. It says that the flash failed only where its count of faults rose in this very line, and where
--- its steps are enough it is never stopped, and never late
-pub record IsMapped (state : PlayerState) (played : Played) : Type 0 where
+-- a line is the record map's, in one reply whose words are these. It says that the flash failed only where its count of faults rose in this
+-- very line, and where its steps are enough it is never stopped, and never late
+pub record IsMappedBy (Maps : List ℕ → Type 0) (state : PlayerState) (played : Played) : Type 0 where
   pub words : List ℕ
   pub said : played.said ≡ said_at (step_of played.left) (words ∷ [])
-  pub mapped : Mapped (budget_of state) state.machine played.line words played.left.machine
+  pub mapped : Maps words
   pub cause : SaysHardware played.said → Rose state.machine.device.store.flash.faults played.left.machine.device.store.flash.faults
   pub enough : enough_steps (client_of state).timings ≤ budget_of state → (SaysStopped played.said → ⊥) × (SaysLate played.said → ⊥)
 
--- the same by the machine's table whose own programs move the record
-pub record IsShadowMapped (state : PlayerState) (played : Played) : Type 0 where
-  pub words : List ℕ
-  pub said : played.said ≡ said_at (step_of played.left) (words ∷ [])
-  pub mapped : ShadowMapped (budget_of state) state.machine played.line words played.left.machine
-  pub cause : SaysHardware played.said → Rose state.machine.device.store.flash.faults played.left.machine.device.store.flash.faults
-  pub enough : enough_steps (client_of state).timings ≤ budget_of state → (SaysStopped played.said → ⊥) × (SaysLate played.said → ⊥)
+-- by the machine's own table, and by that whose own programs move the record
+abbrev pub IsMapped : PlayerState → Played → Type 0
+IsMapped state played = IsMappedBy (λ words. Mapped (budget_of state) state.machine played.line words played.left.machine) state played
+
+abbrev pub IsShadowMapped : PlayerState → Played → Type 0
+IsShadowMapped state played = IsMappedBy (λ words. ShadowMapped (budget_of state) state.machine played.line words played.left.machine) state played
 
 -- so is each line that asks the client of one of the machine's two tables for a command on records
 abbrev pub AreMapped : PlayerState → List Played → Type 0

@@ -122,13 +122,8 @@ asks_client line = false
 
 -- a line that asks the client for a command on records
 abbrev pub names_command : Line → Bool
-names_command (write hex) = true
-names_command (read id) = true
-names_command (clear id) = true
-names_command count = true
-names_command next = true
-names_command dummy = true
-names_command line = false
+names_command (action code value) = false
+names_command line = asks_client line
 
 -- a line that neither runs an action nor gives a table
 abbrev pub IsOwnLine : Line → Type 0

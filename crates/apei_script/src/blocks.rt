@@ -3,16 +3,18 @@ ghost use Rattle.std.specs.Prelude.{◌≡◌, ◌≤◌, ℕ, List, [], ◌∷�
 ghost use Rattle.line_grammar.specs.declared.lengths.TheConstants.{LONGEST_LINE};
 ghost use Rattle.line_grammar.specs.Parts.{IsPairs};
 ghost use Rattle.script_text.specs.ScriptGrammar.{error, peek, fatal};
+ghost use Rattle.apei_script.specs.Words.{words_of_submission, words_of_laid};
 ghost use Rattle.apei_script.specs.Replies.{IsMade};
 ghost use Rattle.apei_script.specs.Happened.{Happened, side_of};
 ghost use Rattle.apei_script.specs.Desks.{state_of, MakesReply};
 
 use crate::desk::Desk;
 use crate::refusals::{refuse, refuse_fatal};
+use crate::reply::put_number;
 use apei_space::Space;
-use erst_machine::Machine;
+use erst_machine::{FatalError, Machine};
 use flash_model::Flash;
-use ghes_ack::Side;
+use ghes_ack::{Side, SubmitError};
 use script_text::Reply;
 
 impl<F: Flash> Desk<F> {
@@ -23,13 +25,8 @@ impl<F: Flash> Desk<F> {
         ensures { MakesReply F.tells (state_of self.old) (error hex.now) (state_of self.new) self.new.buffers.reply }
     {
         let len = self.buffers.decode(hex);
-        match self.machine.submit(&self.buffers.bytes[..len]) {
-            Ok(waiting) => {
-                self.buffers.reply.begin(b"queued ");
-                self.buffers.reply.add_number(u64::from(waiting));
-            }
-            Err(error) => refuse(&mut self.buffers.reply, &error),
-        }
+        let answer = self.machine.submit(&self.buffers.bytes[..len]);
+        put_submission(&mut self.buffers.reply, answer);
     }
 
     /// Lays a fatal block into the boot error region.
@@ -39,13 +36,8 @@ impl<F: Flash> Desk<F> {
         ensures { MakesReply F.tells (state_of self.old) (fatal hex.now) (state_of self.new) self.new.buffers.reply }
     {
         let len = self.buffers.decode(hex);
-        match self.machine.lay_fatal(&self.buffers.bytes[..len]) {
-            Ok(at) => {
-                self.buffers.reply.begin(b"laid ");
-                self.buffers.reply.add_number(u64::from(at));
-            }
-            Err(error) => refuse_fatal(&mut self.buffers.reply, error),
-        }
+        let answer = self.machine.lay_fatal(&self.buffers.bytes[..len]);
+        put_laid(&mut self.buffers.reply, answer);
     }
 
     /// Shows bytes of the machine's memory.
@@ -60,6 +52,26 @@ impl<F: Flash> Desk<F> {
             &mut self.buffers.bytes,
             &mut self.buffers.reply,
         );
+    }
+}
+
+/// The reply to a block that is given to the handover.
+fn put_submission(reply: &mut Reply, answer: Result<u32, SubmitError>)
+    ensures { IsMade reply.new (words_of_submission answer) }
+{
+    match answer {
+        Ok(waiting) => put_number(reply, b"queued ", u64::from(waiting)),
+        Err(error) => refuse(reply, &error),
+    }
+}
+
+/// The reply to a fatal block.
+fn put_laid(reply: &mut Reply, answer: Result<u32, FatalError>)
+    ensures { IsMade reply.new (words_of_laid answer) }
+{
+    match answer {
+        Ok(at) => put_number(reply, b"laid ", u64::from(at)),
+        Err(error) => refuse_fatal(reply, error),
     }
 }
 

@@ -17,7 +17,7 @@ ghost use Rattle.apei_script.specs.Played.{AreBridged, AreBridgedUnheard};
 use crate::blocks::side_of;
 use crate::desk::Desk;
 use crate::events::hear_of_block;
-use crate::reply::end_line;
+use crate::reply::{end_line, put_number};
 use apei_bytes::{Sink, SinkFault, write_all};
 use apei_notify::{Chain, Listener};
 use bridge_turns::{MadeTurn, SideTurn, turn_side};
@@ -49,8 +49,7 @@ impl<F: Flash> Desk<F> {
             return;
         }
         self.bridge.enter(first);
-        self.buffers.reply.begin(b"bridge ");
-        self.buffers.reply.add_number(id);
+        put_number(&mut self.buffers.reply, b"bridge ", id);
     }
 
     /// The steps that a line is given.

@@ -4,16 +4,11 @@ ghost use Rattle.line_grammar.specs.declared.lengths.TheConstants.{LONGEST_BYTES
 ghost use Rattle.line_grammar.specs.Parts.{IsPairs};
 ghost use Rattle.script_text.specs.ScriptGrammar.{Line, write, read, clear, count, next, dummy, action};
 ghost use Rattle.script_text.specs.ScriptText.{line_of};
-ghost use Rattle.apei_script.specs.Players.{budget_by};
-ghost use Rattle.apei_script.specs.Words.{words_of_write};
-ghost use Rattle.apei_script.specs.Replies.{IsMade};
-ghost use Rattle.apei_script.specs.Asked.{Answers};
-ghost use Rattle.apei_script.specs.Plays.{IsPlayable, asks_client};
-ghost use Rattle.apei_script.specs.Desks.{state_of, MakesReply};
+ghost use Rattle.apei_script.specs.{Players.budget_by, Words.words_of_write, Replies.IsMade, Asked.Answers, Plays.IsPlayable, Plays.asks_client, Desks.state_of, Desks.MakesReply};
 
 use crate::desk::Desk;
 use crate::refusals::{refuse, refuse_behind};
-use crate::reply::put_record;
+use crate::reply::{put_number, put_record};
 use apei_bytes::get_u64;
 use cper_frame::ID_AT;
 use erst_client::Client;
@@ -100,8 +95,7 @@ fn write_record<F: Flash>(
     ensures size { length bytes.new ≡ length bytes.old }
 {
     let len = decode(hex, bytes);
-    let mut budget = Budget::new(steps);
-    match client.write(&bytes[..len], &mut budget, machine) {
+    match client.write(&bytes[..len], &mut Budget::new(steps), machine) {
         Ok(()) => wrote(&bytes[..len], reply),
         Err(error) => refuse(reply, &error),
     }
@@ -133,8 +127,7 @@ fn read_record<F: Flash>(
     ensures size { length bytes.new ≡ length bytes.old }
 {
     let out = &mut bytes[..READ_BUFFER];
-    let mut budget = Budget::new(steps);
-    match client.read(id, out, &mut budget, machine) {
+    match client.read(id, out, &mut Budget::new(steps), machine) {
         Ok(len) => put_record(reply, &out[..len]),
         Err(error) => refuse(reply, &error),
     }
@@ -151,12 +144,8 @@ fn clear_record<F: Flash>(
     ensures answers { Answers F.tells client.old steps machine.old (clear id) machine.new reply.new }
     ensures kept { client.new ≡ client.old }
 {
-    let mut budget = Budget::new(steps);
-    match client.clear(id, &mut budget, machine) {
-        Ok(()) => {
-            reply.begin(b"cleared ");
-            reply.add_number(id);
-        }
+    match client.clear(id, &mut Budget::new(steps), machine) {
+        Ok(()) => put_number(reply, b"cleared ", id),
         Err(error) => refuse(reply, &error),
     }
 }
@@ -171,12 +160,8 @@ fn count_records<F: Flash>(
     ensures answers { Answers F.tells client.old steps machine.old count machine.new reply.new }
     ensures kept { client.new ≡ client.old }
 {
-    let mut budget = Budget::new(steps);
-    match client.count(&mut budget, machine) {
-        Ok(count) => {
-            reply.begin(b"count ");
-            reply.add_number(count);
-        }
+    match client.count(&mut Budget::new(steps), machine) {
+        Ok(count) => put_number(reply, b"count ", count),
         Err(error) => refuse(reply, &error),
     }
 }
@@ -186,12 +171,8 @@ fn show_next<F: Flash>(client: &mut Client, machine: &mut Machine<F>, steps: u64
     ensures answers { Answers F.tells client.old steps machine.old next machine.new reply.new }
     ensures kept { client.new ≡ client.old }
 {
-    let mut budget = Budget::new(steps);
-    match client.next(&mut budget, machine) {
-        Ok(Some(id)) => {
-            reply.begin(b"next ");
-            reply.add_number(id);
-        }
+    match client.next(&mut Budget::new(steps), machine) {
+        Ok(Some(id)) => put_number(reply, b"next ", id),
         Ok(None) => reply.begin(b"next end"),
         Err(error) => refuse(reply, &error),
     }
@@ -207,8 +188,7 @@ fn write_dummy<F: Flash>(
     ensures answers { Answers F.tells client.old steps machine.old dummy machine.new reply.new }
     ensures kept { client.new ≡ client.old }
 {
-    let mut budget = Budget::new(steps);
-    match client.dummy(&mut budget, machine) {
+    match client.dummy(&mut Budget::new(steps), machine) {
         Ok(()) => reply.begin(b"dummy ok"),
         Err(error) => refuse(reply, &error),
     }
@@ -227,12 +207,8 @@ fn run_action<F: Flash>(
     ensures answers { Answers F.tells client.now steps machine.old (action code value) machine.new reply.new }
 {
     let program = client.table().program(code as u8);
-    let mut budget = Budget::new(steps);
-    match run(&program, value, &mut budget, machine) {
-        Ok(result) => {
-            reply.begin(b"result ");
-            reply.add_number(result);
-        }
+    match run(&program, value, &mut Budget::new(steps), machine) {
+        Ok(result) => put_number(reply, b"result ", result),
         Err(stop) => refuse_behind(reply, b"stopped ", &stop),
     }
 }

@@ -7,6 +7,7 @@ ghost use Rattle.apei_script.specs.Desks.{state_of, MakesReply};
 
 use crate::buffers::Buffers;
 use crate::player::PlayStop;
+use crate::reply::put_number;
 use erst_bridge::Bridge;
 use erst_client::Client;
 use erst_machine::Machine;
@@ -77,8 +78,7 @@ impl<F: Flash> Desk<F> {
         };
         self.other = None;
         self.bridge.leave();
-        self.buffers.reply.begin(b"reset ");
-        self.buffers.reply.add_number(u64::from(records));
+        put_number(&mut self.buffers.reply, b"reset ", u64::from(records));
         Ok(())
     }
 
@@ -92,8 +92,7 @@ impl<F: Flash> Desk<F> {
         };
         self.other = None;
         self.bridge.leave();
-        self.buffers.reply.begin(b"power ");
-        self.buffers.reply.add_number(u64::from(records));
+        put_number(&mut self.buffers.reply, b"power ", u64::from(records));
         Ok(())
     }
 }

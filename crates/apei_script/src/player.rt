@@ -4,7 +4,7 @@ ghost use Rattle.base_model.specs.Faults.{Rose, HasCause};
 ghost use Rattle.script_text.specs.ScriptGrammar.{turns as turns_of};
 ghost use Rattle.script_text.specs.ScriptText.{line_of};
 ghost use Rattle.apei_notify.specs.Chains.{members_of};
-ghost use Rattle.apei_script.specs.declared.player.PlayStop.TheVariants.{SinkFault as TheSinkFault, Memory as TheMemory};
+ghost use Rattle.apei_script.specs.declared.player.PlayStop.TheVariants.{SinkFault as TheSinkFault};
 ghost use Rattle.apei_script.specs.Players.{player_of};
 ghost use Rattle.erst_bridge.specs.Bridges.{Off};
 ghost use Rattle.erst_machine.specs.MachineState.{IsMachine};
@@ -44,14 +44,6 @@ impl From<SinkFault> for PlayStop {
 
     fn from(_: SinkFault) -> Self {
         PlayStop::SinkFault
-    }
-}
-
-impl From<Memory> for PlayStop {
-    ghost from_gives = { λ _ stop. stop ≡ TheMemory };
-
-    fn from(_: Memory) -> Self {
-        PlayStop::Memory
     }
 }
 

@@ -9,6 +9,7 @@ ghost use Rattle.apei_script.specs.Desks.{state_of, MakesReply};
 use crate::desk::Desk;
 use crate::player::PlayStop;
 use crate::refusals::{refuse, refuse_behind};
+use crate::reply::put_number;
 use erst_client::Client;
 use erst_entries::{ErstError, ErstTable};
 use erst_interp::Budget;
@@ -37,12 +38,10 @@ impl<F: Flash> Desk<F> {
             }
         };
         let entries = table.len() as u64;
-        let mut budget = Budget::new(ATTACH_STEPS);
-        match Client::attach(table, &mut budget, &mut self.machine) {
+        match Client::attach(table, &mut Budget::new(ATTACH_STEPS), &mut self.machine) {
             Ok(client) => {
                 self.other = Some(client);
-                self.buffers.reply.begin(b"table ");
-                self.buffers.reply.add_number(entries);
+                put_number(&mut self.buffers.reply, b"table ", entries);
             }
             Err(error) => refuse(&mut self.buffers.reply, &error),
         }
@@ -56,14 +55,14 @@ impl<F: Flash> Desk<F> {
     {
         attaching_never_fails::<F>();
         self.machine.stands();
-        let table = shadow_table(self.alloc, self.machine.reach())?;
+        let Ok(table) = shadow_table(self.alloc, self.machine.reach()) else {
+            return Err(PlayStop::Memory);
+        };
         let entries = table.len() as u64;
-        let mut budget = Budget::new(ATTACH_STEPS);
-        match Client::attach(table, &mut budget, &mut self.machine) {
+        match Client::attach(table, &mut Budget::new(ATTACH_STEPS), &mut self.machine) {
             Ok(client) => {
                 self.other = Some(client);
-                self.buffers.reply.begin(b"table ");
-                self.buffers.reply.add_number(entries);
+                put_number(&mut self.buffers.reply, b"table ", entries);
                 Ok(())
             }
             Err(_) => unreachable!(),
@@ -75,7 +74,7 @@ impl<F: Flash> Desk<F> {
         ensures { MakesReply F.tells (state_of self.old) own_table (state_of self.new) self.new.buffers.reply }
     {
         self.other = None;
-        self.buffers.reply.begin(b"table ");
-        self.buffers.reply.add_number(self.own.table().len() as u64);
+        let entries = self.own.table().len() as u64;
+        put_number(&mut self.buffers.reply, b"table ", entries);
     }
 }

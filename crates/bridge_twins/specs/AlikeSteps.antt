@@ -11,11 +11,7 @@ pub record StepOutline : Type 0 where
   pub machine : MachineOutline
 
 abbrev pub step_outline : Step → StepOutline
-step_outline step = record {
-  turn = step.turn;
-  bridge = step.bridge;
-  machine = machine_outline step.machine;
-}
+step_outline step = record { turn = step.turn; bridge = step.bridge; machine = machine_outline step.machine }
 
 -- turns one after another are alike: they have the same outlines
 abbrev pub AlikeSteps : List Step → List Step → Type 0

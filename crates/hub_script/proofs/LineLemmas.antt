@@ -13,12 +13,7 @@ use Rattle.hub_script.specs.declared.hub_line.HubWord.TheVariants.{Comment, Hest
 
 -- no keyword begins another
 pub alone : (word : HubWord) → IsAlone codes_of all_words word
-alone Comment = refl
-alone Hest = refl
-alone Error = refl
-alone Turns = refl
-alone Heard = refl
-alone Drop = refl
+alone = elim [ Comment ↦ refl | word ↦ refl ]
 
 line_behind : (word : HubWord) (rest : List ℕ) → Follows word rest → IsLine (codes_of word ++ rest)
 line_behind Comment rest follows = (comment rest, tt, refl)

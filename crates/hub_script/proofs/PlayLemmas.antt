@@ -4,7 +4,7 @@ use Rattle.std.specs.Prelude.{codes}
 use Rattle.std.proofs.lemmas.List.{append-nil, take-append-drop, take_more, take_all, flat_map_more, length-take-le, get_or-take}
 use Rattle.apei_notify.specs.Telling.{Hearing}
 use Rattle.ghes_ack.specs.declared.events.Event.{Event}
-use Rattle.ghes_ack.specs.declared.events.Event.TheVariants.{Idle, Fill, Publish, Free, Wait, Nothing, Found, Copied, Took, Clear, Ack}
+use Rattle.ghes_ack.specs.declared.events.Event.TheVariants.{Idle, Took}
 use Rattle.ghes_ack.specs.declared.events.Side.{Side}
 use Rattle.ghes_hub.specs.Hubs.{HubState, HubTurns, Call, Turns, last_in, sources_in}
 use Rattle.ghes_hub.specs.Runs.{takes, told_at}
@@ -100,17 +100,8 @@ no_hub hearing listeners line reply asks is = record {
 
 -- a turn that took a block has the event for it
 pub took_is : (event : Event) → takes event ≡ true → event ≡ Took
-took_is Idle e = absurd (cc e)
-took_is Fill e = absurd (cc e)
-took_is Publish e = absurd (cc e)
-took_is Free e = absurd (cc e)
-took_is Wait e = absurd (cc e)
-took_is Nothing e = absurd (cc e)
-took_is Found e = absurd (cc e)
-took_is Copied e = absurd (cc e)
 took_is Took e = refl
-took_is Clear e = absurd (cc e)
-took_is Ack e = absurd (cc e)
+took_is event e = absurd (cc e)
 
 pub took_text : (event : Event) (source : ℕ) (last : List ℕ) → takes event ≡ true → reply_line (words_of_block source last) ≡ text_of_replies (map (words_of_block source) (told_at event last))
 took_text event source last e = subst (λ (ev : Event). reply_line (words_of_block source last) ≡ text_of_replies (map (words_of_block source) (told_at ev last))) (sym (took_is event e)) (sym (one_text (words_of_block source last)))
@@ -294,16 +285,7 @@ lent_part told_sink written now lent words same is text t = let part = text t in
 
 word_short : (event : Event) → length (word_of event) ≤ 7
 word_short Idle = omega arith
-word_short Fill = omega arith
-word_short Publish = omega arith
-word_short Free = omega arith
-word_short Wait = omega arith
-word_short Nothing = omega arith
-word_short Found = omega arith
-word_short Copied = omega arith
-word_short Took = omega arith
-word_short Clear = omega arith
-word_short Ack = omega arith
+word_short event = omega arith
 
 -- one event more has at most eight bytes
 pub said_longer : (event : Event) (events now : List ℕ) (at : ℕ) → now ≡ events ++ (codes " " ++ word_of event) → length events ≤ 5 + 8 * at → length now ≤ 5 + 8 * (at + 1)

@@ -32,7 +32,7 @@ use Rattle.hub_script.specs.Plays.{Plays, listed, most_listed, named_at, NoTable
 use Rattle.hub_script.specs.Made.{MakesReply, OpensFor, NotOpened, IsOpen}
 use Rattle.script_text.specs.Shown.{IsPartWritten}
 use Rattle.hub_script.specs.Lines.{PlaysLine, PlaysUnheard}
-use Rattle.hub_script.proofs.PlayLemmas.{asks_hub, no_hub, one_played, one_unheard}
+use Rattle.hub_script.proofs.PlayLemmas.{asks_hub, no_hub, one_played, one_unheard, reply_played, reply_unheard}
 
 pub some_at : {X : Type 0} (xs : List X) (i : ℕ) → i < length xs → (x : X) × (slice_get xs i ≡ Some x)
 some_at [] i within = absurd (omega (arith, within))
@@ -113,6 +113,17 @@ module _ {X : Type 0} {H : X → Type 0} (hearing : DynBox X Global H → Hearin
       → MakesReply hearing (stage_in hub listeners) line (stage_in hub listeners) reply
   refused_waiting None line reply none asks is = no_hub hearing listeners line reply asks is
   refused_waiting (Some hub) line reply none asks is = absurd (cc none)
+
+  -- the refusal was written, or a part of it
+  module _ (told_sink : Type 0) (hub : Option (Hub X H)) (line : Line) (written now : List ℕ) (none : hub ≡ None) (asks : asks_hub line ≡ true) where
+    refusal_made : MakesReply hearing (stage_in hub listeners) line (stage_in hub listeners) (reply_line (refused (words_of_refusal NoHub)))
+    refusal_made = refused_waiting hub line (reply_line (refused (words_of_refusal NoHub))) none asks refl
+
+    pub waiting_played : (told_sink → now ≡ written ++ reply_line (refused (words_of_refusal NoHub))) → PlaysLine hearing told_sink (stage_in hub listeners) line (stage_in hub listeners) written now
+    waiting_played text = reply_played hearing told_sink (stage_in hub listeners) (stage_in hub listeners) line written now _ _ refusal_made refl text
+
+    pub waiting_unheard : (told_sink → IsPartWritten (reply_line (refused (words_of_refusal NoHub))) written now) → PlaysUnheard hearing told_sink (stage_in hub listeners) line (stage_in hub listeners) written now
+    waiting_unheard text = reply_unheard hearing told_sink (stage_in hub listeners) (stage_in hub listeners) line written now _ _ refusal_made refl text
 
   -- the stage of a hub that is there
   pub at_hub : (old : Option (Hub X H)) (hub : Hub X H) (line : Line) (new : Stage (DynBox X Global H)) (reply : List ℕ) → old ≡ Some hub → MakesReply hearing (Serving (seen hub)) line new reply

@@ -1,12 +1,9 @@
 // How often listeners have heard.
 ghost use Rattle.std.specs.Prelude.{◌≡◌, ◌<◌, ◌++◌, OnOk, OnErr, IfSome, slice_get};
 ghost use Rattle.base_model.specs.Faults.{HasCause};
-ghost use Rattle.apei_notify.specs.Chains.{boxed};
-ghost use Rattle.apei_notify.specs.Telling.{counts_of};
-ghost use Rattle.ghes_hub.specs.Hubs.{sources_in};
-ghost use Rattle.ghes_hub.specs.Seen.{seen};
-ghost use Rattle.hub_script.specs.Plays.{listed};
-ghost use Rattle.hub_script.specs.Replies.{words_of_heard, reply_line};
+ghost use Rattle.apei_notify.specs.{Chains.boxed, Telling.counts_of};
+ghost use Rattle.ghes_hub.specs.{Hubs.sources_in, Seen.seen};
+ghost use Rattle.hub_script.specs.{Plays.listed, Replies.words_of_heard, Replies.reply_line};
 ghost use Rattle.script_text.specs.Shown.{IsPartWritten};
 
 use crate::reply::end_line;

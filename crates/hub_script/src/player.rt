@@ -4,7 +4,7 @@ ghost use Rattle.base_model.specs.Faults.{Rose, HasCause};
 ghost use Rattle.line_grammar.specs.Columns.{BreaksAt};
 ghost use Rattle.line_grammar.specs.Parts.{IsPairs};
 ghost use Rattle.line_grammar.specs.declared.lengths.TheConstants.{LONGEST_LINE};
-ghost use Rattle.hub_script.specs.declared.player.HubStop.TheVariants.{SinkFault as TheSinkFault, Memory as TheMemory};
+ghost use Rattle.hub_script.specs.declared.player.HubStop.TheVariants.{SinkFault as TheSinkFault};
 ghost use Rattle.hub_script.specs.HubGrammar.{IsLine, IsValid, text_of, hest, error, turns, heard, removal};
 ghost use Rattle.hub_script.specs.HubText.{line_of};
 ghost use Rattle.hub_script.specs.Turns.{AreTurns};
@@ -16,7 +16,7 @@ use crate::desk::Desk;
 use crate::heard::show_heard;
 use crate::hub_line::HubLine;
 use crate::refusals::HubRefusal;
-use crate::reply::{end_line, refuse};
+use crate::reply::{end_line, refuse, write_refusal};
 use crate::turns::{are_named, take_turns};
 use apei_bytes::{Memory, Sink, SinkFault, write_all};
 use apei_notify::Listener;
@@ -41,14 +41,6 @@ impl From<SinkFault> for HubStop {
 
     fn from(_: SinkFault) -> Self {
         HubStop::SinkFault
-    }
-}
-
-impl From<Memory> for HubStop {
-    ghost from_gives = { λ _ stop. stop ≡ TheMemory };
-
-    fn from(_: Memory) -> Self {
-        HubStop::Memory
     }
 }
 
@@ -113,7 +105,9 @@ impl HubPlayer {
         match line {
             HubLine::Blank => Ok(()),
             HubLine::Hest { hex } => {
-                self.open(hex)?;
+                let Ok(()) = self.open(hex) else {
+                    return Err(HubStop::Memory);
+                };
                 Ok(write_all(out, self.desk.reply.text())?)
             }
             HubLine::Error { source, hex } => {
@@ -213,12 +207,10 @@ impl HubPlayer {
         ensures cause { HasCause (O.faults out.old) (O.faults out.new) result }
     {
         let Some(hub) = &mut self.hub else {
-            refuse(&mut self.desk.reply, &HubRefusal::NoHub);
-            return write_all(out, self.desk.reply.text());
+            return write_refusal(&mut self.desk.reply, &HubRefusal::NoHub, out);
         };
         if !are_named(hub, pairs) {
-            refuse(&mut self.desk.reply, &HubRefusal::Nobody);
-            return write_all(out, self.desk.reply.text());
+            return write_refusal(&mut self.desk.reply, &HubRefusal::Nobody, out);
         }
         take_turns(hub, pairs, &mut self.desk, out)
     }
@@ -230,12 +222,10 @@ impl HubPlayer {
         ensures cause { HasCause (O.faults out.old) (O.faults out.new) result }
     {
         let Some(hub) = &self.hub else {
-            refuse(&mut self.desk.reply, &HubRefusal::NoHub);
-            return write_all(out, self.desk.reply.text());
+            return write_refusal(&mut self.desk.reply, &HubRefusal::NoHub, out);
         };
         if source >= u64::from(hub.sources()) {
-            refuse(&mut self.desk.reply, &HubRefusal::Nobody);
-            return write_all(out, self.desk.reply.text());
+            return write_refusal(&mut self.desk.reply, &HubRefusal::Nobody, out);
         }
         show_heard(hub, source as u32, &mut self.desk.reply, out)
     }

@@ -1,9 +1,12 @@
 // Ends of replies.
-ghost use Rattle.std.specs.Prelude.{◌≡◌, ◌+◌, ◌≤◌, length};
+ghost use Rattle.std.specs.Prelude.{◌≡◌, ◌+◌, ◌≤◌, ◌++◌, length, OnOk, OnErr};
+ghost use Rattle.base_model.specs.Faults.{HasCause};
+ghost use Rattle.script_text.specs.Shown.{IsPartWritten};
 ghost use Rattle.hub_script.specs.RefusalWords.{words_of_refusal, HasWords};
 ghost use Rattle.hub_script.specs.Replies.{refused, reply_line};
 
 use crate::refusals::HubRefusal;
+use apei_bytes::{Sink, SinkFault, write_all};
 use line_text::LineText;
 use script_text::{Refusal, Reply};
 
@@ -25,4 +28,19 @@ pub fn refuse(reply: &mut Reply, why: &HubRefusal)
     reply.begin(b"refused ");
     reply.add(text.bytes());
     end_line(reply);
+}
+
+/// Writes the line of a refusal.
+pub fn write_refusal<O: Sink>(
+    reply: &mut Reply,
+    why: &HubRefusal,
+    out: &mut O,
+) -> Result<(), SinkFault>
+    requires { HasWords why.now }
+    ensures all { OnOk result (O.tells → O.written out.new ≡ O.written out.old ++ reply_line (refused (words_of_refusal why.now))) }
+    ensures part { OnErr result (O.tells → IsPartWritten (reply_line (refused (words_of_refusal why.now))) (O.written out.old) (O.written out.new)) }
+    ensures cause { HasCause (O.faults out.old) (O.faults out.new) result }
+{
+    refuse(reply, why);
+    write_all(out, reply.text())
 }

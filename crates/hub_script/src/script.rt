@@ -1,13 +1,8 @@
 // A script of several error sources, played line by line.
 ghost use Rattle.std.specs.Prelude.{◌≡◌, ◌⊎◌, ⊤};
 ghost use Rattle.base_model.specs.Faults.{Rose};
-ghost use Rattle.script_lines.specs.Causes.{HasSourceCause, HasSinkCause};
-ghost use Rattle.script_lines.specs.Ends.{fault_of};
-ghost use Rattle.script_lines.specs.Lines.{lines_of};
-ghost use Rattle.script_lines.specs.Reads.{first_reading};
-ghost use Rattle.hub_script.specs.History.{AreInGrammar};
-ghost use Rattle.hub_script.specs.Made.{stage_of};
-ghost use Rattle.hub_script.specs.Scripts.{PlaysScript, ServesScript};
+ghost use Rattle.script_lines.specs.{Causes.HasSourceCause, Causes.HasSinkCause, Ends.fault_of, Lines.lines_of, Reads.first_reading};
+ghost use Rattle.hub_script.specs.{History.AreInGrammar, Made.stage_of, Scripts.PlaysScript, Scripts.ServesScript};
 
 use crate::player::{HubPlayer, HubStop};
 use apei_bytes::{Sink, Source};

@@ -2,9 +2,7 @@
 ghost use Rattle.std.specs.Prelude.{◌≡◌, ◌+◌, ◌*◌, ◌<◌, ◌≤◌, ◌++◌, ℕ, length, codes, MatchBool, OnOk, OnErr};
 ghost use Rattle.base_model.specs.Faults.{HasCause};
 ghost use Rattle.apei_notify.specs.Chains.{boxed};
-ghost use Rattle.ghes_hub.specs.Hubs.{sources_in};
-ghost use Rattle.ghes_hub.specs.Runs.{takes};
-ghost use Rattle.ghes_hub.specs.Seen.{seen};
+ghost use Rattle.ghes_hub.specs.{Hubs.sources_in, Runs.takes, Seen.seen};
 ghost use Rattle.hub_script.specs.HubGrammar.{turns};
 ghost use Rattle.hub_script.specs.Turns.{AreTurns};
 ghost use Rattle.hub_script.specs.Stages.{Serving};

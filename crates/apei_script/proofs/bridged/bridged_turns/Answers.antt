@@ -1,11 +1,12 @@
 use Rattle.std.proofs.Common.{◌≡◌, ◌∙◌, ℕ, ◌+◌, List, [], ◌∷◌, ◌++◌, take, refl, sym, ap, arith, Vec, Global, vec_len}
-use Rattle.std.proofs.lemmas.Result.{err_from_is_err_and, on_ok_weaker, on_err_weaker}
+use Rattle.std.proofs.lemmas.Result.{on_ok_weaker, on_err_weaker}
 use Rattle.bridge_turns.specs.declared.made.MadeTurn.{MadeTurn}
 use Rattle.bridge_turns.specs.Made.{turn_of}
 use Rattle.apei_script.specs.Bridged.{words_of_made}
 use Rattle.apei_script.specs.Words.{reply_at}
 use Rattle.apei_script.specs.Desks.{state_of, SameClients}
-use Rattle.base_model.proofs.FaultLemmas.{on_err, has_cause, same_cause}
+use Rattle.base_model.proofs.FaultLemmas.{on_err, same_cause}
+use Rattle.script_text.proofs.FaultLemmas.{handed_on}
 use Rattle.apei_script.proofs.BridgeLemmas.{no_step, bridged_quiet, bridged_took, turns_all, turns_unheard, turns_cut, not_taken, same_turn, so_at, played_by, unheard_by}
 use Rattle.apei_script.proofs.bridged.bridged_turns.Goals as goal
 use Rattle.apei_script.proofs.bridged.bridged_turns.Goals.{then-taken+in_ok-hear_of_block, else-taken}
@@ -47,9 +48,7 @@ returns-in_err-hear_of_block-clause-unheard g c =
     c.hear_of_block.ensures.told c.in_err-hear_of_block.ensures.part))
 
 pub returns-in_err-hear_of_block-clause-cause : goal.returns-in_err-hear_of_block-clause-cause
-returns-in_err-hear_of_block-clause-cause g c =
-    let p = err_from_is_err_and c.from_residual.result c.from_residual.ensures.1 in
-    has_cause _ _ _ c.from_residual.result p.0 _ c.turning.invariant.faults p.1 c.in_err-hear_of_block.ensures.cause
+returns-in_err-hear_of_block-clause-cause g c = handed_on _ _ _ _ c.from_residual.result _ c.from_residual.ensures.1 c.turning.invariant.faults c.in_err-hear_of_block.ensures.cause
 
 pub turning-preserved : goal.turning-preserved
 turning-preserved g c =
@@ -83,23 +82,19 @@ turning-preserved g c =
           })
     ]
 
-pub returns-clause-played : goal.returns-clause-played
-returns-clause-played g c =
+pub returns : goal.returns
+returns g c =
     let reply : reply_at c.steps-step-2.result (words_of_made c.deref.result.now) ≡ reply_at c.steps-step-2.result (words_of_made c.turning.desk.buffers.made.items) = ap (λ (m : List MadeTurn). reply_at c.steps-step-2.result (words_of_made m)) c.deref.ensures.value in
-    on_ok_weaker c.say_made.result
-    (λ h. played_by _ g.F.Flash.tells g.O.Sink.tells c.args.desk.now _ c.turning.desk.bridge c.turning.desk.machine c.turning.invariant.clients refl refl _ _ _ _ _
-    (turns_all _ g.F.Flash.tells g.O.Sink.tells c.own_programs_run_through.ensures (state_of c.args.desk.now) c.stands.ensures.machine c.requires.on _ _ c.turning.desk.bridge c.turning.desk.machine
-    _ c.args.letters.now c.turning.letter-index _ _ _ c.steps-step-2.result (omega arith) c.turning.invariant.so c.steps-step-2.ensures.value
-    (λ t. h t ∙ ap (λ (xs : List ℕ). g.O.Sink.written c.turning.out ++ xs) reply))) c.say_made.ensures.all
-
-pub returns-clause-unheard : goal.returns-clause-unheard
-returns-clause-unheard g c =
-    let reply : reply_at c.steps-step-2.result (words_of_made c.deref.result.now) ≡ reply_at c.steps-step-2.result (words_of_made c.turning.desk.buffers.made.items) = ap (λ (m : List MadeTurn). reply_at c.steps-step-2.result (words_of_made m)) c.deref.ensures.value in
-    on_err_weaker c.say_made.result
-    (λ h. unheard_by _ g.F.Flash.tells g.O.Sink.tells c.args.desk.now _ c.turning.desk.bridge c.turning.desk.machine c.turning.invariant.clients refl refl _ _ _ _ _
-    (turns_unheard _ g.F.Flash.tells g.O.Sink.tells c.own_programs_run_through.ensures (state_of c.args.desk.now) c.stands.ensures.machine c.requires.on _ _ c.turning.desk.bridge c.turning.desk.machine
-    _ c.args.letters.now c.turning.letter-index _ _ _ c.steps-step-2.result (omega arith) c.turning.invariant.so c.steps-step-2.ensures.value
-    (λ t. let part = h t in (part.0, part.1 ∙ ap (λ (xs : List ℕ). g.O.Sink.written c.turning.out ++ take part.0 xs) reply)))) c.say_made.ensures.part
-
-pub returns-clause-cause : goal.returns-clause-cause
-returns-clause-cause g c = same_cause _ _ _ c.say_made.result c.turning.invariant.faults c.say_made.ensures.cause
+    record {
+      played = on_ok_weaker c.say_made.result
+          (λ h. played_by _ g.F.Flash.tells g.O.Sink.tells c.args.desk.now _ c.turning.desk.bridge c.turning.desk.machine c.turning.invariant.clients refl refl _ _ _ _ _
+          (turns_all _ g.F.Flash.tells g.O.Sink.tells c.own_programs_run_through.ensures (state_of c.args.desk.now) c.stands.ensures.machine c.requires.on _ _ c.turning.desk.bridge c.turning.desk.machine
+          _ c.args.letters.now c.turning.letter-index _ _ _ c.steps-step-2.result (omega arith) c.turning.invariant.so c.steps-step-2.ensures.value
+          (λ t. h t ∙ ap (λ (xs : List ℕ). g.O.Sink.written c.turning.out ++ xs) reply))) c.say_made.ensures.all;
+      unheard = on_err_weaker c.say_made.result
+          (λ h. unheard_by _ g.F.Flash.tells g.O.Sink.tells c.args.desk.now _ c.turning.desk.bridge c.turning.desk.machine c.turning.invariant.clients refl refl _ _ _ _ _
+          (turns_unheard _ g.F.Flash.tells g.O.Sink.tells c.own_programs_run_through.ensures (state_of c.args.desk.now) c.stands.ensures.machine c.requires.on _ _ c.turning.desk.bridge c.turning.desk.machine
+          _ c.args.letters.now c.turning.letter-index _ _ _ c.steps-step-2.result (omega arith) c.turning.invariant.so c.steps-step-2.ensures.value
+          (λ t. let part = h t in (part.0, part.1 ∙ ap (λ (xs : List ℕ). g.O.Sink.written c.turning.out ++ take part.0 xs) reply)))) c.say_made.ensures.part;
+      cause = same_cause _ _ _ c.say_made.result c.turning.invariant.faults c.say_made.ensures.cause;
+    }

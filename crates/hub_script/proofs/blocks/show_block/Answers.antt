@@ -1,9 +1,10 @@
 use Rattle.std.proofs.Common.{◌∙◌, ℕ, ◌-◌, List, [], ◌∷◌, ◌++◌, take, drop, refl, sym, ap, arith}
 use Rattle.std.proofs.lemmas.List.{append-nil}
-use Rattle.std.proofs.lemmas.Result.{err_from_is_err_and, on_ok_weaker, on_err_weaker}
+use Rattle.std.proofs.lemmas.Result.{on_ok_weaker, on_err_weaker}
 use Rattle.hex.specs.Hex.{encode_lower}
 use Rattle.hub_script.specs.Replies.{reply_line, words_before_digits, words_of_block}
-use Rattle.base_model.proofs.FaultLemmas.{on_err, has_cause, same_cause}
+use Rattle.base_model.proofs.FaultLemmas.{on_err, same_cause}
+use Rattle.script_text.proofs.FaultLemmas.{handed_on}
 use Rattle.script_text.proofs.ShownLemmas.{shown_none, shown_then, shown_more, shown_all, shown_part}
 use Rattle.hub_script.proofs.PieceLemmas.{no_digits, more_digits, digits_short, digits_rest, all_digits}
 use Rattle.hub_script.proofs.blocks.show_block.Goals as goal
@@ -27,9 +28,7 @@ returns-in_err-make_room-clause-part g c =
     c.in_err-make_room.ensures.part)
 
 pub returns-in_err-make_room-clause-cause : goal.returns-in_err-make_room-clause-cause
-returns-in_err-make_room-clause-cause g c =
-    let p = err_from_is_err_and c.from_residual.result c.from_residual.ensures.1 in
-    has_cause _ _ _ c.from_residual.result p.0 _ c.showing.invariant.faults p.1 c.in_err-make_room.ensures.cause
+returns-in_err-make_room-clause-cause g c = handed_on _ _ _ _ c.from_residual.result _ c.from_residual.ensures.1 c.showing.invariant.faults c.in_err-make_room.ensures.cause
 
 pub showing-preserved : goal.showing-preserved
 showing-preserved g c =

@@ -2,7 +2,7 @@ use Rattle.std.proofs.Common.{◌≡◌, ◌∙◌, ℕ, List, ◌++◌, length,
 use Rattle.std.specs.Prelude.{codes, slice_get}
 use Rattle.std.proofs.lemmas.Result.{on_ok_weaker, on_err_weaker}
 use Rattle.ghes_hub.specs.Seen.{seen}
-use Rattle.base_model.proofs.FaultLemmas.{on_err}
+use Rattle.base_model.proofs.FaultLemmas.{on_err, same_cause}
 use Rattle.hub_script.proofs.PieceLemmas.{heard_start, is_listed, heard_step, heard_part, heard_all, heard_last}
 use Rattle.hub_script.proofs.heard.show_heard.Goals as goal
 
@@ -37,20 +37,19 @@ hearing-preserved g c =
       faults = c.in_ok-make_room.ensures.cause.ok ∙ c.hearing.invariant.faults;
     }
 
-pub returns-clause-all : goal.returns-clause-all
-returns-clause-all g c =
+pub returns : goal.returns
+returns g c =
     let end = c.hearing.auto.at-end in
     let test = c.hearing-test.false in
-    on_ok_weaker c.write_all.result
-    (heard_all (λ b. ((goal.Listener-dyn g (b.vtable, b.value)).hearing b.value).count) g.O.Sink.tells (slice_get (seen c.args.hub.now).chains c.args.source) (g.O.Sink.written c.args.out.now) (g.O.Sink.written c.hearing.out)
-    (g.O.Sink.written c.write_all.new.sink) c.hearing.reply c.end_line.new.reply c.text.result.now c.hearing.at c.listeners-at-end.result c.hearing.invariant.so (omega (arith, end, test)) c.listeners-at-end.ensures c.end_line.ensures c.text.ensures)
-    c.write_all.ensures.all
-
-pub returns-clause-part : goal.returns-clause-part
-returns-clause-part g c =
-    let end = c.hearing.auto.at-end in
-    let test = c.hearing-test.false in
-    on_err_weaker c.write_all.result
-    (heard_last (λ b. ((goal.Listener-dyn g (b.vtable, b.value)).hearing b.value).count) g.O.Sink.tells (slice_get (seen c.args.hub.now).chains c.args.source) (g.O.Sink.written c.args.out.now) (g.O.Sink.written c.hearing.out)
-    (g.O.Sink.written c.write_all.new.sink) c.hearing.reply c.end_line.new.reply c.text.result.now c.hearing.at c.listeners-at-end.result c.hearing.invariant.so (omega (arith, end, test)) c.listeners-at-end.ensures c.end_line.ensures c.text.ensures)
-    c.write_all.ensures.part
+    let all : c.hearing.at ≡ c.listeners-at-end.result = omega (arith, end, test) in
+    record {
+      all = on_ok_weaker c.write_all.result
+          (heard_all (λ b. ((goal.Listener-dyn g (b.vtable, b.value)).hearing b.value).count) g.O.Sink.tells (slice_get (seen c.args.hub.now).chains c.args.source) (g.O.Sink.written c.args.out.now) (g.O.Sink.written c.hearing.out)
+          (g.O.Sink.written c.write_all.new.sink) c.hearing.reply c.end_line.new.reply c.text.result.now c.hearing.at c.listeners-at-end.result c.hearing.invariant.so all c.listeners-at-end.ensures c.end_line.ensures c.text.ensures)
+          c.write_all.ensures.all;
+      part = on_err_weaker c.write_all.result
+          (heard_last (λ b. ((goal.Listener-dyn g (b.vtable, b.value)).hearing b.value).count) g.O.Sink.tells (slice_get (seen c.args.hub.now).chains c.args.source) (g.O.Sink.written c.args.out.now) (g.O.Sink.written c.hearing.out)
+          (g.O.Sink.written c.write_all.new.sink) c.hearing.reply c.end_line.new.reply c.text.result.now c.hearing.at c.listeners-at-end.result c.hearing.invariant.so all c.listeners-at-end.ensures c.end_line.ensures c.text.ensures)
+          c.write_all.ensures.part;
+      cause = same_cause _ _ _ c.write_all.result c.hearing.invariant.faults c.write_all.ensures.cause;
+    }

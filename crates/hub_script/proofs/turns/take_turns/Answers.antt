@@ -1,7 +1,8 @@
-use Rattle.std.proofs.Common.{◌≡◌, ◌∙◌, length, refl, ap, arith}
-use Rattle.std.proofs.lemmas.Result.{err_from_is_err_and, on_ok_weaker, on_err_weaker}
+use Rattle.std.proofs.Common.{◌≡◌, ◌∙◌, ◌*◌, ◌≤◌, length, refl, ap, arith}
+use Rattle.std.proofs.lemmas.Result.{on_ok_weaker, on_err_weaker}
 use Rattle.ghes_hub.specs.Seen.{seen}
-use Rattle.base_model.proofs.FaultLemmas.{on_err, has_cause, same_cause}
+use Rattle.base_model.proofs.FaultLemmas.{on_err, same_cause}
+use Rattle.script_text.proofs.FaultLemmas.{handed_on}
 use Rattle.hub_script.proofs.PlayLemmas.{no_turn, turn_more, turn_cut, all_turned, all_unheard, lent_text, lent_part, said_longer, is_named}
 use Rattle.hub_script.proofs.turns.take_turns.Goals as goal
 
@@ -33,9 +34,7 @@ returns-in_err-take_turn-clause-unheard g c =
     c.turning.invariant.so c.in_err-take_turn.ensures.unheard)
 
 pub returns-in_err-take_turn-clause-cause : goal.returns-in_err-take_turn-clause-cause
-returns-in_err-take_turn-clause-cause g c =
-    let p = err_from_is_err_and c.from_residual.result c.from_residual.ensures.1 in
-    has_cause _ _ _ c.from_residual.result p.0 _ c.turning.invariant.faults p.1 c.in_err-take_turn.ensures.cause
+returns-in_err-take_turn-clause-cause g c = handed_on _ _ _ _ c.from_residual.result _ c.from_residual.ensures.1 c.turning.invariant.faults c.in_err-take_turn.ensures.cause
 
 pub turning-preserved : goal.turning-preserved
 turning-preserved g c =
@@ -56,19 +55,15 @@ end_line-requires g c =
     let end = c.turning.auto.at-end in
     omega (arith, short, most, end)
 
-pub returns-clause-played : goal.returns-clause-played
-returns-clause-played g c =
+pub returns : goal.returns
+returns g c =
     let test = c.turning-test.false in
     let even = c.requires.valid.even.1 in
-    on_ok_weaker c.write_all.result
-    (λ h. all_turned _ _ _ _ c.args.pairs.now c.turning.at _ _ _ _ (omega (arith, test, even)) c.requires.named c.turning.invariant.so (lent_text _ _ _ _ _ c.text.ensures c.end_line.ensures h)) c.write_all.ensures.all
-
-pub returns-clause-unheard : goal.returns-clause-unheard
-returns-clause-unheard g c =
-    let test = c.turning-test.false in
-    let even = c.requires.valid.even.1 in
-    on_err_weaker c.write_all.result
-    (λ h. all_unheard _ _ _ _ c.args.pairs.now c.turning.at _ _ _ _ (omega (arith, test, even)) c.requires.named c.turning.invariant.so (lent_part _ _ _ _ _ c.text.ensures c.end_line.ensures h)) c.write_all.ensures.part
-
-pub returns-clause-cause : goal.returns-clause-cause
-returns-clause-cause g c = same_cause _ _ _ c.write_all.result c.turning.invariant.faults c.write_all.ensures.cause
+    let all : length c.args.pairs.now ≤ 2 * c.turning.at = omega (arith, test, even) in
+    record {
+      played = on_ok_weaker c.write_all.result
+          (λ h. all_turned _ _ _ _ c.args.pairs.now c.turning.at _ _ _ _ all c.requires.named c.turning.invariant.so (lent_text _ _ _ _ _ c.text.ensures c.end_line.ensures h)) c.write_all.ensures.all;
+      unheard = on_err_weaker c.write_all.result
+          (λ h. all_unheard _ _ _ _ c.args.pairs.now c.turning.at _ _ _ _ all c.requires.named c.turning.invariant.so (lent_part _ _ _ _ _ c.text.ensures c.end_line.ensures h)) c.write_all.ensures.part;
+      cause = same_cause _ _ _ c.write_all.result c.turning.invariant.faults c.write_all.ensures.cause;
+    }

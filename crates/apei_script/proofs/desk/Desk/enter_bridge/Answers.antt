@@ -3,7 +3,7 @@ use Rattle.std.specs.Prelude.{codes}
 use Rattle.apei_script.specs.Words.{refused}
 use Rattle.apei_script.specs.Bridged.{is_on}
 use Rattle.erst_bridge.specs.Bridges.{Awaits}
-use Rattle.apei_script.proofs.Made.{made_word, made_number}
+use Rattle.apei_script.proofs.Made.{made_word}
 use Rattle.apei_script.proofs.DeskLines.{by_bridge, no_id, no_off, no_idle, is_off, tested_on, idle_by}
 use Rattle.apei_script.proofs.desk.Desk.enter_bridge.Goals as goal
 
@@ -32,4 +32,4 @@ returns g c =
     (ap is_on (is_off c.args.self.now.bridge c.is_on.result c.is_on.ensures c.if-is_on.false))
     (idle_by c.reader_idle.result c.args.self.now.machine stood.0 stood.1 (c.reader_idle.ensures.idle stood.0 stood.1) ∙ c.if-not-reader_idle.false)
     (c.enter.ensures ∙ ap (λ (n : ℕ). Awaits n) c.in-Some.ensures.0)
-    (made_number _ _ _ _ (omega arith) c.begin-2.ensures c.add_number.ensures.text c.add_number.ensures.short)
+    c.put_number.ensures

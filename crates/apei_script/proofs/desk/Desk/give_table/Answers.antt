@@ -1,7 +1,6 @@
-use Rattle.std.proofs.Common.{take, refl, arith, rules}
+use Rattle.std.proofs.Common.{take, refl, rules}
 use Rattle.script_text.specs.TableWords.{ErstHasWords}
 use Rattle.apei_script.specs.Tables.{IsNoTable}
-use Rattle.apei_script.proofs.Made.{made_number}
 use Rattle.apei_script.proofs.Giving.{refused_for, wants_memory, begins_with, not_attached, attached}
 use Rattle.apei_script.proofs.DeskLines.{as_lent, by_table}
 use Rattle.apei_script.proofs.desk.Desk.give_table.Goals as goal
@@ -23,14 +22,14 @@ returns-in-Ok-attach-clause-made g c =
     let decoded = as_lent c.args.hex.now _ c.deref.result.now c.decode-len.result c.decode-len.ensures.bytes c.deref.ensures.value in
     by_table g.F.Flash.tells c.args.self.now.machine c.args.self.now.own c.args.self.now.steps c.args.self.now.bridge c.args.self.now.other c.args.hex.now _ _ _ _ _ decoded
     (attached g.F.Flash.tells c.args.self.now.machine c.args.self.now.other _ _ c.in-Ok-attach.client _ _ _ _
-    (begins_with _ _ _ c.in-Ok.ensures.found.0 c.in-Ok.ensures.found.1 c.in-Ok.ensures.refused c.in-Ok.ensures.only) c.new-budget.ensures
+    (begins_with _ _ _ c.in-Ok.ensures.found.0 c.in-Ok.ensures.found.1 c.in-Ok.ensures.refused c.in-Ok.ensures.only) c.new.ensures
     c.in-Ok-attach.ensures.attaches c.in-Ok-attach.ensures.reaches c.len-entries.ensures)
-    (made_number _ _ _ _ (omega arith) c.begin.ensures c.add_number.ensures.text c.add_number.ensures.short)
+    c.put_number.ensures
 
 pub returns-in-Err-attach-clause-made : goal.returns-in-Err-attach-clause-made
 returns-in-Err-attach-clause-made g c =
     let decoded = as_lent c.args.hex.now _ c.deref.result.now c.decode-len.result c.decode-len.ensures.bytes c.deref.ensures.value in
     by_table g.F.Flash.tells c.args.self.now.machine c.args.self.now.own c.args.self.now.steps c.args.self.now.bridge c.args.self.now.other c.args.hex.now _ _ _ _ _ decoded
     (not_attached g.F.Flash.tells c.args.self.now.machine c.args.self.now.other _ _ _ _ _ _
-    (begins_with _ _ _ c.in-Ok.ensures.found.0 c.in-Ok.ensures.found.1 c.in-Ok.ensures.refused c.in-Ok.ensures.only) c.new-budget.ensures
+    (begins_with _ _ _ c.in-Ok.ensures.found.0 c.in-Ok.ensures.found.1 c.in-Ok.ensures.refused c.in-Ok.ensures.only) c.new.ensures
     c.in-Err-attach.ensures.attaches c.in-Err-attach.ensures.reaches) c.refuse.ensures

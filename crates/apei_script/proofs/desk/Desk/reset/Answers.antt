@@ -1,5 +1,3 @@
-use Rattle.std.proofs.Common.{arith}
-use Rattle.apei_script.proofs.Made.{made_number}
 use Rattle.apei_script.proofs.DeskLines.{by_reset, no_reset}
 use Rattle.apei_script.proofs.desk.Desk.reset.Goals as goal
 
@@ -8,5 +6,4 @@ returns-in_default-clause-stopped g c = no_reset g.F.Flash.tells c.args.self.now
 
 pub returns-clause-made : goal.returns-clause-made
 returns-clause-made g c =
-    by_reset g.F.Flash.tells c.args.self.now.machine c.args.self.now.own c.args.self.now.steps c.args.self.now.bridge c.args.self.now.other c.in-Ok.records c.warm.new.self _ _ c.leave.ensures c.in-Ok.ensures
-    (made_number _ _ _ _ (omega arith) c.begin.ensures (rw c.from.ensures at c.add_number.ensures.text) c.add_number.ensures.short)
+    by_reset g.F.Flash.tells c.args.self.now.machine c.args.self.now.own c.args.self.now.steps c.args.self.now.bridge c.args.self.now.other c.in-Ok.records c.warm.new.self _ _ c.leave.ensures c.in-Ok.ensures (rw c.from.ensures at c.put_number.ensures)

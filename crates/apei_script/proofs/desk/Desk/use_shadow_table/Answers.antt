@@ -1,10 +1,8 @@
 use Rattle.std.proofs.Common.{ℕ, refl, ap, ◌∙◌, arith}
-use Rattle.std.proofs.lemmas.Result.{err_from_is_err_and}
 use Rattle.erst_entries.specs.Layout.{Erst}
 use Rattle.erst_shadow.specs.ShadowTables.{pieces_of, shadow_erst}
 use Rattle.erst_commands.proofs.LimitLemmas.{reach-least}
 use Rattle.apei_script.specs.Plays.{Named}
-use Rattle.apei_script.proofs.Made.{made_number}
 use Rattle.apei_script.proofs.ShadowGiving.{is_given}
 use Rattle.apei_script.proofs.DeskLines.{by_shadow_table}
 use Rattle.apei_script.proofs.desk.Desk.use_shadow_table.Goals as goal
@@ -14,14 +12,12 @@ shadow_table-requires g c = omega (arith, reach-least c.args.self.now.machine.de
 
 pub returns-clause-made : goal.returns-clause-made
 returns-clause-made g c =
-    let table_is = c.in_ok-table.ensures.table in
-    by_shadow_table g.F.Flash.tells c.args.self.now.machine c.args.self.now.own c.args.self.now.steps c.args.self.now.bridge c.args.self.now.other c.len-entries.result c.in-Ok.client _ _
-    (c.len-entries.ensures ∙ c.in_ok-table.ensures.erst.counted ∙ ap (λ (erst : Erst). erst.count) table_is)
-    (is_given g.F.Flash.tells c.attaching_never_fails.ensures _ _ _ _ _ _ c.stands.ensures.machine (table_is ∙ ap (λ (n : ℕ). shadow_erst (pieces_of n)) c.reach.ensures.value) c.new-budget.ensures
-    c.in-Ok.ensures.attaches c.in-Ok.ensures.reaches)
-    (made_number _ _ _ _ (omega arith) c.begin.ensures c.add_number.ensures.text c.add_number.ensures.short)
+    let table_is = c.in-Ok.ensures.table in
+    by_shadow_table g.F.Flash.tells c.args.self.now.machine c.args.self.now.own c.args.self.now.steps c.args.self.now.bridge c.args.self.now.other c.len-entries.result c.in-Ok-attach.client _ _
+    (c.len-entries.ensures ∙ c.in-Ok.ensures.erst.counted ∙ ap (λ (erst : Erst). erst.count) table_is)
+    (is_given g.F.Flash.tells c.attaching_never_fails.ensures _ _ _ _ _ _ c.stands.ensures.machine (table_is ∙ ap (λ (n : ℕ). shadow_erst (pieces_of n)) c.reach.ensures.value) c.new.ensures
+    c.in-Ok-attach.ensures.attaches c.in-Ok-attach.ensures.reaches)
+    c.put_number.ensures
 
-pub returns-in_err-table-clause-stopped : goal.returns-in_err-table-clause-stopped
-returns-in_err-table-clause-stopped g c =
-    let p = err_from_is_err_and c.from_residual.result c.from_residual.ensures.1 in
-    rw (p.1, p.2) (refl, Named)
+pub returns-in_default-clause-stopped : goal.returns-in_default-clause-stopped
+returns-in_default-clause-stopped g c = (refl, Named)

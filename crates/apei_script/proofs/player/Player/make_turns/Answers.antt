@@ -6,16 +6,12 @@ use Rattle.apei_script.proofs.DeskLines.{is_off}
 use Rattle.apei_script.proofs.PlayLemmas.{occurred_played, occurred_unheard, other_machine}
 use Rattle.apei_script.proofs.player.Player.make_turns.Goals as goal
 
-pub returns-else-is_on-clause-played : goal.returns-else-is_on-clause-played
-returns-else-is_on-clause-played g c =
-    on_ok_weaker c.turns.result
-    (λ h. occurred_played _ _ _ (state_of c.args.self.now.desk) (state_of c.turns.new.desk) _ _ (turns c.args.letters.now) _ _ refl
-    (is_off c.args.self.now.desk.bridge c.is_on.result c.is_on.ensures c.if-is_on.false)
-    (other_machine c.args.self.now.desk c.turns.new.desk c.turns.ensures.clients c.turns.ensures.bridge) h) c.turns.ensures.occurred
-
-pub returns-else-is_on-clause-unheard : goal.returns-else-is_on-clause-unheard
-returns-else-is_on-clause-unheard g c =
-    on_err_weaker c.turns.result
-    (λ h. occurred_unheard _ _ _ (state_of c.args.self.now.desk) (state_of c.turns.new.desk) _ _ (turns c.args.letters.now) _ _ refl
-    (is_off c.args.self.now.desk.bridge c.is_on.result c.is_on.ensures c.if-is_on.false)
-    (other_machine c.args.self.now.desk c.turns.new.desk c.turns.ensures.clients c.turns.ensures.bridge) h) c.turns.ensures.unheard
+pub returns-else-is_on : goal.returns-else-is_on
+returns-else-is_on g c =
+    let off = is_off c.args.self.now.desk.bridge c.is_on.result c.is_on.ensures c.if-is_on.false in
+    let then = other_machine c.args.self.now.desk c.turns.new.desk c.turns.ensures.clients c.turns.ensures.bridge in
+    record {
+      played = on_ok_weaker c.turns.result (λ h. occurred_played _ _ _ (state_of c.args.self.now.desk) (state_of c.turns.new.desk) _ _ (turns c.args.letters.now) _ _ refl off then h) c.turns.ensures.occurred;
+      unheard = on_err_weaker c.turns.result (λ h. occurred_unheard _ _ _ (state_of c.args.self.now.desk) (state_of c.turns.new.desk) _ _ (turns c.args.letters.now) _ _ refl off then h) c.turns.ensures.unheard;
+      cause = c.turns.ensures.cause;
+    }

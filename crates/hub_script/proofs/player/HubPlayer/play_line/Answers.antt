@@ -5,10 +5,10 @@ pub returns-in-Blank-clause-played : goal.returns-in-Blank-clause-played
 returns-in-Blank-clause-played g c = rw c.in-Blank.is (blank_played _ _ _ _)
 
 pub returns-in_ok-write_all-in-Hest-clause-played : goal.returns-in_ok-write_all-in-Hest-clause-played
-returns-in_ok-write_all-in-Hest-clause-played g c = rw c.in-Hest.is (reply_played _ _ _ _ _ _ _ _ _ c.in_ok-open-in-Hest.ensures.made c.text.ensures c.in_ok-write_all-in-Hest.ensures.all)
+returns-in_ok-write_all-in-Hest-clause-played g c = rw c.in-Hest.is (reply_played _ _ _ _ _ _ _ _ _ c.in-Ok.ensures.made c.text.ensures c.in_ok-write_all-in-Hest.ensures.all)
 
 pub returns-in_err-write_all-in-Hest-clause-unheard : goal.returns-in_err-write_all-in-Hest-clause-unheard
-returns-in_err-write_all-in-Hest-clause-unheard g c = λ fault. rw c.in-Hest.is (reply_unheard _ _ _ _ _ _ _ _ _ c.in_ok-open-in-Hest.ensures.made c.text.ensures c.in_err-write_all-in-Hest.ensures.part)
+returns-in_err-write_all-in-Hest-clause-unheard g c = λ fault. rw c.in-Hest.is (reply_unheard _ _ _ _ _ _ _ _ _ c.in-Ok.ensures.made c.text.ensures c.in_err-write_all-in-Hest.ensures.part)
 
 pub returns-in_ok-write_all-in-Error-clause-played : goal.returns-in_ok-write_all-in-Error-clause-played
 returns-in_ok-write_all-in-Error-clause-played g c = rw c.in-Error.is (reply_played _ _ _ _ _ _ _ _ _ c.submit.ensures c.text-in-Error.ensures c.in_ok-write_all-in-Error.ensures.all)

@@ -2,34 +2,27 @@ use Rattle.std.proofs.Common.{refl}
 use Rattle.std.proofs.lemmas.Result.{on_ok_weaker, on_err_weaker}
 use Rattle.hub_script.proofs.PlayLemmas.{reply_played, reply_unheard}
 use Rattle.std.proofs.lemmas.Bool.{MatchBool-at_true, MatchBool-at_false}
-use Rattle.hub_script.proofs.StageLemmas.{refused_waiting, at_hub, nobody_turned, line_at_hub, unheard_at_hub}
+use Rattle.hub_script.proofs.StageLemmas.{waiting_played, waiting_unheard, at_hub, nobody_turned, line_at_hub, unheard_at_hub}
 use Rattle.hub_script.proofs.player.HubPlayer.turn.Goals as goal
 
 pub returns-in_default-clause-played : goal.returns-in_default-clause-played
-returns-in_default-clause-played g c =
-    on_ok_weaker c.write_all.result
-    (reply_played _ _ _ _ _ _ _ _ _ (refused_waiting _ c.args.self.now.listeners.items c.args.self.now.hub _ _ c.in_default.is refl c.refuse.ensures) c.text.ensures) c.write_all.ensures.all
+returns-in_default-clause-played g c = on_ok_weaker c.write_refusal.result (waiting_played _ c.args.self.now.listeners.items _ c.args.self.now.hub _ _ _ c.in_default.is refl) c.write_refusal.ensures.all
 
 pub returns-in_default-clause-unheard : goal.returns-in_default-clause-unheard
-returns-in_default-clause-unheard g c =
-    on_err_weaker c.write_all.result
-    (reply_unheard _ _ _ _ _ _ _ _ _ (refused_waiting _ c.args.self.now.listeners.items c.args.self.now.hub _ _ c.in_default.is refl c.refuse.ensures) c.text.ensures) c.write_all.ensures.part
+returns-in_default-clause-unheard g c = on_err_weaker c.write_refusal.result (waiting_unheard _ c.args.self.now.listeners.items _ c.args.self.now.hub _ _ _ c.in_default.is refl) c.write_refusal.ensures.part
 
-pub returns-then-not-are_named-clause-played : goal.returns-then-not-are_named-clause-played
-returns-then-not-are_named-clause-played g c =
+pub returns-then-not-are_named : goal.returns-then-not-are_named
+returns-then-not-are_named g c =
     let none = MatchBool-at_false _ _ c.if-not-are_named.true c.are_named.ensures in
-    on_ok_weaker c.write_all-then-not-are_named.result
-    (reply_played _ _ _ _ _ _ _ _ _
-    (at_hub _ c.args.self.now.listeners.items c.args.self.now.hub c.in-Some.hub _ _ _ c.in-Some.is (nobody_turned _ _ _ _ none.0 none.1 none.2 c.refuse-then-not-are_named.ensures))
-    c.text-then-not-are_named.ensures) c.write_all-then-not-are_named.ensures.all
-
-pub returns-then-not-are_named-clause-unheard : goal.returns-then-not-are_named-clause-unheard
-returns-then-not-are_named-clause-unheard g c =
-    let none = MatchBool-at_false _ _ c.if-not-are_named.true c.are_named.ensures in
-    on_err_weaker c.write_all-then-not-are_named.result
-    (reply_unheard _ _ _ _ _ _ _ _ _
-    (at_hub _ c.args.self.now.listeners.items c.args.self.now.hub c.in-Some.hub _ _ _ c.in-Some.is (nobody_turned _ _ _ _ none.0 none.1 none.2 c.refuse-then-not-are_named.ensures))
-    c.text-then-not-are_named.ensures) c.write_all-then-not-are_named.ensures.part
+    record {
+      played = on_ok_weaker c.write_refusal-then-not-are_named.result
+          (reply_played _ _ _ _ _ _ _ _ _ (at_hub _ c.args.self.now.listeners.items c.args.self.now.hub c.in-Some.hub _ _ _ c.in-Some.is (nobody_turned _ _ _ _ none.0 none.1 none.2 refl)) refl)
+          c.write_refusal-then-not-are_named.ensures.all;
+      unheard = on_err_weaker c.write_refusal-then-not-are_named.result
+          (reply_unheard _ _ _ _ _ _ _ _ _ (at_hub _ c.args.self.now.listeners.items c.args.self.now.hub c.in-Some.hub _ _ _ c.in-Some.is (nobody_turned _ _ _ _ none.0 none.1 none.2 refl)) refl)
+          c.write_refusal-then-not-are_named.ensures.part;
+      cause = c.write_refusal-then-not-are_named.ensures.cause;
+    }
 
 pub take_turns-requires : goal.take_turns-requires
 take_turns-requires g c = record { valid = c.requires; named = MatchBool-at_true _ _ c.if-not-are_named.false c.are_named.ensures }
