@@ -220,31 +220,21 @@ module _ (tells : Type 0) (told : tells) (one other : MachineState) (alike : Ali
   pub answer_alike : (call also : Call) (one_after other_after : MachineState) → AskAlike call also → Allows tells one call one_after → FailedNothing one one_after → Allows tells other also other_after → FailedNothing other other_after
       → (answered call ≡ answered also) × AlikeMachines one_after other_after
   answer_alike (Read at width x) (Read place wide y) one_after other_after asks first quiet second also_quiet =
-      let at_is : place ≡ at = cc in
-      let width_is : wide ≡ width = cc in
-      let moved = subst (λ (w : Width). Allows tells other (Read at w y) other_after) width_is (subst (λ (p : Place). Allows tells other (Read p wide y) other_after) at_is second) in
-      let done = read_both at width x y one_after other_after first moved in
+      let same : Read place wide y ≡ Read at width y = cc in
+      let done = read_both at width x y one_after other_after first (subst (λ (c : Call). Allows tells other c other_after) same second) in
       let answer : x ≡ y = done.answer in
       (cc, done.alike)
   answer_alike (Write at width value x) (Write place wide number y) one_after other_after asks first quiet second also_quiet =
-      let at_is : place ≡ at = cc in
-      let width_is : wide ≡ width = cc in
-      let value_is : number ≡ value = cc in
-      let moved = subst (λ (w : Width). Allows tells other (Write at w value y) other_after) width_is (subst (λ (p : Place). Allows tells other (Write p wide value y) other_after) at_is
-      (subst (λ (n : ℕ). Allows tells other (Write place wide n y) other_after) value_is second)) in
-      let done = write_both at width value x y one_after other_after first quiet moved also_quiet in
+      let same : Write place wide number y ≡ Write at width value y = cc in
+      let done = write_both at width value x y one_after other_after first quiet (subst (λ (c : Call). Allows tells other c other_after) same second) also_quiet in
       let answer : x ≡ y = done.answer in
       (cc, done.alike)
   answer_alike (Wait micros) (Wait time) one_after other_after asks first quiet second also_quiet =
       let is : time ≡ micros = cc in
       (cc, wait_both micros one_after other_after first (subst (λ (n : ℕ). Allows tells other (Wait n) other_after) is second))
   answer_alike (Copy from target len x) (Copy source place n y) one_after other_after asks first quiet second also_quiet =
-      let from_is : source ≡ from = cc in
-      let target_is : place ≡ target = cc in
-      let len_is : n ≡ len = cc in
-      let moved = subst (λ (k : ℕ). Allows tells other (Copy from target k y) other_after) len_is (subst (λ (k : ℕ). Allows tells other (Copy from k n y) other_after) target_is
-      (subst (λ (k : ℕ). Allows tells other (Copy k place n y) other_after) from_is second)) in
-      let done = copy_both from target len x y one_after other_after first moved in
+      let same : Copy source place n y ≡ Copy from target len y = cc in
+      let done = copy_both from target len x y one_after other_after first (subst (λ (c : Call). Allows tells other c other_after) same second) in
       let answer : x ≡ y = done.answer in
       (cc, done.alike)
   answer_alike (ReadBytes at before after x) (ReadBytes place buffer afterwards y) one_after other_after asks first quiet second also_quiet =
@@ -257,10 +247,8 @@ module _ (tells : Type 0) (told : tells) (one other : MachineState) (alike : Ali
       let filled : bytes_shown x after ≡ bytes_shown y afterwards = done.1 in
       (cc, done.2)
   answer_alike (WriteBytes at bytes x) (WriteBytes place others y) one_after other_after asks first quiet second also_quiet =
-      let at_is : place ≡ at = cc in
-      let bytes_is : others ≡ bytes = cc in
-      let moved = subst (λ (b : List ℕ). Allows tells other (WriteBytes at b y) other_after) bytes_is (subst (λ (k : ℕ). Allows tells other (WriteBytes k others y) other_after) at_is second) in
-      let done = put_both at bytes x y one_after other_after first moved in
+      let same : WriteBytes place others y ≡ WriteBytes at bytes y = cc in
+      let done = put_both at bytes x y one_after other_after first (subst (λ (c : Call). Allows tells other c other_after) same second) in
       let answer : x ≡ y = done.answer in
       (cc, done.alike)
   answer_alike call also one_after other_after asks first quiet second also_quiet = absurd (cc)

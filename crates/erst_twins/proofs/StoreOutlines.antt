@@ -3,10 +3,9 @@ use Rattle.std.proofs.Common.{◌≡◌, ℕ, ◌+◌, ◌⊎◌, Bool, true, fa
 use Rattle.std.specs.Prelude.{if◌then◌else◌, is_some}
 use Rattle.std.specs.FinMap.{get}
 use Rattle.flash_words.specs.Layout.{Layout}
-use Rattle.flash_words.proofs.CrashLemmas.{Leaves-exit}
 use Rattle.record_model.specs.Records.{Stored}
 use Rattle.record_model.specs.RecordMap.{Refusal, Write, Clear, Failed, NoSpace, NotFound, Empty, TooLong, refusal_of}
-use Rattle.record_store.specs.Store.{StoreView, Pending, Idle, Writing, Clearing, stored, records_of, map_after, pending_after, doubt_after, IsReady, KeepsMap, DividesAlike, abandoned}
+use Rattle.record_store.specs.Store.{StoreView, Pending, Idle, Writing, Clearing, stored, map_after, pending_after, doubt_after, IsReady, KeepsMap, DividesAlike, abandoned}
 use Rattle.record_store.specs.Answers.{HasFaultsOf, HasDoubtOf, EndsCopies, copies_in, copies_of, copies_pending}
 use Rattle.record_store.specs.Calls.{OnlyLooks, OnlyStarts}
 use Rattle.record_store.specs.declared.errors.StoreError.{StoreError}
@@ -17,6 +16,8 @@ use Rattle.erst_device.specs.Statuses.{status_of}
 use Rattle.erst_device.specs.StoreCalls.{Stepped, StartedWrite, StartedClear}
 use Rattle.erst_device.specs.DeviceState.{KnowsCopies}
 use Rattle.erst_device.specs.Starts.{status_after}
+use Rattle.erst_device.proofs.ActionLemmas.{kept_map}
+use Rattle.erst_device.proofs.EffectLemmas.{without_fault}
 use Rattle.erst_twins.specs.Alike.{StoreOutline, unplaced, store_outline, FailsNothing}
 
 -- two outlines whose parts are the same
@@ -78,21 +79,6 @@ is_ready old new (Err errors.Empty) quiet cause doubt = doubt
 is_ready old new (Err errors.Flash) quiet cause doubt = absurd (quiet cause.1)
 is_ready old new (Err (errors.Small need)) quiet cause doubt = doubt
 
-steps_ended : {T : Type 0} (old new : StoreView) (result : Result T StoreError) → FailsNothing old new → HasFaultsOf old.flash.faults new.flash.faults result → EndsCopies old new result
-    → new.flash.steps ≡ old.flash.steps + copies_of old
-steps_ended old new (Ok done) quiet cause ends = ends
-steps_ended old new (Err (errors.NoSpace free)) quiet cause ends = ends
-steps_ended old new (Err (errors.LastGeneration id)) quiet cause ends = ends
-steps_ended old new (Err errors.NotFound) quiet cause ends = ends
-steps_ended old new (Err errors.Empty) quiet cause ends = ends
-steps_ended old new (Err errors.Flash) quiet cause ends = absurd (quiet cause.1)
-steps_ended old new (Err (errors.Small need)) quiet cause ends = ends
-
-kept_map : (old new : StoreView) → KeepsMap old new → DividesAlike old new → stored new ≡ stored old
-kept_map old new kept alike =
-    ap (λ (layout : Layout). records_of layout new.flash.told.image) alike.layout
-    ∙ Leaves-exit old.flash.told new.flash.told (λ image. records_of old.layout image ≡ stored old) kept
-
 -- a store that knows its records has no second copy to end
 pub no_copies : (new : StoreView) → new.in_doubt ≡ false → copies_of new ≡ 0
 no_copies new certain = ap (λ (b : Bool). if b then copies_in new else 0) certain
@@ -100,7 +86,8 @@ no_copies new certain = ap (λ (b : Bool). if b then copies_in new else 0) certa
 looked_by : {T : Type 0} (old new : StoreView) (result : Result T StoreError) (pending : Pending) → FailsNothing old new → KeepsMap old new → EndsCopies old new result → new.in_doubt ≡ false → unplaced new.pending ≡ pending
     → DividesAlike old new → HasFaultsOf old.flash.faults new.flash.faults result → store_outline new ≡ record (looked (store_outline old)) { pending = pending }
 looked_by old new result pending quiet kept ended certain is alike cause =
-    same_outline (store_outline new) (record (looked (store_outline old)) { pending = pending }) alike.layout (kept_map old new kept alike) (steps_ended old new result quiet cause ended) certain is (no_copies new certain)
+    same_outline (store_outline new) (record (looked (store_outline old)) { pending = pending }) alike.layout (kept_map old new kept alike)
+    (without_fault (new.flash.steps ≡ old.flash.steps + copies_of old) old.flash.faults new.flash.faults result cause ended quiet) certain is (no_copies new certain)
 
 -- a call that only looks
 pub only_looked : {T : Type 0} (tells : Type 0) → tells → (old new : StoreView) (result : Result T StoreError) → FailsNothing old new → OnlyLooks tells old new result → store_outline new ≡ looked (store_outline old)

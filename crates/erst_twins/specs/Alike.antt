@@ -39,37 +39,17 @@ pub record StoreOutline : Type 0 where
   pub copies : ℕ
 
 abbrev pub store_outline : StoreView → StoreOutline
-store_outline store = record {
-  layout = store.layout;
-  records = stored store;
-  steps = store.flash.steps;
-  in_doubt = store.in_doubt;
-  pending = unplaced store.pending;
-  copies = copies_of store;
-}
+store_outline store =
+    record { layout = store.layout; records = stored store; steps = store.flash.steps; in_doubt = store.in_doubt; pending = unplaced store.pending; copies = copies_of store }
 
 -- the registers of a device, and the outline of its store
-pub record DeviceOutline : Type 0 where
-  pub value : ℕ
-  pub operation : Option Operation
-  pub offset : ℕ
-  pub id : ℕ
-  pub status : CommandStatus
-  pub cursor : ℕ
-  pub reading : Option ℕ
-  pub store : StoreOutline
+abbrev pub DeviceOutline : Type 0
+DeviceOutline =
+    record { value : ℕ; operation : Option Operation; offset : ℕ; id : ℕ; status : CommandStatus; cursor : ℕ; reading : Option ℕ; store : StoreOutline }
 
 abbrev pub device_outline : DeviceState → DeviceOutline
-device_outline device = record {
-  value = device.value;
-  operation = device.operation;
-  offset = device.offset;
-  id = device.id;
-  status = device.status;
-  cursor = device.cursor;
-  reading = device.reading;
-  store = store_outline device.store;
-}
+device_outline device =
+    record { value = device.value; operation = device.operation; offset = device.offset; id = device.id; status = device.status; cursor = device.cursor; reading = device.reading; store = store_outline device.store }
 
 -- the outline of a machine's device, with all else that is seen of the machine
 pub record MachineOutline : Type 0 where
@@ -79,12 +59,7 @@ pub record MachineOutline : Type 0 where
   pub waited : ℕ
 
 abbrev pub machine_outline : MachineState → MachineOutline
-machine_outline machine = record {
-  device = device_outline machine.device;
-  memory = machine.memory;
-  handover = machine.handover;
-  waited = machine.waited;
-}
+machine_outline machine = record { device = device_outline machine.device; memory = machine.memory; handover = machine.handover; waited = machine.waited }
 
 -- two devices, or machines, are alike: they have one outline
 abbrev pub AlikeDevices : DeviceState → DeviceState → Type 0
