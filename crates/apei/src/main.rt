@@ -4,42 +4,30 @@
 #![tactic(auto)]
 
 use apei_bytes::{StdSink, StdSource};
-use apei_cli::{Plan, PlanError, Status, plan, run, sim_flash};
+use apei_cli::{Plan, Status, WordsError, plan, run, sim_flash};
 use apei_notify::{Listener, Tally};
+use clap_words::{end, words};
 use file_flash::FileFlash;
 use flash_model::{Flash, Geometry};
-use std::env;
-use std::io::ErrorKind;
 use std::process::ExitCode;
 
 fn main(rt: HostRuntime) -> ExitCode {
-    let status = play(&rt);
-    if status != Status::Done {
-        // Where standard error is closed nothing can be said.
-        let _ = eprintln!(rt; "{status}");
-    }
-    ExitCode::from(status.number())
+    let status = play(&rt).unwrap_or_else(|error| Status::from(error));
+    end(&rt, &status, status.number())
 }
 
 // Does what the words behind the program's name ask for.
-fn play(rt: &HostRuntime) -> Status {
-    let words = match words(rt) {
-        Ok(words) => words,
-        Err(status) => return status,
-    };
-    let plan = match plan(rt.alloc(), &words) {
-        Ok(plan) => plan,
-        Err(PlanError::BadWords) => return Status::BadWords,
-        Err(PlanError::Memory) => return Status::Memory,
-    };
+fn play(rt: &HostRuntime) -> Result<Status, WordsError> {
+    let words = words(rt)?;
+    let plan = plan(rt.alloc(), &words)?;
     if let Some((path, geometry)) = image_of(&plan) {
         let sector = geometry.sector() as u32;
         let flash = FileFlash::attach(rt, rt.alloc(), path, sector, geometry.size());
-        return play_on(rt, &words, flash);
+        return Ok(play_on(rt, &words, flash));
     }
     match sim_flash(rt.alloc(), &plan) {
-        Ok(flash) => play_on(rt, &words, flash),
-        Err(_) => Status::Memory,
+        Ok(flash) => Ok(play_on(rt, &words, flash)),
+        Err(_) => Ok(Status::Memory),
     }
 }
 
@@ -66,16 +54,4 @@ fn play_on<F: Flash + Drop>(rt: &HostRuntime, words: &[String], flash: F) -> Sta
     let mut out = StdSink::new(rt.stdout());
     let (status, _, _) = run(rt.alloc(), words, &mut script, &mut out, flash, listeners);
     status
-}
-
-// The words behind the program's name. One that is not UTF-8 is not of the program's form.
-fn words(rt: &HostRuntime) -> Result<Vec<String>, Status> {
-    match env::args(rt) {
-        Ok(words) => words
-            .skip(1)
-            .collect(rt.alloc())
-            .map_err(|_| Status::Memory),
-        Err(error) if error.kind() == ErrorKind::InvalidData => Err(Status::BadWords),
-        Err(_) => Err(Status::Memory),
-    }
 }

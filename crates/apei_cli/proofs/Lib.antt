@@ -2,5 +2,8 @@ pub mod ToldLemmas
 pub mod RunLemmas
 pub mod WholeLemmas
 pub mod CompleteLemmas
+pub mod RecordLemmas
+pub mod SummaryLemmas
+pub mod GenerateLemmas
 pub mod JobLemmas
 pub mod EndLemmas

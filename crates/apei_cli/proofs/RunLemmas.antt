@@ -34,11 +34,11 @@ pub playable : (tells : Type 0) (a b : Reading) (rest rest_now text : List ℕ) 
     → CanPlay (last_line b) line
 playable tells a b rest rest_now text line next is read = record { within = next.within; means = subst (λ (t : List ℕ). Means t line) is read }
 
-AreCounted-push : (some : List Played) (one : Played) → AreCounted some → changes_of one.left.machine ≡ step_of one.left → AreCounted (some ++ one ∷ [])
+-- one more line
+pub AreCounted-push : (some : List Played) (one : Played) → AreCounted some → changes_of one.left.machine ≡ step_of one.left → AreCounted (some ++ one ∷ [])
 AreCounted-push [] one before is = (is, tt)
 AreCounted-push (played ∷ rest) one before is = (before.0, AreCounted-push rest one before.1 is)
 
--- one more line
 pub ArePlayed-push : (texts : List Line) (text : Line) (some : List Played) (played : Played) → ArePlayed texts some → CanPlay text played.line → ArePlayed (texts ++ text ∷ []) (some ++ played ∷ [])
 ArePlayed-push [] text [] played are is = (is, tt)
 ArePlayed-push [] text (first ∷ some) played are is = absurd are
@@ -49,7 +49,7 @@ text_of-push : (some : List Played) (played : Played) → text_of (some ++ playe
 text_of-push [] played = append-nil (reply_of played)
 text_of-push (first ∷ some) played = ap (λ (bs : List ℕ). reply_of first ++ bs) (text_of-push some played) ∙ sym (append_assoc (reply_of first) (text_of some) (reply_of played))
 
-blocks_of-push : (some : List Played) (played : Played) → blocks_of (some ++ played ∷ []) ≡ blocks_of some ++ played.blocks
+pub blocks_of-push : (some : List Played) (played : Played) → blocks_of (some ++ played ∷ []) ≡ blocks_of some ++ played.blocks
 blocks_of-push [] played = append-nil played.blocks
 blocks_of-push (first ∷ some) played = ap (λ (bs : List (List ℕ)). first.blocks ++ bs) (blocks_of-push some played) ∙ sym (append_assoc first.blocks (blocks_of some) played.blocks)
 
@@ -63,12 +63,12 @@ counts_after-push : (wants : List (ℕ → Bool)) (some : List Played) (played :
 counts_after-push wants [] played counts = refl
 counts_after-push wants (first ∷ some) played counts = counts_after-push wants some played (heard_after wants first.blocks counts)
 
-Follows-push : (tells : Type 0) (wants : List (ℕ → Bool)) (counts : List ℕ) (first : PlayerState) (some : List Played) (mid : PlayerState) (played : Played) → Follows tells wants counts first some mid
+pub Follows-push : (tells : Type 0) (wants : List (ℕ → Bool)) (counts : List ℕ) (first : PlayerState) (some : List Played) (mid : PlayerState) (played : Played) → Follows tells wants counts first some mid
     → LinePlayed tells (counts_after wants some counts) mid played.line played.said played.blocks played.steps played.left → Follows tells wants counts first (some ++ played ∷ []) played.left
 Follows-push tells wants counts first [] mid played is line = (subst (λ (p : PlayerState). LinePlayed tells counts p played.line played.said played.blocks played.steps played.left) is line, refl)
 Follows-push tells wants counts first (one ∷ some) mid played is line = (is.0, Follows-push tells wants (heard_after wants one.blocks counts) one.left some mid played is.1 line)
 
-abbrev played_as : ScriptLine → List Reply → List (List ℕ) → List Step → PlayerState → Played
+abbrev pub played_as : ScriptLine → List Reply → List (List ℕ) → List Step → PlayerState → Played
 played_as line said blocks steps left = record { line = line; said = said; blocks = blocks; steps = steps; left = left }
 
 module _ {L : Type 0} (hearing : L → Hearing) (told_source told_sink tells : Type 0) where
@@ -155,21 +155,30 @@ module _ {L : Type 0} (hearing : L → Hearing) (told_source told_sink tells : T
     counted = λ told. AreCounted-push so_far.played (played_as line plays.said plays.blocks plays.steps new) (so_far.counted told) (counts told);
   }
 
-  -- a run whose last line was played whole, and whose machine is as that left it
+  -- a run that ends behind the lines that were played whole, with the listeners as these left them
+  stopped : (script rest rest_now written middle now : List ℕ) (first members members_now : List L) (old mid new : PlayerState) (a : Reading) (status : Status)
+      → (so_far : SoFar hearing told_source told_sink tells script rest written middle first members old mid a)
+      → EndsLines told_source told_sink tells script rest_now written now so_far.played mid.machine new.machine status → LeavesLast tells mid.machine new.machine status → members_now ≡ members
+      → (status ≡ FlashFault → HasHappened tells mid.machine new.machine × Rose mid.machine.device.store.flash.faults new.machine.device.store.flash.faults)
+      → PlaysScript hearing told_source told_sink tells script rest_now written now first members_now old new status
+  stopped script rest rest_now written middle now first members members_now old mid new a status so_far lines behind quiet fault = record {
+    played = so_far.played;
+    last = mid;
+    history = so_far.history;
+    lines = lines;
+    behind = behind;
+    told = subst (Told hearing (blocks_of so_far.played) first) (sym quiet) so_far.told;
+    counted = so_far.counted;
+    fault = fault;
+  }
+
+  -- and whose machine is as they left it
   as_so_far : (script rest rest_now written middle now : List ℕ) (first members : List L) (old new : PlayerState) (a : Reading) (status : Status)
       → (so_far : SoFar hearing told_source told_sink tells script rest written middle first members old new a)
       → EndsLines told_source told_sink tells script rest_now written now so_far.played new.machine new.machine status → LeavesLast tells new.machine new.machine status → (status ≡ FlashFault → ⊥)
       → PlaysScript hearing told_source told_sink tells script rest_now written now first members old new status
-  as_so_far script rest rest_now written middle now first members old new a status so_far lines behind other = record {
-    played = so_far.played;
-    last = new;
-    history = so_far.history;
-    lines = lines;
-    behind = behind;
-    told = so_far.told;
-    counted = so_far.counted;
-    fault = λ e. absurd (other e);
-  }
+  as_so_far script rest rest_now written middle now first members old new a status so_far lines behind other =
+      stopped script rest rest_now written middle now first members members old new new a status so_far lines behind refl (λ e. absurd (other e))
 
   -- there is no next line
   pub ends_none : (script rest rest_now written now : List ℕ) (first members : List L) (old new : PlayerState) (a b : Reading) (ending : ScriptEnd)
@@ -257,32 +266,25 @@ module _ {L : Type 0} (hearing : L → Hearing) (told_source told_sink tells : T
       → SoFar hearing told_source told_sink tells script rest written middle first members old mid a → IsNextLine told_source a b rest rest_now → CanPlay (last_line b) line
       → Stops tells mid line new stop → stop ≡ RestartFailed → members_now ≡ members → now ≡ middle
       → PlaysScript hearing told_source told_sink tells script rest_now written now first members_now old new FlashFault
-  ends_failed script rest rest_now written middle now first members members_now old mid new a b line stop so_far next is stops why quiet said = record {
-    played = so_far.played;
-    last = mid;
-    history = so_far.history;
-    lines = (
-      (λ told. record {
-        line = last_line b;
-        number = b.number;
-        stops = stops_at script rest rest_now written middle first members old mid a b b.number so_far next refl told;
-        asked = line;
-        is = is;
-        fails = subst (FailsRestart tells mid.machine line) left failed.1;
-      }),
-      λ told. said ∙ so_far.text told,
-    );
-    behind = (line, subst (FailsRestart tells mid.machine line) left failed.1);
-    told = subst (Told hearing (blocks_of so_far.played) first) (sym quiet) so_far.told;
-    counted = so_far.counted;
-    fault = λ e. subst (λ (m : MachineState). HasHappened tells mid.machine m × Rose mid.machine.device.store.flash.faults m.device.store.flash.faults) left (failed.2, failed.3);
-  }
+  ends_failed script rest rest_now written middle now first members members_now old mid new a b line stop so_far next is stops why quiet said =
+      stopped script rest rest_now written middle now first members members_now old mid new a FlashFault so_far (
+        (λ told. record { line = last_line b; number = b.number; stops = at told; asked = line; is = is; fails = fails }),
+        λ told. said ∙ so_far.text told,
+      )
+      (line, fails) quiet
+      (λ e. subst (λ (m : MachineState). HasHappened tells mid.machine m × Rose mid.machine.device.store.flash.faults m.device.store.flash.faults) left (failed.2, failed.3))
     where
       failed : Stops tells mid line new RestartFailed
       failed = subst (Stops tells mid line new) why stops
 
       left : failed.0 ≡ new.machine
       left = sym (ap (λ (p : PlayerState). p.machine) failed.4)
+
+      fails : FailsRestart tells mid.machine line new.machine
+      fails = subst (FailsRestart tells mid.machine line) left failed.1
+
+      at : told_source → StopsAt script so_far.played b.number (last_line b)
+      at = stops_at script rest rest_now written middle first members old mid a b b.number so_far next refl
 
   -- there was no memory for its table
   pub ends_memory : (script rest rest_now written middle now : List ℕ) (first members members_now : List L) (old mid new : PlayerState) (a b : Reading) (line : ScriptLine) (stop : PlayStop)
@@ -291,23 +293,9 @@ module _ {L : Type 0} (hearing : L → Hearing) (told_source told_sink tells : T
       → PlaysScript hearing told_source told_sink tells script rest_now written now first members_now old new Memory
   ends_memory script rest rest_now written middle now first members members_now old mid new a b line stop so_far next is stops why quiet said =
       let left : Stops tells mid line new NoMemory = subst (Stops tells mid line new) why stops in
-      record {
-        played = so_far.played;
-        last = mid;
-        history = so_far.history;
-        lines = (
-          (λ told. record {
-            line = last_line b;
-            number = b.number;
-            stops = stops_at script rest rest_now written middle first members old mid a b b.number so_far next refl told;
-            asked = line;
-            is = is;
-            brings_table = left.1;
-          }),
-          λ told. said ∙ so_far.text told,
-        );
-        behind = ap (λ (p : PlayerState). p.machine) left.0;
-        told = subst (Told hearing (blocks_of so_far.played) first) (sym quiet) so_far.told;
-        counted = so_far.counted;
-        fault = λ e. absurd (cc e);
-      }
+      let at = stops_at script rest rest_now written middle first members old mid a b b.number so_far next refl in
+      stopped script rest rest_now written middle now first members members_now old mid new a Memory so_far (
+        (λ told. record { line = last_line b; number = b.number; stops = at told; asked = line; is = is; brings_table = left.1 }),
+        λ told. said ∙ so_far.text told,
+      )
+      (ap (λ (p : PlayerState). p.machine) left.0) quiet (λ e. absurd (cc e))

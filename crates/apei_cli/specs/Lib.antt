@@ -1,9 +1,15 @@
 pub mod Played
 pub mod Statuses
 pub mod Runs
+pub mod LineLaws
 pub mod Numbers
 pub mod Messages
 pub mod Sim
 pub mod Orders
 pub mod HubRuns
+pub mod Records
+pub mod Commands
+pub mod Tallies
+pub mod Generated
+pub mod Summaries
 pub mod Jobs

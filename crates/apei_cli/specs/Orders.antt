@@ -15,13 +15,5 @@ pub record Order : Type 0 where
   pub show : Show
 
 abbrev pub order_of : Plan → Order
-order_of plan = record {
-  job = plan.job;
-  sector = plan.sector;
-  per_slot = plan.per_slot;
-  slots = plan.slots;
-  steps = plan.steps;
-  count = plan.count;
-  seed = plan.seed;
-  show = plan.show;
-}
+order_of plan =
+    record { job = plan.job; sector = plan.sector; per_slot = plan.per_slot; slots = plan.slots; steps = plan.steps; count = plan.count; seed = plan.seed; show = plan.show }

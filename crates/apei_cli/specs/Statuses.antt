@@ -1,5 +1,7 @@
 -- What each status of a run says of its script.
 use Rattle.std.specs.Prelude.{◌≡◌, ℕ, ◌+◌, List, [], ◌∷◌, ◌++◌, length}
+use Rattle.clap_words.specs.declared.error.WordsError.{WordsError}
+use Rattle.clap_words.specs.declared.error.WordsError.TheVariants as words
 use Rattle.line_grammar.specs.Columns.{BreaksAt}
 use Rattle.erst_machine.specs.MachineState.{MachineState}
 use Rattle.script_text.specs.ScriptGrammar.{Line as ScriptLine, IsLine}
@@ -22,6 +24,11 @@ status_of ending.SourceFault = SourceFault
 status_of ending.SinkFault = SinkFault
 status_of (ending.TooLong line) = TooLong line
 status_of ending.Memory = Memory
+
+-- the status of words that are not taken
+abbrev pub status_of_words : WordsError → Status
+status_of_words words.BadWords = BadWords
+status_of_words words.Memory = Memory
 
 -- the lines before one of the script were played, and what that line is
 pub record StopsAt (script : List ℕ) (played : List Played) (number : ℕ) (line : Line) : Type 0 where

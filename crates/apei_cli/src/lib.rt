@@ -2,6 +2,7 @@
 #![tactic(auto)]
 
 mod boot;
+mod generate;
 mod generated;
 mod hub;
 mod program;
@@ -9,7 +10,7 @@ mod script;
 mod sim;
 mod status;
 
-pub use apei_words::{Job, Plan, PlanError, Show, plan};
+pub use apei_words::{Job, Plan, Show, WordsError, plan};
 pub use program::run;
 pub use sim::sim_flash;
 pub use status::Status;

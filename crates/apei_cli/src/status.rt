@@ -2,6 +2,7 @@
 ghost use Rattle.std.specs.Prelude.{◌≡◌};
 ghost use Rattle.apei_cli.specs.Statuses.{status_of};
 
+use apei_words::WordsError;
 use script_lines::ScriptEnd;
 use std::fmt;
 
@@ -97,5 +98,18 @@ pub fn status_of(end: ScriptEnd) -> Status
         ScriptEnd::SinkFault => Status::SinkFault,
         ScriptEnd::TooLong { line } => Status::TooLong { line },
         ScriptEnd::Memory => Status::Memory,
+    }
+}
+
+impl From<WordsError> for Status {
+    ghost use Rattle.apei_cli.specs.Statuses.{status_of_words};
+
+    ghost from_gives = { λ error status. status ≡ status_of_words error };
+
+    fn from(error: WordsError) -> Self {
+        match error {
+            WordsError::BadWords => Status::BadWords,
+            WordsError::Memory => Status::Memory,
+        }
     }
 }

@@ -1,11 +1,13 @@
 -- The exit numbers of a run.
 use Rattle.std.specs.Prelude.{ℕ}
+use Rattle.clap_words.specs.declared.error.WordsError.TheVariants as words
 use Rattle.apei_look.specs.declared.status.Status.{Status}
-use Rattle.apei_look.specs.declared.status.Status.TheVariants.{Done, BadWords, SinkFault, File, BadGeometry, Length, Memory, NoRecord}
+use Rattle.apei_look.specs.declared.status.Status.TheVariants.{Done, Words, SinkFault, File, BadGeometry, Length, Memory, NoRecord}
 
 abbrev pub number_of : Status → ℕ
 number_of Done = 0
-number_of BadWords = 1
+number_of (Words words.BadWords) = 1
+number_of (Words words.Memory) = 8
 number_of SinkFault = 4
 number_of (File fault) = 5
 number_of BadGeometry = 6

@@ -9,34 +9,23 @@ mod status;
 
 use crate::image_file::read_file;
 use crate::status::Status;
+use clap_words::{WordsError, end, words};
 use flash_model::Geometry;
 use image_survey::{find, record_at, survey_slots};
 use look_text::{Image, json_of, text_of};
-use look_words::{Options, OptionsError, Show, options_of};
-use std::env;
-use std::io::{ErrorKind, Write};
+use look_words::{Options, Show, options_of};
+use std::io::Write;
 use std::process::ExitCode;
 
 fn main(rt: HostRuntime) -> ExitCode {
-    let status = run(&rt);
-    if status != Status::Done {
-        // Where standard error is closed nothing can be said.
-        let _ = eprintln!(rt; "{status}");
-    }
-    ExitCode::from(status.number())
+    let status = run(&rt).unwrap_or_else(|error| Status::from(error));
+    end(&rt, &status, status.number())
 }
 
 // Does what the words behind the program's name ask for.
-fn run(rt: &HostRuntime) -> Status {
-    let words = match words(rt) {
-        Ok(words) => words,
-        Err(status) => return status,
-    };
-    match options_of(rt.alloc(), &words) {
-        Ok(options) => look(rt, &options),
-        Err(OptionsError::BadWords) => Status::BadWords,
-        Err(OptionsError::Memory) => Status::Memory,
-    }
+fn run(rt: &HostRuntime) -> Result<Status, WordsError> {
+    let options = options_of(rt.alloc(), &words(rt)?)?;
+    Ok(look(rt, &options))
 }
 
 // Looks at the image. Where the geometry is outside its limits no file is touched.
@@ -91,17 +80,5 @@ fn write(rt: &HostRuntime, bytes: &[u8]) -> Status {
     match rt.stdout().write_all(bytes) {
         Ok(()) => Status::Done,
         Err(_) => Status::SinkFault,
-    }
-}
-
-// The words behind the program's name. One that is not UTF-8 is not of the program's form.
-fn words(rt: &HostRuntime) -> Result<Vec<String>, Status> {
-    match env::args(rt) {
-        Ok(words) => words
-            .skip(1)
-            .collect(rt.alloc())
-            .map_err(|_| Status::Memory),
-        Err(error) if error.kind() == ErrorKind::InvalidData => Err(Status::BadWords),
-        Err(_) => Err(Status::Memory),
     }
 }

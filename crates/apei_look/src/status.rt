@@ -3,6 +3,7 @@ ghost use Rattle.std.specs.Prelude.{◌≡◌};
 ghost use Rattle.apei_look.specs.Numbers.{number_of};
 
 use crate::image_file::FileFault;
+use clap_words::WordsError;
 use std::alloc::AllocError;
 use thiserror::Error;
 
@@ -12,9 +13,9 @@ pub enum Status {
     /// What was asked for was written.
     #[error("apei-look: done")]
     Done,
-    /// The words are not of the program's form.
-    #[error("apei-look: bad words")]
-    BadWords,
+    /// The words are not taken.
+    #[error("apei-look: {0}")]
+    Words(#[from] WordsError),
     /// The output could not be written.
     #[error("apei-look: write failed")]
     SinkFault,
@@ -42,11 +43,11 @@ impl Status {
     {
         match self {
             Status::Done => 0,
-            Status::BadWords => 1,
+            Status::Words(WordsError::BadWords) => 1,
             Status::SinkFault => 4,
             Status::File(_) => 5,
             Status::BadGeometry | Status::Length { .. } => 6,
-            Status::Memory => 8,
+            Status::Words(WordsError::Memory) | Status::Memory => 8,
             Status::NoRecord { .. } => 10,
         }
     }

@@ -7,26 +7,20 @@ mod status;
 use crate::status::Status;
 use apei_bytes::{StdSink, StdSource};
 use check_names::{NamesStop, write_named};
-use std::env;
-use std::io::ErrorKind;
+use clap_words::{WordsError, end, words};
 use std::process::ExitCode;
 
 fn main(rt: HostRuntime) -> ExitCode {
     let status = run(&rt);
-    if status != Status::Done {
-        // Where standard error is closed nothing can be said.
-        let _ = eprintln!(rt; "{status}");
-    }
-    ExitCode::from(status.number())
+    end(&rt, &status, status.number())
 }
 
 // The program takes no words behind its name.
 fn run(rt: &HostRuntime) -> Status {
-    match env::args(rt) {
-        Ok(words) if words.len() <= 1 => name_lines(rt),
-        Ok(_) => Status::BadWords,
-        Err(error) if error.kind() == ErrorKind::InvalidData => Status::BadWords,
-        Err(_) => Status::Stopped(NamesStop::Memory),
+    match words(rt) {
+        Ok(words) if words.is_empty() => name_lines(rt),
+        Ok(_) | Err(WordsError::BadWords) => Status::BadWords,
+        Err(WordsError::Memory) => Status::Stopped(NamesStop::Memory),
     }
 }
 

@@ -6,7 +6,7 @@ use Rattle.clap.specs.Takes.{default_passes}
 use Rattle.apei_words.proofs.TakesLemmas.{taken}
 use Rattle.apei_words.specs.Commands.{the_command}
 
-pub simple : is_simple the_command ≡ true
+simple : is_simple the_command ≡ true
 unfolding the_command
 simple = refl
 

@@ -10,7 +10,8 @@ use Rattle.apei_words.specs.Decimals.{IsNumber}
 use Rattle.apei_words.specs.declared.job.Job.{Job}
 use Rattle.apei_words.specs.declared.job.Plan.{Plan}
 use Rattle.apei_words.specs.declared.setting.Setting.TheVariants.{Image, Sector, PerSlot, Slots, Steps, Cut, Fail, FailRead, Torn, Count, Seed, Show as TheShow}
-use Rattle.apei_words.specs.Plan.{IsCount, IsGiven, IsGivenOr, IsImage, IsPlanIn, IsPlanOf, IsShow, given, texts_of}
+use Rattle.clap_words.specs.Commands.{texts_of}
+use Rattle.apei_words.specs.Plan.{IsCount, IsGiven, IsGivenOr, IsImage, IsPlanIn, IsPlanOf, IsShow, given}
 
 one_number : (text : Text) (m n : ℕ) → IsNumber text m → IsNumber text n → m ≡ n
 one_number text m n a b = same_number m n a.fits b.fits (sym a.digits ∙ b.digits)

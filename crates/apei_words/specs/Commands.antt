@@ -1,8 +1,8 @@
 -- The command that clap reads: its job, and its options.
 use Rattle.std.specs.Prelude.{Bool, true, false, List, [], ◌∷◌, Option, Some, None, codes, fold, if◌then◌else◌}
 use Rattle.std.specs.Str.{bytes_eq}
-use Rattle.clap.specs.Words.{App, Rule, Text, new_app, new_rule, with_rule}
-use Rattle.clap.specs.Simple.{on_top}
+use Rattle.clap.specs.Words.{App, Rule, Text, new_rule, with_rule}
+use Rattle.clap_words.specs.Commands.{bare, with_option}
 use Rattle.apei_words.specs.declared.job.Job.{Job}
 use Rattle.apei_words.specs.declared.job.Job.TheVariants.{Play, Sim, Check, Gen, Hub}
 use Rattle.apei_words.specs.declared.setting.Setting.{Setting}
@@ -40,58 +40,33 @@ plays Check = false
 plays Hub = false
 plays _ = true
 
-abbrev pub is_play : Job → Bool
-is_play Play = true
-is_play _ = false
+abbrev pub is : Job → Job → Bool
+is Play Play = true
+is Sim Sim = true
+is Check Check = true
+is Gen Gen = true
+is Hub Hub = true
+is _ _ = false
 
-abbrev pub is_sim : Job → Bool
-is_sim Sim = true
-is_sim _ = false
-
-abbrev pub is_check : Job → Bool
-is_check Check = true
-is_check _ = false
-
-abbrev pub is_gen : Job → Bool
-is_gen Gen = true
-is_gen _ = false
-
--- which jobs an option may be given with
+-- which jobs an option may be given with: those that say how a simulated flash fails, only with `sim`
 abbrev pub belongs : Setting → Job → Bool
-belongs Image = is_play
+belongs Image = is Play
 belongs Sector = plays
 belongs PerSlot = plays
 belongs Slots = plays
 belongs Steps = plays
-belongs Cut = is_sim
-belongs Fail = is_sim
-belongs FailRead = is_sim
-belongs Torn = is_sim
-belongs Count = is_gen
-belongs Seed = is_gen
-belongs Show = is_check
+belongs Count = is Gen
+belongs Seed = is Gen
+belongs Show = is Check
+belongs _ = is Sim
 
 -- the first positional, which has to be there
 abbrev pub job_rule : Rule
 job_rule = record (new_rule (codes "job")) { required = true }
 
--- an option is read back by its long name, and has one value, a text
-abbrev pub setting_rule : Setting → Rule
-setting_rule setting = record (new_rule (name_of setting)) { long = Some (name_of setting) }
-
--- no word is the program's name, and clap adds no flag and no subcommand of its own
-abbrev pub bare : App
-bare =
-    on_top (λ top. record top {
-      no_binary_name = true;
-      disable_help_flag = true;
-      disable_version_flag = true;
-      disable_help_subcommand = true;
-    }) (new_app (codes "apei"))
-
 abbrev pub with_setting : App → Setting → App
-with_setting app setting = with_rule app (setting_rule setting)
+with_setting app setting = with_option app (name_of setting)
 
 -- the command: one positional, the job, and the options
 unfoldable pub the_command : App
-the_command = fold with_setting (with_rule bare job_rule) settings
+the_command = fold with_setting (with_rule (bare (codes "apei")) job_rule) settings

@@ -1,22 +1,19 @@
 -- The plan that a command line makes.
-use Rattle.std.specs.Prelude.{◌≡◌, ◌||◌, ℕ, ⊤, ◌^◌, ◌-◌, ◌<◌, ◌≤◌, Bool, true, false, not, List, length, map, Option, Some, None, is_some, option_and_then, String, string_bytes, Ok, codes}
+use Rattle.std.specs.Prelude.{◌≡◌, ◌||◌, ℕ, ⊤, ◌^◌, ◌-◌, ◌<◌, ◌≤◌, Bool, true, false, not, List, length, Option, Some, None, is_some, option_and_then, String, string_bytes, Ok, codes}
 use Rattle.std.specs.List.{AllPass}
 use Rattle.std.specs.declared.alloc.Global.{Global}
 use Rattle.bitflags.specs.Text.{name_piece, read_text}
 use Rattle.apei_check.specs.Shown.{shown_flags}
 use Rattle.apei_check.specs.declared.text.show.Show.{Show}
 use Rattle.clap.specs.Words.{Row, Text, first_of, matches_of, takes}
-use Rattle.apei_words.specs.Commands.{belongs, is_gen, is_play, job_of, name_of, settings, the_command}
+use Rattle.clap_words.specs.Commands.{texts_of}
+use Rattle.apei_words.specs.Commands.{belongs, is, job_of, name_of, settings, the_command}
 use Rattle.apei_words.specs.Decimals.{IsNumber}
 use Rattle.apei_words.specs.declared.job.Job.{Job}
 use Rattle.apei_words.specs.declared.job.Plan.{Plan}
-use Rattle.apei_words.specs.declared.job.PlanError.{PlanError}
-use Rattle.apei_words.specs.declared.job.PlanError.TheVariants.{BadWords}
+use Rattle.apei_words.specs.declared.job.Job.TheVariants.{Play, Gen}
 use Rattle.apei_words.specs.declared.setting.Setting.{Setting}
 use Rattle.apei_words.specs.declared.setting.Setting.TheVariants.{Image, Sector, PerSlot, Slots, Steps, Cut, Fail, FailRead, Torn, Count, Seed, Show as TheShow}
-
-abbrev pub texts_of : List (String Global) → List Text
-texts_of words = map string_bytes words
 
 -- the text that an option was given
 abbrev pub given : Setting → List Row → Option Text
@@ -52,24 +49,20 @@ greatest = 2 ^ 64 - 1
 
 -- the path of the image, which is not empty, and which the job `play` has to be given
 abbrev pub IsImage : Job → Option Text → Option (String Global) → Type 0
-IsImage job None None = is_play job ≡ false
+IsImage job None None = is Play job ≡ false
 IsImage job None (Some image) = ⊥
 IsImage job (Some path) None = ⊥
 IsImage job (Some path) (Some image) = (string_bytes image ≡ path) × (0 < length path)
 
 -- the count, which the job `gen` has to be given
 abbrev pub IsCount : Job → Option Text → ℕ → Type 0
-IsCount job None n = (is_gen job ≡ false) × (n ≡ 0)
+IsCount job None n = (is Gen job ≡ false) × (n ≡ 0)
 IsCount job (Some text) n = IsNumberUpTo 100000 text n
 
 -- the flags of which the text has the names, as `bitflags` reads them strictly; the heads alone where none was given
 abbrev pub IsShow : Option Text → Show → Type 0
 IsShow None show = show.0 ≡ 1
 IsShow (Some text) show = read_text (name_piece shown_flags) text ≡ Ok show.0
-
--- nothing fits
-abbrev pub NoneFits : {X : Type 0} → (X → Type 0) → PlanError → Type 0
-NoneFits {X} Fits error = (error ≡ BadWords) × ((x : X) → ¬ Fits x)
 
 -- the plan has the job, and the value of each option or its default
 pub record IsPlanIn (rows : List Row) (plan : Plan) : Type 0 where

@@ -1,10 +1,5 @@
 // What a command line asks for.
-ghost use Rattle.apei_words.specs.declared.job.PlanError.TheVariants.{Memory as NoMemory};
-ghost use Rattle.std.specs.Prelude.{◌≡◌};
-
 use apei_check::Show;
-use std::alloc::AllocError;
-use thiserror::Error;
 
 /// What the program does.
 #[derive(Clone, Copy, Debug, PartialEq, Eq)]
@@ -48,23 +43,4 @@ pub struct Plan {
     pub seed: u64,
     /// What is shown of a checked item.
     pub show: Show,
-}
-
-/// Why there is no plan.
-#[derive(Clone, Copy, Debug, PartialEq, Eq, Error)]
-pub enum PlanError {
-    /// The command line is not of the program's form.
-    #[error("bad words")]
-    BadWords,
-    /// There was no memory.
-    #[error("out of memory")]
-    Memory,
-}
-
-impl From<AllocError> for PlanError {
-    ghost from_gives = { λ _ error. error ≡ NoMemory };
-
-    fn from(_: AllocError) -> Self {
-        PlanError::Memory
-    }
 }

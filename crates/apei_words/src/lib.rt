@@ -10,6 +10,7 @@ mod values;
 mod words;
 
 pub use apei_check::Show;
-pub use job::{Job, Plan, PlanError};
+pub use clap_words::WordsError;
+pub use job::{Job, Plan};
 pub use laws::words_ask_for_one_plan;
 pub use words::plan;

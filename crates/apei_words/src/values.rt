@@ -3,14 +3,15 @@ ghost use Rattle.std.specs.Prelude.{◌≡◌, ◌↔◌, ◌≤◌, Err, IfOk, 
 ghost use Rattle.std.specs.List.{AllPass};
 ghost use Rattle.clap.specs.Words.{first_of, found_of, rows_of};
 ghost use Rattle.apei_words.specs.Commands.{job_of, settings};
-ghost use Rattle.apei_words.specs.Plan.{IsCount, IsGiven, IsGivenOr, IsImage, IsShow, NoneFits, given, is_own, job_in};
-ghost use Rattle.apei_words.specs.declared.job.PlanError.TheVariants.{BadWords};
+ghost use Rattle.clap_words.specs.Commands.{NoneFits};
+ghost use Rattle.clap_words.specs.declared.error.WordsError.TheVariants.{BadWords};
+ghost use Rattle.apei_words.specs.Plan.{IsCount, IsGiven, IsGivenOr, IsImage, IsShow, given, is_own, job_in};
 ghost use Rattle.apei_words.specs.declared.setting.Setting.TheVariants.{Count, Image, Show as TheShow};
 
 use crate::command::JOB;
 use crate::number::number_up_to;
 use crate::setting::{SETTINGS, Setting};
-use crate::{Job, PlanError, Show};
+use crate::{Job, Show, WordsError};
 use bitflags::parser::from_str_strict;
 use clap::ArgMatches;
 use std::alloc::Global;
@@ -19,15 +20,15 @@ use std::alloc::Global;
 const MOST_COMMANDS: u64 = 100_000;
 
 /// The job that is named.
-pub(crate) fn job(matches: &ArgMatches<'_>) -> Result<Job, PlanError>
+pub(crate) fn job(matches: &ArgMatches<'_>) -> Result<Job, WordsError>
     ensures { MatchResult result (λ job. job_in (rows_of (found_of matches.now)) ≡ Some job) (λ error. (error ≡ BadWords) × (job_in (rows_of (found_of matches.now)) ≡ None)) }
 {
     let Some(name) = job_text(matches) else {
-        return Err(PlanError::BadWords);
+        return Err(WordsError::BadWords);
     };
     match job_named(name) {
         Some(job) => Ok(job),
-        None => Err(PlanError::BadWords),
+        None => Err(WordsError::BadWords),
     }
 }
 
@@ -66,20 +67,20 @@ pub(crate) fn image(
     alloc: Global,
     matches: &ArgMatches<'_>,
     job: Job,
-) -> Result<Option<String>, PlanError>
+) -> Result<Option<String>, WordsError>
     ensures image { IfOk result (IsImage job (given Image (rows_of (found_of matches.now)))) }
     ensures bad_words { result ≡ Err BadWords → NoneFits (IsImage job (given Image (rows_of (found_of matches.now)))) BadWords }
 {
     match text(matches, Setting::Image) {
         Some(path) => {
             if path.is_empty() {
-                return Err(PlanError::BadWords);
+                return Err(WordsError::BadWords);
             }
             Ok(Some(String::from_str(alloc, path)?))
         }
         None => {
             if matches!(job, Job::Play) {
-                return Err(PlanError::BadWords);
+                return Err(WordsError::BadWords);
             }
             Ok(None)
         }
@@ -87,14 +88,14 @@ pub(crate) fn image(
 }
 
 /// How many commands are made.
-pub(crate) fn count(matches: &ArgMatches<'_>, job: Job) -> Result<u64, PlanError>
+pub(crate) fn count(matches: &ArgMatches<'_>, job: Job) -> Result<u64, WordsError>
     ensures { MatchResult result (IsCount job (given Count (rows_of (found_of matches.now)))) (NoneFits (IsCount job (given Count (rows_of (found_of matches.now))))) }
 {
     match number_of(matches, Setting::Count, MOST_COMMANDS)? {
         Some(count) => Ok(count),
         None => {
             if matches!(job, Job::Gen) {
-                return Err(PlanError::BadWords);
+                return Err(WordsError::BadWords);
             }
             Ok(0)
         }
@@ -102,13 +103,13 @@ pub(crate) fn count(matches: &ArgMatches<'_>, job: Job) -> Result<u64, PlanError
 }
 
 /// What is shown of a checked item.
-pub(crate) fn show(matches: &ArgMatches<'_>) -> Result<Show, PlanError>
+pub(crate) fn show(matches: &ArgMatches<'_>) -> Result<Show, WordsError>
     ensures { MatchResult result (IsShow (given TheShow (rows_of (found_of matches.now)))) (NoneFits (IsShow (given TheShow (rows_of (found_of matches.now))))) }
 {
     match text(matches, Setting::Show) {
         Some(names) => match from_str_strict::<Show>(names) {
             Ok(show) => Ok(show),
-            Err(_) => Err(PlanError::BadWords),
+            Err(_) => Err(WordsError::BadWords),
         },
         None => Ok(Show::HEAD),
     }
@@ -120,7 +121,7 @@ pub(crate) fn number_or(
     setting: Setting,
     default: u64,
     most: u64,
-) -> Result<u64, PlanError>
+) -> Result<u64, WordsError>
     ensures { MatchResult result (IsGivenOr default most (given setting (rows_of (found_of matches.now)))) (NoneFits (IsGivenOr default most (given setting (rows_of (found_of matches.now))))) }
 {
     Ok(number_of(matches, setting, most)?.unwrap_or(default))
@@ -131,13 +132,13 @@ pub(crate) fn number_of(
     matches: &ArgMatches<'_>,
     setting: Setting,
     most: u64,
-) -> Result<Option<u64>, PlanError>
+) -> Result<Option<u64>, WordsError>
     ensures { MatchResult result (IsGiven most (given setting (rows_of (found_of matches.now)))) (NoneFits (IsGiven most (given setting (rows_of (found_of matches.now))))) }
 {
     match text(matches, setting) {
         Some(digits) => match number_up_to(digits.as_bytes(), most) {
             Some(number) => Ok(Some(number)),
-            None => Err(PlanError::BadWords),
+            None => Err(WordsError::BadWords),
         },
         None => Ok(None),
     }
@@ -147,12 +148,12 @@ pub(crate) fn number_of(
 fn text<'a>(matches: &ArgMatches<'a>, setting: Setting) -> Option<&'a str>
     ensures { option_map (λ text. text.now) result ≡ given setting (rows_of (found_of matches.now)) }
 {
-    matches.get_str(setting.name())
+    clap_words::text(matches, setting.name())
 }
 
 // The name of the job.
 fn job_text<'a>(matches: &ArgMatches<'a>) -> Option<&'a str>
     ensures { option_map (λ text. text.now) result ≡ first_of (codes "job") (rows_of (found_of matches.now)) }
 {
-    matches.get_str(JOB)
+    clap_words::text(matches, JOB)
 }

@@ -1,14 +1,16 @@
 // The plan that a command line makes.
 ghost use Rattle.std.specs.Prelude.{◌≡◌, Err, IfOk};
 ghost use Rattle.clap.specs.Words.{found_of, rows_of};
-ghost use Rattle.apei_words.specs.Plan.{AreBad, IsPlanIn, IsPlanOf, NoneFits};
-ghost use Rattle.apei_words.specs.declared.job.PlanError.TheVariants.{BadWords};
+ghost use Rattle.clap_words.specs.Commands.{NoneFits};
+ghost use Rattle.clap_words.specs.declared.error.WordsError.TheVariants.{BadWords};
+ghost use Rattle.apei_words.specs.Plan.{AreBad, IsPlanIn, IsPlanOf};
 
-use crate::command::matches_in;
+use crate::command::command;
 use crate::setting::Setting;
 use crate::values::{are_own, count, image, job, number_of, number_or, show};
-use crate::{Plan, PlanError};
+use crate::{Plan, WordsError};
 use clap::ArgMatches;
+use clap_words::matches_in;
 use std::alloc::Global;
 
 /// The most steps that a line may be given.
@@ -19,22 +21,23 @@ const LAST_TEAR: u64 = 3;
 
 /// The plan that the words behind the program's name ask for: one job, and options as `--slots=16` or `--slots 16`, in any
 /// order and each at most once. Whether the geometry is in its limits is not tried here.
-pub fn plan(alloc: Global, words: &[String]) -> Result<Plan, PlanError>
+pub fn plan(alloc: Global, words: &[String]) -> Result<Plan, WordsError>
     ensures plan { IfOk result (IsPlanOf words.now) }
     ensures bad_words { result ≡ Err BadWords → AreBad words.now }
 {
-    let matches = matches_in(alloc, words)?;
+    let command = command(alloc)?;
+    let matches = matches_in(command, words)?;
     plan_in(alloc, &matches)
 }
 
 // The plan that the job and the values ask for.
-fn plan_in(alloc: Global, matches: &ArgMatches<'_>) -> Result<Plan, PlanError>
+fn plan_in(alloc: Global, matches: &ArgMatches<'_>) -> Result<Plan, WordsError>
     ensures plan { IfOk result (IsPlanIn (rows_of (found_of matches.now))) }
     ensures bad_words { result ≡ Err BadWords → NoneFits (IsPlanIn (rows_of (found_of matches.now))) BadWords }
 {
     let job = job(matches)?;
     if !are_own(matches, job) {
-        return Err(PlanError::BadWords);
+        return Err(WordsError::BadWords);
     }
     Ok(Plan {
         job,

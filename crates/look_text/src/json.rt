@@ -7,7 +7,7 @@ use crate::kind::word;
 use crate::records::add_slot_numbers;
 use crate::time::{add_time, has_time, is_precise};
 use cper_frame::{Record, RecordHead, notification_name, section_name, severity_name};
-use image_survey::{Look, SlotKind, SlotView, Totals, count_slots};
+use image_survey::{Look, SlotKind, SlotView, count_slots};
 use record_slots::Head;
 use std::alloc::{AllocError, Global};
 
@@ -23,15 +23,16 @@ pub fn json_of(alloc: Global, image: &Image<'_>) -> Result<String, AllocError> {
 }
 
 fn add_totals(out: &mut String, image: &Image<'_>) -> Result<(), AllocError> {
-    let Totals {
-        free,
-        records,
-        second_copies,
-        bytes,
-    } = count_slots(image.views, image.geometry);
+    let totals = count_slots(image.views, image.geometry);
     write!(
         out,
-        "{{\"free\":{free},\"records\":{records},\"second_copies\":{second_copies},\"bytes\":{bytes}"
+        "{{\"free\":{},\"records\":{}",
+        totals.free, totals.records
+    )?;
+    write!(
+        out,
+        ",\"second_copies\":{},\"bytes\":{}",
+        totals.second_copies, totals.bytes
     )
 }
 

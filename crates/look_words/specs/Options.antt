@@ -1,24 +1,14 @@
 -- What a command line asks for.
-use Rattle.std.specs.Prelude.{◌≡◌, ℕ, ◌<◌, ◌≤◌, Bool, true, false, List, [], length, map, Option, Some, None, String, string_bytes, codes, decimal}
+use Rattle.std.specs.Prelude.{◌≡◌, ℕ, ◌<◌, ◌≤◌, Bool, true, false, List, [], length, Option, Some, None, String, string_bytes, codes, decimal}
 use Rattle.std.specs.Option.{option_map_or}
 use Rattle.std.specs.Str.{bytes_eq}
 use Rattle.std.specs.declared.alloc.Global.{Global}
 use Rattle.clap.specs.Words.{Row, Text, fault_of, first_of, matches_of}
-use Rattle.look_words.specs.Commands.{name_of, the_command}
+use Rattle.clap_words.specs.Commands.{texts_of}
+use Rattle.look_words.specs.Commands.{the_command}
 use Rattle.look_words.specs.declared.options.Options.{Options}
-use Rattle.look_words.specs.declared.options.OptionsError.{OptionsError}
-use Rattle.look_words.specs.declared.options.OptionsError.TheVariants.{BadWords}
 use Rattle.look_words.specs.declared.options.Show.{Show}
 use Rattle.look_words.specs.declared.options.Show.TheVariants.{Text as TheText, Json, Record as OfRecord}
-use Rattle.look_words.specs.declared.setting.Setting.{Setting}
-use Rattle.look_words.specs.declared.setting.Setting.TheVariants.{Image, Sector, PerSlot, Slots, Record}
-
-abbrev pub texts_of : List (String Global) → List Text
-texts_of words = map string_bytes words
-
--- the text that an option was given
-abbrev pub given : Setting → List Row → Option Text
-given setting rows = first_of (name_of setting) rows
 
 -- the flag was given: clap keeps the text "true" of it
 abbrev pub wants_json : List Row → Bool
@@ -45,17 +35,13 @@ IsShow true None show = show ≡ Json
 IsShow false None show = show ≡ TheText
 IsShow false (Some digits) show = (id : ℕ) × IsNumber digits id × (show ≡ OfRecord id)
 
--- nothing fits
-abbrev pub NoneFits : {X : Type 0} → (X → Type 0) → OptionsError → Type 0
-NoneFits {X} Fits error = (error ≡ BadWords) × ((x : X) → ¬ Fits x)
-
 -- the value of each option or its default
 pub record AreOptionsIn (rows : List Row) (options : Options) : Type 0 where
-  pub image : IsImage (given Image rows) options.image
-  pub sector : IsGivenOr 4096 (given Sector rows) options.sector
-  pub per_slot : IsGivenOr 2 (given PerSlot rows) options.per_slot
-  pub slots : IsGivenOr 32 (given Slots rows) options.slots
-  pub show : IsShow (wants_json rows) (given Record rows) options.show
+  pub image : IsImage (first_of (codes "image") rows) options.image
+  pub sector : IsGivenOr 4096 (first_of (codes "sector") rows) options.sector
+  pub per_slot : IsGivenOr 2 (first_of (codes "per-slot") rows) options.per_slot
+  pub slots : IsGivenOr 32 (first_of (codes "slots") rows) options.slots
+  pub show : IsShow (wants_json rows) (first_of (codes "record") rows) options.show
 
 -- clap finds no fault in the words, and the options are what it then reads of them
 pub record AreOptionsOf (words : List (String Global)) (options : Options) : Type 0 where

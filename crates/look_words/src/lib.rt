@@ -4,7 +4,7 @@
 mod command;
 mod number;
 mod options;
-mod setting;
 mod values;
 
-pub use options::{Options, OptionsError, Show, options_of};
+pub use clap_words::WordsError;
+pub use options::{Options, Show, options_of};

@@ -1,14 +1,15 @@
 // What the command line asks for.
 ghost use Rattle.std.specs.Prelude.{◌≡◌, Err, IfOk};
 ghost use Rattle.clap.specs.Words.{found_of, rows_of};
-ghost use Rattle.look_words.specs.Options.{AreBad, AreOptionsIn, AreOptionsOf, NoneFits};
-ghost use Rattle.look_words.specs.declared.options.OptionsError.TheVariants.{BadWords, Memory as NoMemory};
+ghost use Rattle.clap_words.specs.Commands.{NoneFits};
+ghost use Rattle.clap_words.specs.declared.error.WordsError.TheVariants.{BadWords};
+ghost use Rattle.look_words.specs.Options.{AreBad, AreOptionsIn, AreOptionsOf};
 
-use crate::command::matches_in;
-use crate::setting::Setting;
+use crate::command::{PER_SLOT, SECTOR, SLOTS, command};
 use crate::values::{image, number_or, show};
 use clap::ArgMatches;
-use std::alloc::{AllocError, Global};
+use clap_words::{WordsError, matches_in};
+use std::alloc::Global;
 
 /// What of an image is shown.
 #[derive(Clone, Copy, Debug, PartialEq, Eq)]
@@ -34,43 +35,27 @@ pub struct Options {
     pub show: Show,
 }
 
-/// Why there are no options.
-#[derive(Clone, Copy, Debug, PartialEq, Eq)]
-pub enum OptionsError {
-    /// The command line is not of the program's form.
-    BadWords,
-    /// There was no memory.
-    Memory,
-}
-
-impl From<AllocError> for OptionsError {
-    ghost from_gives = { λ _ error. error ≡ NoMemory };
-
-    fn from(_: AllocError) -> Self {
-        OptionsError::Memory
-    }
-}
-
 /// What the words behind the program's name ask for: `--image`, which has to be there, `--sector`, `--per-slot` and `--slots`,
 /// and `--record` or `--json`, each at most once.
-pub fn options_of(alloc: Global, words: &[String]) -> Result<Options, OptionsError>
+pub fn options_of(alloc: Global, words: &[String]) -> Result<Options, WordsError>
     ensures options { IfOk result (AreOptionsOf words.now) }
     ensures bad_words { result ≡ Err BadWords → AreBad words.now }
 {
-    let matches = matches_in(alloc, words)?;
+    let command = command(alloc)?;
+    let matches = matches_in(command, words)?;
     options_in(alloc, &matches)
 }
 
 // The options that the values are.
-fn options_in(alloc: Global, matches: &ArgMatches<'_>) -> Result<Options, OptionsError>
+fn options_in(alloc: Global, matches: &ArgMatches<'_>) -> Result<Options, WordsError>
     ensures options { IfOk result (AreOptionsIn (rows_of (found_of matches.now))) }
     ensures bad_words { result ≡ Err BadWords → NoneFits (AreOptionsIn (rows_of (found_of matches.now))) BadWords }
 {
     Ok(Options {
         image: image(alloc, matches)?,
-        sector: number_or(matches, Setting::Sector, 4096)?,
-        per_slot: number_or(matches, Setting::PerSlot, 2)?,
-        slots: number_or(matches, Setting::Slots, 32)?,
+        sector: number_or(matches, SECTOR, 4096)?,
+        per_slot: number_or(matches, PER_SLOT, 2)?,
+        slots: number_or(matches, SLOTS, 32)?,
         show: show(matches)?,
     })
 }

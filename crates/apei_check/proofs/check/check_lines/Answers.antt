@@ -34,10 +34,10 @@ returns-in-Err-clause-checked g c =
     ends_none _ _ c.lines_are_read_in_order.ensures _ _ _ _ _ _ _ _ _ inv.so_far c.in-Err.ensures.end
 
 pub returns-in-Err-clause-source : goal.returns-in-Err-clause-source
-returns-in-Err-clause-source g c = let inv = c.lines.invariant in source_cause _ _ _ _ inv.source c.in-Err.ensures.cause
+returns-in-Err-clause-source g c = source_cause _ _ _ _ c.lines.invariant.source c.in-Err.ensures.cause
 
 pub returns-in-Err-clause-sink : goal.returns-in-Err-clause-sink
-returns-in-Err-clause-sink g c = let inv = c.lines.invariant in no_sink _ _ _ _ _ c.in-Err.end _ _ c.in-Err.ensures.end inv.sink
+returns-in-Err-clause-sink g c = no_sink _ _ _ _ _ c.in-Err.end _ _ c.in-Err.ensures.end c.lines.invariant.sink
 
 pub returns-in-Err-parse-clause-checked : goal.returns-in-Err-parse-clause-checked
 returns-in-Err-parse-clause-checked g c =

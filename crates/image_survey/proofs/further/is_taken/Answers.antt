@@ -11,12 +11,10 @@ loop-first-init c seen all marked =
 
 pub returns-then-has_slot : goal.returns-then-has_slot
 returns-then-has_slot c seen all marked =
-    let room = c.args.geometry.now.slot_size - 64 in
-    let slots = c.args.geometry.now.slots in
     let first = c.loop-first.first in
-    let low : first < slots = omega arith in
-    sym (taken_here (first_records (entry_of room slots seen) slots) first slots c.args.slot low
-    (first_holds room slots seen first c.args.slot _ true low (sym (marked first _ low) ∙ c.if-firsts-first.true) (all first _ low).head c.if-has_slot.ensures))
+    let low : first < c.args.geometry.now.slots = omega arith in
+    sym (taken_here _ first _ c.args.slot low
+    (first_holds _ _ seen first c.args.slot _ true low (sym (marked first _ low) ∙ c.if-firsts-first.true) (all first _ low).head c.if-has_slot.ensures))
 
 pub loop-first-preserved : goal.loop-first-preserved
 loop-first-preserved c seen all marked =

@@ -1,20 +1,15 @@
-use Rattle.std.proofs.Common.{rules, ◌≡◌, ◌∙◌, ap, ap₂, sym, arith, get_or, take}
-use Rattle.std.specs.Prelude.{fold}
-use Rattle.std.proofs.lemmas.List.Sums.{fold_more}
-use Rattle.clap.specs.Words.{rule_of, with_rule}
-use Rattle.look_words.specs.Commands.{bare, json_rule, setting_rule, settings, the_command, with_setting}
-use Rattle.look_words.specs.declared.setting.Setting.TheVariants.{Image}
+use Rattle.std.proofs.Common.{◌≡◌, ◌∙◌, ap₂, codes}
+use Rattle.clap.specs.Words.{app_of, with_rule}
+use Rattle.clap_words.specs.Commands.{bare, with_option}
+use Rattle.look_words.specs.Commands.{json_rule, the_command}
 use Rattle.look_words.proofs.command.command.Goals as goal
-
-pub loop-setting-preserved : goal.loop-setting-preserved
-loop-setting-preserved c =
-    let i = c.loop-setting.setting-index in
-    let rule_is : rule_of c.long-in-loop-setting.result ≡ setting_rule (get_or settings i Image) = search rules in
-    c.in_ok-command-2.ensures.shape (search rules) ∙ ap₂ with_rule c.loop-setting.invariant rule_is
-    ∙ sym (fold_more with_setting (with_rule bare json_rule) settings i Image (omega arith))
 
 pub returns : goal.returns
 unfolding the_command
 returns c =
-    let all : c.loop-setting.setting-index ≡ 5 = omega arith in
-    c.loop-setting.invariant ∙ ap (λ i. fold with_setting (with_rule bare json_rule) (take i settings)) all
+    let flag : app_of c.in_ok-arg.field-0 ≡ with_rule (bare (codes "apei-look")) json_rule = c.in_ok-arg.ensures.shape c.flag.ensures.local ∙ ap₂ with_rule c.bare.ensures c.flag.ensures.rule in
+    let image : app_of c.in_ok-arg-2.field-0 ≡ with_option (with_rule (bare (codes "apei-look")) json_rule) (codes "image") = c.in_ok-arg-2.ensures.shape c.option.ensures.local ∙ ap₂ with_rule flag c.option.ensures.rule in
+    let sector = c.in_ok-arg-3.ensures.shape c.option-2.ensures.local ∙ ap₂ with_rule image c.option-2.ensures.rule in
+    let per_slot = c.in_ok-arg-4.ensures.shape c.option-3.ensures.local ∙ ap₂ with_rule sector c.option-3.ensures.rule in
+    let slots = c.in_ok-arg-5.ensures.shape c.option-4.ensures.local ∙ ap₂ with_rule per_slot c.option-4.ensures.rule in
+    c.in_ok-command.ensures.shape c.option-5.ensures.local ∙ ap₂ with_rule slots c.option-5.ensures.rule

@@ -1,5 +1,4 @@
 use Rattle.std.proofs.Common.{rules}
-use Rattle.script_text.specs.TableWords.{HestHasWords}
 use Rattle.apei_check.specs.Tables.{AreHestLines}
 use Rattle.apei_check.proofs.AnswerLemmas.{shows_part, shows_item, shows_item_part}
 use Rattle.apei_check.proofs.TableLemmas.{hest_lines, bad_hest, first_of_hest}
@@ -13,8 +12,7 @@ returns-in_err-write-in-Ok-clause-part g c _ =
 
 pub returns-in_err-write_refused-in-Err-clause-part : goal.returns-in_err-write_refused-in-Err-clause-part
 returns-in_err-write_refused-in-Err-clause-part g c _ =
-    let has : HestHasWords c.in-Err.why = search rules in
-    shows_part _ (AreHestLines c.args.show c.args.bytes.now) _ _ _ (bad_hest c.args.show c.args.bytes.now c.in-Err.why (first_of_hest c.args.bytes.now c.in-Err.why has c.in-Err.ensures.refused)) c.in_err-write_refused-in-Err.ensures.part
+    shows_part _ (AreHestLines c.args.show c.args.bytes.now) _ _ _ (bad_hest c.args.show c.args.bytes.now c.in-Err.why (first_of_hest c.args.bytes.now c.in-Err.why (search rules) c.in-Err.ensures.refused)) c.in_err-write_refused-in-Err.ensures.part
 
 pub returns-in_ok-write-in-Ok-clause-shown : goal.returns-in_ok-write-in-Ok-clause-shown
 returns-in_ok-write-in-Ok-clause-shown g c =

@@ -1,0 +1,214 @@
+-- Commands that are generated and played, one after another.
+use Rattle.std.proofs.Common.{◌≡◌, ◌∙◌, ℕ, zero, suc, ◌+◌, Result, Ok, Err, Bool, true, false, List, [], ◌∷◌, ◌++◌, length, map, cond, refl, sym, ap, subst, arith, length-append}
+use Rattle.std.specs.Prelude.{count_by}
+use Rattle.std.proofs.lemmas.List.{map-append, append-nil}
+use Rattle.std.proofs.lemmas.List.Sums.{sum_by-append}
+use Rattle.script_text.specs.ScriptGrammar.{Line, count}
+use Rattle.erst_client.specs.declared.errors.ClientError.{ClientError}
+use Rattle.apei_script.specs.Players.{PlayerState}
+use Rattle.apei_script.specs.Words.{said_at, reply_at, words_of_count}
+use Rattle.apei_script.specs.Plays.{Plays, IsOwnLine, step_of}
+use Rattle.apei_script.specs.History.{Played, AreOwnLines, blocks_of, reply_of}
+use Rattle.apei_cli.specs.declared.generate.command.Command.{Command}
+use Rattle.apei_cli.specs.declared.generate.command.Command.TheVariants.{Write, Clear, Read, Next}
+use Rattle.apei_cli.specs.declared.generate.tally.Tally.{Tally}
+use Rattle.apei_cli.specs.Commands.{number_behind, numbers_behind, drawn_of, command_of, line_for, line_at, generated_lines}
+use Rattle.apei_cli.specs.Tallies.{counted_kind, counted_refusal, counted_with}
+use Rattle.apei_cli.specs.Generated.{is_write, is_clear, is_read, is_next, is_refusal, tally_of, IsAsked, PlaysCommands}
+use Rattle.apei_cli.specs.Summaries.{TellsLive, Counted, Refused, WritesText, summary_of, IsGenerated}
+use Rattle.apei_cli.proofs.RunLemmas.{AreCounted-push, Follows-push, blocks_of-push, counts_after, played_as}
+
+-- the number that so many numbers behind one end in
+abbrev pub number_after : ℕ → ℕ → ℕ
+number_after x zero = x
+number_after x (suc n) = number_after (number_behind x) n
+
+number_after-suc : (x n : ℕ) → number_after x (suc n) ≡ number_behind (number_after x n)
+number_after-suc x zero = refl
+number_after-suc x (suc n) = number_after-suc (number_behind x) n
+
+numbers-push : (x n : ℕ) → numbers_behind x (suc n) ≡ numbers_behind x n ++ number_after x (suc n) ∷ []
+numbers-push x zero = refl
+numbers-push x (suc n) = ap (λ (xs : List ℕ). number_behind x ∷ xs) (numbers-push (number_behind x) n)
+
+lines-push : (seed n : ℕ) → generated_lines seed (suc n) ≡ generated_lines seed n ++ line_at (number_after seed (suc n)) ∷ []
+lines-push seed n = ap (map line_at) (numbers-push seed n) ∙ map-append line_at (numbers_behind seed n) (number_after seed (suc n) ∷ [])
+
+-- one line more, which is one of its own and tells no listener of a block
+abbrev asked_as : Line → List ℕ → PlayerState → Played
+asked_as line words left = played_as line (said_at (step_of left) (words ∷ [])) [] [] left
+
+AreOwnLines-push : (some : List Played) (one : Played) → AreOwnLines some → IsOwnLine one.line → AreOwnLines (some ++ one ∷ [])
+AreOwnLines-push [] one before is = (is, tt)
+AreOwnLines-push (first ∷ rest) one before is = (before.0, AreOwnLines-push rest one before.1 is)
+
+no_blocks-push : (some : List Played) (line : Line) (words : List ℕ) (new : PlayerState) → blocks_of some ≡ [] → blocks_of (some ++ asked_as line words new ∷ []) ≡ []
+no_blocks-push some line words new none = blocks_of-push some (asked_as line words new) ∙ ap (λ (blocks : List (List ℕ)). blocks ++ []) none
+
+own_line : (command : Command) → IsOwnLine (line_for command)
+own_line (Write id size) = tt
+own_line (Clear id) = tt
+own_line (Read id) = tt
+own_line Next = tt
+
+-- the reply to the line
+reply-as : (line : Line) (words : List ℕ) (new : PlayerState) (reply : List ℕ) → reply ≡ reply_at (step_of new) words → reply_of (asked_as line words new) ≡ reply
+reply-as line words new reply is = append-nil (reply_at (step_of new) words) ∙ sym is
+
+-- one more that passes a test or does not
+abbrev bumped : Bool → ℕ → ℕ
+bumped true n = n + 1
+bumped false n = n
+
+count-push : (test : Played → Bool) (some : List Played) (one : Played) (passes : Bool) → test one ≡ passes → count_by test (some ++ one ∷ []) ≡ bumped passes (count_by test some)
+count-push test some one passes is = by passes (whole ∙ ap (λ (b : Bool). count_by test some + (0 + cond {A = ℕ} b 1 0)) is)
+  where
+    whole : count_by test (some ++ one ∷ []) ≡ count_by test some + (0 + cond {A = ℕ} (test one) 1 0)
+    whole = sum_by-append (λ (p : Played). cond (test p) 1 0) some (one ∷ [])
+
+    by : (b : Bool) → count_by test (some ++ one ∷ []) ≡ count_by test some + (0 + cond {A = ℕ} b 1 0) → count_by test (some ++ one ∷ []) ≡ bumped b (count_by test some)
+    by true sum = let more : count_by test (some ++ one ∷ []) ≡ count_by test some + (0 + 1) = sum in omega arith
+    by false sum = let same : count_by test (some ++ one ∷ []) ≡ count_by test some + (0 + 0) = sum in omega arith
+
+tally-as : (a b c d f a_now b_now c_now d_now f_now : ℕ) → a ≡ a_now → b ≡ b_now → c ≡ c_now → d ≡ d_now → f ≡ f_now
+    → ◌≡◌ {A = Tally} (record { writes = a; clears = b; reads = c; nexts = d; refused = f }) (record { writes = a_now; clears = b_now; reads = c_now; nexts = d_now; refused = f_now })
+tally-as a b c d f a_now b_now c_now d_now f_now is_a is_b is_c is_d is_f =
+    ap (λ (x : ℕ). let t : Tally = record { writes = x; clears = b; reads = c; nexts = d; refused = f } in t) is_a
+    ∙ ap (λ (x : ℕ). let t : Tally = record { writes = a_now; clears = x; reads = c; nexts = d; refused = f } in t) is_b
+    ∙ ap (λ (x : ℕ). let t : Tally = record { writes = a_now; clears = b_now; reads = x; nexts = d; refused = f } in t) is_c
+    ∙ ap (λ (x : ℕ). let t : Tally = record { writes = a_now; clears = b_now; reads = c_now; nexts = x; refused = f } in t) is_d
+    ∙ ap (λ (x : ℕ). let t : Tally = record { writes = a_now; clears = b_now; reads = c_now; nexts = d_now; refused = x } in t) is_f
+
+-- a tally of another count of refusals
+abbrev refusing : ℕ → Tally → Tally
+refusing f tally = record tally { refused = f }
+
+-- the kind of one more command
+kind-bumped : (command : Command) (tally : Tally)
+    → ◌≡◌ {A = Tally} (record {
+      writes = bumped (is_write (line_for command)) tally.writes;
+      clears = bumped (is_clear (line_for command)) tally.clears;
+      reads = bumped (is_read (line_for command)) tally.reads;
+      nexts = bumped (is_next (line_for command)) tally.nexts;
+      refused = tally.refused;
+    }) (counted_kind command tally)
+kind-bumped (Write id size) tally = refl
+kind-bumped (Clear id) tally = refl
+kind-bumped (Read id) tally = refl
+kind-bumped Next tally = refl
+
+kind-push : (some : List Played) (one : Played) (command : Command) (f : ℕ) → one.line ≡ line_for command
+    → refusing f (tally_of (some ++ one ∷ [])) ≡ counted_kind command (refusing f (tally_of some))
+kind-push some one command f is =
+    tally-as _ _ _ _ _ _ _ _ _ _ (pushed is_write) (pushed is_clear) (pushed is_read) (pushed is_next) refl
+    ∙ kind-bumped command (refusing f (tally_of some))
+  where
+    pushed : (test : Line → Bool) → count_by (λ (p : Played). test p.line) (some ++ one ∷ []) ≡ bumped (test (line_for command)) (count_by (λ (p : Played). test p.line) some)
+    pushed test = count-push (λ (p : Played). test p.line) some one (test (line_for command)) (ap test is)
+
+kind-refused : (command : Command) (tally : Tally) → counted_kind command (refusing (tally.refused + 1) tally) ≡ counted_refusal true (counted_kind command tally)
+kind-refused (Write id size) tally = refl
+kind-refused (Clear id) tally = refl
+kind-refused (Read id) tally = refl
+kind-refused Next tally = refl
+
+abbrev refused_in : Played → Bool
+refused_in one = is_refusal (reply_of one)
+
+tally-push : (some : List Played) (one : Played) (command : Command) (refused : Bool) → one.line ≡ line_for command → refused_in one ≡ refused
+    → tally_of (some ++ one ∷ []) ≡ counted_with command refused (tally_of some)
+tally-push some one command true line is =
+    kind-push some one command (count_by refused_in (some ++ one ∷ [])) line
+    ∙ ap (λ (f : ℕ). counted_kind command (refusing f (tally_of some))) (count-push refused_in some one true is)
+    ∙ kind-refused command (tally_of some)
+tally-push some one command false line is =
+    kind-push some one command (count_by refused_in (some ++ one ∷ [])) line
+    ∙ ap (λ (f : ℕ). counted_kind command (refusing f (tally_of some))) (count-push refused_in some one false is)
+
+-- the commands so far
+pub record SoFar (tells : Type 0) (old : PlayerState) (seed n : ℕ) (now : PlayerState) (number : ℕ) (tally : Tally) : Type 0 where
+  pub so_far : PlaysCommands tells old seed n now tally
+  pub size : length so_far.played ≡ n
+  pub number_is : number ≡ number_after seed n
+
+pub SoFar-start : (tells : Type 0) (old : PlayerState) (seed : ℕ) (tally : Tally) → tally ≡ tally_of [] → SoFar tells old seed 0 old seed tally
+SoFar-start tells old seed tally is = record {
+  so_far = record { played = []; lines = refl; history = λ wants counts. refl; counted = λ told. tt; own = tt; blocks = refl; tallied = is };
+  size = refl;
+  number_is = refl;
+}
+
+next_so_far : (tells : Type 0) (old : PlayerState) (seed n : ℕ) (mid new : PlayerState) (number : ℕ) (tally tally_now : Tally) (command : Command) (refused : Bool) (reply : List ℕ)
+    → SoFar tells old seed n mid number tally → command ≡ command_of (drawn_of (number_behind number)) → IsAsked tells mid (line_for command) new reply → refused ≡ is_refusal reply
+    → tally_now ≡ counted_with command refused tally → SoFar tells old seed (suc n) new (number_behind number) tally_now
+next_so_far tells old seed n mid new number tally tally_now command refused reply sofar made asked is counts =
+    let before = sofar.so_far in
+    let one = asked_as (line_for command) asked.words new in
+    let number_now : number_behind number ≡ number_after seed (suc n) = ap number_behind sofar.number_is ∙ sym (number_after-suc seed n) in
+    let line_is : line_for command ≡ line_at (number_after seed (suc n)) = ap line_for made ∙ ap line_at number_now in
+    record {
+      so_far = record {
+        played = before.played ++ one ∷ [];
+        lines =
+            map-append (λ (p : Played). p.line) before.played (one ∷ [])
+            ∙ ap (λ (ls : List Line). ls ++ line_for command ∷ []) before.lines
+            ∙ ap (λ (l : Line). generated_lines seed n ++ l ∷ []) line_is
+            ∙ sym (lines-push seed n);
+        history = λ wants counts. Follows-push tells wants counts old before.played mid one (before.history wants counts) (asked.played (counts_after wants before.played counts));
+        counted = λ told. AreCounted-push before.played one (before.counted told) (asked.counted told);
+        own = AreOwnLines-push before.played one before.own (own_line command);
+        blocks = no_blocks-push before.played (line_for command) asked.words new before.blocks;
+        tallied =
+            counts
+            ∙ ap (counted_with command refused) before.tallied
+            ∙ sym (tally-push before.played one command refused refl (ap is_refusal (reply-as (line_for command) asked.words new reply asked.text) ∙ sym is));
+      };
+      size = length-append before.played (one ∷ []) ∙ omega (arith, sofar.size);
+      number_is = number_now;
+    }
+
+pub SoFar-next : (tells : Type 0) (old : PlayerState) (seed n : ℕ) (mid new : PlayerState) (number : ℕ) (tally tally_now : Tally) (command : Command) (refused : Bool) (reply : List ℕ)
+    → SoFar tells old seed n mid number tally → command ≡ command_of (drawn_of (number_behind number)) → IsAsked tells mid (line_for command) new reply → refused ≡ is_refusal reply
+    → tally_now ≡ counted_with command refused tally → SoFar tells old seed (n + 1) new (number_behind number) tally_now
+SoFar-next tells old seed n mid new number tally tally_now command refused reply sofar made asked is counts =
+    subst (λ (k : ℕ). SoFar tells old seed k new (number_behind number) tally_now) (omega arith)
+    (next_so_far tells old seed n mid new number tally tally_now command refused reply sofar made asked is counts)
+
+-- the number of records that the reply to a count tells
+told_by : (answer : Result ℕ ClientError) → (live : ℕ) × TellsLive (words_of_count answer) live
+told_by (Ok n) = (n, Counted n)
+told_by (Err error) = (0, Refused error)
+
+module _ (tells : Type 0) where
+  -- the commands, and a count of the records behind them
+  pub generated : {E : Type 0}
+      → ((counts : List ℕ) (old : PlayerState) (words : List ℕ) (new : PlayerState) → Plays tells counts old count (said_at (step_of new) (words ∷ [])) [] [] new
+      → (answer : Result ℕ ClientError) × (words ≡ words_of_count answer))
+      → (told_sink : Type 0) (old : PlayerState) (seed commands : ℕ) (mid new : PlayerState) (tally : Tally) (reply : List ℕ) (step : ℕ) (written written_now : List ℕ)
+      (result : Result (Unit {0}) E) → PlaysCommands tells old seed commands mid tally → IsAsked tells mid count new reply → step ≡ step_of new
+      → ((words : List ℕ) (live : ℕ) → TellsLive words live → reply ≡ reply_at step words → told_sink → WritesText (summary_of commands tally live step) written written_now result)
+      → IsGenerated tells told_sink old seed commands new written written_now result
+  generated numbers told_sink old seed commands mid new tally reply step written written_now result are asked at text =
+      let last = asked_as count asked.words new in
+      let answer = numbers [] mid asked.words new (asked.played []).plays in
+      let told = told_by answer.0 in
+      let live = told.0 in
+      let told_live : TellsLive asked.words live = subst (λ (words : List ℕ). TellsLive words live) (sym answer.1) told.1 in
+      record {
+        played = are.played;
+        last = last;
+        lines = are.lines;
+        asked = refl;
+        history = λ wants counts. Follows-push tells wants counts old are.played mid last (are.history wants counts) (asked.played (counts_after wants are.played counts));
+        counted = λ told. AreCounted-push are.played last (are.counted told) (asked.counted told);
+        own = AreOwnLines-push are.played last are.own tt;
+        blocks = no_blocks-push are.played count asked.words new are.blocks;
+        words = asked.words;
+        said = refl;
+        live = live;
+        told_live = told_live;
+        text = λ told.
+            subst (λ (t : Tally). WritesText (summary_of commands t live (step_of new)) written written_now result) are.tallied
+            (subst (λ (s : ℕ). WritesText (summary_of commands tally live s) written written_now result) at
+            (text asked.words live told_live (asked.text ∙ ap (λ (s : ℕ). reply_at s asked.words) (sym at)) told));
+      }

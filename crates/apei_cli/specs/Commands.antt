@@ -1,0 +1,54 @@
+-- The commands that a seed generates, and the lines of a script that they stand for.
+use Rattle.std.specs.Prelude.{ℕ, zero, suc, ◌+◌, ◌*◌, ◌^◌, ◌≤◌, ◌/◌, ◌%◌, ◌==◌, nat_lt, if◌then◌else◌, List, [], ◌∷◌, map}
+use Rattle.hex.specs.Hex.{encode_lower}
+use Rattle.script_text.specs.ScriptGrammar.{Line, write, read, clear, next}
+use Rattle.apei_cli.specs.declared.generate.command.Command.{Command}
+use Rattle.apei_cli.specs.declared.generate.command.Command.TheVariants.{Write, Clear, Read, Next}
+use Rattle.apei_cli.specs.Records.{record_of}
+
+-- a linear congruential sequence modulo 2 ^ 64, with Knuth's multiplier of MMIX
+abbrev pub number_behind : ℕ → ℕ
+number_behind x = (x * 6364136223846793005 + 1442695040888963407) % 2 ^ 64
+
+-- so many numbers behind one
+abbrev pub numbers_behind : ℕ → ℕ → List ℕ
+numbers_behind x zero = []
+numbers_behind x (suc n) = number_behind x ∷ numbers_behind (number_behind x) n
+
+-- the high bits of a number, of which a command is made
+abbrev pub drawn_of : ℕ → ℕ
+drawn_of x = x / 2 ^ 33
+
+-- one of 40 identifiers, and one of 16 sizes in bytes
+abbrev pub id_of : ℕ → ℕ
+id_of drawn = 1 + (drawn / 8) % 40
+
+abbrev pub size_of : ℕ → ℕ
+size_of drawn = 128 + 16 * ((drawn / 512) % 16)
+
+-- of eight commands five write, and one each clears, reads and names
+abbrev pub command_of : ℕ → Command
+command_of drawn =
+    if nat_lt (drawn % 8) 5 then Write (id_of drawn) (size_of drawn)
+    else if drawn % 8 == 5 then Clear (id_of drawn)
+    else if drawn % 8 == 6 then Read (id_of drawn)
+    else Next
+
+-- the sizes of the records that are written
+abbrev pub HasSize : Command → Type 0
+HasSize (Write id size) = (128 ≤ size) × (size ≤ 368)
+HasSize command = Unit {0}
+
+-- the line of a script that a command is
+abbrev pub line_for : Command → Line
+line_for (Write id size) = write (encode_lower (record_of id size))
+line_for (Clear id) = clear id
+line_for (Read id) = read id
+line_for Next = next
+
+abbrev pub line_at : ℕ → Line
+line_at x = line_for (command_of (drawn_of x))
+
+-- the lines that a seed generates
+abbrev pub generated_lines : ℕ → ℕ → List Line
+generated_lines seed count = map line_at (numbers_behind seed count)

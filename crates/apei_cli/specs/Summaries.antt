@@ -1,0 +1,53 @@
+-- The line that sums up what was played.
+use Rattle.std.specs.Prelude.{◌≡◌, ℕ, Bool, List, [], ◌∷◌, ◌++◌, codes, decimal, map, Result, Ok, Err}
+use Rattle.erst_client.specs.declared.errors.ClientError.{ClientError}
+use Rattle.script_text.specs.ScriptGrammar.{count}
+use Rattle.apei_script.specs.Players.{PlayerState}
+use Rattle.apei_script.specs.Words.{said_at, words_of_count}
+use Rattle.apei_script.specs.Plays.{step_of}
+use Rattle.apei_script.specs.History.{Played, Follows, AreCounted, AreOwnLines, blocks_of}
+use Rattle.apei_cli.specs.declared.generate.tally.Tally.{Tally}
+use Rattle.apei_cli.specs.Commands.{generated_lines}
+use Rattle.apei_cli.specs.Generated.{tally_of}
+
+-- the number of records that the words of a count's reply tell: none where it was refused
+pub data TellsLive : List ℕ → ℕ → Type 0 where
+  Counted : (n : ℕ) → TellsLive (words_of_count (Ok n)) n
+  Refused : (error : ClientError) → TellsLive (words_of_count (Err error)) 0
+
+-- the text up to the number of records that are live, and the end behind it
+abbrev pub tally_text : ℕ → Tally → List ℕ
+tally_text commands tally =
+    codes "gen " ++ decimal commands ++ codes " writes " ++ decimal tally.writes ++ codes " clears " ++ decimal tally.clears ++ codes " reads " ++ decimal tally.reads
+    ++ codes " nexts " ++ decimal tally.nexts ++ codes " refused " ++ decimal tally.refused ++ codes " live "
+
+abbrev pub end_text : ℕ → List ℕ
+end_text step = codes " @" ++ decimal step ++ 10 ∷ []
+
+abbrev pub summary_of : ℕ → Tally → ℕ → ℕ → List ℕ
+summary_of commands tally live step = tally_text commands tally ++ decimal live ++ end_text step
+
+-- a text was written, or where that was refused a beginning of it
+abbrev pub WritesText : {E : Type 0} → List ℕ → List ℕ → List ℕ → Result (Unit {0}) E → Type 0
+WritesText text written written_now (Ok done) = written_now ≡ written ++ text
+WritesText text written written_now (Err error) = (part rest : List ℕ) × (text ≡ part ++ rest) × (written_now ≡ written ++ part)
+
+-- The lines that a seed generates were played, one after another, and then one that counts the records, whatever the listeners have heard.
+-- What was written sums them up: the lines of each kind and those that were refused, without the last one; the records by its reply; and
+-- the flash step at which it ended
+pub record IsGenerated {E : Type 0} (tells told_sink : Type 0) (old : PlayerState) (seed commands : ℕ) (new : PlayerState) (written written_now : List ℕ)
+    (result : Result (Unit {0}) E) : Type 0 where
+  pub played : List Played
+  pub last : Played
+  pub lines : map (λ (one : Played). one.line) played ≡ generated_lines seed commands
+  pub asked : last.line ≡ count
+  pub history : (wants : List (ℕ → Bool)) (counts : List ℕ) → Follows tells wants counts old (played ++ last ∷ []) new
+  pub counted : tells → AreCounted (played ++ last ∷ [])
+  -- no line runs an action or gives a table, and no listener is told of a block
+  pub own : AreOwnLines (played ++ last ∷ [])
+  pub blocks : blocks_of (played ++ last ∷ []) ≡ []
+  pub words : List ℕ
+  pub said : last.said ≡ said_at (step_of new) (words ∷ [])
+  pub live : ℕ
+  pub told_live : TellsLive words live
+  pub text : told_sink → WritesText (summary_of commands (tally_of played) live (step_of new)) written written_now result

@@ -1,3 +1,0 @@
-pub mod RecordLemmas
-pub mod SummaryLemmas
-pub mod GenerateLemmas

@@ -1,0 +1,31 @@
+-- What the commands of the programs have in common.
+use Rattle.std.specs.Prelude.{◌≡◌, true, List, map, Some, String, string_bytes}
+use Rattle.std.specs.declared.alloc.Global.{Global}
+use Rattle.clap.specs.Words.{App, Rule, Text, new_app, new_rule, with_rule}
+use Rattle.clap.specs.Simple.{on_top}
+use Rattle.clap_words.specs.declared.error.WordsError.{WordsError}
+use Rattle.clap_words.specs.declared.error.WordsError.TheVariants.{BadWords}
+
+-- no word is the program's name, and clap adds no flag and no subcommand of its own
+abbrev pub bare : Text → App
+bare name =
+    on_top (λ top. record top {
+      no_binary_name = true;
+      disable_help_flag = true;
+      disable_version_flag = true;
+      disable_help_subcommand = true;
+    }) (new_app name)
+
+-- an option is read back by its long name, and has one value, a text
+abbrev pub option_rule : Text → Rule
+option_rule name = record (new_rule name) { long = Some name }
+
+abbrev pub with_option : App → Text → App
+with_option app name = with_rule app (option_rule name)
+
+abbrev pub texts_of : List (String Global) → List Text
+texts_of words = map string_bytes words
+
+-- nothing fits
+abbrev pub NoneFits : {X : Type 0} → (X → Type 0) → WordsError → Type 0
+NoneFits {X} Fits error = (error ≡ BadWords) × ((x : X) → ¬ Fits x)

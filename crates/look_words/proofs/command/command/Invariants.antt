@@ -1,9 +1,0 @@
-use Rattle.std.proofs.Common.{◌≡◌, take}
-use Rattle.std.specs.Prelude.{fold}
-use Rattle.clap.specs.Words.{app_of, with_rule}
-use Rattle.look_words.specs.Commands.{bare, json_rule, settings, with_setting}
-use Rattle.look_words.proofs.command.command.Given as goal
-
--- the command has the options before
-abbrev pub invariant-loop-setting : goal.invariant-loop-setting
-invariant-loop-setting l = app_of l.command ≡ fold with_setting (with_rule bare json_rule) (take l.setting-index settings)
