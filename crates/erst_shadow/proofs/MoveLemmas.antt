@@ -280,15 +280,12 @@ module _ (tells : Type 0) (first : MachineState) (count : ℕ) (room : HoldsPiec
 
   piece_fetched : (i : ℕ) (w : MachineState) → i < count → CameOut (128 * i) w → CameOut (128 * suc i) (piece_out i w)
   unfolding space_out
-  piece_fetched i w less is =
-      let others = part w.memory.range (128 * i) 128 in
-      let size = piece_long count i w.memory.range (range_room w is.comes) less in
-      let fits = fits_scratch w i is.comes less in
-      record {
-        comes = (space_out.copied_fits w i (record { comes = is.comes; kept = is.kept }) less).comes;
-        there = piece_behind i w.memory.scratch first.memory.range others size fits is.there (ap (λ (xs : List ℕ). part xs (128 * i) 128) is.kept);
-        kept = is.kept;
-      }
+  piece_fetched i w less is = record {
+    comes = (space_out.copied_fits w i (record { comes = is.comes; kept = is.kept }) less).comes;
+    there = piece_behind i w.memory.scratch first.memory.range (part w.memory.range (128 * i) 128) (piece_long count i w.memory.range (range_room w is.comes) less) (fits_scratch w i is.comes less) is.there
+        (ap (λ (xs : List ℕ). part xs (128 * i) 128) is.kept);
+    kept = is.kept;
+  }
 
   none_fetched : CameOut 0 first
   unfolding part
