@@ -13,10 +13,10 @@ const WORD: u32 = 3;
 const PAGE: u32 = 12;
 
 /// Longer windows are noted by their pages, the others by their words.
-const SHORT: u32 = 64;
+pub const SHORT: u32 = 512;
 
 /// So many words or pages of a window behind its first are noted at most.
-const FURTHER: u32 = 15;
+const FURTHER: u32 = 63;
 
 /// The numbers of two windows.
 #[derive(Clone, Copy)]

@@ -3,7 +3,7 @@ ghost use Rattle.std.specs.Prelude.{◌≡◌, ◌+◌, ◌<◌, ◌≤◌, ◌^
 ghost use Rattle.apei_space.specs.Windows.{address_of, room, room_in, spot, total, AreApart};
 ghost use Rattle.apei_space.specs.Stretches.{IsStretch, IsTable, Tells};
 
-use crate::guesses::{Guess, Guesses};
+use crate::guesses::{Guess, Guesses, SHORT};
 use apei_bytes::Memory;
 use apei_gas::Place;
 use std::alloc::Global;
@@ -108,9 +108,14 @@ fn stretches(alloc: Global, windows: &[Window]) -> Result<Vec<Stretch>, Memory>
 
 fn guesses(alloc: Global, stretches: &[Stretch]) -> Result<Guesses, Memory> {
     let mut guesses = Guesses::new(alloc)?;
-    for (number, stretch) in stretches.iter().enumerate() {
-        let window = stretch.window;
-        guesses.note(address(window.place), window.len, number);
+    // The short ones last, since these are found first where two have one slot.
+    for is_short in [false, true] {
+        for (number, stretch) in stretches.iter().enumerate() {
+            let window = stretch.window;
+            if (window.len <= SHORT) == is_short {
+                guesses.note(address(window.place), window.len, number);
+            }
+        }
     }
     Ok(guesses)
 }

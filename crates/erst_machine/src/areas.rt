@@ -1,5 +1,5 @@
 // The machine's memory map, and where an access of it stands.
-ghost use Rattle.std.specs.Prelude.{◌≡◌, ℕ, ◌+◌, ◌<◌, ◌≤◌, ◌^◌, IfSome, unwrap_or};
+ghost use Rattle.std.specs.Prelude.{◌≡◌, ◌+◌, ◌<◌, ◌≤◌, ◌^◌, IfSome, unwrap_or};
 ghost use Rattle.erst_machine.specs.Areas.{base_of, size_of, area_spot, memory_spot, port_spot, place_spot, IsPlaced, is_plain, register_at};
 
 use apei_gas::{Place, Width};
@@ -75,23 +75,6 @@ pub enum Register {
 }
 
 impl Area {
-    /// The one area of memory that may have the byte of an address.
-    fn around(at: u64) -> Area
-        ensures { (reach n : ℕ) → reach ≤ 65536 → 0 < n → memory_spot reach at n ≡ unwrap_or (area_spot reach result at n) (Spot.Nowhere at) }
-    {
-        if at < LOG_RANGE {
-            Area::Scratch
-        } else if at < ACTION {
-            Area::LogRange
-        } else if at < STATUS {
-            Area::Device
-        } else if at < BOOT_ERRORS {
-            Area::Handover
-        } else {
-            Area::BootErrors
-        }
-    }
-
     /// The address of its first byte.
     pub fn base(self) -> u64
         ensures value { result ≡ base_of self }
@@ -148,9 +131,23 @@ impl Area {
         }
         Some(Spot::Inside(self, (at - base) as usize))
     }
+
+    /// Where `n` bytes stand if no other area has the first of them.
+    #[inline(always)]
+    fn spot_alone(self, reach: usize, at: u64, n: usize) -> Spot
+        requires reach { reach < 2 ^ 32 }
+        requires n { n < 2 ^ 63 }
+        ensures value { result ≡ unwrap_or (area_spot reach self at n) (Spot.Nowhere at) }
+        ensures placed { IsPlaced reach n result }
+    {
+        match self.spot(reach, at, n) {
+            Some(spot) => spot,
+            None => Spot::Nowhere(at),
+        }
+    }
 }
 
-/// Where `n` bytes of memory stand.
+/// Where `n` bytes of memory stand: the one area that may have the first of them is looked at.
 pub fn memory_spot(reach: usize, at: u64, n: usize) -> Spot
     requires reach { reach ≤ 65536 }
     requires n { n < 2 ^ 63 }
@@ -160,9 +157,16 @@ pub fn memory_spot(reach: usize, at: u64, n: usize) -> Spot
     if n == 0 {
         return Spot::Inside(Area::Scratch, 0);
     }
-    match Area::around(at).spot(reach, at, n) {
-        Some(spot) => spot,
-        None => Spot::Nowhere(at),
+    if at < LOG_RANGE {
+        Area::Scratch.spot_alone(reach, at, n)
+    } else if at < ACTION {
+        Area::LogRange.spot_alone(reach, at, n)
+    } else if at < STATUS {
+        Area::Device.spot_alone(reach, at, n)
+    } else if at < BOOT_ERRORS {
+        Area::Handover.spot_alone(reach, at, n)
+    } else {
+        Area::BootErrors.spot_alone(reach, at, n)
     }
 }
 
@@ -173,10 +177,7 @@ pub fn port_spot(reach: usize, at: u64, n: usize) -> Spot
     ensures value { result ≡ port_spot reach at n }
     ensures placed { IsPlaced reach n result }
 {
-    match Area::Ports.spot(reach, at, n) {
-        Some(spot) => spot,
-        None => Spot::Nowhere(at),
-    }
+    Area::Ports.spot_alone(reach, at, n)
 }
 
 /// Where `n` bytes stand.
