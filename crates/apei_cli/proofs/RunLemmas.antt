@@ -1,7 +1,6 @@
 -- Laws of a run over the lines of a script.
 use Rattle.std.proofs.Common.{◌≡◌, ℕ, ◌+◌, Bool, false, List, [], ◌∷◌, ◌++◌, refl, sym, ap, subst, ◌∙◌, append_assoc}
 use Rattle.std.proofs.lemmas.List.{append-nil}
-use Rattle.std.specs.Prelude.{◌↔◌}
 use Rattle.base_model.specs.Faults.{Rose}
 use Rattle.line_grammar.specs.Columns.{BreaksAt}
 use Rattle.erst_machine.specs.MachineState.{MachineState}
@@ -19,13 +18,13 @@ use Rattle.apei_script.specs.History.{Played, Follows, AreCounted, blocks_of, re
 use Rattle.script_lines.specs.Ends.{EndsReading}
 use Rattle.script_lines.specs.declared.ending.ScriptEnd.{ScriptEnd}
 use Rattle.script_lines.specs.declared.ending.ScriptEnd.TheVariants as ending
-use Rattle.script_lines.specs.Lines.{Line, Reading, IsNextLine, IsAtEnd, NextIsTooLong, HasNoLine}
+use Rattle.script_lines.specs.Lines.{Line, Reading, IsNextLine}
 use Rattle.script_lines.specs.Reads.{HasRead, StandsAt, AreReadInOrder, last_line}
 use Rattle.apei_cli.specs.Played.{CanPlay, ArePlayed}
 use Rattle.apei_cli.specs.Statuses.{StopsAt, EndsLines, LeavesLast, status_of}
 use Rattle.apei_cli.specs.Runs.{PlaysScript}
 use Rattle.apei_cli.specs.declared.status.Status.{Status}
-use Rattle.apei_cli.specs.declared.status.Status.TheVariants.{Done, BadWords, BadLine, SourceFault, SinkFault, FlashFault, BadGeometry, TooLong, Memory}
+use Rattle.apei_cli.specs.declared.status.Status.TheVariants.{Done, BadLine, SourceFault, SinkFault, FlashFault, TooLong, Memory}
 use Rattle.apei_notify.proofs.ToldLemmas.{told_none, told_then}
 use Rattle.apei_cli.proofs.ToldLemmas.{WantsOf, wants_first, wants_stay, heard_all}
 

@@ -1,5 +1,5 @@
 -- Lines one after another.
-use Rattle.std.proofs.Common.{◌≡◌, ℕ, ◌≤◌, Bool, true, false, ◌⊎◌, List, [], ◌∷◌, ◌++◌, length, Option, Some, None, refl, sym, ap, subst, ◌∙◌, arith, inl, inr}
+use Rattle.std.proofs.Common.{◌≡◌, ℕ, ◌≤◌, Bool, true, ◌⊎◌, List, [], ◌∷◌, ◌++◌, length, Option, Some, None, refl, sym, ap, subst, ◌∙◌, arith, inl, inr}
 use Rattle.flash_words.specs.Flash.{CrashImage, IsLater, image_at}
 use Rattle.flash_words.specs.Layout.{Layout}
 use Rattle.flash_words.proofs.CrashLemmas.{past_grows, image_at-later, image_at-now, CrashImage-earlier, CrashImage-now}

@@ -1,12 +1,11 @@
 -- What one line did to the machine, as one list of what happens.
-use Rattle.std.proofs.Common.{◌≡◌, ℕ, List, [], ◌∷◌, ◌++◌, Option, Ok, Err, refl}
+use Rattle.std.proofs.Common.{◌≡◌, ℕ, List, Option, Ok, Err, refl}
 use Rattle.base_model.specs.Faults.{Rose}
-use Rattle.apei_space.specs.Accesses.{Move, Trail}
 use Rattle.ghes_ack.specs.declared.events.Event.{Event as TurnEvent}
 use Rattle.erst_client.specs.Commands.{ClientState}
 use Rattle.erst_machine.specs.MachineState.{MachineState, IsMachine}
-use Rattle.erst_machine.specs.Events.{Event, Warmed, Powered, Turned as OneTurn, Happens}
-use Rattle.erst_machine.proofs.CrashTrail.{events_are_shown, happens_then, reached_happens}
+use Rattle.erst_machine.specs.Events.{Warmed, Powered, Turned as OneTurn}
+use Rattle.erst_machine.proofs.CrashTrail.{events_are_shown, reached_happens}
 use Rattle.erst_machine.proofs.EventLemmas.{events_keep}
 use Rattle.erst_bridge.specs.Bridges.{BridgeState}
 use Rattle.bridge_durability.specs.Turns.{Step}
