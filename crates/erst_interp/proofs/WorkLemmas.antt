@@ -1,5 +1,5 @@
 -- What a GOTO is, and which work uses a register.
-use Rattle.std.proofs.Common.{◌≡◌, ℕ, true, refl, subst, arith, Result}
+use Rattle.std.proofs.Common.{◌≡◌, ◌∙◌, ℕ, true, refl, sym, ap, subst, arith, Result, Err}
 use Rattle.apei_space.specs.Calls.{Call}
 use Rattle.erst_interp.specs.declared.configurations.Configuration.{Configuration}
 use Rattle.erst_interp.specs.declared.configurations.Task.{Task}
@@ -11,7 +11,8 @@ use Rattle.erst_interp.specs.declared.works.Access.TheVariants.{Field, Store, Co
 use Rattle.erst_interp.specs.declared.stops.RunStop.{RunStop}
 use Rattle.erst_interp.specs.Instructions.{GoTo, ChangeField, HasWork, uses_register, reads_first}
 use Rattle.erst_interp.specs.Works.{changed, use_meaning, access_meaning}
-use Rattle.erst_interp.specs.Steps.{GoesTo, Within, Beyond, Executes, GoesOn, Stops, Goes, Outside}
+use Rattle.erst_interp.specs.Steps.{GoesTo, Within, Beyond, Executes, GoesOn, Stops, Goes, Outside, Unregistered}
+use Rattle.erst_interp.specs.Settled.{IsBadRegister}
 
 pub uses_register-access : (access : Access) (task : Task) → uses_register (access_meaning access task) ≡ true
 uses_register-access (Field (Take how)) task = refl
@@ -35,3 +36,11 @@ of_goto allows task to paid old answer has goes =
       | Within h ↦ GoesOn _ 0 paid old (Goes to has h) (omega arith)
       | Beyond h ↦ Stops _ paid old (Outside to has h)
     ]
+
+-- a register that is none ends the run
+pub of_bad_register : {W : Type 0} (allows : W → Call → W → Type 0) (access : Access) (task : Task) (paid : ℕ) (old : W) (answer : Result Configuration RunStop)
+    (stop kept : RunStop) → HasWork task (access_meaning access task) → IsBadRegister task kept → answer ≡ Err stop → stop ≡ kept →
+    Executes allows task paid old answer paid old
+of_bad_register allows access task paid old answer stop kept has bad is same =
+    subst (λ answer. Executes allows task paid old answer paid old) (sym (is ∙ ap (λ s. Err s) (same ∙ bad.is)))
+    (Stops _ _ _ (Unregistered (access_meaning access task) bad.why has (uses_register-access access task) bad.refused))

@@ -1,9 +1,10 @@
 // One instruction: a small function for each kind of work.
-ghost use Rattle.std.specs.Prelude.{◌≡◌, ◌<◌, ◌^◌, Ok};
+ghost use Rattle.std.specs.Prelude.{◌≡◌, ◌<◌, ◌^◌, Ok, IfOk, IfErr};
 ghost use Rattle.apei_gas.specs.Check.{checked};
 ghost use Rattle.erst_interp.specs.Instructions.{StoreValue, CompareField, MoveBytes, HasWork};
-ghost use Rattle.erst_interp.specs.Works.{use_meaning, access_meaning};
+ghost use Rattle.erst_interp.specs.Works.{use_meaning};
 ghost use Rattle.erst_interp.specs.Steps.{Executes, Attempts, GoesTo, Waited};
+ghost use Rattle.erst_interp.specs.Settled.{IsBadRegister, settled};
 
 use crate::accesses::{read_field, store};
 use crate::budgets::Budget;
@@ -39,10 +40,46 @@ pub fn execute<S: Space>(
             space.wait(micros);
             Ok(task.at.next())
         }
-        Work::OnRegister(access) => match task.entry.region.check() {
-            Ok(register) => with_register(access, &register, task, budget, space),
-            Err(why) => Err(RunStop::Register { index, why }),
+        // Each kind looks at its register itself: so one choice leads from an instruction to what it does.
+        Work::OnRegister(access) => match access {
+            Access::Field(how) => settled(by_field(how, &register_of(task)?, task, space), task),
+            Access::Store(value) => settled(put(value, &register_of(task)?, task, space), task),
+            Access::Compare => settled(compare(&register_of(task)?, task, space), task),
+            Access::Copy => move_data(&register_of(task)?, task, budget, space),
         },
+    }
+}
+
+/// The entry's register.
+#[inline(always)]
+fn register_of(task: &Task) -> Result<Register, RunStop>
+    ensures register { IfOk result (λ register. checked task.now.entry.region ≡ Ok register) }
+    ensures offset { IfOk result (λ register. register.offset < 64) }
+    ensures bad { IfErr result (λ stop. IsBadRegister task.now stop) }
+{
+    match task.entry.region.check() {
+        Ok(register) => Ok(register),
+        Err(why) => {
+            let index = task.at.place as u64;
+            Err(RunStop::Register { index, why })
+        }
+    }
+}
+
+/// Where a run goes on behind an instruction whose accesses alone may be refused.
+#[inline(always)]
+fn settled(
+    attempt: Result<Configuration, SpaceFault>,
+    task: &Task,
+) -> Result<Configuration, RunStop>
+    ensures { result ≡ settled task.now attempt }
+{
+    match attempt {
+        Ok(next) => Ok(next),
+        Err(fault) => {
+            let index = task.at.place as u64;
+            Err(RunStop::Space { index, fault })
+        }
     }
 }
 
@@ -60,36 +97,6 @@ fn go_to(to: u64, task: &Task) -> Result<Configuration, RunStop>
     } else {
         let index = task.at.place as u64;
         Err(RunStop::Goto { index, to })
-    }
-}
-
-/// The instructions that work on the entry's register.
-#[tactic(auto, using(crate::proofs::Rules::steps))]
-fn with_register<S: Space>(
-    access: Access,
-    register: &Register,
-    task: &Task,
-    budget: &mut Budget,
-    space: &mut S,
-) -> Result<Configuration, RunStop>
-    requires place { task.now.at.place < 2 ^ 63 }
-    requires work { HasWork task.now (access_meaning access task.now) }
-    requires register { checked task.now.entry.region ≡ Ok register.now }
-    requires offset { register.now.offset < 64 }
-    ensures { Executes S.allows task.now budget.old (S.state space.old) result budget.new (S.state space.new) }
-{
-    let done = match access {
-        Access::Field(how) => by_field(how, register, task, space),
-        Access::Store(value) => put(value, register, task, space),
-        Access::Compare => compare(register, task, space),
-        Access::Copy => return move_data(register, task, budget, space),
-    };
-    match done {
-        Ok(next) => Ok(next),
-        Err(fault) => {
-            let index = task.at.place as u64;
-            Err(RunStop::Space { index, fault })
-        }
     }
 }
 
