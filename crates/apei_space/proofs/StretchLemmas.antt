@@ -1,10 +1,12 @@
 -- Windows with the places of their bytes: each is where a place that it holds is found.
-use Rattle.std.proofs.Common.{◌≡◌, ◌∙◌, ℕ, zero, suc, ◌+◌, ◌-◌, ◌<◌, ◌^◌, All, List, [], ◌∷◌, length, take, drop, get_or, Some, sym, ap, subst, arith}
+use Rattle.std.proofs.Common.{◌≡◌, ◌∙◌, ℕ, zero, suc, ◌+◌, ◌-◌, ◌<◌, ◌≤◌, ◌^◌, All, List, [], ◌∷◌, ◌++◌, length, take, drop, get_or, Some, sym, ap, subst, arith}
+use Rattle.std.proofs.lemmas.List.{drop_more, drop_all, append_assoc, append-nil}
+use Rattle.std.specs.List.Sorted.{IsPermutation}
 use Rattle.apei_gas.specs.declared.registers.Place.{Place}
 use Rattle.apei_space.specs.declared.windows.Window.{Window}
 use Rattle.apei_space.specs.declared.windows.Stretch.{Stretch}
 use Rattle.apei_space.specs.Windows.{room, spot, total, AreApart}
-use Rattle.apei_space.specs.Stretches.{IsStretch, IsTableOf}
+use Rattle.apei_space.specs.Stretches.{IsStretch, IsTableOf, stretches_from}
 use Rattle.apei_space.proofs.Placed.{spot_at}
 
 taken : (windows : List Window) (i : ℕ) (d : Window) → i < length windows → total (take (suc i) windows) ≡ total (take i windows) + (get_or windows i d).len
@@ -33,3 +35,14 @@ stretch_spot windows at stretch r apart is room_is more =
 
 pub table_of : (windows : List Window) (table same : List Stretch) → same ≡ table → total windows < 2 ^ 63 → AreApart windows → All (IsStretch windows) table → IsTableOf windows same
 table_of windows table same is few apart are = record { few = few; apart = apart; are = subst (All (IsStretch windows)) (sym is) are }
+
+pub stretches_more : (windows : List Window) (i start : ℕ) (d : Window) (done : List Stretch) → i < length windows
+    → (done ++ record { window = get_or windows i d; start = start } ∷ []) ++ stretches_from (start + (get_or windows i d).len) (drop (i + 1) windows) ≡ done ++ stretches_from start (drop i windows)
+stretches_more windows i start d done inside =
+    append_assoc done _ _ ∙ ap (λ (left : List Window). done ++ stretches_from start left) (sym (drop_more windows i d inside))
+
+pub stretches_all : (windows : List Window) (i start : ℕ) (done table : List Stretch) → length windows ≤ i → done ++ stretches_from start (drop i windows) ≡ stretches_from 0 windows
+    → IsPermutation done table → IsPermutation (stretches_from 0 windows) table
+stretches_all windows i start done table past whole same =
+    let none : done ++ stretches_from start (drop i windows) ≡ done = ap (λ (left : List Window). done ++ stretches_from start left) (drop_all i windows past) ∙ append-nil done in
+    subst (λ (all : List Stretch). IsPermutation all table) (sym none ∙ whole) same

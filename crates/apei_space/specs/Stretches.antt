@@ -1,9 +1,11 @@
 -- Windows with the places of their bytes.
-use Rattle.std.specs.Prelude.{◌≡◌, ℕ, ◌<◌, ◌^◌, List, All, length, take, get_or, Option, Some, IfSome}
+use Rattle.std.specs.Prelude.{◌≡◌, ℕ, ◌+◌, ◌-◌, ◌<◌, ◌^◌, ◌==◌, if◌then◌else◌, List, [], ◌∷◌, All, length, take, get_or, slice_get, Option, Some, None, IfSome}
+use Rattle.std.specs.List.Sorted.{IsPermutation, IsNonDecreasingBy}
 use Rattle.apei_gas.specs.declared.registers.Place.{Place}
 use Rattle.apei_space.specs.declared.windows.Window.{Window}
 use Rattle.apei_space.specs.declared.windows.Stretch.{Stretch}
-use Rattle.apei_space.specs.Windows.{total, spot, AreApart}
+use Rattle.apei_space.specs.declared.guesses.Guess.{Guess}
+use Rattle.apei_space.specs.Windows.{address_of, room, total, spot, AreApart}
 
 -- it is one of some windows, whose bytes stand one after another
 pub record IsStretch (windows : List Window) (stretch : Stretch) : Type 0 where
@@ -24,3 +26,31 @@ IsTable table = (windows : List Window) × IsTableOf windows table
 -- where the byte of a place stands is told right, if it is told
 abbrev pub Tells : List Stretch → Place → Option (ℕ × ℕ) → Type 0
 Tells table at told = (windows : List Window) → IsTableOf windows table → IfSome told (λ given. Some given ≡ spot windows 0 at)
+
+-- each of some windows, and where its first byte stands among those of all, which stand one after another from an index on
+abbrev pub stretches_from : ℕ → List Window → List Stretch
+stretches_from start [] = []
+stretches_from start (window ∷ windows) = record { window = window; start = start } ∷ stretches_from (start + window.len) windows
+
+-- every window once, in the order of the addresses
+pub record IsTabulated (windows : List Window) (table : List Stretch) : Type 0 where
+  pub whole : IsPermutation (stretches_from 0 windows) table
+  pub in_order : IsNonDecreasingBy (λ stretch. address_of stretch.window.place) table
+
+-- where the byte of a place stands, if a stretch holds it
+abbrev pub spot_in : Place → Option Stretch → Option (ℕ × ℕ)
+spot_in at None = None
+spot_in at (Some stretch) =
+    if room stretch.window at == 0 then None else Some (stretch.start + (stretch.window.len - room stretch.window at), room stretch.window at)
+
+-- if that of a number does
+abbrev pub spot_numbered : List Stretch → ℕ → Place → Option (ℕ × ℕ)
+spot_numbered table number at = spot_in at (slice_get table number)
+
+abbrev pub or_else : Option (ℕ × ℕ) → Option (ℕ × ℕ) → Option (ℕ × ℕ)
+or_else (Some found) other = Some found
+or_else None other = other
+
+-- if one of two does, the first one asked first
+abbrev pub spot_guessed : List Stretch → Guess → Place → Option (ℕ × ℕ)
+spot_guessed table guess at = or_else (spot_numbered table guess.first at) (spot_numbered table guess.second at)

@@ -1,5 +1,6 @@
 // Guesses at the window that holds an address.
-ghost use Rattle.std.specs.Prelude.{◌≤◌};
+ghost use Rattle.std.specs.Prelude.{◌≡◌, ◌/◌, ◌^◌, ◌<◌, length, replicate, IfOk};
+ghost use Rattle.apei_space.specs.Guesses.{guessed, keys, no_guess, put, shift, slot, window_noted};
 
 use apei_bytes::Memory;
 use std::alloc::Global;
@@ -38,55 +39,80 @@ pub struct Guesses {
 }
 
 /// The slot of a word or a page: the highest 8 bits of its product with the golden ratio, which keeps apart what stands in equal steps.
-fn slot(key: u64) -> usize {
+fn slot(key: u64) -> usize
+    ensures value { result ≡ slot key }
+    ensures inside { result < 256 }
+{
     (key.wrapping_mul(0x9E37_79B9_7F4A_7C15) >> 56) as usize
 }
 
 /// The bits of an address within the words or pages of a window of so many bytes.
 fn shift_of(len: u32) -> u32
-    ensures { result ≤ 12 }
+    ensures { result ≡ shift len }
 {
-    if len > SHORT { PAGE } else { WORD }
+    if len <= SHORT { WORD } else { PAGE }
+}
+
+/// How many words or pages of a window of so many bytes are noted.
+fn keys_of(len: u32) -> u32
+    ensures { result ≡ keys len }
+{
+    (len.saturating_sub(1) >> shift_of(len)).min(FURTHER) + 1
 }
 
 impl Guesses {
-    pub fn new(alloc: Global) -> Result<Guesses, Memory> {
+    pub fn new(alloc: Global) -> Result<Guesses, Memory>
+        ensures { IfOk result (λ guesses. guesses.slots.items ≡ replicate 256 no_guess) }
+    {
         let slots = vec![in alloc; NO_GUESS; SLOTS]?;
         Ok(Guesses { slots })
     }
 
     /// Notes the number of a window of so many bytes. Where three windows have one slot, the first of them is forgotten.
-    pub fn note(&mut self, address: u64, len: u32, number: usize) {
-        let shift = shift_of(len);
-        let further = (len.saturating_sub(1) >> shift).min(FURTHER);
-        for step in 0..=further {
-            self.put((address >> shift).wrapping_add(u64::from(step)), number);
+    pub fn note(&mut self, address: u64, len: u32, number: usize)
+        requires { length self.old.slots.items ≡ 256 }
+        ensures slots { self.new.slots.items ≡ window_noted address len number self.old.slots.items }
+        ensures length { length self.new.slots.items ≡ 256 }
+    {
+        let first = address >> shift_of(len);
+        for step in 0..keys_of(len) {
+            self.put(first.wrapping_add(u64::from(step)), number);
         }
     }
 
-    fn put(&mut self, key: u64, number: usize) {
-        if let Some(guess) = self.slots.get_mut(slot(key)) {
-            *guess = Guess {
-                first: number,
-                second: guess.first,
-            };
-        }
+    fn put(&mut self, key: u64, number: usize)
+        requires { length self.old.slots.items ≡ 256 }
+        ensures slots { self.new.slots.items ≡ put number self.old.slots.items key }
+        ensures length { length self.new.slots.items ≡ 256 }
+    {
+        let slot = slot(key);
+        let second = self.slots[slot].first;
+        self.slots[slot] = Guess {
+            first: number,
+            second,
+        };
     }
 
     #[inline(always)]
-    fn at(&self, key: u64) -> Guess {
+    fn at(&self, key: u64) -> Guess
+        ensures { result ≡ guessed self.now.slots.items key }
+    {
         self.slots.get(slot(key)).copied().unwrap_or(NO_GUESS)
     }
 
     /// The windows that may hold the word of an address.
     #[inline(always)]
-    pub fn by_word(&self, address: u64) -> Guess {
+    pub fn by_word(&self, address: u64) -> Guess
+        ensures { result ≡ guessed self.now.slots.items (address / 2 ^ 3) }
+    {
         self.at(address >> WORD)
     }
 
     /// The windows that may hold the page of an address.
     #[inline(always)]
-    pub fn by_page(&self, address: u64) -> Guess {
+    pub fn by_page(&self, address: u64) -> Guess
+        ensures { result ≡ guessed self.now.slots.items (address / 2 ^ 12) }
+    {
         self.at(address >> PAGE)
     }
 }

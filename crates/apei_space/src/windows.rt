@@ -1,7 +1,8 @@
 // A stretch of plain bytes, and where an access stands in one.
 ghost use Rattle.std.specs.Prelude.{◌≡◌, ◌+◌, ◌<◌, ◌≤◌, ◌^◌, ◌-◌, All, length, IfOk, IfSome};
 ghost use Rattle.apei_space.specs.Windows.{address_of, room, room_in, spot, total, AreApart};
-ghost use Rattle.apei_space.specs.Stretches.{IsStretch, IsTable, Tells};
+ghost use Rattle.apei_space.specs.Stretches.{IsStretch, IsTable, IsTabulated, Tells, spot_guessed, spot_numbered};
+ghost use Rattle.apei_space.specs.Guesses.{all_noted, guesses_at};
 
 use crate::guesses::{Guess, Guesses, SHORT};
 use apei_bytes::Memory;
@@ -81,7 +82,9 @@ pub struct Table {
 /// The table of some windows.
 pub fn tabulate(alloc: Global, windows: &[Window]) -> Result<Table, Memory>
     requires { total windows.now < 2 ^ 63 }
-    ensures { IfOk result (λ table. All (IsStretch windows.now) table.stretches.items) }
+    ensures are { IfOk result (λ table. All (IsStretch windows.now) table.stretches.items) }
+    ensures whole { IfOk result (λ table. IsTabulated windows.now table.stretches.items) }
+    ensures guesses { IfOk result (λ table. table.guesses.slots.items ≡ guesses_at table.stretches.items) }
 {
     let stretches = stretches(alloc, windows)?;
     let guesses = guesses(alloc, &stretches)?;
@@ -91,7 +94,8 @@ pub fn tabulate(alloc: Global, windows: &[Window]) -> Result<Table, Memory>
 /// The windows in the order of their addresses.
 fn stretches(alloc: Global, windows: &[Window]) -> Result<Vec<Stretch>, Memory>
     requires { total windows.now < 2 ^ 63 }
-    ensures { IfOk result (λ table. All (IsStretch windows.now) table.items) }
+    ensures are { IfOk result (λ table. All (IsStretch windows.now) table.items) }
+    ensures whole { IfOk result (λ table. IsTabulated windows.now table.items) }
 {
     let mut table = Vec::with_capacity(alloc, windows.len())?;
     let mut start: usize = 0;
@@ -106,18 +110,28 @@ fn stretches(alloc: Global, windows: &[Window]) -> Result<Vec<Stretch>, Memory>
     Ok(table)
 }
 
-fn guesses(alloc: Global, stretches: &[Stretch]) -> Result<Guesses, Memory> {
+fn guesses(alloc: Global, stretches: &[Stretch]) -> Result<Guesses, Memory>
+    ensures { IfOk result (λ guesses. guesses.slots.items ≡ guesses_at stretches.now) }
+{
     let mut guesses = Guesses::new(alloc)?;
     // The short ones last, since these are found first where two have one slot.
-    for is_short in [false, true] {
-        for (number, stretch) in stretches.iter().enumerate() {
-            let window = stretch.window;
-            if (window.len <= SHORT) == is_short {
-                guesses.note(address(window.place), window.len, number);
-            }
+    note_windows(&mut guesses, stretches, false);
+    note_windows(&mut guesses, stretches, true);
+    Ok(guesses)
+}
+
+/// Notes the short windows, or the others.
+fn note_windows(guesses: &mut Guesses, stretches: &[Stretch], is_short: bool)
+    requires { length guesses.old.slots.items ≡ 256 }
+    ensures slots { guesses.new.slots.items ≡ all_noted is_short stretches.now 0 guesses.old.slots.items }
+    ensures length { length guesses.new.slots.items ≡ 256 }
+{
+    for (number, stretch) in stretches.iter().enumerate() {
+        let window = stretch.window;
+        if (window.len <= SHORT) == is_short {
+            guesses.note(address(window.place), window.len, number);
         }
     }
-    Ok(guesses)
 }
 
 /// So many windows are looked at one by one as fast as by a search.
@@ -160,19 +174,21 @@ fn search_many(table: &Table, windows: &[Window], at: Place) -> Option<(usize, u
 #[inline(always)]
 fn spot_guessed(stretches: &[Stretch], guess: Guess, at: Place) -> Option<(usize, u32)>
     requires { IsTable stretches.now }
-    ensures { Tells stretches.now at result }
+    ensures value { result ≡ spot_guessed stretches.now guess at }
+    ensures right { Tells stretches.now at result }
 {
-    if let Some(found) = spot_in(stretches, guess.first, at) {
+    if let Some(found) = spot_numbered(stretches, guess.first, at) {
         return Some(found);
     }
-    spot_in(stretches, guess.second, at)
+    spot_numbered(stretches, guess.second, at)
 }
 
 /// Where the byte of a place stands, if the stretch of this number holds it.
 #[inline(always)]
-fn spot_in(stretches: &[Stretch], number: usize, at: Place) -> Option<(usize, u32)>
+fn spot_numbered(stretches: &[Stretch], number: usize, at: Place) -> Option<(usize, u32)>
     requires { IsTable stretches.now }
-    ensures { Tells stretches.now at result }
+    ensures value { result ≡ spot_numbered stretches.now number at }
+    ensures right { Tells stretches.now at result }
 {
     if number >= stretches.len() {
         return None;
@@ -196,7 +212,7 @@ fn search_in_order(stretches: &[Stretch], windows: &[Window], at: Place) -> Opti
     let first = address(at);
     let behind = stretches.partition_point(|stretch| address(stretch.window.place) <= first);
     if behind > 0 {
-        if let Some(found) = spot_in(stretches, behind - 1, at) {
+        if let Some(found) = spot_numbered(stretches, behind - 1, at) {
             return Some(found);
         }
     }

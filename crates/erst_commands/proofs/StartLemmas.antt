@@ -9,7 +9,7 @@ use Rattle.base_model.specs.Faults.{Rose}
 use Rattle.flash_words.specs.Layout.{Layout, room_of, reach_of}
 use Rattle.flash_words.proofs.CrashLemmas.{Leaves-none}
 use Rattle.record_model.specs.Records.{Stored, is_reserved}
-use Rattle.record_model.specs.RecordMap.{Command, Write, Clear, Refusal, Failed as refused_for_good, NoSpace as no_space, NotFound as not_found, refusal_of, after, changes_of, made_by}
+use Rattle.record_model.specs.RecordMap.{Command, Write, Clear, Refusal, Failed as refused_for_good, NoSpace as no_space, NotFound as not_found, refusal_of, changes_of, made_by}
 use Rattle.record_model.proofs.MapLemmas.{after-done}
 use Rattle.record_model.proofs.RefusalLemmas.{changes_of-clear, changes_of-refused}
 use Rattle.record_store.specs.Store.{StoreView, Pending, Idle, stored, slots_for, KeepsMap, DividesAlike, abandoned}

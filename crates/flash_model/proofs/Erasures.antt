@@ -1,6 +1,6 @@
 -- How far bytes are erased.
-use Rattle.std.proofs.Common.{◌≡◌, ℕ, ◌+◌, ◌-◌, ◌^◌, ◌<◌, ◌≤◌, List, [], ◌∷◌, ◌++◌, length, take, drop, replicate, get_or, refl, sym, ap, ◌∙◌, arith, drop-cons, take-add, append_assoc}
-use Rattle.std.proofs.lemmas.List.{take-append-drop, drop-drop, replicate-append-replicate, drop_all}
+use Rattle.std.proofs.Common.{◌≡◌, ℕ, ◌+◌, ◌-◌, ◌^◌, ◌<◌, ◌≤◌, List, [], ◌∷◌, ◌++◌, length, take, drop, replicate, get_or, sym, ap, ◌∙◌, arith, drop-cons, take-add, append_assoc}
+use Rattle.std.proofs.lemmas.List.{take-append-drop, drop-drop, replicate-append-replicate}
 use Rattle.base_model.specs.Bytes.{part, number_at, spelled, AreBytes}
 use Rattle.base_model.proofs.BytesLemmas.{spelled-number_at}
 use Rattle.flash_model.specs.Entries.{among_erased}

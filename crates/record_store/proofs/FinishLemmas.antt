@@ -4,7 +4,7 @@ use Rattle.std.specs.Prelude.{nat_le, is_some, OnOk}
 use Rattle.std.specs.FinMap.{get}
 use Rattle.std.proofs.lemmas.Bool.{cases_eq, cases_lt, cond-true, cond-false, eq-eqb, ne_eqb, le-leb, lt-leb}
 use Rattle.std.proofs.lemmas.Result.{on_ok_weaker}
-use Rattle.flash_words.specs.Flash.{LosesOnlyByChange, StaysLit}
+use Rattle.flash_words.specs.Flash.{LosesOnlyByChange}
 use Rattle.flash_words.specs.Layout.{Layout}
 use Rattle.flash_words.proofs.PowerLemmas.{lit_none, lit_then}
 use Rattle.flash_words.proofs.CrashLemmas.{Leaves-none, Leaves-weaker, Leaves-then, Leaves-exit}

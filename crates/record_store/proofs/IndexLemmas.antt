@@ -4,10 +4,10 @@ use Rattle.std.specs.Prelude.{insert, remove, vec_len, vec_capacity, ◌||◌, �
 use Rattle.std.specs.List.{list_any}
 use Rattle.std.specs.VecDeque.{deque_capacity}
 use Rattle.std.proofs.Math.ListN.{set}
-use Rattle.std.proofs.lemmas.Bool.{cases_lt, cases_eq, lt-ltb}
-use Rattle.std.proofs.lemmas.Option.{same_Some, none-some}
+use Rattle.std.proofs.lemmas.Bool.{lt-ltb}
+use Rattle.std.proofs.lemmas.Option.{same_Some}
 use Rattle.record_model.specs.Records.{Entry, parts_of, is_taken, holds}
-use Rattle.record_model.proofs.ChosenLemmas.{IsChosen-unique, IsChosen-without}
+use Rattle.record_model.proofs.ChosenLemmas.{IsChosen-unique}
 use Rattle.record_recovery.specs.declared.found.Found.{Found}
 use Rattle.record_recovery.specs.declared.found.SlotOf.{SlotOf}
 use Rattle.record_recovery.specs.Listed.{AreListed, AreSlots, IsIndex, IsWithin, free_slots}

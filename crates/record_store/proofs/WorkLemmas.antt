@@ -17,7 +17,7 @@ use Rattle.record_model.proofs.MarkLemmas.{killed_is_not_erased}
 use Rattle.record_model.specs.RecordMap.{Write as write, Clear as clear, made_by, next_generation, pieces_of}
 use Rattle.record_model.specs.Filling as filling
 use Rattle.record_model.specs.Plan as planned
-use Rattle.record_model.specs.Plan.{Plan, IsPlan, KnowsPlan, StandsAtStage, target_of, stage_after, made_in_slot, made_in_further, made_at}
+use Rattle.record_model.specs.Plan.{Plan, StandsAtStage, target_of, stage_after, made_in_slot, made_in_further, made_at}
 use Rattle.record_model.proofs.BegunLemmas.{length-bytes, length-first}
 use Rattle.record_model.proofs.MadeLemmas.{made_before_gate, made_one_more}
 use Rattle.record_model.proofs.PlanLemmas.{StaysKnown, Opens, record_for, target_in, gate_only, gate_spare}

@@ -7,13 +7,13 @@ pub spot_guessed-requires : goal.spot_guessed-requires
 spot_guessed-requires c = (c.args.windows.now, table_of _ _ _ c.as_slice-stretches.ensures.value c.requires.few c.requires.apart c.requires.table)
 
 pub returns-in-Some : goal.returns-in-Some
-returns-in-Some c = c.in-Some.ensures c.args.windows.now (table_of _ _ _ c.as_slice-stretches.ensures.value c.requires.few c.requires.apart c.requires.table)
+returns-in-Some c = c.in-Some.ensures.right c.args.windows.now (table_of _ _ _ c.as_slice-stretches.ensures.value c.requires.few c.requires.apart c.requires.table)
 
 pub spot_guessed-requires-2 : goal.spot_guessed-requires-2
 spot_guessed-requires-2 c = (c.args.windows.now, table_of _ _ _ c.as_slice-stretches.ensures.value c.requires.few c.requires.apart c.requires.table)
 
 pub returns-in-Some-spot_guessed : goal.returns-in-Some-spot_guessed
-returns-in-Some-spot_guessed c = c.in-Some-spot_guessed.ensures c.args.windows.now (table_of _ _ _ c.as_slice-stretches.ensures.value c.requires.few c.requires.apart c.requires.table)
+returns-in-Some-spot_guessed c = c.in-Some-spot_guessed.ensures.right c.args.windows.now (table_of _ _ _ c.as_slice-stretches.ensures.value c.requires.few c.requires.apart c.requires.table)
 
 pub search_in_order-requires-clause-table : goal.search_in_order-requires-clause-table
 search_in_order-requires-clause-table c = subst (All (IsStretch c.args.windows.now)) (sym c.as_slice-stretches.ensures.value) c.requires.table

@@ -1,4 +1,4 @@
-use Rattle.std.proofs.Common.{◌≡◌, drop, refl, sym, ap, subst, arith, length, IfOk}
+use Rattle.std.proofs.Common.{◌≡◌, drop, refl, sym, subst, arith, IfOk}
 use Rattle.std.proofs.lemmas.Iterator.{YieldsList, items_from_collect}
 use Rattle.std.proofs.lemmas.Iterator.Adapters.{YieldsList-from_skip, YieldsList-from_vec}
 use Rattle.std.specs.Vec.Iter.{into_iter_items, into_iter_steps}

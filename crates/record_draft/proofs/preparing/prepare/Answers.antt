@@ -1,6 +1,6 @@
 use Rattle.std.proofs.Common.{sym, subst}
 use Rattle.record_model.specs.Plan as planned
-use Rattle.record_model.specs.Plan.{target_of, stage_after, StandsAtStage}
+use Rattle.record_model.specs.Plan.{StandsAtStage}
 use Rattle.record_model.proofs.LeavesLemmas.{step_leaves}
 use Rattle.record_model.proofs.StepLemmas.{step_made}
 use Rattle.flash_model.specs.Layouts.{layout_of}

@@ -1,4 +1,3 @@
-use Rattle.std.proofs.Common.{arith}
 use Rattle.std.specs.VecDeque.{deque_capacity}
 use Rattle.record_store.proofs.FreeListLemmas.{joined_at}
 use Rattle.record_store.proofs.index.list_free.Goals as goal

@@ -1,7 +1,7 @@
 use Rattle.std.proofs.Common.{sym, arith}
 use Rattle.apei_space.proofs.Spots.{spot_fits}
 use Rattle.apei_space.proofs.StretchLemmas.{stretch_spot}
-use Rattle.apei_space.proofs.windows.spot_in.Goals as goal
+use Rattle.apei_space.proofs.windows.spot_numbered.Goals as goal
 
 pub overflow_add-result : goal.overflow_add-result
 overflow_add-result c =
@@ -12,7 +12,7 @@ overflow_add-result c =
     let few = is.few in
     omega (arith, fits.within, few)
 
-pub returns-then-room-gt0 : goal.returns-then-room-gt0
-returns-then-room-gt0 c = λ windows is.
+pub returns-then-room-gt0-clause-right : goal.returns-then-room-gt0-clause-right
+returns-then-room-gt0-clause-right c = λ windows is.
     let one = is.are c.args.number _ (omega (arith, c.if-number-stretches.false)) in
     stretch_spot windows c.args.at _ c.room-room.result is.apart one c.room-room.ensures c.if-room-gt0.true
