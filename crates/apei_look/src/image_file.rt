@@ -1,5 +1,6 @@
 // The file of an image, opened for reading alone.
-ghost use Rattle.std.specs.Prelude.{◌≡◌, length, IfOk};
+ghost use Rattle.std.specs.Prelude.{◌≡◌, length, IfOk, IfErr};
+ghost use Rattle.apei_look.specs.Refusals.{IsFileRefusal};
 
 use crate::status::Status;
 use std::alloc::Global;
@@ -32,9 +33,10 @@ pub enum FileFault {
 /// The bytes of the regular file at `path`, which has to have `size` of them. A file that another run holds for its changes
 /// is refused; while it is read no run can hold it so.
 pub fn read_file(rt: &HostRuntime, alloc: Global, path: &str, size: u64) -> Result<Vec<u8>, Status>
-    ensures { IfOk result (λ image. length image.items ≡ size) }
+    ensures whole { IfOk result (λ image. length image.items ≡ size) }
+    ensures refused { IfErr result (IsFileRefusal size) }
 {
-    let file = open(rt, path)?;
+    let file = open(rt, path).map_err(Status::File)?;
     let found = match file.metadata() {
         Ok(metadata) => metadata.len(),
         Err(_) => return Err(Status::File(FileFault::Unreadable)),
@@ -45,7 +47,9 @@ pub fn read_file(rt: &HostRuntime, alloc: Global, path: &str, size: u64) -> Resu
             wanted: size,
         });
     }
-    let mut image = vec![in alloc; ERASED; size as usize]?;
+    let Ok(mut image) = vec![in alloc; ERASED; size as usize] else {
+        return Err(Status::Memory);
+    };
     match file.read_exact_at(&mut image, 0) {
         Ok(()) => Ok(image),
         Err(_) => Err(Status::File(FileFault::Unreadable)),

@@ -4,7 +4,6 @@ ghost use Rattle.apei_look.specs.Numbers.{number_of};
 
 use crate::image_file::FileFault;
 use clap_words::WordsError;
-use std::alloc::AllocError;
 use thiserror::Error;
 
 /// How a run ended, and what is said of it.
@@ -21,7 +20,7 @@ pub enum Status {
     SinkFault,
     /// The file is not read.
     #[error("apei-look: {0}")]
-    File(#[from] FileFault),
+    File(FileFault),
     /// The geometry is outside its limits.
     #[error("apei-look: the geometry is outside its limits")]
     BadGeometry,
@@ -50,11 +49,5 @@ impl Status {
             Status::Words(WordsError::Memory) | Status::Memory => 8,
             Status::NoRecord { .. } => 10,
         }
-    }
-}
-
-impl From<AllocError> for Status {
-    fn from(_: AllocError) -> Self {
-        Status::Memory
     }
 }

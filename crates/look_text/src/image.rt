@@ -1,5 +1,7 @@
 // An image, and what was found of its slots.
-ghost use Rattle.std.specs.Prelude.{◌≡◌, ◌*◌, ◌<◌, ◌≤◌, length};
+ghost use Rattle.std.specs.Prelude.{◌≡◌, ◌*◌, ◌-◌, ◌<◌, ◌≤◌, length};
+ghost use Rattle.record_model.specs.Slots.{further_of};
+ghost use Rattle.record_slots.specs.Slots.{numbers_of};
 ghost use Rattle.image_survey.specs.Shown.{AreShown};
 
 use flash_model::Geometry;
@@ -37,7 +39,8 @@ impl<'a> Image<'a> {
 
 /// The further slots that a head names.
 pub(crate) fn further_slots<'a>(geometry: &Geometry, head: &'a Head) -> &'a [u16]
-    ensures { length result.now ≤ 3 }
+    ensures are { result.now ≡ further_of (geometry.now.slot_size - 64) (numbers_of head.now) }
+    ensures few { length result.now ≤ 3 }
 {
     let further = parts_of(geometry, head.len).saturating_sub(1).min(3) as usize;
     &head.next[..further]
