@@ -1,5 +1,5 @@
 -- How the file of an image is refused.
-use Rattle.std.specs.Prelude.{ℕ, ◌≡◌, ◌≢◌, ⊤, ⊥}
+use Rattle.std.specs.Prelude.{ℕ, ◌≡◌, ◌≢◌, ⊤}
 use Rattle.apei_look.specs.declared.status.Status.{Status}
 use Rattle.apei_look.specs.declared.status.Status.TheVariants.{File, Length, Memory}
 
