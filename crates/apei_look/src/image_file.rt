@@ -1,6 +1,6 @@
 // The file of an image, opened for reading alone.
 ghost use Rattle.std.specs.Prelude.{◌≡◌, length, IfOk, IfErr};
-ghost use Rattle.apei_look.specs.Refusals.{IsFileRefusal};
+ghost use Rattle.apei_look.specs.Refusals.{IsFileRefusal, length_checked};
 
 use crate::status::Status;
 use std::alloc::Global;
@@ -41,18 +41,24 @@ pub fn read_file(rt: &HostRuntime, alloc: Global, path: &str, size: u64) -> Resu
         Ok(metadata) => metadata.len(),
         Err(_) => return Err(Status::File(FileFault::Unreadable)),
     };
-    if found != size {
-        return Err(Status::Length {
-            found,
-            wanted: size,
-        });
-    }
+    check_length(found, size)?;
     let Ok(mut image) = vec![in alloc; ERASED; size as usize] else {
         return Err(Status::Memory);
     };
     match file.read_exact_at(&mut image, 0) {
         Ok(()) => Ok(image),
         Err(_) => Err(Status::File(FileFault::Unreadable)),
+    }
+}
+
+// A file of another length than the geometry's is refused.
+fn check_length(found: u64, wanted: u64) -> Result<(), Status>
+    ensures { result ≡ length_checked found wanted }
+{
+    if found == wanted {
+        Ok(())
+    } else {
+        Err(Status::Length { found, wanted })
     }
 }
 
