@@ -27,9 +27,9 @@ fn check_lines<I: Source, O: Sink>(
 ) -> ScriptEnd
     requires start { lines.old ≡ first_reading }
     requires room { length buffer.old ≡ LONGEST_BYTES }
-    ensures checked { ChecksScript I.tells O.tells show (I.rest script.old) (I.rest script.new) (O.written out.old) (O.written out.new) result }
     ensures source { HasSourceCause (I.faults script.old) (I.faults script.new) (fault_of result) }
     ensures sink { HasSinkCause (O.faults out.old) (O.faults out.new) (fault_of result) }
+    ensures checked { ChecksScript I.tells O.tells show (I.rest script.old) (I.rest script.new) (O.written out.old) (O.written out.new) result }
 {
     lines_are_read_in_order::<I>();
     'lines: loop {

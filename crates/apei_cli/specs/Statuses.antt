@@ -1,5 +1,5 @@
 -- What each status of a run says of its script.
-use Rattle.std.specs.Prelude.{◌≡◌, ℕ, ◌+◌, List, [], ◌∷◌, ◌++◌}
+use Rattle.std.specs.Prelude.{◌≡◌, ℕ, List, [], ◌∷◌, ◌++◌}
 use Rattle.clap_words.specs.declared.error.WordsError.{WordsError}
 use Rattle.clap_words.specs.declared.error.WordsError.TheVariants as words
 use Rattle.line_grammar.specs.Columns.{BreaksAt}

@@ -4,7 +4,6 @@
 mod boot;
 mod generate;
 mod generated;
-mod hub;
 mod program;
 mod script;
 mod sim;

@@ -15,7 +15,7 @@ use apei_space::Space;
 use erst_machine::{FatalError, Machine};
 use flash_model::Flash;
 use ghes_ack::{Side, SubmitError};
-use script_text::Reply;
+use script_text::{Reply, decode_line};
 
 impl<F: Flash> Desk<F> {
     /// Gives an error status block to the handover.
@@ -24,7 +24,7 @@ impl<F: Flash> Desk<F> {
         requires fits { length hex.now ≤ LONGEST_LINE }
         ensures { MakesReply F.tells (state_of self.old) (error hex.now) (state_of self.new) self.new.buffers.reply }
     {
-        let len = self.buffers.decode(hex);
+        let len = decode_line(hex, &mut self.buffers.bytes);
         let answer = self.machine.submit(&self.buffers.bytes[..len]);
         put_submission(&mut self.buffers.reply, answer);
     }
@@ -35,7 +35,7 @@ impl<F: Flash> Desk<F> {
         requires fits { length hex.now ≤ LONGEST_LINE }
         ensures { MakesReply F.tells (state_of self.old) (fatal hex.now) (state_of self.new) self.new.buffers.reply }
     {
-        let len = self.buffers.decode(hex);
+        let len = decode_line(hex, &mut self.buffers.bytes);
         let answer = self.machine.lay_fatal(&self.buffers.bytes[..len]);
         put_laid(&mut self.buffers.reply, answer);
     }

@@ -1,14 +1,12 @@
 // The memory in which lines are carried out.
-ghost use Rattle.std.specs.Prelude.{◌≡◌, ◌≤◌, [], length, take, vec_len, vec_capacity, Ok, IfOk};
-ghost use Rattle.hex.specs.Hex.{decode_of};
-ghost use Rattle.line_grammar.specs.declared.lengths.TheConstants.{LONGEST_LINE, LONGEST_BYTES};
-ghost use Rattle.line_grammar.specs.Parts.{IsPairs};
+ghost use Rattle.std.specs.Prelude.{◌≡◌, ◌≤◌, [], vec_len, vec_capacity, IfOk};
+ghost use Rattle.line_grammar.specs.declared.lengths.TheConstants.{LONGEST_BYTES};
 
 use apei_bytes::Memory;
 use bridge_turns::MadeTurn;
 use ghes_ack::Event;
 use line_grammar::LONGEST_BYTES;
-use script_text::{Reply, decode};
+use script_text::Reply;
 use std::alloc::Global;
 
 /// The most turns of a line.
@@ -37,14 +35,5 @@ impl Buffers {
             events: Vec::with_capacity(alloc, MOST_TURNS)?,
             made: Vec::with_capacity(alloc, MOST_TURNS)?,
         })
-    }
-    /// The first bytes become those of a line's hexadecimal digits; their number is answered.
-    pub fn decode(&mut self, hex: &[u8]) -> usize
-        requires pairs { IsPairs hex.now }
-        requires fits { length hex.now ≤ LONGEST_LINE }
-        ensures bytes { decode_of hex.now ≡ Ok (take result self.new.bytes.items) }
-        ensures within { result ≤ vec_len self.new.bytes }
-    {
-        decode(hex, &mut self.bytes)
     }
 }

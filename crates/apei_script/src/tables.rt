@@ -15,6 +15,7 @@ use erst_entries::{ErstError, ErstTable};
 use erst_interp::Budget;
 use erst_shadow::{attaching_never_fails, shadow_table};
 use flash_model::Flash;
+use script_text::decode_line;
 
 /// The steps that attaching to a table is given.
 pub const ATTACH_STEPS: u64 = 64;
@@ -28,7 +29,7 @@ impl<F: Flash> Desk<F> {
         ensures made { OnOk result (MakesReply F.tells (state_of self.old) (table hex.now) (state_of self.new) self.new.buffers.reply) }
         ensures stopped { IfErr result (λ stop. Stops F.tells (state_of self.old) (table hex.now) (state_of self.new) stop) }
     {
-        let len = self.buffers.decode(hex);
+        let len = decode_line(hex, &mut self.buffers.bytes);
         let table = match ErstTable::decode(self.alloc, &self.buffers.bytes[..len]) {
             Ok((table, _)) => table,
             Err(ErstError::Memory) => return Err(PlayStop::Memory),

@@ -20,7 +20,7 @@ abbrev pub name_of : Value → List ℕ → Option (List ℕ)
 name_of Action word = option_and_then (λ code. option_map action_name (action_of code)) (number_of word)
 name_of Instruction word = option_and_then (λ code. option_map instruction_name (instruction_of code)) (number_of word)
 name_of RecordSeverity word = option_and_then cper.severity_word (number_of word)
-name_of BlockSeverity word = option_and_then ghes.severity_word (number_of word)
+name_of BlockSeverity word = option_and_then ghes.block_severity_word (number_of word)
 name_of SectionType word = cper.name_in cper.sections word
 
 abbrev pub in_parentheses : Option (List ℕ) → List ℕ

@@ -1,6 +1,5 @@
 // Listeners that are dealt out to chains, and gathered again.
 ghost use Rattle.std.specs.Prelude.{◌≡◌, ◌<◌, ◌≤◌, ◌+◌, ◌++◌, length, IfOk, vec_len, vec_capacity, []};
-ghost use Rattle.apei_notify.specs.Chains.{members_of};
 ghost use Rattle.ghes_hub.specs.Chains.{chains_of, in_order};
 ghost use Rattle.ghes_hub.specs.Deals.{AreDealt, AreEmpty, item_lists};
 
@@ -49,24 +48,14 @@ pub fn chains(lists: Vec<Vec<Box<dyn Listener>>>, chains: &mut Vec<Chain>)
     }
 }
 
-/// Puts the members of chains behind others.
+/// Puts the members of chains behind others, chain by chain.
 pub fn gather(chains: Vec<Chain>, members: &mut Vec<Box<dyn Listener>>)
     requires room { vec_len members.old + length (in_order (chains_of chains.items)) ≤ vec_capacity members.old }
     ensures { members.new.items ≡ members.old.items ++ in_order (chains_of chains.items) }
 {
     for chain in chains {
-        gather_one(chain, members);
-    }
-}
-
-/// Puts the members of a chain behind others.
-fn gather_one(chain: Chain, members: &mut Vec<Box<dyn Listener>>)
-    requires room { vec_len members.old + length (members_of chain) ≤ vec_capacity members.old }
-    ensures items { members.new.items ≡ members.old.items ++ members_of chain }
-    ensures room { vec_capacity members.new ≡ vec_capacity members.old }
-    ensures len { vec_len members.new ≡ vec_len members.old + length (members_of chain) }
-{
-    for member in chain.into_members() {
-        members.push_reserved(member);
+        for member in chain.into_members() {
+            members.push_reserved(member);
+        }
     }
 }

@@ -22,6 +22,7 @@ use apei_bytes::{Memory, Sink, SinkFault, write_all};
 use apei_notify::Listener;
 use ghes_hub::{Hub, HubError, HubRefused};
 use hest_sources::{Hest, HestError};
+use script_text::decode_line;
 use std::alloc::Global;
 use std::mem::replace;
 
@@ -135,7 +136,7 @@ impl HubPlayer {
             refuse(&mut self.desk.reply, &HubRefusal::Open);
             return Ok(());
         }
-        let len = self.desk.decode(hex);
+        let len = decode_line(hex, &mut self.desk.bytes);
         match Hest::decode(self.alloc, &self.desk.bytes[..len]) {
             Ok((table, _)) => self.serve(&table),
             Err(HestError::Memory) => Err(Memory),
@@ -188,7 +189,7 @@ impl HubPlayer {
             refuse(&mut self.desk.reply, &HubRefusal::Nobody);
             return;
         }
-        let len = self.desk.decode(hex);
+        let len = decode_line(hex, &mut self.desk.bytes);
         match hub.submit(source as u32, &self.desk.bytes[..len]) {
             Ok(waiting) => {
                 self.desk.reply.begin(b"queued ");

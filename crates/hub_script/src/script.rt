@@ -18,9 +18,9 @@ fn play_lines<I: Source, O: Sink>(
     out: &mut O,
 ) -> ScriptEnd
     requires { lines.old ≡ first_reading }
-    ensures played { PlaysScript hearing I.tells O.tells (stage_of player.old) (stage_of player.new) (I.rest script.old) (I.rest script.new) (O.written out.old) (O.written out.new) result }
     ensures source { HasSourceCause (I.faults script.old) (I.faults script.new) (fault_of result) }
     ensures sink { HasSinkCause (O.faults out.old) (O.faults out.new) (fault_of result) }
+    ensures played { PlaysScript hearing I.tells O.tells (stage_of player.old) (stage_of player.new) (I.rest script.old) (I.rest script.new) (O.written out.old) (O.written out.new) result }
 {
     lines_are_read_in_order::<I>();
     'lines: loop {

@@ -1,8 +1,12 @@
 // An image, and what was found of its slots.
-ghost use Rattle.std.specs.Prelude.{◌≡◌, ◌*◌, ◌-◌, ◌<◌, ◌≤◌, length};
+ghost use Rattle.std.specs.Prelude.{◌≡◌, ◌*◌, ◌-◌, ◌<◌, ◌≤◌, length, IfOk, IfSome, MatchOption};
+ghost use Rattle.record_model.specs.Records.{slot_at};
 ghost use Rattle.record_model.specs.Slots.{further_of};
 ghost use Rattle.record_slots.specs.Slots.{numbers_of};
+ghost use Rattle.image_survey.specs.Kinds.{kind_at};
+ghost use Rattle.image_survey.specs.Reading.{IsRecordOf};
 ghost use Rattle.image_survey.specs.Shown.{AreShown};
+ghost use Rattle.image_survey.specs.declared.kinds.SlotKind.TheVariants.{First};
 
 use flash_model::Geometry;
 use image_survey::{SlotView, record_at};
@@ -28,6 +32,9 @@ impl<'a> Image<'a> {
         slot: u32,
     ) -> Result<Option<(Head, Vec<u8>)>, AllocError>
         requires { slot < self.now.geometry.now.slots }
+        ensures bytes { IfOk result (λ found. MatchOption found (kind_at self.now.geometry.now.slot_size self.now.geometry.now.slots self.now.bytes.now slot ≡ First → ⊥)
+            (λ stored. IsRecordOf self.now.geometry.now.slot_size self.now.geometry.now.slots self.now.bytes.now slot stored.1.items)) }
+        ensures head { IfOk result (λ found. IfSome found (λ stored. numbers_of stored.0 ≡ (slot_at self.now.geometry.now.slot_size self.now.bytes.now slot).head)) }
     {
         let found = record_at(alloc, self.bytes, self.geometry, self.views, slot)?;
         match found {

@@ -339,18 +339,18 @@ clear_steps old mid id pending taken = ap (changes_left mid.layout) pending ∙ 
 
 -- all that is left of a command was made
 pub record IsFinished (tells : Type 0) (old new : StoreView) (result : Result (Unit {0}) StoreError) : Type 0 where
-  pub error : FailsByFlash result
+  pub idle : new.pending ≡ Idle
+  pub alike : DividesAlike old new
   pub made : OnOk result (tells → stored new ≡ map_at_end old.layout old.pending (stored old))
   pub placed : OnOk result (tells → PlacedAtEnd old.layout old.pending new.flash.told.image)
   pub crash : tells → KeepsOrMakes old new (map_at_end old.layout old.pending (stored old))
   pub steps : OnOk result (new.flash.steps ≡ old.flash.steps + changes_left old.layout old.pending)
   pub at_most : new.flash.steps ≤ old.flash.steps + changes_left old.layout old.pending
   pub reads : new.flash.reads ≡ old.flash.reads
-  pub doubt : HasDoubtOf new result
-  pub idle : new.pending ≡ Idle
-  pub alike : DividesAlike old new
   pub power : LosesOnlyByChange old.flash new.flash
   pub powered : OnOk result (new.flash.powered ≡ true)
+  pub error : FailsByFlash result
+  pub doubt : HasDoubtOf new result
   pub cause : HasFaultsOf old.flash.faults new.flash.faults result
   pub ends : EndsAtFault old.flash new.flash result
 

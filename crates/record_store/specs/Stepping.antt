@@ -12,16 +12,16 @@ use Rattle.record_store.specs.declared.work.Work.{Work}
 
 -- one change of the flash was asked for, and nothing was read
 pub record IsOneChange {T E : Type 0} (old new : FlashState) (result : Result T E) : Type 0 where
+  pub steps : new.steps ≡ next_count old.steps
+  pub counted : OnOk result (new.steps ≡ old.steps + 1)
+  pub reads : new.reads ≡ old.reads
   pub size : new.size ≡ old.size
   pub sector_size : new.sector_size ≡ old.sector_size
-  pub steps : new.steps ≡ next_count old.steps
-  pub reads : new.reads ≡ old.reads
+  pub lit : StaysLit old new
   pub power : LosesOnlyByChange old new
   pub powered : OnOk result (new.powered ≡ true)
-  pub lit : StaysLit old new
   pub cause : HasCause old.faults new.faults result
   pub once : OnErr result (new.faults ≡ next_count old.faults)
-  pub counted : OnOk result (new.steps ≡ old.steps + 1)
 
 -- the next change of what is pending was asked for. An Ok has made it, with these lists; power lost in it leaves the records
 -- from before it or those after it; and at most one upright slot is no record's first

@@ -1,5 +1,6 @@
 // Bytes that a line gives in hexadecimal digits.
-ghost use Rattle.std.specs.Prelude.{◌≡◌, ◌*◌, ◌<◌, ◌≤◌, true, Some, length, take};
+ghost use Rattle.std.specs.Prelude.{◌≡◌, ◌*◌, ◌<◌, ◌≤◌, true, Some, Ok, length, take, vec_len};
+ghost use Rattle.line_grammar.specs.declared.lengths.TheConstants.{LONGEST_LINE, LONGEST_BYTES};
 ghost use Rattle.line_grammar.specs.Parts.{IsPairs};
 ghost use Rattle.hex.specs.Hex.{decode_of, hex_digit_value, is_hex_digit};
 
@@ -18,6 +19,18 @@ pub fn decode(hex: &[u8], out: &mut [u8]) -> usize
         out[at] = value_of(hex[2 * at]) * 16 + value_of(hex[2 * at + 1]);
     }
     count
+}
+
+/// The first bytes of a line's buffer become those of its hexadecimal digits; their number is answered.
+pub fn decode_line(hex: &[u8], bytes: &mut Vec<u8>) -> usize
+    requires pairs { IsPairs hex.now }
+    requires fits { length hex.now ≤ LONGEST_LINE }
+    requires room { vec_len bytes.old ≡ LONGEST_BYTES }
+    ensures bytes { decode_of hex.now ≡ Ok (take result bytes.new.items) }
+    ensures size { vec_len bytes.new ≡ LONGEST_BYTES }
+    ensures within { result ≤ LONGEST_BYTES }
+{
+    decode(hex, bytes)
 }
 
 // The value of a digit: that of the byte of a zero and this digit. Since it is one, 0 is never answered for another; with it no digit has

@@ -11,7 +11,7 @@ mod script_line;
 mod turns;
 
 pub use check_line::CheckLine;
-pub use digits::decode;
+pub use digits::{decode, decode_line};
 pub use laws::{
     a_text_means_its_line, one_check_column, one_check_line, one_column, one_line,
     words_tell_the_refusal,

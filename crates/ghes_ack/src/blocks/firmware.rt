@@ -56,11 +56,11 @@ fn fill_or_publish(
     events: &mut [Event],
     ram: &mut Ram,
 ) -> (FirmwareEnd, usize)
-    requires able { IsAble blocks.old ram.old }
     requires some { 0 < length events.old }
-    ensures room { HasRoom 0 blocks.new }
-    ensures count { IsCount result.1 (length events.old) }
+    requires able { IsAble blocks.old ram.old }
     ensures runs { FirmwareRuns (OfWrites write) blocks.old ram.old (take result.1 events.new) result.0 blocks.new ram.new }
+    ensures count { IsCount result.1 (length events.old) }
+    ensures room { HasRoom 0 blocks.new }
 {
     let Some(block) = blocks.next() else {
         note(events, 1, Event::Idle);

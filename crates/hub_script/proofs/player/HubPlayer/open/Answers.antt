@@ -10,13 +10,13 @@ returns-then-is_some-clause-made g c = refused_open _ c.args.self.now.listeners.
 pub returns-in-Err-clause-made : goal.returns-in-Err-clause-made
 returns-in-Err-clause-made g c =
     let has : HestHasWords c.in-Err.why = search rules in
-    let decoded = as_lent _ _ c.deref.result.now _ c.decode-len.ensures.bytes c.deref.ensures.value in
+    let decoded = as_lent _ _ c.deref.result.now _ c.decode_line-len.ensures.bytes c.deref.ensures.value in
     still_none _ c.args.self.now.listeners.items c.args.self.now.hub _ _ (none_is c.args.self.now.hub (sym c.is_some.ensures ∙ c.if-is_some.false))
-    (no_table _ _ _ (take c.decode-len.result c.deref.result.now) _ decoded c.in-Err.why (table_refused (take c.decode-len.result c.deref.result.now) c.in-Err.why has c.in-Err.ensures.refused) c.refuse-in-Err.ensures)
+    (no_table _ _ _ (take c.decode_line-len.result c.deref.result.now) _ decoded c.in-Err.why (table_refused (take c.decode_line-len.result c.deref.result.now) c.in-Err.why has c.in-Err.ensures.refused) c.refuse-in-Err.ensures)
 
 pub returns-in-Ok-clause-made : goal.returns-in-Ok-clause-made
 returns-in-Ok-clause-made g c =
-    let decoded = as_lent _ _ c.deref.result.now _ c.decode-len.ensures.bytes c.deref.ensures.value in
+    let decoded = as_lent _ _ c.deref.result.now _ c.decode_line-len.ensures.bytes c.deref.ensures.value in
     on_ok_weaker c.serve.result
     (λ h. at_none _ c.args.self.now.listeners.items c.args.self.now.hub _ _ _ (none_is c.args.self.now.hub (sym c.is_some.ensures ∙ c.if-is_some.false))
     (opens _ _ _ _ _ decoded _ _ _ c.in-Ok.ensures.found.0 c.in-Ok.ensures.found.1 h)) c.serve.ensures.made
