@@ -1,6 +1,6 @@
 // Error records in a stream, and error status blocks.
 use apei_bytes::{put_u32, put_u64};
-use cper_frame::FrameReader;
+use cper_frame::{FrameReader, ID_AT, LENGTH_AT};
 use ghes_block::Block;
 use std::alloc::Global;
 
@@ -26,8 +26,8 @@ fn records() -> [u8; PIECE] {
         let record = &mut piece[RECORD * k..RECORD * k + RECORD];
         record[..10].copy_from_slice(b"CPER\x01\x01\xff\xff\xff\xff");
         put_u32(record, 12, 2);
-        put_u32(record, 20, RECORD as u32);
-        put_u64(record, 96, 1 + k as u64);
+        put_u32(record, LENGTH_AT, RECORD as u32);
+        put_u64(record, ID_AT, 1 + k as u64);
     }
     piece
 }

@@ -5,6 +5,7 @@ ghost use Rattle.record_store.specs.Store.{Idle};
 use apei_bytes::{put_u32, put_u64};
 use apei_gas::{Place, Width};
 use apei_space::Space;
+use cper_frame::{ID_AT, LENGTH_AT};
 use erst_client::Client;
 use erst_entries::ErstTable;
 use erst_ids::RecordId;
@@ -62,8 +63,8 @@ fn record() -> [u8; 128] {
     let mut bytes = [0; 128];
     bytes[..10].copy_from_slice(b"CPER\x01\x01\xff\xff\xff\xff");
     put_u32(&mut bytes, 12, 2);
-    put_u32(&mut bytes, 20, 128);
-    put_u64(&mut bytes, 96, ID);
+    put_u32(&mut bytes, LENGTH_AT, 128);
+    put_u64(&mut bytes, ID_AT, ID);
     bytes
 }
 

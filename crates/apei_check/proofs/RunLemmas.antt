@@ -1,12 +1,10 @@
 -- Laws of a check of a script so far, and of its ends.
-use Rattle.std.proofs.Common.{◌≡◌, ℕ, ◌≤◌, inl, inr, List, [], ◌∷◌, ◌++◌, length, sym, ap, subst, ◌∙◌, arith, append_assoc}
-use Rattle.std.proofs.lemmas.Bool.{cases_lt}
+use Rattle.std.proofs.Common.{◌≡◌, ℕ, List, [], ◌∷◌, ◌++◌, sym, subst, ◌∙◌, append_assoc}
 use Rattle.line_grammar.specs.Columns.{BreaksAt}
-use Rattle.line_grammar.specs.declared.lengths.TheConstants.{LONGEST_LINE}
 use Rattle.script_text.specs.CheckGrammar.{IsCheckLine}
 use Rattle.script_text.specs.CheckText.{IsCheckText, checked_line_of}
 use Rattle.script_text.specs.declared.check_line.CheckLine.{CheckLine}
-use Rattle.script_lines.specs.Lines.{Line, Reading, IsTooLong, IsNextLine}
+use Rattle.script_lines.specs.Lines.{Line, Reading, IsNextLine}
 use Rattle.script_lines.specs.Reads.{HasRead, StandsAt, AreReadInOrder, last_line}
 use Rattle.script_lines.specs.Ends.{EndsReading}
 use Rattle.script_lines.specs.declared.ending.ScriptEnd.{ScriptEnd}
@@ -17,10 +15,6 @@ use Rattle.apei_check.specs.Checks.{ChecksScript, WritesAll}
 use Rattle.script_lines.specs.declared.ending.ScriptEnd.TheVariants.{Done, BadLine, SourceFault, SinkFault, TooLong, Memory}
 use Rattle.apei_check.proofs.TextLemmas.{writes_next, writes_part}
 use Rattle.apei_check.proofs.GrammarLemmas.{is_read}
-
--- a line within the lengths has no more bytes than are parsed
-pub is_short : (text : List ℕ) (line : Line) → text ≡ line.text → (IsTooLong line → ⊥) → length text ≤ LONGEST_LINE
-is_short text line is within = elim (cases_lt LONGEST_LINE (length line.text)) [ inl long ↦ absurd (within (inl long)) | inr short ↦ omega (arith, ap length is) ]
 
 -- the lines that were read, and what was written of them
 pub record SoFar (told_source told_sink : Type 0) (show : Show) (script rest written written_now : List ℕ) (reading : Reading) : Type 0 where

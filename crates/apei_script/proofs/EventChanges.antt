@@ -32,9 +32,6 @@ pub record Takes (tells : Type 0) (old : MachineState) (changes : ℕ) (new : Ma
   pub layout : new.device.store.layout ≡ old.device.store.layout
   pub exact : tells → (Rose old.device.store.flash.faults new.device.store.flash.faults → ⊥) → new.device.store.flash.steps ≡ old.device.store.flash.steps + changes
 
-pub takes_none : (tells : Type 0) (old : MachineState) → Takes tells old 0 old
-takes_none tells old = record { never_falls = omega arith; layout = refl; exact = λ _ _. omega arith }
-
 -- the store is as it was
 pub still : (tells : Type 0) (old new : MachineState) → new.device.store ≡ old.device.store → Takes tells old 0 new
 still tells old new same = subst

@@ -1,5 +1,5 @@
 -- What attaching to the machine's second table answers.
-use Rattle.std.proofs.Common.{◌≡◌, ℕ, ◌≤◌, Result, Ok, Err, subst, arith}
+use Rattle.std.proofs.Common.{◌≡◌, ℕ, ◌≤◌, Result, Ok, subst, arith}
 use Rattle.apei_space.specs.Accesses.{Reaches}
 use Rattle.erst_entries.specs.Layout.{Erst}
 use Rattle.erst_client.specs.declared.errors.AttachError.{AttachError}
@@ -24,11 +24,6 @@ module _ (tells : Type 0) (law : (budget : ℕ) (first : MachineState) (result :
   attaches_it erst budget first result left last machine is given attaches =
       let attaches_so = subst (λ (e : Erst). Attaches (Allows tells) e ATTACH_STEPS first result left last) is (subst (λ (n : ℕ). Attaches (Allows tells) erst n first result left last) given attaches) in
       (attaches_so, law ATTACH_STEPS first result left last machine (omega arith) attaches_so)
-
-  pub never_refused : (erst : Erst) (budget : ℕ) (first : MachineState) (why : AttachError) (left : ℕ) (last : MachineState) → IsMachine first → erst ≡ shadow_erst (pieces_in first) → budget ≡ ATTACH_STEPS
-      → Attaches (Allows tells) erst budget first (Err why) left last → ⊥
-  never_refused erst budget first why left last machine is given attaches =
-      let never = (attaches_it erst budget first (Err why) left last machine is given attaches).1.result_is in cc never
 
   pub is_given : (erst : Erst) (budget : ℕ) (first : MachineState) (client : ClientState) (left : ℕ) (last : MachineState) → IsMachine first → erst ≡ shadow_erst (pieces_in first) → budget ≡ ATTACH_STEPS
       → Attaches (Allows tells) erst budget first (Ok client) left last → Reaches (Allows tells) first last → IsShadowGiven tells first last client

@@ -3,7 +3,6 @@ use Rattle.std.specs.Prelude.{◌≡◌, ◌⊎◌, ℕ, Option, Some, None}
 use Rattle.erst_client.specs.Commands.{ClientState}
 use Rattle.erst_client.specs.Timings.{enough_steps}
 use Rattle.erst_machine.specs.MachineState.{MachineState}
-use Rattle.erst_machine.specs.OwnTables.{own_erst}
 use Rattle.erst_commands.specs.Attached.{own_client}
 use Rattle.erst_shadow.specs.ShadowCommands.{shadow_client}
 use Rattle.erst_bridge.specs.Bridges.{BridgeState, Off}
@@ -51,10 +50,6 @@ UsesEither state = UsesOwn state ⊎ UsesShadow state
 -- no line gave a table but the machine's own two
 abbrev pub GivenNoOther : PlayerState → Type 0
 GivenNoOther state = (state.other ≡ None) ⊎ (state.other ≡ Some (shadow_client state.machine))
-
--- a client of the machine's own table has the machine's log range and timings
-abbrev pub FitsMachine : MachineState → ClientState → Type 0
-FitsMachine machine client = client.table ≡ own_erst → client ≡ own_client machine
 
 -- a player right after it was made
 abbrev pub player_of : MachineState → ClientState → Option ℕ → PlayerState

@@ -6,9 +6,6 @@ use Rattle.apei_space.specs.declared.faults.SpaceFault.TheVariants.{Device}
 use Rattle.apei_space.specs.Calls.{Call, HasReason, Leaves, fault_of}
 use Rattle.apei_space.specs.Accesses.{Reaches, Stays, Goes, Move, Trail}
 
-pub reaches_by : {S : Type 0} (allows : S → Call → S → Type 0) (first : S) (call : Call) (last : S) → allows first call last → Reaches allows first last
-reaches_by allows first call last allowed = Goes first call last Stays allowed
-
 pub reaches_then : {S : Type 0} (allows : S → Call → S → Type 0) (first mid last : S) → Reaches allows first mid → Reaches allows mid last → Reaches allows first last
 reaches_then allows first mid last before Stays = before
 reaches_then allows first mid last before (Goes second call third more allowed) = Goes second call third (reaches_then allows first mid second before more) allowed

@@ -8,12 +8,8 @@ use Rattle.apei_space.specs.declared.windows.Window.{Window}
 use Rattle.apei_space.specs.Windows.{address_of, room_in, room_from, room, spot, total, IsApart, IsApartFrom, AreApart}
 use Rattle.apei_space.specs.RamState.{within, found, refused, located}
 use Rattle.apei_space.specs.Mapped.{Holds, IsMapped, AreMapped, AreDisjoint, further, FindsBytes}
-use Rattle.apei_space.proofs.MappedLemmas.{finds_bytes, room_in-some, held, unheld}
+use Rattle.apei_space.proofs.MappedLemmas.{finds_bytes, room_in-some, held}
 use Rattle.apei_space.proofs.Spots.{spot_fits}
-
--- a window holds the first of some bytes: where it stands
-abbrev InHead : Window → Place → Type 0
-InHead window at = 0 < room window at
 
 -- two windows that are apart hold no byte together
 not_both : (p : Place) (n : ℕ) (q : Place) (m : ℕ) (at : Place) → IsApart p n q m → Holds p n at → Holds q m at → ⊥
@@ -30,13 +26,6 @@ unheld_by : (window : Window) (windows : List Window) (at : Place) → IsApartFr
 unheld_by window [] at apart h mapped = mapped
 unheld_by window (other ∷ others) at apart h (inl here) = not_both window.place window.len other.place other.len at apart.0 h here
 unheld_by window (other ∷ others) at apart h (inr later) = unheld_by window others at apart.1 h later
-
--- a window with no room does not hold, one that holds has room
-has_room : (place : Place) (n : ℕ) (at : Place) → Holds place n at → 0 < room_from place n at
-has_room place n at h = go (cases_eq (room_from place n at) 0) where
-  go : (room_from place n at ≡ 0) ⊎ (room_from place n at ≡ 0 → ⊥) → 0 < room_from place n at
-  go (inl none) = absurd (unheld place n at none h)
-  go (inr some) = grind arith
 
 holds : (place : Place) (n : ℕ) (at : Place) → 0 < room_from place n at → Holds place n at
 holds (Memory base) n (Memory at) h = let a = room_in-some base n at (room_in base n at) refl h in let low = a.0 in let ends = a.1 in (low, omega (arith, ends, h))

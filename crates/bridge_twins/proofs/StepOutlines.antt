@@ -1,6 +1,5 @@
 -- Turns of both sides of two machines that are alike, one after another.
-use Rattle.std.proofs.Common.{◌≡◌, ◌∙◌, ℕ, ◌≤◌, List, [], ◌∷◌, ◌++◌, map, refl, sym, ap, subst}
-use Rattle.std.specs.List.{flat_map}
+use Rattle.std.proofs.Common.{◌≡◌, ◌∙◌, ℕ, ◌≤◌, List, [], ◌∷◌, map, refl, sym, ap, subst}
 use Rattle.ghes_ack.specs.declared.events.Side.TheVariants.{Firmware}
 use Rattle.ghes_ack.specs.declared.events.Event.{Event}
 use Rattle.erst_client.specs.Commands.{ClientState}
@@ -85,13 +84,6 @@ told_alike {A} told seen is steps others alike = by_outlines steps ∙ ap (λ (o
     by_outlines : (steps : List Step) → map told steps ≡ map seen (map step_outline steps)
     by_outlines [] = refl
     by_outlines (step ∷ rest) = ap (λ (x : A). x ∷ map told rest) (is step) ∙ ap (λ (xs : List A). seen (step_outline step) ∷ xs) (by_outlines rest)
-
-pub told_lists_alike : {A : Type 0} (told : Step → List A) (seen : StepOutline → List A) → ((step : Step) → told step ≡ seen (step_outline step)) → (steps others : List Step) → AlikeSteps steps others → flat_map told steps ≡ flat_map told others
-told_lists_alike {A} told seen is steps others alike = by_outlines steps ∙ ap (λ (os : List StepOutline). flat_map seen os) alike ∙ sym (by_outlines others)
-  where
-    by_outlines : (steps : List Step) → flat_map told steps ≡ flat_map seen (map step_outline steps)
-    by_outlines [] = refl
-    by_outlines (step ∷ rest) = ap (λ (xs : List A). xs ++ flat_map told rest) (is step) ∙ ap (λ (xs : List A). seen (step_outline step) ++ xs) (by_outlines rest)
 
 pub made_alike : (steps others : List Step) → AlikeSteps steps others → made_by steps ≡ made_by others
 made_alike steps others alike = as_map steps ∙ told_alike one_made (λ outline. record { turn = told_turn outline.turn; step = outline.machine.device.store.steps }) (λ step. refl) steps others alike ∙ sym (as_map others)

@@ -1,10 +1,9 @@
 -- What was written of an input so far.
-use Rattle.std.proofs.Common.{◌≡◌, ℕ, ◌+◌, ◌≤◌, false, ◌==◌, List, [], ◌++◌, length, take, drop, refl, sym, ap, ◌∙◌, arith, append_assoc, append-nil, length-append}
+use Rattle.std.proofs.Common.{◌≡◌, ℕ, ◌+◌, ◌≤◌, List, [], ◌++◌, length, take, drop, sym, ap, ◌∙◌, arith, append_assoc, append-nil, length-append}
 use Rattle.std.proofs.lemmas.List.{take-append-drop, length-take}
 use Rattle.std.proofs.Math.Seq.{take-append_seam}
-use Rattle.std.proofs.lemmas.List.Elements.{All-nil}
-use Rattle.check_names.specs.Lines.{named_line, named_lines, WritesAll, WritesWhatEnded, WritesBeginning}
-use Rattle.check_names.specs.Parts.{newline, IsOneLine}
+use Rattle.check_names.specs.Lines.{named_line, named_lines, WritesAll, WritesBeginning}
+use Rattle.check_names.specs.Parts.{IsOneLine}
 use Rattle.check_names.proofs.LineLemmas.{named_lines-one}
 
 -- so many bytes were taken, and what of them is not written yet is the beginning of a line
@@ -14,15 +13,6 @@ pub record SoFar (tells told : Type 0) (rest rest_now before after line : List �
   pub written : told → after ≡ before ++ text
   pub named : tells → text ++ named_lines (line ++ rest_now) ≡ named_lines rest
   pub count : tells → taken + length rest_now ≡ length rest
-
-pub at_start : (tells told : Type 0) (rest before : List ℕ) → SoFar tells told rest rest before before [] 0
-at_start tells told rest before = record {
-  text = [];
-  one_line = All-nil (λ b. (b == newline) ≡ false);
-  written = λ _. sym (append-nil before);
-  named = λ _. refl;
-  count = λ _. omega arith;
-}
 
 -- all lines that ended in one more piece were written
 pub next_piece : {tells told : Type 0} (rest rest_now before after line : List ℕ) (taken : ℕ) → SoFar tells told rest rest_now before after line taken
@@ -72,17 +62,6 @@ pub ends_here : {tells told : Type 0} (rest rest_now before after line : List �
     → WritesBeginning tells told rest before after
 ends_here rest rest_now before after line taken so_far t told =
     (length so_far.text, so_far.written told ∙ ap (λ (xs : List ℕ). before ++ xs) (sym (begins so_far.text (named_lines (line ++ rest_now)) (named_lines rest) (so_far.named t))))
-
--- the read behind it failed
-pub ends_unread : {tells told : Type 0} (rest rest_now before after line : List ℕ) (taken : ℕ) → SoFar tells told rest rest_now before after line taken
-    → (rest_next : List ℕ) → (tells → rest_next ≡ rest_now) → WritesWhatEnded tells told rest rest_next before after
-ends_unread rest rest_now before after line taken so_far rest_next given = record {
-  text = so_far.text;
-  line = line;
-  one_line = so_far.one_line;
-  written = so_far.written;
-  named = λ t. ap (λ (xs : List ℕ). so_far.text ++ named_lines (line ++ xs)) (given t) ∙ so_far.named t;
-}
 
 -- a read of no bytes leaves what was left
 pub nothing_taken : (count : ℕ) (piece rest rest_now : List ℕ) → count ≡ 0 → rest ≡ take count piece ++ rest_now → rest_now ≡ rest

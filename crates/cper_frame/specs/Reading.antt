@@ -11,6 +11,10 @@ use Rattle.cper_frame.specs.Grammar.{SectionValue, RecordValue, bodies_from}
 abbrev pub signature : ℕ
 signature = little (codes "CPER")
 
+-- where a header says the identifier of its record
+abbrev pub id_place : ℕ
+id_place = 96
+
 -- the fields at their places in a header
 abbrev pub head_at : List ℕ → RecordHead
 head_at bytes = record {
@@ -22,7 +26,7 @@ head_at bytes = record {
   partition = part bytes 48 16;
   creator = part bytes 64 16;
   notification = part bytes 80 16;
-  id = number_at bytes 96 8;
+  id = number_at bytes id_place 8;
   flags = number_at bytes 104 4;
   persistence = part bytes 108 8;
   reserved = part bytes 116 12;

@@ -2,6 +2,7 @@
 use Rattle.std.specs.Prelude.{◌≡◌, ℕ, List, codes, Some, None, Result, Err}
 use Rattle.base_model.specs.Bytes.{number_at, put_at}
 use Rattle.record_model.specs.RecordMap.{Write}
+use Rattle.cper_frame.specs.Reading.{id_place}
 use Rattle.erst_client.specs.declared.errors.ClientError.{ClientError}
 use Rattle.erst_client.specs.Commands.{write_refusal}
 use Rattle.erst_client.specs.Sequences.{write_requests}
@@ -14,7 +15,7 @@ marked bytes = put_at bytes 108 (codes "ER")
 
 -- the identifier that a record's header says
 abbrev pub id_of : List ℕ → ℕ
-id_of bytes = number_at bytes 96 8
+id_of bytes = number_at bytes id_place 8
 
 -- the machine with these bytes at the start of its log range
 abbrev pub with_record : List ℕ → MachineState → MachineState

@@ -4,13 +4,7 @@ ghost use Rattle.record_model.specs.Records.{is_reserved};
 ghost use Rattle.erst_device.specs.Drafts.{draft_at};
 
 use apei_bytes::{get_u32, get_u64};
-
-// The bytes of a record's header, and where its length and its identifier are (UEFI 2.8, appendix N.2.1).
-const HEADER: u32 = 128;
-
-const LENGTH_AT: usize = 20;
-
-const ID_AT: usize = 96;
+use cper_frame::{HEADER, ID_AT, LENGTH_AT};
 
 /// The length and the identifier in the header of the record at an offset, where the record is long enough and within the range.
 #[tactic(auto, using(std::proofs::lemmas::Bool::Decides::nat_tests))]
@@ -20,12 +14,12 @@ pub fn header_at(range: &[u8], offset: u64) -> Option<(u32, u64)>
     ensures least { IfSome result (λ header. 128 ≤ header.0) }
     ensures within { IfSome result (λ header. offset + header.0 ≤ length range.now) }
 {
-    if is_beyond(offset, HEADER, range.len() as u64) {
+    if is_beyond(offset, HEADER as u32, range.len() as u64) {
         return None;
     }
     let at = offset as usize;
     let size = get_u32(range, at + LENGTH_AT);
-    if size < HEADER || is_beyond(offset, size, range.len() as u64) {
+    if size < HEADER as u32 || is_beyond(offset, size, range.len() as u64) {
         return None;
     }
     Some((size, get_u64(range, at + ID_AT)))

@@ -1,5 +1,5 @@
 -- What is seen of the machine.
-use Rattle.std.specs.Prelude.{◌≡◌, ℕ, ◌-◌, ◌^◌, length}
+use Rattle.std.specs.Prelude.{◌≡◌, ℕ, ◌+◌, ◌-◌, ◌^◌, length}
 use Rattle.flash_words.specs.Flash.{Told}
 use Rattle.flash_words.specs.Layout.{room_of, reach_of}
 use Rattle.record_model.specs.Records.{Stored}
@@ -12,7 +12,8 @@ use Rattle.ghes_ack.specs.Sides.{Stands}
 use Rattle.erst_device.specs.DeviceState.{DeviceState, records}
 use Rattle.erst_machine.specs.declared.areas.Spot.{Spot}
 use Rattle.erst_machine.specs.declared.contents.Contents.{Contents}
-use Rattle.erst_machine.specs.Areas.{place_spot}
+use Rattle.erst_machine.specs.declared.areas.Area.TheVariants.{Handover}
+use Rattle.erst_machine.specs.Areas.{place_spot, base_of}
 use Rattle.erst_machine.specs.Memories.{MemoryState, memory_of, HasSizes, IsLaid}
 
 -- the device over its store, the bytes of memory, the handover, and the sum of all waits in microseconds
@@ -35,11 +36,11 @@ spot_at state at n = spot_of state (Memory at) n
 -- where the two sides of the handover meet: the machine's one error source
 abbrev pub own_map : HandoverMap
 own_map = record {
-  status = 0x300000;
-  ack = record { place = Memory 0x300008; access = B64; offset = 0 };
+  status = base_of Handover;
+  ack = record { place = Memory (base_of Handover + 8); access = B64; offset = 0 };
   preserve = 2 ^ 64 - 2;
   write = 1;
-  block = 0x301000;
+  block = base_of Handover + 0x1000;
   len = 4096;
 }
 

@@ -13,6 +13,8 @@ use Rattle.hest_sources.specs.declared.sources.Ghes.{Ghes}
 use Rattle.hest_sources.specs.declared.sources.Ack.{Ack}
 use Rattle.hest_sources.specs.Layout.{ghes_bytes}
 use Rattle.bert_region.specs.declared.table.Bert.{Bert}
+use Rattle.erst_machine.specs.declared.areas.Area.TheVariants.{Device, Handover, BootErrors}
+use Rattle.erst_machine.specs.Areas.{base_of}
 
 abbrev pub own_header : List ℕ → ℕ → ℕ → Header
 own_header signature size checksum = record {
@@ -33,10 +35,10 @@ register_of width access address = record { space = 0; width = width; offset = 0
 
 -- ACTION and VALUE
 abbrev pub action_register : Gas
-action_register = register_of 32 3 0x200000
+action_register = register_of 32 3 (base_of Device)
 
 abbrev pub value_register : Gas
-value_register = register_of 64 4 0x200008
+value_register = register_of 64 4 (base_of Device + 8)
 
 -- an entry of an action that replaces the whole register
 abbrev pub entry_of : Action → ℕ → Gas → ℕ → ℕ → Entry
@@ -96,7 +98,7 @@ own_erst = record { header = own_header (codes "ERST") own_size own_checksum; he
 
 -- the one error source: the handover's, with a read acknowledgement, polled every second
 abbrev pub own_ack : Ack
-own_ack = record { register = register_of 64 4 0x300008; preserve = 2 ^ 64 - 2; write = 1 }
+own_ack = record { register = register_of 64 4 (base_of Handover + 8); preserve = 2 ^ 64 - 2; write = 1 }
 
 abbrev pub own_source : Ghes
 own_source = record {
@@ -107,7 +109,7 @@ own_source = record {
   records = 1;
   sections = 4;
   raw = 4096;
-  status = register_of 64 4 0x300000;
+  status = register_of 64 4 (base_of Handover);
   notify = 0 ∷ 0x1C ∷ 0 ∷ 0 ∷ 0xE8 ∷ 3 ∷ 0 ∷ 0 ∷ replicate 20 0;
   block_len = 4096;
   ack = Some own_ack;
@@ -118,7 +120,7 @@ unfoldable pub own_hest : List ℕ
 own_hest = header_spelling (own_header (codes "HEST") 132 0x1E) ++ spelled 4 1 ++ ghes_bytes own_source
 
 abbrev pub own_bert : Bert
-own_bert = record { len = 16384; region = 0x400000 }
+own_bert = record { len = 16384; region = base_of BootErrors }
 
 -- 48 bytes
 unfoldable pub own_bert_bytes : List ℕ

@@ -45,11 +45,6 @@ pub data AskedAsOwn (tells : Type 0) (pieces : ℕ) (requests : List Request) (b
       → Asks (Allows tells) own_entries requests own_budget (holding (range_with_record pieces first) scratch first) (Err stop) own_left own_last → AgreesElsewhere last own_last
       → AskedAsOwn tells pieces requests budget first (Err stop) left last
 
--- a state is one with its own memories
-own_memories : (range scratch : List ℕ) (w : MachineState) (memory : MemoryState) → w.memory ≡ memory → range ≡ memory.range → scratch ≡ memory.scratch → holding range scratch w ≡ w
-own_memories range scratch w memory is r s =
-    ap (λ (x : List ℕ). holding x scratch w) (r ∙ ap (λ (m : MemoryState). m.range) (sym is)) ∙ ap (λ (x : List ℕ). holding w.memory.range x w) (s ∙ ap (λ (m : MemoryState). m.scratch) (sym is))
-
 module _ (tells : Type 0) (own : OwnProgramsRun tells) (pieces : ℕ) where
   same_rooms : (first next : MachineState) → next.memory ≡ first.memory → HoldsPieces first pieces → HoldsPieces next pieces
   same_rooms first next is rooms = record {

@@ -6,11 +6,13 @@ use Rattle.erst_entries.specs.declared.entries.Entry.{Entry}
 use Rattle.erst_entries.specs.Layout.{Erst, spelling}
 use Rattle.erst_device.specs.declared.device.TheConstants.{LOG_RANGE}
 use Rattle.erst_moves.specs.MoveEntries.{Offset, Source, Length, put_number, use_register, move_entries}
+use Rattle.erst_machine.specs.declared.areas.Area.TheVariants.{Scratch}
+use Rattle.erst_machine.specs.Areas.{base_of}
 use Rattle.erst_machine.specs.OwnTables.{own_header, act, give, is_one, answer, tell, told_actions}
 
 -- where the scratch memory begins
 abbrev pub scratch_at : ℕ
-scratch_at = 0x1000
+scratch_at = base_of Scratch
 
 -- how many pieces of 128 bytes the longest record has: as many as the longest of the machine, and as fit below the registers of a move
 abbrev pub pieces_of : (reach : ℕ) → ℕ

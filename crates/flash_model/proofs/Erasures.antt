@@ -1,9 +1,8 @@
 -- How far bytes are erased.
-use Rattle.std.proofs.Common.{◌≡◌, ℕ, ◌+◌, ◌-◌, ◌^◌, ◌<◌, ◌≤◌, List, [], ◌∷◌, ◌++◌, length, take, drop, replicate, get_or, sym, ap, ◌∙◌, arith, drop-cons, take-add, append_assoc}
+use Rattle.std.proofs.Common.{◌≡◌, ℕ, ◌+◌, ◌-◌, ◌^◌, ◌<◌, ◌≤◌, List, [], ◌∷◌, ◌++◌, length, take, drop, replicate, get_or, sym, ap, ◌∙◌, arith, drop-cons, take-add}
 use Rattle.std.proofs.lemmas.List.{take-append-drop, drop-drop, replicate-append-replicate}
 use Rattle.base_model.specs.Bytes.{part, number_at, spelled, AreBytes}
 use Rattle.base_model.proofs.BytesLemmas.{spelled-number_at}
-use Rattle.flash_model.specs.Entries.{among_erased}
 use Rattle.std.specs.Int.RustNames.{bit_and}
 use Rattle.std.proofs.lemmas.Nat.{and_le_l, and_le_r}
 
@@ -76,15 +75,3 @@ pub back-next : (bytes : List ℕ) (end n : ℕ) → n ≤ end → part bytes (e
 back-next bytes end n low more back =
     let is : (end - n) + n ≡ end = omega arith in
     record { within = omega (arith, back.within); erased = back-more bytes (end - n) n end is back.within back.erased more }
-
--- bytes by those in front that are erased, those behind that are, and the others
-pub among : (bytes : List ℕ) (before end : ℕ) → take before bytes ≡ replicate before 0xFF → drop end (drop before bytes) ≡ replicate (length (drop before bytes) - end) 0xFF →
-    among_erased before (take end (drop before bytes)) (length (drop before bytes) - end) ≡ bytes
-among bytes before end front back =
-    let rest = drop before bytes in
-    let after = replicate (length (drop before bytes) - end) 0xFF in
-    append_assoc (replicate before 0xFF) (take end rest) after
-    ∙ ap (λ (xs : List ℕ). replicate before 0xFF ++ (take end rest ++ xs)) (sym back)
-    ∙ ap (λ (xs : List ℕ). replicate before 0xFF ++ xs) (take-append-drop end rest)
-    ∙ ap (λ (xs : List ℕ). xs ++ rest) (sym front)
-    ∙ take-append-drop before bytes

@@ -1,5 +1,5 @@
 -- Sources begun one after another.
-use Rattle.std.proofs.Common.{◌≡◌, ◌∙◌, ℕ, zero, suc, ◌<◌, ◌⊎◌, inl, inr, List, [], ◌∷◌, ◌++◌, length, map, take, length-append, Some, slice_get, refl, sym, ap, subst, arith}
+use Rattle.std.proofs.Common.{◌≡◌, ◌∙◌, ℕ, zero, suc, ◌<◌, ◌⊎◌, inl, inr, List, [], ◌∷◌, ◌++◌, length, map, take, length-append, Some, slice_get, sym, ap, subst, arith}
 use Rattle.std.proofs.lemmas.Bool.{cases_lt}
 use Rattle.std.proofs.lemmas.List.{get_or_append_left, get_or_at, map-append}
 use Rattle.std.proofs.lemmas.Option.{slice_get_within, slice_get-get_or}
@@ -46,13 +46,6 @@ take_next : {X : Type 0} (xs : List X) (n : ℕ) (x : X) → slice_get xs n ≡ 
 take_next [] n x is = absurd (let w = slice_get_within [] n x is in omega (arith, w))
 take_next {X} (y ∷ ys) zero x is = let e : y ≡ x = cc in ap (λ (z : X). z ∷ []) e
 take_next {X} (y ∷ ys) (suc n) x is = ap (λ (zs : List X). y ∷ zs) (take_next ys n x is)
-
-pub none_begun : (layouts : List Layout) (ram : RamState) → AreLaidOut layouts ram → AreBegun layouts ram ram []
-none_begun layouts ram all = record {
-  so_far = refl;
-  begun = λ i handover is. absurd (let w = slice_get_within [] i handover is in omega (arith, w));
-  later = λ i layout past is. (all.each i layout is, refl);
-}
 
 pub one_begun : (layouts : List Layout) (first ram new : RamState) (list : List Source) (layout : Layout) (handover : Source) → AreLaidOut layouts first → slice_get layouts (length list) ≡ Some layout →
     SourceStands handover new (started (layout_window layout ram)) → layout_in handover ≡ layout → kind_of handover ≡ layout_kind layout → windows_of handover ≡ layout_windows layout → SameWhere (IsOff (layout_windows layout)) ram new →

@@ -147,13 +147,6 @@ by_steps P none before behind later (window ∷ windows) new h = go (follows win
 abbrev KeepsApart : List Window → Window → List Window → Type 0
 KeepsApart windows new out = (w : Window) → IsApartFrom w windows → IsApart w.place w.len new.place new.len → IsApartFrom w out
 
-keeps_apart : (windows : List Window) (new : Window) → MayJoin windows new → KeepsApart windows new (joins windows new)
-keeps_apart = by_steps KeepsApart
-    (λ new w h g. (g, tt))
-    (λ window windows new out e may rest w h g. rest w h.1 (apart_both w.place w.len window.place window.len new.place new.len (follows_is window.place window.len new.place e) h.0 g))
-    (λ window windows new out e may rest w h g. rest w h.1 (apart_both w.place w.len new.place new.len window.place window.len (follows_is new.place new.len window.place e) g h.0))
-    (λ window windows new out apart may rest w h g. (h.0, rest w h.1 g))
-
 abbrev Apart : List Window → Window → List Window → Type 0
 Apart windows new out = EndsBelow new.place new.len → AreApart out × KeepsApart windows new out
 
@@ -241,9 +234,6 @@ one_joined earlier windows range ranges free h =
       off = λ at n some off. joins_off windows range may at n some (h.off at n some off.1) off.0;
       mapped = λ at mapped. joins_mapped windows range may at (elim mapped [ inl here ↦ inr here | inr later ↦ inl (h.mapped at later) ]);
     }
-
-pub none_joined : AreJoined [] []
-none_joined = record { apart = tt; off = λ at n some off. tt; mapped = λ at mapped. mapped }
 
 pub next_at : (xs : List Window) (at : ℕ) (x : Window) → at < length xs → x ≡ get_or xs at x → drop at xs ≡ x ∷ drop (at + 1) xs
 next_at xs at x within is = drop_more xs at x within ∙ ap (λ (y : Window). y ∷ drop (at + 1) xs) (sym is)

@@ -1,5 +1,5 @@
 -- A plain handover makes the turns of one with an acknowledgement, with one more after each clearing.
-use Rattle.std.proofs.Common.{◌≡◌, ◌∙◌, ℕ, List, [], ◌∷◌, ◌++◌, refl, sym, ap, subst}
+use Rattle.std.proofs.Common.{◌≡◌, ◌∙◌, ℕ, List, [], ◌∷◌, ◌++◌, refl, ap, subst}
 use Rattle.ghes_ack.specs.declared.events.Side.{Side}
 use Rattle.ghes_ack.specs.declared.events.Side.TheVariants.{Reader}
 use Rattle.ghes_ack.specs.declared.events.Event.{Event}
@@ -8,7 +8,7 @@ use Rattle.ghes_ack.specs.Machine.{Machine, Situation, Filling, Published, Readi
 use Rattle.ghes_ack.specs.Schedules.{Step, Submit, Turn, Watched, watched, after, run, AreFitting, submissions}
 use Rattle.ghes_ack.proofs.StepLemmas.{turn_keeps}
 use Rattle.ghes_ack.proofs.ScheduleLemmas.{watched_machine}
-use Rattle.ghes_hub.specs.Kinds.{Kind, ByRegister, ByStatus, settled, turned_by, Occurs}
+use Rattle.ghes_hub.specs.Kinds.{Kind, ByRegister, ByStatus, settled, turned_by}
 use Rattle.ghes_hub.specs.Runs.{after_by, run_by}
 
 -- the turn of the reader that a clearing stands for beside its own
@@ -29,14 +29,6 @@ spread w (Turn side ∷ steps) = Turn side ∷ (extra (turned side w.machine).1.
 watched_ack : (w : Watched) (event : Event) (m k : Machine) → watched (watched w event m) Ack k ≡ watched w event k
 watched_ack w Took m k = refl
 watched_ack w _ m k = refl
-
--- a settled machine is one step of the reader further, or none
-settled_turn : (m : Machine) (s : Situation) → s ≡ Cleared → reader_turn m s ≡ (Ack, settled m s)
-settled_turn m Cleared e = refl
-settled_turn m Filling e = absurd cc
-settled_turn m Published e = absurd cc
-settled_turn m Reading e = absurd cc
-settled_turn m Acknowledged e = absurd cc
 
 spread_turn : (w : Watched) (event : Event) (m : Machine) (s : Situation) → m.situation ≡ s → run (watched w event m) (extra s) ≡ watched w event (settled m s)
 unfolding extra
@@ -106,17 +98,6 @@ settled_keeps len m Cleared e st =
     let is : (turned Reader m).1 ≡ settled m Cleared = ap (λ (s : Situation). (reader_turn m s).1) e in
     subst (IsState len) is (turn_keeps len Reader m st)
 
-settled_occurs : (m : Machine) (s : Situation) → m.situation ≡ s → Occurs ByStatus (settled m s).situation
-settled_occurs m Filling e = subst (Occurs ByStatus) (sym e) tt
-settled_occurs m Published e = subst (Occurs ByStatus) (sym e) tt
-settled_occurs m Reading e = subst (Occurs ByStatus) (sym e) tt
-settled_occurs m Acknowledged e = subst (Occurs ByStatus) (sym e) tt
-settled_occurs m Cleared e = tt
-
 pub turned_keeps : (kind : Kind) (len : ℕ) (side : Side) (m : Machine) → IsState len m → IsState len (turned_by kind side m).1
 turned_keeps ByRegister len side m st = turn_keeps len side m st
 turned_keeps ByStatus len side m st = let t = (turned side m).1 in settled_keeps len t t.situation refl (turn_keeps len side m st)
-
-pub turned_occurs : (kind : Kind) (side : Side) (m : Machine) → Occurs kind (turned_by kind side m).1.situation
-turned_occurs ByRegister side m = tt
-turned_occurs ByStatus side m = let t = (turned side m).1 in settled_occurs t t.situation refl

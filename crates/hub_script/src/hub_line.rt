@@ -1,6 +1,7 @@
 // A line of a script of several error sources.
 ghost use Rattle.std.specs.Prelude.{◌+◌, ◌≤◌, length, MatchResult};
 ghost use Rattle.line_grammar.specs.Columns.{Breaks, BreaksAt};
+ghost use Rattle.line_grammar.specs.declared.lengths.TheConstants.{LONGEST_LINE};
 ghost use Rattle.hub_script.specs.HubGrammar.{IsLine};
 ghost use Rattle.hub_script.specs.HubText.{IsText, IsTextBehind};
 ghost use Rattle.hub_script.specs.HubWords.{codes_of, Follows};
@@ -62,7 +63,7 @@ impl Keyword for HubWord {
 impl HubLine<'_> {
     /// The line that a text without a newline is, or the column of a text that is none.
     pub fn parse(text: &[u8]) -> Result<HubLine<'_>, u32>
-        requires { length text.now ≤ 140_000 }
+        requires { length text.now ≤ LONGEST_LINE }
         ensures { MatchResult result (λ line. IsText text.now line) (λ column. BreaksAt IsLine text.now column) }
     {
         if text.is_empty() {

@@ -205,10 +205,6 @@ read_stops least most value i b text least_small fits within at before none = re
         least_n (inl zero_least) = omega arith
         least_n (inr one) = let h : 1 ≤ n = positive (omega arith) in omega arith
 
--- all bytes are read
-pub read_all : (least most value : ℕ) (text : List ℕ) → IsRead least most text value (length text) → IsLongestNumber least most text value (length text)
-read_all least most value text before = record { within = omega arith; number = before.number; longest = λ k m far within least_m most_m e. absurd (omega arith) }
-
 -- a text that isn't a number whole
 pub number_breaks : (least most value len : ℕ) (text : List ℕ) → least ≤ 1 → 1 ≤ most → most < 2 ^ 64 → IsLongestNumber least most text value len → (len ≡ 0) ⊎ (len < length text) → Breaks (IsNumber least most) text len
 number_breaks least most value len text least_small most_some fits reads stops = record {

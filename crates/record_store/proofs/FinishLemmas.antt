@@ -406,14 +406,6 @@ changes_refused tells old new command error starts steps doubt idle = record {
   ends = starts.ends;
 }
 
-pub idle_after : (new : StoreView) (error : StoreError) → HasDoubtOf {T = Unit {0}} new (Err error) → new.pending ≡ Idle
-idle_after new (NoSpace free) doubt = doubt.idle
-idle_after new (LastGeneration id) doubt = doubt.idle
-idle_after new NotFound doubt = doubt.idle
-idle_after new Empty doubt = doubt.idle
-idle_after new Flash doubt = doubt.idle
-idle_after new (Small need) doubt = doubt.idle
-
 pub write_refused : (tells : Type 0) (old new : StoreView) (id : ℕ) (bytes : List ℕ) (error : StoreError) → OnlyStarts tells old new (Err error)
     → (tells → RefusesWrite old new id bytes error) → Changes tells old new (Write id bytes) (Err error)
 write_refused tells old new id bytes (NoSpace free) starts answer =

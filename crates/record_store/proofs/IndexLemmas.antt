@@ -37,10 +37,6 @@ IsListing-listed slots size old new id place short within more ids places free l
   };
 }
 
--- the place at an index is within the store
-pub place_within : (slots size at : ℕ) (ids : List ℕ) (places : List SlotOf) (place : SlotOf) → IsIndex slots size ids places → at < length ids → place ≡ get_or places at place → IsWithin slots size place
-place_within slots size at ids places place index within is = subst (λ (p : SlotOf). IsWithin slots size p) (sym is) (index.within at place within)
-
 -- the place of an entry
 place_in : (id : ℕ) (place : SlotOf) (e : Entry) → IsEntryOf id place e → IsPlaceIn place.slot place e
 place_in id place e of = record { at = refl; generation = of.generation; len = of.len; further = of.further }

@@ -12,7 +12,7 @@ use Rattle.flash_model.specs.Layouts.{layout_of}
 use Rattle.flash_words.specs.Flash.{Told, Leaves, MayChange, IsErased}
 use Rattle.flash_words.specs.Layout.{Layout, reach_of}
 use Rattle.flash_words.proofs.CrashLemmas.{Leaves-weaker, Leaves-exit}
-use Rattle.record_model.specs.Records.{Entry, Stored, entry_at, entry_of, slot_at, head_at, is_up, selected, stored_in, parts_of, part_len, is_taken, holds, IsChosen, OnlyFirstUp, NearlyOnlyFirstUp, DiffersInFreeSlot, gate_open, kill_mark}
+use Rattle.record_model.specs.Records.{Entry, Stored, entry_at, entry_of, slot_at, head_at, is_up, stored_in, parts_of, part_len, is_taken, holds, IsChosen, OnlyFirstUp, NearlyOnlyFirstUp, DiffersInFreeSlot, gate_open, kill_mark}
 use Rattle.record_model.proofs.MarkLemmas.{killed_is_not_erased}
 use Rattle.record_model.specs.RecordMap.{Write as write, Clear as clear, made_by, next_generation, pieces_of}
 use Rattle.record_model.specs.Filling as filling
@@ -46,10 +46,6 @@ use Rattle.record_store.specs.declared.work.Work.TheVariants.{Nothing, Write, Ol
 
 pub large_slot : (geometry : Geometry) → 65 ≤ geometry.slot_size
 large_slot geometry = omega (arith, geometry.least_slot)
-
-unfold_stored : (size slots : ℕ) (image : List ℕ) → stored_in size slots image ≡ selected (entry_at size slots image) slots
-unfolding stored_in
-unfold_stored size slots image = refl
 
 -- a call for a change leaves what is outside its range
 pub MayChange-same : (place len : ℕ) (old new : Told) → MayChange place len old new → SameOutside place len old.image new.image

@@ -17,10 +17,6 @@ shown_then told_sink written middle now reply held words first then = record {
   words_are = append_assoc first.shown then.shown reply ∙ ap (λ (xs : List ℕ). first.shown ++ xs) then.words_are ∙ first.words_are;
 }
 
--- the words in hand were written
-pub shown_flushed : (told_sink : Type 0) (written now reply : List ℕ) → (told_sink → now ≡ written ++ reply) → AreShown told_sink written now [] reply
-shown_flushed told_sink written now reply text = record { shown = reply; text = text; words_are = append-nil reply }
-
 -- more words
 pub shown_more : (told_sink : Type 0) (written written_now reply reply_now words words_now more : List ℕ) → AreShown told_sink written written_now reply words → reply_now ≡ reply ++ more
     → words_now ≡ words ++ more → AreShown told_sink written written_now reply_now words_now
