@@ -10,7 +10,7 @@ use erst_client::Client;
 use erst_entries::ErstTable;
 use erst_ids::RecordId;
 use erst_interp::Budget;
-use erst_machine::Machine;
+use erst_machine::{Machine, SCRATCH};
 use flash_model::{Geometry, SimFlash, erased};
 use record_store::Store;
 use std::alloc::Global;
@@ -19,9 +19,6 @@ use std::alloc::Global;
 const SECTOR: u32 = 4096;
 
 const ID: u64 = 1;
-
-/// Plain memory of the machine.
-const SCRATCH: u64 = 0x1000;
 
 // An erased flash.
 fn flash(alloc: Global, geometry: &Geometry) -> Option<SimFlash> {

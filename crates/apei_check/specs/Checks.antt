@@ -1,18 +1,13 @@
 -- What a check of a script leaves, by its end.
 use Rattle.std.specs.Prelude.{◌≡◌, ℕ, List, [], ◌∷◌, ◌++◌, take}
-use Rattle.line_grammar.specs.Columns.{BreaksAt}
 use Rattle.script_text.specs.CheckGrammar.{CheckedLine, IsCheckLine}
 use Rattle.script_lines.specs.Lines.{Line, lines_of, IsTooLong}
 use Rattle.script_lines.specs.Reads.{StandsAt, AreTaken}
+use Rattle.script_lines.specs.Ends.{IsBadFrom}
 use Rattle.apei_check.specs.declared.text.show.Show.{Show}
 use Rattle.apei_check.specs.Texts.{IsLineOf, IsTextOf, IsTextOfAll, TakesMemory}
 use Rattle.script_lines.specs.declared.ending.ScriptEnd.{ScriptEnd}
 use Rattle.script_lines.specs.declared.ending.ScriptEnd.TheVariants.{Done, BadLine, SourceFault, SinkFault, TooLong, Memory}
-
--- a line is none, from this column on
-pub record IsBadFrom (column : ℕ) (line : Line) : Type 0 where
-  pub within : IsTooLong line → ⊥
-  pub breaks : BreaksAt IsCheckLine line.text column
 
 -- a line gives a table for which memory is taken
 pub record MayWantMemory (line : Line) : Type 0 where
@@ -24,7 +19,7 @@ pub record MayWantMemory (line : Line) : Type 0 where
 -- last in part, some from the first on
 abbrev pub EndsBehind : List ℕ → List ℕ → List Line → ScriptEnd → Type 0
 EndsBehind script rest lines Done = (lines_of 0 script ≡ lines) × (rest ≡ [])
-EndsBehind script rest lines (BadLine number column) = (line : Line) × StandsAt script lines number line × IsBadFrom column line
+EndsBehind script rest lines (BadLine number column) = (line : Line) × StandsAt script lines number line × IsBadFrom IsCheckLine column line
 EndsBehind script rest lines SourceFault = AreTaken script rest lines
 EndsBehind script rest lines SinkFault = (behind : List Line) × (lines_of 0 script ≡ lines ++ behind)
 EndsBehind script rest lines (TooLong number) = (line : Line) × StandsAt script lines number line × IsTooLong line

@@ -220,8 +220,7 @@ module _ {L : Type 0} (hearing : L → Hearing) (told_source told_sink tells : T
         (λ told. record {
           line = last_line b;
           stops = stops_at script rest rest_now written now first members old new a b number so_far next is told;
-          within = next.within;
-          breaks = breaks;
+          bad = record { within = next.within; breaks = breaks };
         }),
         so_far.text,
       )

@@ -2,7 +2,6 @@
 use Rattle.std.specs.Prelude.{◌≡◌, ℕ, List, [], ◌∷◌, ◌++◌}
 use Rattle.clap_words.specs.declared.error.WordsError.{WordsError}
 use Rattle.clap_words.specs.declared.error.WordsError.TheVariants as words
-use Rattle.line_grammar.specs.Columns.{BreaksAt}
 use Rattle.erst_machine.specs.MachineState.{MachineState}
 use Rattle.script_text.specs.ScriptGrammar.{Line as ScriptLine, IsLine}
 use Rattle.apei_script.specs.Words.{Reply}
@@ -12,6 +11,7 @@ use Rattle.script_lines.specs.declared.ending.ScriptEnd.{ScriptEnd}
 use Rattle.script_lines.specs.declared.ending.ScriptEnd.TheVariants as ending
 use Rattle.script_lines.specs.Lines.{Line, lines_of, IsTooLong}
 use Rattle.script_lines.specs.Reads.{StandsAt, AreTaken}
+use Rattle.script_lines.specs.Ends.{IsBadFrom}
 use Rattle.apei_cli.specs.Played.{CanPlay, ArePlayed}
 use Rattle.apei_cli.specs.declared.status.Status.{Status}
 use Rattle.apei_cli.specs.declared.status.Status.TheVariants.{Done, BadWords, BadLine, SourceFault, SinkFault, FlashFault, BadGeometry, TooLong, Memory}
@@ -66,8 +66,7 @@ pub record StopsTooLong (script : List ℕ) (played : List Played) (number : ℕ
 pub record StopsBad (script : List ℕ) (played : List Played) (number column : ℕ) : Type 0 where
   pub line : Line
   pub stops : StopsAt script played number line
-  pub within : IsTooLong line → ⊥
-  pub breaks : BreaksAt IsLine line.text column
+  pub bad : IsBadFrom IsLine column line
 
 -- the flash failed in the restart of a line
 pub record StopsInRestart (tells : Type 0) (script : List ℕ) (played : List Played) (last final : MachineState) : Type 0 where

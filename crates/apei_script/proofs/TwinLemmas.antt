@@ -10,7 +10,7 @@ use Rattle.flash_model.specs.declared.geometry.Geometry.{Geometry}
 use Rattle.flash_model.specs.Layouts.{layout_of}
 use Rattle.record_model.specs.Records.{second_copies}
 use Rattle.record_store.specs.Store.{records_of as records_in}
-use Rattle.erst_device.specs.declared.device.TheConstants.{LOG_RANGE}
+use Rattle.erst_device.specs.Actions.{log_range_at}
 use Rattle.erst_device.specs.Timings.{most_changes, timings_of}
 use Rattle.apei_notify.specs.Telling.{wanted}
 use Rattle.bert_region.specs.Region.{IsLaidOut}
@@ -81,7 +81,7 @@ not_both erst bytes why begins refused = none-some why (sym begins.sound ∙ ref
 abbrev client_by : Layout → ClientState
 client_by layout = record {
   table = own_erst;
-  address = LOG_RANGE;
+  address = log_range_at;
   range = reach_of (room_of layout);
   timings = Some (10 * most_changes layout, 10 * (layout.per_slot + 4));
 }

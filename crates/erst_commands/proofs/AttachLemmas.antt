@@ -14,7 +14,7 @@ use Rattle.erst_client.specs.Requests.{Asks, Performs}
 use Rattle.erst_client.specs.Steps.{steps_of}
 use Rattle.erst_client.specs.Commands.{ClientState}
 use Rattle.erst_client.specs.Attaching.{Attaches, attach_requests, attached, client_of}
-use Rattle.erst_device.specs.declared.device.TheConstants.{LOG_RANGE}
+use Rattle.erst_device.specs.Actions.{log_range_at}
 use Rattle.erst_device.specs.Timings.{most_changes, timings_of}
 use Rattle.erst_device.specs.DeviceState.{DeviceState}
 use Rattle.erst_device.specs.Actions.{told_by, Acts}
@@ -74,7 +74,7 @@ stop_no : (answer : ℕ) (stop : RunStop) → Err stop ≡ Ok answer → ⊥
 stop_no answer stop e = absurd (cc)
 
 -- the client of the four answers
-judged_own : (first : MachineState) (a b c d : ℕ) → a ≡ LOG_RANGE % 2 ^ 64 → b ≡ reach_of (room_of first.device.store.layout) % 2 ^ 64 → c ≡ 0 % 2 ^ 64 → d ≡ timings_of first.device.store.layout % 2 ^ 64
+judged_own : (first : MachineState) (a b c d : ℕ) → a ≡ log_range_at % 2 ^ 64 → b ≡ reach_of (room_of first.device.store.layout) % 2 ^ 64 → c ≡ 0 % 2 ^ 64 → d ≡ timings_of first.device.store.layout % 2 ^ 64
     → attached own_erst (Ok (a ∷ b ∷ c ∷ d ∷ [])) ≡ Ok (own_client first)
 judged_own first a b c d a_is b_is c_is d_is =
     let layout = first.device.store.layout in
@@ -87,9 +87,9 @@ judged_own first a b c d a_is b_is c_is d_is =
     ap (λ (n : ℕ). attached own_erst (Ok (a ∷ b ∷ n ∷ d ∷ []))) c_is
     ∙ ap (λ (t : Bool). cond {A = Result ClientState AttachError} t (Err (NoRange b)) (Ok (client_of own_erst (a ∷ b ∷ 0 ∷ d ∷ [])))) (le-ltb b 128 (omega (arith, range, least)))
     ∙ ap (λ (n : ℕ). Ok (record { table = own_erst; address = n; range = b; timings = Some (d / 2 ^ 32, d % 2 ^ 32) })) a_is
-    ∙ ap (λ (n : ℕ). Ok (record { table = own_erst; address = LOG_RANGE; range = n; timings = Some (d / 2 ^ 32, d % 2 ^ 32) })) range
-    ∙ ap (λ (n : ℕ). Ok (record { table = own_erst; address = LOG_RANGE; range = reach_of (room_of first.device.store.layout); timings = Some (n, d % 2 ^ 32) })) greatest
-    ∙ ap (λ (n : ℕ). Ok (record { table = own_erst; address = LOG_RANGE; range = reach_of (room_of first.device.store.layout); timings = Some (10 * most_changes first.device.store.layout, n) })) nominal
+    ∙ ap (λ (n : ℕ). Ok (record { table = own_erst; address = log_range_at; range = n; timings = Some (d / 2 ^ 32, d % 2 ^ 32) })) range
+    ∙ ap (λ (n : ℕ). Ok (record { table = own_erst; address = log_range_at; range = reach_of (room_of first.device.store.layout); timings = Some (n, d % 2 ^ 32) })) greatest
+    ∙ ap (λ (n : ℕ). Ok (record { table = own_erst; address = log_range_at; range = reach_of (room_of first.device.store.layout); timings = Some (10 * most_changes first.device.store.layout, n) })) nominal
 
 pub attach_own : (tells : Type 0) → OwnProgramsRun tells → (budget : ℕ) (first : MachineState) (result : Result ClientState AttachError) (left : ℕ) (last : MachineState) → 8 ≤ budget
     → Attaches (Allows tells) own_erst budget first result left last → AttachesOwn budget first result left last
@@ -97,9 +97,9 @@ attach_own tells own budget first result left last enough attaches =
     by_first (first_asked (Allows tells) own_entries _ _ budget first attaches.answers left last (subst (λ (rs : List Request). Asks (Allows tells) own_entries rs budget first attaches.answers left last) requests-own attaches.asks))
   where
     told_address : (budget before : ℕ) (base old : MachineState) (result : Result ℕ RunStop) (left : ℕ) (last : MachineState) → 2 ≤ budget → old ≡ with_value before base
-        → Performs (Allows tells) own_entries GetErrorLogAddressRange 0 budget old result left last → (result ≡ Ok (LOG_RANGE % 2 ^ 64)) × (left + 2 ≡ budget) × (last ≡ with_value LOG_RANGE base)
+        → Performs (Allows tells) own_entries GetErrorLogAddressRange 0 budget old result left last → (result ≡ Ok (log_range_at % 2 ^ 64)) × (left + 2 ≡ budget) × (last ≡ with_value log_range_at base)
     told_address budget before base old result left last more is run =
-        is_told tells own GetErrorLogAddressRange (λ d. LOG_RANGE) (λ d. refl) refl steps_two.0 (λ given m. refl) (λ given v. refl) budget before base old result left last more is refl run
+        is_told tells own GetErrorLogAddressRange (λ d. log_range_at) (λ d. refl) refl steps_two.0 (λ given m. refl) (λ given v. refl) budget before base old result left last more is refl run
 
     told_length : (budget before : ℕ) (base old : MachineState) (result : Result ℕ RunStop) (left : ℕ) (last : MachineState) → 2 ≤ budget → old ≡ with_value before base
         → Performs (Allows tells) own_entries GetErrorLogAddressRangeLength 0 budget old result left last
@@ -120,7 +120,7 @@ attach_own tells own budget first result left last enough attaches =
         is_told tells own GetExecuteOperationTimings (λ d. timings_of d.store.layout) (λ d. refl) refl steps_two.3 (λ given m. refl) (λ given v. refl) budget before base old result left last more is
         (ap (λ (m : MachineState). timings_of m.device.store.layout) is) run
 
-    by_fourth : (a b c left3 : ℕ) (w3 : MachineState) (others : Result (List ℕ) RunStop) → w3 ≡ with_value 0 first → a ≡ LOG_RANGE % 2 ^ 64 → b ≡ reach_of (room_of first.device.store.layout) % 2 ^ 64 → c ≡ 0 % 2 ^ 64
+    by_fourth : (a b c left3 : ℕ) (w3 : MachineState) (others : Result (List ℕ) RunStop) → w3 ≡ with_value 0 first → a ≡ log_range_at % 2 ^ 64 → b ≡ reach_of (room_of first.device.store.layout) % 2 ^ 64 → c ≡ 0 % 2 ^ 64
         → left3 + 6 ≡ budget → attaches.answers ≡ with_answer a (with_answer b (with_answer c others))
         → FirstAsked (Allows tells) own_entries (request_of GetExecuteOperationTimings) [] left3 w3 others left last → AttachesOwn budget first result left last
     by_fourth a b c left3 w3 others is a_is b_is c_is spent answers_are asked = elim asked [
@@ -139,7 +139,7 @@ attach_own tells own budget first result left last enough attaches =
           absurd (stop_no _ stop told.0)
     ]
 
-    by_third : (a b left2 : ℕ) (w2 : MachineState) (others : Result (List ℕ) RunStop) → w2 ≡ with_value (reach_of (room_of first.device.store.layout)) first → a ≡ LOG_RANGE % 2 ^ 64
+    by_third : (a b left2 : ℕ) (w2 : MachineState) (others : Result (List ℕ) RunStop) → w2 ≡ with_value (reach_of (room_of first.device.store.layout)) first → a ≡ log_range_at % 2 ^ 64
         → b ≡ reach_of (room_of first.device.store.layout) % 2 ^ 64 → left2 + 4 ≡ budget → attaches.answers ≡ with_answer a (with_answer b others)
         → FirstAsked (Allows tells) own_entries (request_of GetErrorLogAddressRangeAttributes) (request_of GetExecuteOperationTimings ∷ []) left2 w2 others left last → AttachesOwn budget first result left last
     by_third a b left2 w2 others is a_is b_is spent answers_are asked = elim asked [
@@ -152,7 +152,7 @@ attach_own tells own budget first result left last enough attaches =
           absurd (stop_no _ stop told.0)
     ]
 
-    by_second : (a left1 : ℕ) (w1 : MachineState) (others : Result (List ℕ) RunStop) → w1 ≡ with_value LOG_RANGE first → a ≡ LOG_RANGE % 2 ^ 64 → left1 + 2 ≡ budget → attaches.answers ≡ with_answer a others
+    by_second : (a left1 : ℕ) (w1 : MachineState) (others : Result (List ℕ) RunStop) → w1 ≡ with_value log_range_at first → a ≡ log_range_at % 2 ^ 64 → left1 + 2 ≡ budget → attaches.answers ≡ with_answer a others
         → FirstAsked (Allows tells) own_entries (request_of GetErrorLogAddressRangeLength) (request_of GetErrorLogAddressRangeAttributes ∷ request_of GetExecuteOperationTimings ∷ []) left1 w1 others left last
         → AttachesOwn budget first result left last
     by_second a left1 w1 others is a_is spent answers_are asked = elim asked [

@@ -2,9 +2,6 @@
 use Rattle.std.proofs.Common.{◌≡◌, ℕ, zero, suc, ◌+◌, ◌-◌, ◌*◌, ◌/◌, ◌%◌, ◌^◌, ◌<◌, ◌≤◌, true, [], ◌∷◌, length, Some, Result, Ok, Err, refl, sym, ap, subst, ◌∙◌, arith}
 use Rattle.std.specs.Prelude.{bit_and, unwrap_or, ◌==◌, if◌then◌else◌}
 use Rattle.std.proofs.lemmas.Nat.{and_mask}
-use Rattle.apei_gas.specs.declared.registers.Register.{Register}
-use Rattle.apei_gas.specs.declared.registers.Place.TheVariants.{Memory}
-use Rattle.apei_gas.specs.declared.widths.Width.TheVariants.{B32, B64}
 use Rattle.apei_gas.specs.Fields.{field, stored}
 use Rattle.apei_space.specs.declared.faults.SpaceFault.{SpaceFault}
 use Rattle.erst_entries.specs.declared.actions.Action.{Action}
@@ -22,7 +19,7 @@ use Rattle.erst_interp.specs.Straight.{IsStraight, TakesOnly, StoresOnly, Does, 
 use Rattle.erst_client.specs.Steps.{steps_of}
 use Rattle.erst_machine.specs.MachineState.{MachineState}
 use Rattle.erst_machine.specs.Allowed.{Allows, ActsOn}
-use Rattle.erst_machine.specs.OwnTables.{own_entries, act, give, is_one, answer}
+use Rattle.erst_machine.specs.OwnTables.{action_at, value_at, own_entries, act, give, is_one, answer}
 use Rattle.erst_commands.specs.OwnPrograms.{with_value, takes_value, tells_value, given_to, answer_of, OwnRun, IsMade, StopsAtOnce, StopsBefore, StopsBehind, OwnProgramsRun}
 
 -- straight programs over the machine
@@ -31,12 +28,6 @@ StraightRuns tells = (program : Listed) (straight : AreStraight (Allows tells) p
     → 0 < length program.entries → Run (Allows tells) program given budget first result left last → RanStraight (Allows tells) program straight given budget first result left last
 
 -- Entries
-
-abbrev action_at : Register
-action_at = record { place = Memory 0x200000; access = B32; offset = 0 }
-
-abbrev value_at : Register
-value_at = record { place = Memory 0x200008; access = B64; offset = 0 }
 
 abbrev acts : (action : Action) → IsStraight (act action)
 acts action = StoresOnly WriteRegisterValue (λ task. task.entry.value) action_at refl (λ task is. refl) refl refl

@@ -2,7 +2,7 @@
 use Rattle.std.specs.Prelude.{◌≡◌, ℕ, ◌+◌, ◌*◌, Some, Result, Ok}
 use Rattle.erst_client.specs.declared.errors.AttachError.{AttachError}
 use Rattle.erst_client.specs.Commands.{ClientState}
-use Rattle.erst_device.specs.declared.device.TheConstants.{LOG_RANGE}
+use Rattle.erst_device.specs.Actions.{log_range_at}
 use Rattle.erst_device.specs.Timings.{most_changes, timings_of}
 use Rattle.erst_machine.specs.MachineState.{MachineState, reach_in}
 use Rattle.erst_machine.specs.OwnTables.{own_erst}
@@ -13,7 +13,7 @@ use Rattle.erst_commands.specs.OwnPrograms.{with_value}
 abbrev pub own_client : MachineState → ClientState
 own_client state = record {
   table = own_erst;
-  address = LOG_RANGE;
+  address = log_range_at;
   range = reach_in state.device;
   timings = Some (10 * most_changes state.device.store.layout, 10 * (state.device.store.layout.per_slot + 4));
 }

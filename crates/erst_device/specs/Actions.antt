@@ -7,7 +7,6 @@ use Rattle.record_store.specs.Store.{StoreView, IsBusy}
 use Rattle.record_store.specs.declared.errors.StoreError.{StoreError}
 use Rattle.erst_entries.specs.declared.actions.Action.{Action}
 use Rattle.erst_entries.specs.declared.actions.Action.TheVariants.{BeginWriteOperation, BeginReadOperation, BeginClearOperation, EndOperation, SetRecordOffset, ExecuteOperation, CheckBusyStatus, GetCommandStatus, GetRecordIdentifier, SetRecordIdentifier, GetRecordCount, BeginDummyWriteOperation, GetErrorLogAddressRange, GetErrorLogAddressRangeLength, GetErrorLogAddressRangeAttributes, GetExecuteOperationTimings}
-use Rattle.erst_device.specs.declared.device.TheConstants.{LOG_RANGE}
 use Rattle.erst_device.specs.declared.registers.Operation.{Operation}
 use Rattle.erst_device.specs.declared.registers.Operation.TheVariants.{Write, Read, Clear, Dummy}
 use Rattle.erst_device.specs.declared.status.CommandStatus.{CommandStatus}
@@ -18,10 +17,14 @@ use Rattle.erst_device.specs.StoreCalls.{Stepped, ReadOut, FoundNext, Counted}
 use Rattle.erst_device.specs.DeviceState.{DeviceState, IsStill, IsRunning, given_up}
 use Rattle.erst_device.specs.Starts.{Starts}
 
+-- where the log range begins
+abbrev pub log_range_at : ℕ
+log_range_at = 0x100000
+
 -- the number that an action tells where it does nothing else, with the status of the last execution
 abbrev pub told_by : Action → CommandStatus → Layout → Option ℕ
 told_by GetCommandStatus status layout = Some (number_of status)
-told_by GetErrorLogAddressRange status layout = Some LOG_RANGE
+told_by GetErrorLogAddressRange status layout = Some log_range_at
 told_by GetErrorLogAddressRangeLength status layout = Some (reach_of (room_of layout))
 told_by GetErrorLogAddressRangeAttributes status layout = Some 0
 told_by GetExecuteOperationTimings status layout = Some (timings_of layout)

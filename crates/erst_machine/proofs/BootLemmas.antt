@@ -10,9 +10,9 @@ use Rattle.record_store.specs.Store.{StoreView, IsOpened}
 use Rattle.ghes_ack.specs.Maps.{HasWindows, HasAckBits, window, memory_started}
 use Rattle.ghes_ack.specs.Handovers.{HandoverState, StandsFor, fresh}
 use Rattle.erst_device.specs.DeviceState.{DeviceState, at_first}
-use Rattle.erst_machine.specs.Memories.{MemoryState, HasSizes, IsLaid, cleared}
+use Rattle.erst_machine.specs.Memories.{MemoryState, HasSizes, IsLaid, cleared, blank}
 use Rattle.erst_machine.specs.MachineState.{IsMachine, own_map, reach_in}
-use Rattle.erst_machine.specs.Boots.{blank, IsBooted}
+use Rattle.erst_machine.specs.Boots.{IsBooted}
 use Rattle.erst_machine.proofs.KeptLemmas.{nothing_laid}
 
 fills : FillsWindows blank

@@ -5,6 +5,7 @@ use Rattle.apei_gas.specs.declared.registers.Place.TheVariants.{Memory, Io}
 use Rattle.apei_gas.specs.declared.widths.Width.{Width}
 use Rattle.apei_gas.specs.declared.widths.Width.TheVariants.{B8, B16, B32, B64}
 use Rattle.apei_space.specs.declared.windows.Window.{Window}
+use Rattle.erst_device.specs.Actions.{log_range_at}
 use Rattle.erst_machine.specs.declared.areas.Area.{Area}
 use Rattle.erst_machine.specs.declared.areas.Area.TheVariants.{Device, Scratch, LogRange, Handover, BootErrors, Ports}
 use Rattle.erst_machine.specs.declared.areas.Spot.{Spot}
@@ -12,23 +13,40 @@ use Rattle.erst_machine.specs.declared.areas.Spot.TheVariants.{Inside, Beyond, N
 use Rattle.erst_machine.specs.declared.areas.Register.{Register}
 use Rattle.erst_machine.specs.declared.areas.Register.TheVariants.{Action, Value, NoRegister}
 
+-- where the memory begins in which the two sides of the handover meet
+abbrev pub handover_at : ℕ
+handover_at = 0x300000
+
 -- where each area begins
 abbrev pub base_of : Area → ℕ
 base_of Device = 0x200000
 base_of Scratch = 0x1000
-base_of LogRange = 0x100000
-base_of Handover = 0x300000
+base_of LogRange = log_range_at
+base_of Handover = handover_at
 base_of BootErrors = 0x400000
 base_of Ports = 0x500
 
--- how many bytes it has; the log range has as many as the longest record
+-- how many bytes the plain memory, that of the handover, the boot error region and the ports have
+abbrev pub scratch_len : ℕ
+scratch_len = 4096
+
+abbrev pub handover_len : ℕ
+handover_len = 8192
+
+abbrev pub region_len : ℕ
+region_len = 16384
+
+abbrev pub ports_len : ℕ
+ports_len = 16
+
+-- how many bytes each area has; the log range has as many as the longest record
 abbrev pub size_of : ℕ → Area → ℕ
 size_of reach Device = 16
-size_of reach Scratch = 4096
+size_of reach Scratch = scratch_len
 size_of reach LogRange = reach
-size_of reach Handover = 8192
-size_of reach BootErrors = 16384
-size_of reach Ports = 16
+size_of reach Handover = handover_len
+size_of reach BootErrors = region_len
+size_of reach Ports = ports_len
 
 -- of n bytes from an address on, all are in the area, or the first that is not has this address
 abbrev pub within : Area → ℕ → ℕ → ℕ → ℕ → Spot

@@ -6,15 +6,13 @@ use Rattle.flash_words.specs.Layout.{room_of, reach_of}
 use Rattle.flash_model.specs.declared.geometry.Geometry.{Geometry}
 use Rattle.flash_model.specs.Layouts.{layout_of}
 use Rattle.record_store.specs.Store.{IsOpened}
-use Rattle.apei_space.specs.RamState.{RamState}
 use Rattle.ghes_ack.specs.Machine.{started}
 use Rattle.ghes_ack.specs.Maps.{window, memory_started}
 use Rattle.ghes_ack.specs.Handovers.{StandsFor, fresh}
 use Rattle.erst_device.specs.DeviceState.{at_first}
-use Rattle.erst_machine.specs.declared.areas.TheConstants.{HANDOVER_LEN}
 use Rattle.erst_machine.specs.declared.errors.BootError.{BootError}
 use Rattle.erst_machine.specs.declared.errors.BootError.TheVariants.{Size, Flash, Memory}
-use Rattle.erst_machine.specs.Memories.{shared_windows, zeros, cleared}
+use Rattle.erst_machine.specs.Memories.{blank, cleared}
 use Rattle.erst_machine.specs.MachineState.{MachineState, IsMachine, own_map}
 
 -- the flash has the geometry's size and sector size
@@ -27,10 +25,6 @@ abbrev pub RefusesBoot : Geometry → FlashState → FlashState → BootError �
 RefusesBoot geometry old back (Size found sector) = (FitsGeometry geometry old → ⊥) × (found ≡ old.size) × (sector ≡ old.sector_size) × (back ≡ old)
 RefusesBoot geometry old back Flash = FitsGeometry geometry old × (old.faults ≤ back.faults) × Rose old.faults back.faults
 RefusesBoot geometry old back Memory = FitsGeometry geometry old × (back ≡ old)
-
--- the handover's memory before its first start
-abbrev pub blank : RamState
-blank = record { windows = shared_windows; bytes = zeros HANDOVER_LEN; waited = 0 }
 
 -- a machine right after its boot: nothing is begun, memory is zeros, and the handover is at its start
 pub record IsBooted (geometry : Geometry) (state : MachineState) : Type 0 where

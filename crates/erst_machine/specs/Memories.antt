@@ -4,7 +4,7 @@ use Rattle.apei_gas.specs.declared.registers.Place.TheVariants.{Memory}
 use Rattle.apei_space.specs.declared.windows.Window.{Window}
 use Rattle.apei_space.specs.RamState.{RamState}
 use Rattle.bert_region.specs.Region.{IsLaidOut}
-use Rattle.erst_machine.specs.declared.areas.TheConstants.{SCRATCH_LEN, STATUS, HANDOVER_LEN, BOOT_ERRORS_LEN, PORTS_LEN}
+use Rattle.erst_machine.specs.Areas.{handover_at, scratch_len, handover_len, region_len, ports_len}
 use Rattle.erst_machine.specs.declared.areas.Area.{Area}
 use Rattle.erst_machine.specs.declared.areas.Area.TheVariants.{Device, Scratch, LogRange, Handover, BootErrors, Ports}
 use Rattle.erst_machine.specs.declared.contents.Contents.{Contents}
@@ -58,15 +58,15 @@ IsWritable area = ⊥
 
 -- the one window of the handover's memory
 abbrev pub shared_windows : List Window
-shared_windows = (record { place = Memory STATUS; len = HANDOVER_LEN }) ∷ []
+shared_windows = (record { place = Memory handover_at; len = handover_len }) ∷ []
 
 -- each area is as long as the map says, and the log range ends before the device
 pub record HasSizes (reach : ℕ) (memory : MemoryState) : Type 0 where
   pub small : reach ≤ 65536
   pub range : length memory.range ≡ reach
-  pub scratch : length memory.scratch ≡ SCRATCH_LEN
-  pub ports : length memory.ports ≡ PORTS_LEN
-  pub region : length memory.region ≡ BOOT_ERRORS_LEN
+  pub scratch : length memory.scratch ≡ scratch_len
+  pub ports : length memory.ports ≡ ports_len
+  pub region : length memory.region ≡ region_len
   pub shared : memory.shared.windows ≡ shared_windows
 
 -- the boot error region holds whole blocks and then zeros
@@ -76,6 +76,10 @@ IsLaid region = (blocks : List (List ℕ)) × (left : ℕ) × IsLaidOut blocks l
 abbrev pub zeros : ℕ → List ℕ
 zeros n = replicate n 0
 
+-- the handover's memory before its first start
+abbrev pub blank : RamState
+blank = record { windows = shared_windows; bytes = zeros handover_len; waited = 0 }
+
 -- the memory of a machine that has power from now on, but for what the handover's two sides wrote
 abbrev pub cleared : ℕ → RamState → MemoryState
-cleared reach shared = record { range = zeros reach; scratch = zeros SCRATCH_LEN; ports = zeros PORTS_LEN; region = zeros BOOT_ERRORS_LEN; shared = shared }
+cleared reach shared = record { range = zeros reach; scratch = zeros scratch_len; ports = zeros ports_len; region = zeros region_len; shared = shared }

@@ -1,6 +1,9 @@
 -- The machine's own tables (ACPI 6.4, sections 18.5.1, 18.3.2 and 18.3.1).
 use Rattle.std.specs.Prelude.{ℕ, ◌+◌, ◌-◌, ◌*◌, ◌^◌, List, [], ◌∷◌, ◌++◌, length, codes, Some, replicate}
 use Rattle.base_model.specs.Bytes.{spelled}
+use Rattle.apei_gas.specs.declared.registers.Register.{Register}
+use Rattle.apei_gas.specs.declared.registers.Place.TheVariants.{Memory}
+use Rattle.apei_gas.specs.declared.widths.Width.TheVariants.{B32, B64}
 use Rattle.apei_gas.specs.declared.structure.Gas.{Gas}
 use Rattle.apei_tables.specs.declared.headers.Header.{Header}
 use Rattle.apei_tables.specs.Layout.{spelling as header_spelling}
@@ -39,6 +42,13 @@ action_register = register_of 32 3 (base_of Device)
 
 abbrev pub value_register : Gas
 value_register = register_of 64 4 (base_of Device + 8)
+
+-- and what they are to the space
+abbrev pub action_at : Register
+action_at = record { place = Memory (base_of Device); access = B32; offset = 0 }
+
+abbrev pub value_at : Register
+value_at = record { place = Memory (base_of Device + 8); access = B64; offset = 0 }
 
 -- an entry of an action that replaces the whole register
 abbrev pub entry_of : Action → ℕ → Gas → ℕ → ℕ → Entry

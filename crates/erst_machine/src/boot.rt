@@ -3,9 +3,8 @@ ghost use Rattle.std.specs.Prelude.{◌≡◌, ◌≤◌, IfOk};
 ghost use Rattle.ghes_ack.specs.Machine.{started};
 ghost use Rattle.ghes_ack.specs.Maps.{window, memory_started};
 ghost use Rattle.ghes_ack.specs.Handovers.{StandsFor, fresh};
-ghost use Rattle.erst_machine.specs.Memories.{memory_of, HasSizes, cleared};
+ghost use Rattle.erst_machine.specs.Memories.{memory_of, HasSizes, cleared, blank};
 ghost use Rattle.erst_machine.specs.MachineState.{own_map};
-ghost use Rattle.erst_machine.specs.Boots.{blank};
 
 use crate::areas::{ACKNOWLEDGE, BLOCK, BLOCK_LEN, STATUS};
 use crate::contents::Contents;

@@ -34,14 +34,14 @@ const SHARED: [Window; 1] = [Window {
 }];
 
 impl Contents {
-    ghost use Rattle.erst_machine.specs.Memories.{memory_of, bytes_in, with_bytes, IsReadable, IsWritable, HasSizes, shared_windows, cleared, zeros};
+    ghost use Rattle.erst_machine.specs.Memories.{memory_of, bytes_in, with_bytes, IsReadable, IsWritable, HasSizes, shared_windows, cleared, blank};
 
     /// Zeros, and a log range of so many.
     pub fn new(alloc: Global, reach: usize) -> Result<Contents, Memory>
         requires { reach ≤ 65536 }
         ensures zeros { IfOk result (λ contents. memory_of contents ≡ cleared reach contents.shared) }
         ensures sizes { IfOk result (λ contents. HasSizes reach (memory_of contents)) }
-        ensures shared { IfOk result (λ contents. contents.shared ≡ record { windows = shared_windows; bytes = zeros HANDOVER_LEN; waited = 0 }) }
+        ensures shared { IfOk result (λ contents. contents.shared ≡ blank) }
     {
         Ok(Contents {
             range: vec![in alloc; 0; reach]?,

@@ -17,7 +17,7 @@ use Rattle.erst_machine.specs.Areas.{memory_spot}
 use Rattle.erst_machine.specs.MachineState.{MachineState, spot_at}
 use Rattle.erst_machine.specs.Allowed.{Allows, number_read, NumberWritten, copy_of}
 use Rattle.erst_machine.proofs.PlaceLemmas.{area_found}
-use Rattle.erst_device.specs.declared.device.TheConstants.{LOG_RANGE}
+use Rattle.erst_device.specs.Actions.{log_range_at}
 use Rattle.erst_shadow.specs.ShadowTables.{scratch_at}
 use Rattle.erst_shadow.specs.ShadowMoves.{holding, HoldsPieces, KeepsOthers, MovedIn, MovedOut}
 
@@ -146,16 +146,16 @@ piece_fits : (count i : ℕ) (bytes others : List ℕ) → 128 * count ≤ lengt
 piece_fits count i bytes others room fits less = omega (arith, piece_long count i bytes room less, fits, less)
 
 module _ (tells : Type 0) (first : MachineState) (count : ℕ) (room : HoldsPieces first count) where
-  pub below_in : AreAddressable scratch_at LOG_RANGE count
+  pub below_in : AreAddressable scratch_at log_range_at count
   below_in = let few = room.few in record { source = omega arith; target_is = omega arith; some = room.some }
 
-  pub below_out : AreAddressable LOG_RANGE scratch_at count
+  pub below_out : AreAddressable log_range_at scratch_at count
   below_out = let few = room.few in record { source = omega arith; target_is = omega arith; some = room.some }
 
   scratch_spot : (w : MachineState) (i : ℕ) → KeepsOthers first w → i < count → spot_at w (scratch_at + 128 * i) 128 ≡ Inside Scratch (128 * i)
   scratch_spot w i comes less = area_found (length w.memory.range) Scratch (128 * i) 128 (omega (arith, comes.range, room.small)) (omega arith) (omega (arith, room.few))
 
-  range_spot : (w : MachineState) (i : ℕ) → KeepsOthers first w → i < count → spot_at w (LOG_RANGE + 128 * i) 128 ≡ Inside LogRange (128 * i)
+  range_spot : (w : MachineState) (i : ℕ) → KeepsOthers first w → i < count → spot_at w (log_range_at + 128 * i) 128 ≡ Inside LogRange (128 * i)
   range_spot w i comes less = area_found (length w.memory.range) LogRange (128 * i) 128 (omega (arith, comes.range, room.small)) (omega arith) (omega (arith, comes.range, room.range))
 
   scratch_room : (w : MachineState) → KeepsOthers first w → 128 * count ≤ length w.memory.scratch
@@ -175,9 +175,9 @@ module _ (tells : Type 0) (first : MachineState) (count : ℕ) (room : HoldsPiec
   abbrev piece_in : ℕ → MachineState → MachineState
   piece_in i w = record w { memory = record w.memory { range = put_at w.memory.range (128 * i) (part w.memory.scratch (128 * i) 128) } }
 
-  pub space_in : ServesMove (Allows tells) (KeepsOthers first) scratch_at LOG_RANGE count
-  space_in = served tells first (KeepsOthers first) scratch_at LOG_RANGE count piece_in (λ w comes. comes) (λ w r n comes. put_comes first w r n comes)
-      (λ w v i answer comes less h. copied_by tells w v (scratch_at + 128 * i) (LOG_RANGE + 128 * i) 128 (Inside Scratch (128 * i)) (Inside LogRange (128 * i)) answer (scratch_spot w i comes less) (range_spot w i comes less) h)
+  pub space_in : ServesMove (Allows tells) (KeepsOthers first) scratch_at log_range_at count
+  space_in = served tells first (KeepsOthers first) scratch_at log_range_at count piece_in (λ w comes. comes) (λ w r n comes. put_comes first w r n comes)
+      (λ w v i answer comes less h. copied_by tells w v (scratch_at + 128 * i) (log_range_at + 128 * i) 128 (Inside Scratch (128 * i)) (Inside LogRange (128 * i)) answer (scratch_spot w i comes less) (range_spot w i comes less) h)
       (λ w i comes less. record {
         range = length-put_at w.memory.range (128 * i) (part w.memory.scratch (128 * i) 128) (fits_range w i comes less) ∙ comes.range;
         scratch = comes.scratch;
@@ -230,7 +230,7 @@ module _ (tells : Type 0) (first : MachineState) (count : ℕ) (room : HoldsPiec
 
   rounds_moved : (i : ℕ) → i ≤ count → WentIn (128 * i) (after_rounds space_in i first)
   unfolding space_in
-  rounds_moved zero less = put_moved 0 _ Offset 0 (put_moved 0 _ Length 128 (put_moved 0 _ Target LOG_RANGE (put_moved 0 first Source scratch_at none_moved)))
+  rounds_moved zero less = put_moved 0 _ Offset 0 (put_moved 0 _ Length 128 (put_moved 0 _ Target log_range_at (put_moved 0 first Source scratch_at none_moved)))
   rounds_moved (suc i) less = put_moved (128 * suc i) _ Offset (128 * suc i) (piece_moved i (after_rounds space_in i first) (omega arith) (rounds_moved i (omega arith)))
 
   pub moved_in : MovedIn count first (after_rounds space_in count first)
@@ -251,9 +251,9 @@ module _ (tells : Type 0) (first : MachineState) (count : ℕ) (room : HoldsPiec
   piece_out i w = record w { memory = record w.memory { scratch = put_at w.memory.scratch (128 * i) (part w.memory.range (128 * i) 128) } }
 
   -- the log range stays as it is
-  pub space_out : ServesMove (Allows tells) (KeepsRange first) LOG_RANGE scratch_at count
-  space_out = served tells first (KeepsRange first) LOG_RANGE scratch_at count piece_out (λ w stays. stays.comes) (λ w r n stays. record { comes = put_comes first w r n stays.comes; kept = stays.kept })
-      (λ w v i answer stays less h. copied_by tells w v (LOG_RANGE + 128 * i) (scratch_at + 128 * i) 128 (Inside LogRange (128 * i)) (Inside Scratch (128 * i)) answer (range_spot w i stays.comes less) (scratch_spot w i stays.comes less) h)
+  pub space_out : ServesMove (Allows tells) (KeepsRange first) log_range_at scratch_at count
+  space_out = served tells first (KeepsRange first) log_range_at scratch_at count piece_out (λ w stays. stays.comes) (λ w r n stays. record { comes = put_comes first w r n stays.comes; kept = stays.kept })
+      (λ w v i answer stays less h. copied_by tells w v (log_range_at + 128 * i) (scratch_at + 128 * i) 128 (Inside LogRange (128 * i)) (Inside Scratch (128 * i)) answer (range_spot w i stays.comes less) (scratch_spot w i stays.comes less) h)
       (λ w i stays less. record {
         comes = record {
           range = stays.comes.range;
@@ -294,7 +294,7 @@ module _ (tells : Type 0) (first : MachineState) (count : ℕ) (room : HoldsPiec
   rounds_fetched : (i : ℕ) → i ≤ count → CameOut (128 * i) (after_rounds space_out i first)
   unfolding space_out
   rounds_fetched zero less =
-      put_fetched 0 _ Offset 0 (omega arith) (put_fetched 0 _ Length 128 (omega arith) (put_fetched 0 _ Target scratch_at (omega arith) (put_fetched 0 first Source LOG_RANGE (omega arith) none_fetched)))
+      put_fetched 0 _ Offset 0 (omega arith) (put_fetched 0 _ Length 128 (omega arith) (put_fetched 0 _ Target scratch_at (omega arith) (put_fetched 0 first Source log_range_at (omega arith) none_fetched)))
   rounds_fetched (suc i) less =
       put_fetched (128 * suc i) _ Offset (128 * suc i) (omega (arith, room.few)) (piece_fetched i (after_rounds space_out i first) (omega arith) (rounds_fetched i (omega arith)))
 

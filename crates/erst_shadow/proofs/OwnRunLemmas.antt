@@ -2,9 +2,6 @@
 use Rattle.std.proofs.Common.{◌≡◌, ◌∙◌, ℕ, ◌+◌, ◌-◌, ◌*◌, ◌/◌, ◌%◌, ◌^◌, Bool, true, false, [], ◌∷◌, Some, Result, Ok, Err, refl, sym, ap, subst, arith}
 use Rattle.std.specs.Prelude.{◌==◌, if◌then◌else◌}
 use Rattle.std.proofs.lemmas.Nat.{and_mask}
-use Rattle.apei_gas.specs.declared.registers.Register.{Register}
-use Rattle.apei_gas.specs.declared.registers.Place.TheVariants.{Memory}
-use Rattle.apei_gas.specs.declared.widths.Width.TheVariants.{B32, B64}
 use Rattle.apei_gas.specs.Fields.{field, stored}
 use Rattle.erst_entries.specs.declared.actions.Action.{Action}
 use Rattle.erst_entries.specs.declared.actions.Action.TheVariants.{BeginWriteOperation, BeginReadOperation, BeginClearOperation, EndOperation, SetRecordOffset, ExecuteOperation, CheckBusyStatus, GetCommandStatus, SetRecordIdentifier, BeginDummyWriteOperation}
@@ -24,14 +21,8 @@ use Rattle.erst_client.specs.Requests.{Performs}
 use Rattle.erst_client.specs.Steps.{steps_of}
 use Rattle.erst_machine.specs.MachineState.{MachineState}
 use Rattle.erst_machine.specs.Allowed.{Allows, ActsOn}
-use Rattle.erst_machine.specs.OwnTables.{own_entries, act, give, is_one, answer}
+use Rattle.erst_machine.specs.OwnTables.{action_at, value_at, own_entries, act, give, is_one, answer}
 use Rattle.erst_commands.specs.OwnPrograms.{with_value, takes_value, tells_value, answer_of, OwnRun, IsMade, StopsAtOnce, StopsBefore, StopsBehind}
-
-abbrev action_at : Register
-action_at = record { place = Memory 0x200000; access = B32; offset = 0 }
-
-abbrev value_at : Register
-value_at = record { place = Memory 0x200008; access = B64; offset = 0 }
 
 low_all : (n : ℕ) → stored n 0 (2 ^ 64 - 1) ≡ n % 2 ^ 64
 low_all n = ap (λ (x : ℕ). x * 2 ^ 0 % 2 ^ 64) (and_mask n 64) ∙ (omega arith)

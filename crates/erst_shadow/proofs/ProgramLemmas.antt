@@ -4,8 +4,6 @@ use Rattle.std.proofs.Common.{◌≡◌, ℕ, zero, suc, List, [], ◌∷◌, Op
 use Rattle.std.specs.Prelude.{slice_get}
 use Rattle.std.proofs.lemmas.Option.{none-some, same_Some}
 use Rattle.apei_gas.specs.declared.registers.Register.{Register}
-use Rattle.apei_gas.specs.declared.registers.Place.TheVariants.{Memory}
-use Rattle.apei_gas.specs.declared.widths.Width.TheVariants.{B32, B64}
 use Rattle.apei_gas.specs.Check.{checked}
 use Rattle.erst_entries.specs.declared.actions.Action.{Action}
 use Rattle.erst_entries.specs.declared.actions.Action.TheVariants.{ExecuteOperation, GetCommandStatus, GetRecordIdentifier, GetRecordCount, GetErrorLogAddressRange, GetErrorLogAddressRangeLength, GetErrorLogAddressRangeAttributes}
@@ -23,7 +21,7 @@ use Rattle.erst_client.specs.Requests.{Performs}
 use Rattle.erst_client.specs.Commands.{Counts, Names}
 use Rattle.erst_machine.specs.MachineState.{MachineState}
 use Rattle.erst_machine.specs.Allowed.{Allows}
-use Rattle.erst_machine.specs.OwnTables.{own_entries, act, answer}
+use Rattle.erst_machine.specs.OwnTables.{action_at, value_at, own_entries, act, answer}
 use Rattle.erst_moves.specs.MoveEntries.{move_entries}
 use Rattle.erst_moves.specs.MoveSpaces.{after_rounds}
 use Rattle.erst_moves.specs.MoveRuns.{move_then, MovesOn, StopsWithin}
@@ -32,18 +30,12 @@ use Rattle.erst_interp.proofs.StraightLemmas.{whole_of, refused_of}
 use Rattle.erst_moves.proofs.EntryLemmas.{no_fault}
 use Rattle.erst_moves.proofs.RunLemmas.{moves_first}
 use Rattle.erst_moves.proofs.BehindLemmas.{IsOfItsOwn, StoresValue, TakesRegister, runs_behind}
-use Rattle.erst_device.specs.declared.device.TheConstants.{LOG_RANGE}
+use Rattle.erst_device.specs.Actions.{log_range_at}
 use Rattle.erst_shadow.specs.ShadowTables.{scratch_at, shadow_entries}
 use Rattle.erst_shadow.specs.ShadowMoves.{HoldsPieces, KeepsOthers, MovesThenExecutes, ExecutesMoved, StopsMovingIn, MovesThenTells, TellsMoved, StopsMovingOut}
 use Rattle.erst_shadow.proofs.MoveLemmas.{below_in, below_out, space_in, moved_in, moved_out, first_comes, KeepsRange, space_out}
 
 -- The device's registers refuse nothing
-
-abbrev action_at : Register
-action_at = record { place = Memory 0x200000; access = B32; offset = 0 }
-
-abbrev value_at : Register
-value_at = record { place = Memory 0x200008; access = B64; offset = 0 }
 
 act_goes : (tells : Type 0) (program : Listed) (given : ℕ) (action : Action) (entry : Entry) (c : Configuration) (paid : ℕ) (w : MachineState) (stop : RunStop) (left : ℕ) (v : MachineState) → act action ≡ entry
     → Halt (Allows tells) (task_of program given entry c) paid w stop left v → ⊥
@@ -70,7 +62,7 @@ answer_goes tells program given action mask entry c paid w stop left v is halt =
 abbrev execute_tail : List Entry
 execute_tail = act ExecuteOperation ∷ []
 
-execute_programs : (pieces : ℕ) → (program_of 0x5 (shadow_entries pieces) ≡ move_then ExecuteOperation scratch_at LOG_RANGE pieces execute_tail)
+execute_programs : (pieces : ℕ) → (program_of 0x5 (shadow_entries pieces) ≡ move_then ExecuteOperation scratch_at log_range_at pieces execute_tail)
     × (program_of 0x5 own_entries ≡ record { action = code_of ExecuteOperation; entries = execute_tail })
 unfolding shadow_entries own_entries entries_of move_entries
 execute_programs pieces = (refl, refl)
@@ -85,14 +77,14 @@ execute_is_its_own k entry here = subst (λ (e : Entry). IsOfItsOwn e) (execute_
 pub moves_then_executes : (tells : Type 0) (pieces : ℕ) (first : MachineState) → HoldsPieces first pieces → (given budget : ℕ) (result : Result ℕ RunStop) (left : ℕ) (last : MachineState)
     → Performs (Allows tells) (shadow_entries pieces) ExecuteOperation given budget first result left last → MovesThenExecutes tells pieces given budget first result left last
 moves_then_executes tells pieces first room given budget result left last run =
-    let ran = moves_first (Allows tells) (KeepsOthers first) scratch_at LOG_RANGE pieces (space_in tells first pieces room) (below_in tells first pieces room) ExecuteOperation execute_tail given budget first
+    let ran = moves_first (Allows tells) (KeepsOthers first) scratch_at log_range_at pieces (space_in tells first pieces room) (below_in tells first pieces room) ExecuteOperation execute_tail given budget first
     (first_comes tells first pieces room) result left last (subst (λ (p : Listed). Run (Allows tells) p given budget first result left last) (execute_programs pieces).0 run) in
     elim ran as (λ result left last ran. MovesThenExecutes tells pieces given budget first result left last) [
       | StopsWithin last short comes ↦ StopsMovingIn last short comes
       | MovesOn before result left last spent behind ↦
           let mid = after_rounds (space_in tells first pieces room) pieces first in
-          let own = runs_behind (Allows tells) scratch_at LOG_RANGE pieces ExecuteOperation execute_tail given before mid execute_is_its_own (omega arith)
-          (λ k entry c paid w stop left v here halt. act_goes tells (move_then ExecuteOperation scratch_at LOG_RANGE pieces execute_tail) given ExecuteOperation entry c paid w stop left v (execute_entry k entry here) halt) result left last behind in
+          let own = runs_behind (Allows tells) scratch_at log_range_at pieces ExecuteOperation execute_tail given before mid execute_is_its_own (omega arith)
+          (λ k entry c paid w stop left v here halt. act_goes tells (move_then ExecuteOperation scratch_at log_range_at pieces execute_tail) given ExecuteOperation entry c paid w stop left v (execute_entry k entry here) halt) result left last behind in
           ExecutesMoved before mid result left last spent (moved_in tells first pieces room) (subst (λ (p : Listed). Run (Allows tells) p given before mid result left last) (sym (execute_programs pieces).1) own)
     ]
 
@@ -101,7 +93,7 @@ moves_then_executes tells pieces first room given budget result left last run =
 abbrev status_tail : List Entry
 status_tail = act GetCommandStatus ∷ answer GetCommandStatus 0xFF ∷ []
 
-status_programs : (pieces : ℕ) → (program_of 0x7 (shadow_entries pieces) ≡ move_then GetCommandStatus LOG_RANGE scratch_at pieces status_tail)
+status_programs : (pieces : ℕ) → (program_of 0x7 (shadow_entries pieces) ≡ move_then GetCommandStatus log_range_at scratch_at pieces status_tail)
     × (program_of 0x7 own_entries ≡ record { action = code_of GetCommandStatus; entries = status_tail })
 unfolding shadow_entries own_entries entries_of move_entries
 status_programs pieces = (refl, refl)
@@ -120,14 +112,14 @@ status_never tells program given (suc (suc k)) entry c paid w stop left v here h
 pub moves_then_tells : (tells : Type 0) (pieces : ℕ) (first : MachineState) → HoldsPieces first pieces → (given budget : ℕ) (result : Result ℕ RunStop) (left : ℕ) (last : MachineState)
     → Performs (Allows tells) (shadow_entries pieces) GetCommandStatus given budget first result left last → MovesThenTells tells pieces given budget first result left last
 moves_then_tells tells pieces first room given budget result left last run =
-    let ran = moves_first (Allows tells) (KeepsRange first) LOG_RANGE scratch_at pieces (space_out tells first pieces room) (below_out tells first pieces room) GetCommandStatus status_tail given budget first
+    let ran = moves_first (Allows tells) (KeepsRange first) log_range_at scratch_at pieces (space_out tells first pieces room) (below_out tells first pieces room) GetCommandStatus status_tail given budget first
     (record { comes = first_comes tells first pieces room; kept = refl }) result left last (subst (λ (p : Listed). Run (Allows tells) p given budget first result left last) (status_programs pieces).0 run) in
     elim ran as (λ result left last ran. MovesThenTells tells pieces given budget first result left last) [
       | StopsWithin last short stays ↦ StopsMovingOut last short stays.comes stays.kept
       | MovesOn before result left last spent behind ↦
           let mid = after_rounds (space_out tells first pieces room) pieces first in
-          let own = runs_behind (Allows tells) LOG_RANGE scratch_at pieces GetCommandStatus status_tail given before mid status_is_its_own (omega arith)
-          (λ k entry c paid w stop left v here halt. status_never tells (move_then GetCommandStatus LOG_RANGE scratch_at pieces status_tail) given k entry c paid w stop left v here halt) result left last behind in
+          let own = runs_behind (Allows tells) log_range_at scratch_at pieces GetCommandStatus status_tail given before mid status_is_its_own (omega arith)
+          (λ k entry c paid w stop left v here halt. status_never tells (move_then GetCommandStatus log_range_at scratch_at pieces status_tail) given k entry c paid w stop left v here halt) result left last behind in
           TellsMoved before mid result left last spent (moved_out tells first pieces room) (subst (λ (p : Listed). Run (Allows tells) p given before mid result left last) (sym (status_programs pieces).1) own)
     ]
 

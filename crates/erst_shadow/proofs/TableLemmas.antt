@@ -12,7 +12,7 @@ use Rattle.erst_entries.specs.declared.actions.Action.TheVariants.{BeginWriteOpe
 use Rattle.erst_entries.specs.declared.entries.Entry.{Entry}
 use Rattle.erst_entries.specs.Layout.{Erst, IsEntry, AreEntries, entry_spelling, front_spelling, spelling, FitsErst}
 use Rattle.erst_entries.specs.Tables.{IsErst, Finished}
-use Rattle.erst_device.specs.declared.device.TheConstants.{LOG_RANGE}
+use Rattle.erst_device.specs.Actions.{log_range_at}
 use Rattle.erst_machine.specs.OwnTables.{own_header, tell, told_actions}
 use Rattle.erst_machine.proofs.TableLemmas.{entry_fits, act_fits, give_fits, is_one_fits, answer_fits, tell_fits}
 use Rattle.erst_moves.specs.MoveEntries.{MoveRegister, Offset, Source, Target, Length, region_of, no_region, put_number, use_register, move_entries}
@@ -60,9 +60,9 @@ unfolding shadow_entries
 entries_fit pieces few =
     let size : 128 * pieces < 2 ^ 64 = omega arith in
     AreEntries-append entries_before _ before_fit
-    (AreEntries-append (move_entries ExecuteOperation scratch_at LOG_RANGE (128 * pieces)) _ (move_fits ExecuteOperation scratch_at LOG_RANGE (128 * pieces) (lit< tt) (lit< tt) size)
+    (AreEntries-append (move_entries ExecuteOperation scratch_at log_range_at (128 * pieces)) _ (move_fits ExecuteOperation scratch_at log_range_at (128 * pieces) (lit< tt) (lit< tt) size)
     (AreEntries-append entries_between _ between_fit
-    (AreEntries-append (move_entries GetCommandStatus LOG_RANGE scratch_at (128 * pieces)) _ (move_fits GetCommandStatus LOG_RANGE scratch_at (128 * pieces) (lit< tt) (lit< tt) size)
+    (AreEntries-append (move_entries GetCommandStatus log_range_at scratch_at (128 * pieces)) _ (move_fits GetCommandStatus log_range_at scratch_at (128 * pieces) (lit< tt) (lit< tt) size)
     (AreEntries-append (entries_behind (128 * pieces)) (tell told_actions) (behind_fit (128 * pieces) size) (tell_fits told_actions)))))
 
 count_is : (pieces : ℕ) → length (shadow_entries pieces) ≡ shadow_count
@@ -141,7 +141,7 @@ put_behind before after there more others is put same = put ∙ ap (λ (t : Erst
 
 -- the lists together
 pub all_entries : (pieces : ℕ)
-    → ((((([] ++ entries_before) ++ move_entries ExecuteOperation scratch_at LOG_RANGE (128 * pieces)) ++ entries_between) ++ move_entries GetCommandStatus LOG_RANGE scratch_at (128 * pieces)) ++ entries_behind (128 * pieces)) ++ tell told_actions
+    → ((((([] ++ entries_before) ++ move_entries ExecuteOperation scratch_at log_range_at (128 * pieces)) ++ entries_between) ++ move_entries GetCommandStatus log_range_at scratch_at (128 * pieces)) ++ entries_behind (128 * pieces)) ++ tell told_actions
     ≡ shadow_entries pieces
 unfolding move_entries shadow_entries
 all_entries pieces = refl

@@ -4,7 +4,7 @@ use Rattle.std.specs.Prelude.{ℕ, ◌+◌, ◌-◌, ◌*◌, ◌/◌, ◌%◌, 
 use Rattle.erst_entries.specs.declared.actions.Action.TheVariants.{BeginWriteOperation, BeginReadOperation, BeginClearOperation, EndOperation, SetRecordOffset, ExecuteOperation, CheckBusyStatus, GetCommandStatus, GetRecordIdentifier, SetRecordIdentifier, GetRecordCount, BeginDummyWriteOperation, GetErrorLogAddressRange, GetErrorLogAddressRangeLength, GetErrorLogAddressRangeAttributes}
 use Rattle.erst_entries.specs.declared.entries.Entry.{Entry}
 use Rattle.erst_entries.specs.Layout.{Erst, spelling}
-use Rattle.erst_device.specs.declared.device.TheConstants.{LOG_RANGE}
+use Rattle.erst_device.specs.Actions.{log_range_at}
 use Rattle.erst_moves.specs.MoveEntries.{Offset, Source, Length, put_number, use_register, move_entries}
 use Rattle.erst_machine.specs.declared.areas.Area.TheVariants.{Scratch}
 use Rattle.erst_machine.specs.Areas.{base_of}
@@ -44,8 +44,8 @@ entries_behind size =
 -- GET_COMMAND_STATUS first moves the one that stands there back
 unfoldable pub shadow_entries : (pieces : ℕ) → List Entry
 shadow_entries pieces =
-    entries_before ++ (move_entries ExecuteOperation scratch_at LOG_RANGE (128 * pieces)
-    ++ (entries_between ++ (move_entries GetCommandStatus LOG_RANGE scratch_at (128 * pieces)
+    entries_before ++ (move_entries ExecuteOperation scratch_at log_range_at (128 * pieces)
+    ++ (entries_between ++ (move_entries GetCommandStatus log_range_at scratch_at (128 * pieces)
     ++ (entries_behind (128 * pieces) ++ tell told_actions))))
 
 abbrev pub shadow_count : ℕ

@@ -6,10 +6,8 @@ ghost use Rattle.erst_moves.specs.MoveEntries.{plain_entry, move_entries};
 ghost use Rattle.erst_shadow.specs.ShadowTables.{entries_before, entries_between, entries_behind};
 
 use erst_entries::{Action, Entry, Instruction};
+use erst_machine::SCRATCH;
 use erst_machine::entries::{act, answer, entry_of, give, is_one, register_of};
-
-/// Where the scratch memory begins.
-pub const SCRATCH: u64 = 0x1000;
 
 /// The registers of a move, behind the record.
 const OFFSET: u64 = 0x1f80;

@@ -4,12 +4,12 @@ ghost use Rattle.erst_entries.specs.Layout.{spelling, FitsErst};
 ghost use Rattle.erst_entries.specs.Tables.{IsErst};
 ghost use Rattle.erst_shadow.specs.ShadowTables.{pieces_of, shadow_erst, shadow_size};
 
-use crate::entries::{SCRATCH, entries_before, entries_behind, entries_between, move_entries};
+use crate::entries::{entries_before, entries_behind, entries_between, move_entries};
 use apei_bytes::Memory;
 use erst_device::LOG_RANGE;
 use erst_entries::{Action, Entry, ErstTable};
 use erst_machine::entries::told_entries;
-use erst_machine::own_header;
+use erst_machine::{SCRATCH, own_header};
 use std::alloc::Global;
 
 /// Puts entries behind those of a table.

@@ -127,17 +127,19 @@ AsksChange-failed : {T E : Type 0} (at len : ℕ) (old new : Simulation) (result
 AsksChange-failed at len old new (Ok x) failed told size sector steps reads small faults power dark restarts = (cc)
 AsksChange-failed at len old new (Err e) failed told size sector steps reads small faults power dark restarts = record {
   told = λ _. told;
-  size = size;
-  sector_size = sector;
-  steps = steps;
-  reads = reads;
-  power = power;
-  powered = tt;
+  one = record {
+    size = size;
+    sector_size = sector;
+    steps = steps;
+    counted = tt;
+    reads = reads;
+    power = power;
+    powered = tt;
+    cause = record { never_falls = omega (arith, faults); ok = tt; err = rose old.faults new.faults small faults };
+    once = faults;
+  };
   dark = dark;
   restarts = restarts;
-  cause = record { never_falls = omega (arith, faults); ok = tt; err = rose old.faults new.faults small faults };
-  once = faults;
-  counted = tt;
   done = tt;
 }
   where
@@ -153,17 +155,19 @@ AsksChange-done : {T E : Type 0} (at len : ℕ) (old new : Simulation) (result :
 AsksChange-done at len old new (Err e) succeeded changed sector steps reads faults power powered dark restarts = absurd (succeeded refl)
 AsksChange-done at len old new (Ok x) succeeded changed sector steps reads faults power powered dark restarts = record {
   told = λ _. inr (inl changed);
-  size = changed.image.same_length;
-  sector_size = sector;
-  steps = steps;
-  reads = reads;
-  power = power;
-  powered = powered;
+  one = record {
+    size = changed.image.same_length;
+    sector_size = sector;
+    steps = steps;
+    counted = ap length changed.past ∙ length-append old.told.past (record { before = old.told.image; at = at; len = len } ∷ []);
+    reads = reads;
+    power = power;
+    powered = powered;
+    cause = record { never_falls = omega (arith, faults); ok = faults; err = tt };
+    once = tt;
+  };
   dark = dark;
   restarts = restarts;
-  cause = record { never_falls = omega (arith, faults); ok = faults; err = tt };
-  once = tt;
-  counted = ap length changed.past ∙ length-append old.told.past (record { before = old.told.image; at = at; len = len } ∷ []);
   done = λ _. changed;
 }
 

@@ -8,6 +8,9 @@ use Rattle.base_model.specs.Bytes.{part, spelled, put_at}
 use Rattle.apei_space.specs.RamState.{RamState}
 use Rattle.ghes_ack.specs.declared.maps.HandoverMap.{HandoverMap}
 use Rattle.ghes_ack.specs.declared.events.Event.{Event}
+use Rattle.ghes_ack.specs.declared.ends.FirmwareEnd.{FirmwareEnd}
+use Rattle.ghes_ack.specs.declared.ends.FirmwareEnd.TheVariants.{Writes}
+use Rattle.ghes_ack.specs.declared.ends.MayWrite.{MayWrite}
 use Rattle.ghes_ack.specs.declared.events.Event.TheVariants.{Idle, Fill, Publish, Copied, Took, Clear}
 use Rattle.ghes_window.specs.declared.window.BlockWindow.{BlockWindow}
 use Rattle.ghes_window.specs.declared.blocks.Blocks.{Blocks as BlocksOver}
@@ -17,7 +20,7 @@ use Rattle.ghes_ack.specs.Machine.{Situation, Filling, Published, Reading, Clear
 use Rattle.ghes_ack.specs.Maps.{window, window_of, ack_read, with_window, with_ack, with_clear, IsClear}
 use Rattle.ghes_ack.specs.Handovers.{HandoverOver, kept}
 use Rattle.ghes_ack.specs.Sides.{state_of, in_work, IsCopiedSoFar}
-use Rattle.ghes_ack.specs.OwnTurns.{FirmwareMakes, Idles, Fills, Publishes, read_over, ReaderMakes, Copies, Takes, Clears}
+use Rattle.ghes_ack.specs.OwnTurns.{FirmwareMakes, FirmwareRuns, firmware_at, Idles, Fills, Publishes, read_over, ReaderMakes, Copies, Takes, Clears}
 use Rattle.ghes_ack.proofs.RunLemmas.{noted, taken_noted}
 
 -- the block in hand is one that the window takes
@@ -38,6 +41,11 @@ in_hand b t block s filled other out same =
     let copied = out.same.copied in
     let last : t.last.items ≡ b.last.items = ap (λ v. v.items) out.same.last in
     cc
+
+-- turns of a firmware that may write
+pub writes_run : (end after : FirmwareEnd) (write : MayWrite) (old new : Blocks) (ram memory : RamState) (events : List Event) → end ≡ Writes write
+    → FirmwareMakes (state_of Filling old) ram events (state_of (firmware_at after) new) memory → FirmwareRuns end old ram events after new memory
+writes_run end after write old new ram memory events is made = subst (λ (e : FirmwareEnd). FirmwareRuns e old ram events after new memory) (sym is) made
 
 -- there is none
 none_held : (work : Option (Vec ℕ Global)) (last : Vec ℕ Global) (waiting : List (List ℕ)) → option_to_list (in_work Filling work last) ++ waiting ≡ [] → (in_work Filling work last ≡ None) × (waiting ≡ [])

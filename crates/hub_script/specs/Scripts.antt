@@ -1,9 +1,9 @@
 -- What a script of several error sources leaves, by its end.
 use Rattle.std.specs.Prelude.{◌≡◌, ℕ, List, [], ◌∷◌, ◌++◌}
-use Rattle.line_grammar.specs.Columns.{BreaksAt}
 use Rattle.apei_notify.specs.Telling.{Hearing}
 use Rattle.script_lines.specs.Lines.{Line as TextLine, lines_of, IsTooLong}
 use Rattle.script_lines.specs.Reads.{StandsAt, AreTaken}
+use Rattle.script_lines.specs.Ends.{IsBadFrom}
 use Rattle.hub_script.specs.HubGrammar.{Line, IsLine, hest}
 use Rattle.hub_script.specs.Stages.{Stage, Waiting, members_in}
 use Rattle.hub_script.specs.Lines.{IsLeft, ArePartlyWritten}
@@ -17,16 +17,11 @@ pub record StopsAt {L : Type 0} (script : List ℕ) (played : List (Played L)) (
   pub stands : StandsAt script before number line
   pub are : ArePlayed before played
 
--- a line is none, from this column on
-pub record IsBadFrom (column : ℕ) (line : TextLine) : Type 0 where
-  pub within : IsTooLong line → ⊥
-  pub breaks : BreaksAt IsLine line.text column
-
 -- the lines that were played: all; those before one that ended the script, which is too long, or none, or a table without memory for it; or
 -- those whose newline was taken from the source
 abbrev pub EndsBy : {L : Type 0} → List ℕ → List ℕ → List (Played L) → ScriptEnd → Type 0
 EndsBy script rest played Done = (rest ≡ []) × ArePlayed (lines_of 0 script) played
-EndsBy script rest played (BadLine number column) = (line : TextLine) × StopsAt script played number line × IsBadFrom column line
+EndsBy script rest played (BadLine number column) = (line : TextLine) × StopsAt script played number line × IsBadFrom IsLine column line
 EndsBy script rest played SourceFault = (lines : List TextLine) × AreTaken script rest lines × ArePlayed lines played
 EndsBy script rest played SinkFault = ⊥
 EndsBy script rest played (TooLong number) = (line : TextLine) × StopsAt script played number line × IsTooLong line

@@ -1,5 +1,5 @@
 // The memory in which lines are played.
-ghost use Rattle.std.specs.Prelude.{◌≡◌, vec_len};
+ghost use Rattle.std.specs.Prelude.{◌≡◌, [], vec_len, IfOk};
 ghost use Rattle.line_grammar.specs.declared.lengths.TheConstants.{LONGEST_BYTES};
 
 use apei_bytes::Memory;
@@ -18,7 +18,9 @@ pub struct Desk {
 
 impl Desk {
     /// All the memory that lines need, but for that of a table and its hub.
-    pub fn new(alloc: Global) -> Result<Desk, Memory> {
+    pub fn new(alloc: Global) -> Result<Desk, Memory>
+        ensures { IfOk result (λ desk. (desk.reply ≡ []) × (desk.events ≡ [])) }
+    {
         Ok(Desk {
             bytes: vec![in alloc; 0u8; LONGEST_BYTES]?,
             reply: Reply::new(alloc)?,

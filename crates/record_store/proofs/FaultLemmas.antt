@@ -1,10 +1,9 @@
 -- Calls that end at their first fault, one after another.
 use Rattle.std.proofs.Common.{◌≡◌, ℕ, ◌≤◌, Bool, cond, Result, Ok, Err, refl, sym, ap, subst, ◌∙◌, arith, inl, inr}
-use Rattle.flash_words.specs.Flash.{FlashState, AsksChange, LosesOnlyByChange, StaysLit, next_count}
+use Rattle.flash_words.specs.Flash.{FlashState, IsOneChange, AsksChange, LosesOnlyByChange, StaysLit, next_count}
 use Rattle.flash_words.proofs.PowerLemmas.{lit_none, lit_then}
 use Rattle.record_store.specs.Answers.{EndsAtFault, FailsOnce, UnlessFlash}
 use Rattle.record_store.specs.Start.{ReadsTimes}
-use Rattle.record_store.specs.Stepping.{IsOneChange}
 use Rattle.record_store.specs.declared.errors.StoreError.{StoreError}
 use Rattle.record_store.specs.declared.errors.StoreError.TheVariants.{NoSpace, LastGeneration, NotFound, Empty, Flash, Small}
 
@@ -46,23 +45,23 @@ ends_read tells count old new z y reads = record { once = tt; lit = reads.lit; s
 pub ends_read_failed : {T U E : Type 0} (tells : Type 0) (count : ℕ) (old new : FlashState) (e : E) → ReadsTimes {T = U} {E = E} tells count old new (Err e) → EndsAtFault {T = T} old new (Err Flash)
 ends_read_failed tells count old new e reads = record { once = reads.once; lit = reads.lit; same_power = tt; later = tt }
 
--- a change that was asked for is one change
-stays_lit : {T E : Type 0} (tells : Type 0) (at len : ℕ) (old new : FlashState) (result : Result T E) → AsksChange tells at len old new result → StaysLit old new
-stays_lit tells at len old new result asks =
+-- a change that was asked for restarts nothing, and finds power where there was some
+pub asks_lit : {T E : Type 0} (tells : Type 0) (at len : ℕ) (old new : FlashState) (result : Result T E) → AsksChange tells at len old new result → StaysLit old new
+asks_lit tells at len old new result asks =
     record { restarts = asks.restarts; dark = λ on. asks.dark ∙ ap (λ (b : Bool). cond {A = ℕ} b old.dark (next_count old.dark)) on }
 
-pub one_change : {T U E D : Type 0} (tells : Type 0) (at len : ℕ) (old new : FlashState) (x : T) (y : U) → AsksChange {T = T} {E = E} tells at len old new (Ok x) → IsOneChange {T = U} {E = D} old new (Ok y)
-one_change tells at len old new x y asks = record {
-  size = asks.size;
-  sector_size = asks.sector_size;
-  steps = asks.steps;
-  reads = asks.reads;
-  power = asks.power;
-  powered = asks.powered;
-  lit = stays_lit tells at len old new (Ok x) asks;
-  cause = record { never_falls = asks.cause.never_falls; ok = asks.cause.ok; err = tt };
+-- one change, whatever its Ok answers
+pub one_change : {T U E D : Type 0} (old new : FlashState) (x : T) (y : U) → IsOneChange {T = T} {E = E} old new (Ok x) → IsOneChange {T = U} {E = D} old new (Ok y)
+one_change old new x y one = record {
+  size = one.size;
+  sector_size = one.sector_size;
+  steps = one.steps;
+  counted = one.counted;
+  reads = one.reads;
+  power = one.power;
+  powered = one.powered;
+  cause = record { never_falls = one.cause.never_falls; ok = one.cause.ok; err = tt };
   once = tt;
-  counted = asks.counted;
 }
 
 -- power is lost only by a change, in a call that follows one which kept it

@@ -4,7 +4,6 @@ use Rattle.std.specs.Prelude.{nat_le, is_some, OnOk}
 use Rattle.std.specs.FinMap.{get}
 use Rattle.std.proofs.lemmas.Bool.{cases_eq, cases_lt, cond-true, cond-false, eq-eqb, ne_eqb, le-leb, lt-leb}
 use Rattle.std.proofs.lemmas.Result.{on_ok_weaker}
-use Rattle.flash_words.specs.Flash.{LosesOnlyByChange}
 use Rattle.flash_words.specs.Layout.{Layout}
 use Rattle.flash_words.proofs.PowerLemmas.{lit_none, lit_then}
 use Rattle.flash_words.proofs.CrashLemmas.{Leaves-none, Leaves-weaker, Leaves-then, Leaves-exit}
@@ -14,7 +13,7 @@ use Rattle.record_model.proofs.MapLemmas.{after-done}
 use Rattle.record_model.proofs.RefusalLemmas.{changes_of-refused, changes_of-new, changes_of-over, changes_of-clear}
 use Rattle.record_store.specs.Store.{StoreView, Pending, Idle, Writing, Clearing, stored, records_of, map_after, pending_after, changes_before_gate, changes_in_all, StandsIn, slots_for, PlacedAfter, KeepsOrMakes, KeepsMap, DividesAlike}
 use Rattle.record_store.specs.Answers.{FailsByFlash, AnswersWrite, AnswersClear, RefusesWrite, RefusesClear, UnlessFlash, HasFaultsOf, HasDoubtOf, EndsAtFault, StartsWrite, StartsClear, TakesReads, copies_of}
-use Rattle.record_store.specs.Calls.{OnlyStarts, Changes}
+use Rattle.record_store.specs.Calls.{OnlyStarts, IsOver, Changes}
 use Rattle.record_store.specs.declared.errors.StoreError.{StoreError}
 use Rattle.record_store.specs.declared.errors.StoreError.TheVariants.{NoSpace, LastGeneration, NotFound, Empty, Flash, Small}
 use Rattle.record_store.specs.Finish.{IsUnfinished, changes_left, map_at_end, PlacedAtEnd, PlacesAlike, IsOnWay}
@@ -339,20 +338,14 @@ clear_steps old mid id pending taken = ap (changes_left mid.layout) pending ∙ 
 
 -- all that is left of a command was made
 pub record IsFinished (tells : Type 0) (old new : StoreView) (result : Result (Unit {0}) StoreError) : Type 0 where
-  pub idle : new.pending ≡ Idle
-  pub alike : DividesAlike old new
+  pub error : FailsByFlash result
   pub made : OnOk result (tells → stored new ≡ map_at_end old.layout old.pending (stored old))
   pub placed : OnOk result (tells → PlacedAtEnd old.layout old.pending new.flash.told.image)
   pub crash : tells → KeepsOrMakes old new (map_at_end old.layout old.pending (stored old))
   pub steps : OnOk result (new.flash.steps ≡ old.flash.steps + changes_left old.layout old.pending)
   pub at_most : new.flash.steps ≤ old.flash.steps + changes_left old.layout old.pending
   pub reads : new.flash.reads ≡ old.flash.reads
-  pub power : LosesOnlyByChange old.flash new.flash
-  pub powered : OnOk result (new.flash.powered ≡ true)
-  pub error : FailsByFlash result
-  pub doubt : HasDoubtOf new result
-  pub cause : HasFaultsOf old.flash.faults new.flash.faults result
-  pub ends : EndsAtFault old.flash new.flash result
+  pub over : IsOver old new result
 
 finish_cause : (before mid after : ℕ) (result : Result (Unit {0}) StoreError) → FailsByFlash result → mid ≡ before → HasFaultsOf mid after result → HasFaultsOf before after result
 finish_cause before mid after result fails same cause = subst (λ (n : ℕ). HasFaultsOf n after result) same cause
@@ -360,7 +353,7 @@ finish_cause before mid after result fails same cause = subst (λ (n : ℕ). Has
 changes_begun : (tells : Type 0) (old mid new : StoreView) (command : Command) (x : Unit {0}) (result : Result (Unit {0}) StoreError) → OnlyStarts tells old mid (Ok x) → IsFinished tells mid new result
     → (tells → map_at_end mid.layout mid.pending (stored mid) ≡ after old.layout command (stored old))
     → (tells → changes_left mid.layout mid.pending ≡ changes_of old.layout command (stored old)) → Changes tells old new command result
-changes_begun tells old mid new command x result starts finished end left = record {
+changes_begun tells old mid new command x result starts finished end left = let over = finished.over in record {
   crash = λ told.
       begun_then old mid new (after old.layout command (stored old)) (map_at_end mid.layout mid.pending (stored mid)) (starts.kept told) starts.alike (end told) (finished.crash told);
   steps = λ told.
@@ -370,13 +363,15 @@ changes_begun tells old mid new command x result starts finished end left = reco
   few = λ told. few_in_all mid.flash.steps new.flash.steps old.flash.steps (changes_left mid.layout mid.pending) (changes_of old.layout command (stored old)) (starts.few told) finished.at_most (left told);
   at_most = λ told.
       at_most_in_all mid.flash.steps new.flash.steps old.flash.steps (copies_of old) (changes_left mid.layout mid.pending) (changes_of old.layout command (stored old)) (starts.at_most told) finished.at_most (left told);
-  doubt = finished.doubt;
-  idle = finished.idle;
-  alike = alike_then old mid new starts.alike finished.alike;
-  power = loses_then old.flash mid.flash new.flash starts.ends.same_power starts.ends.later finished.power;
-  powered = finished.powered;
-  cause = finish_cause old.flash.faults mid.flash.faults new.flash.faults result finished.error starts.cause finished.cause;
-  ends = ends_then old.flash mid.flash new.flash x result starts.cause starts.ends finished.ends;
+  over = record {
+    doubt = over.doubt;
+    idle = over.idle;
+    alike = alike_then old mid new starts.alike over.alike;
+    power = loses_then old.flash mid.flash new.flash starts.ends.same_power starts.ends.later over.power;
+    powered = over.powered;
+    cause = finish_cause old.flash.faults mid.flash.faults new.flash.faults result finished.error starts.cause over.cause;
+    ends = ends_then old.flash mid.flash new.flash x result starts.cause starts.ends over.ends;
+  };
 }
   where
     few_in_all : (m n o l all : ℕ) → m ≤ o + 1 → n ≤ m + l → l ≡ all → n ≤ o + 1 + all
@@ -397,13 +392,7 @@ changes_refused tells old new command error starts steps doubt idle = record {
   steps = steps;
   few = λ told. let few = starts.few told in omega arith;
   at_most = λ told. let few = starts.at_most told in omega arith;
-  doubt = doubt;
-  idle = idle;
-  alike = starts.alike;
-  power = starts.power;
-  powered = tt;
-  cause = starts.cause;
-  ends = starts.ends;
+  over = record { doubt = doubt; idle = idle; alike = starts.alike; power = starts.power; powered = tt; cause = starts.cause; ends = starts.ends };
 }
 
 pub write_refused : (tells : Type 0) (old new : StoreView) (id : ℕ) (bytes : List ℕ) (error : StoreError) → OnlyStarts tells old new (Err error)

@@ -32,13 +32,9 @@ pub record OnlyStarts (tells : Type 0) (old new : StoreView) (result : Result (U
   pub cause : HasFaultsOf old.flash.faults new.flash.faults result
   pub ends : EndsAtFault old.flash new.flash result
 
--- A whole write or clear. Power lost at any step on the way leaves the records from before, or those that an Ok makes. A
--- store in doubt first ends a second copy, by one change. A command ends at its first fault, and brings no power back
-pub record Changes (tells : Type 0) (old new : StoreView) (command : Command) (result : Result (Unit {0}) StoreError) : Type 0 where
-  pub crash : tells → IsBeforeOrAfter old new command
-  pub steps : tells → TakesExactly old new command result
-  pub few : tells → new.flash.steps ≤ old.flash.steps + 1 + changes_of old.layout command (stored old)
-  pub at_most : tells → new.flash.steps ≤ old.flash.steps + (copies_of old + changes_of old.layout command (stored old))
+-- what a whole write or clear leaves, whatever it answers: nothing of it is pending. It ends at its first fault, and brings no
+-- power back
+pub record IsOver (old new : StoreView) (result : Result (Unit {0}) StoreError) : Type 0 where
   pub doubt : HasDoubtOf new result
   pub idle : new.pending ≡ Idle
   pub alike : DividesAlike old new
@@ -46,3 +42,12 @@ pub record Changes (tells : Type 0) (old new : StoreView) (command : Command) (r
   pub powered : OnOk result (new.flash.powered ≡ true)
   pub cause : HasFaultsOf old.flash.faults new.flash.faults result
   pub ends : EndsAtFault old.flash new.flash result
+
+-- A whole write or clear. Power lost at any step on the way leaves the records from before, or those that an Ok makes. A
+-- store in doubt first ends a second copy, by one change
+pub record Changes (tells : Type 0) (old new : StoreView) (command : Command) (result : Result (Unit {0}) StoreError) : Type 0 where
+  pub crash : tells → IsBeforeOrAfter old new command
+  pub steps : tells → TakesExactly old new command result
+  pub few : tells → new.flash.steps ≤ old.flash.steps + 1 + changes_of old.layout command (stored old)
+  pub at_most : tells → new.flash.steps ≤ old.flash.steps + (copies_of old + changes_of old.layout command (stored old))
+  pub over : IsOver old new result

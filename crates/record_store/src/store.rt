@@ -10,8 +10,8 @@ ghost use Rattle.record_slots.specs.Slots.{Fits};
 ghost use Rattle.record_recovery.specs.Answers.{IsOneFault};
 ghost use Rattle.record_store.specs.Store.{Idle, Clearing, stored, free_in, slots_for, map_after, IsBusy, IsWriteOf, IsSettled, IsReady, IsOpened, IsFlashOf, StandsIn, PlacedAfter, DividesAlike, KeepsMap, KeepsOrMakes, KeepsRecordsOf, abandoned, doubted, restarted};
 ghost use Rattle.record_store.specs.Finish.{IsUnfinished, map_at_end, changes_left, PlacedAtEnd};
-ghost use Rattle.record_store.specs.Answers.{HasFaultsOf, HasDoubtOf, EndsAtFault, StartsWrite, StartsClear, IsStep, HasStepped, AnswersWrite, AnswersClear, AnswersRead, AnswersLength, FailsByFlash, RefusesFlash, ReadsExactly, StartsByItself, AnswersByItself, HasLooked, TakesReads, copies_in, copies_pending};
-ghost use Rattle.record_store.specs.Calls.{OnlyLooks, OnlyStarts, Changes};
+ghost use Rattle.record_store.specs.Answers.{HasFaultsOf, EndsAtFault, StartsWrite, StartsClear, IsStep, HasStepped, AnswersWrite, AnswersClear, AnswersRead, AnswersLength, FailsByFlash, RefusesFlash, ReadsExactly, StartsByItself, AnswersByItself, HasLooked, TakesReads, copies_in, copies_pending};
+ghost use Rattle.record_store.specs.Calls.{OnlyLooks, OnlyStarts, IsOver, Changes};
 
 use crate::errors::{StoreError, StoreRefused};
 use crate::index::{next_id, place_of};
@@ -469,13 +469,7 @@ impl<F: Flash> Store<F> {
         ensures steps { OnOk result (self.new.flash.steps ≡ self.old.flash.steps + changes_left self.old.layout self.old.pending) }
         ensures at_most { self.new.flash.steps ≤ self.old.flash.steps + changes_left self.old.layout self.old.pending }
         ensures reads { self.new.flash.reads ≡ self.old.flash.reads }
-        ensures doubt { HasDoubtOf self.new result }
-        ensures idle { self.new.pending ≡ Idle }
-        ensures alike { DividesAlike self.old self.new }
-        ensures power { LosesOnlyByChange self.old.flash self.new.flash }
-        ensures powered { OnOk result (self.new.flash.powered ≡ true) }
-        ensures cause { HasFaultsOf self.old.flash.faults self.new.flash.faults result }
-        ensures ends { EndsAtFault self.old.flash self.new.flash result }
+        ensures over { IsOver self.old self.new result }
     {
         while !self.step()? {}
         Ok(())

@@ -1,7 +1,7 @@
 // The firmware's turns, by its own end of the handover, its blocks and the memory alone.
 ghost use Rattle.std.specs.Prelude.{◌≡◌, ◌∷◌, [], ◌<◌, length, take, MatchBool};
 ghost use Rattle.ghes_ack.specs.declared.events.Event.TheVariants.{Fill as OfFill};
-ghost use Rattle.ghes_ack.specs.declared.ends.FirmwareEnd.TheVariants.{Writes as OfWrites, Waits as OfWaits};
+ghost use Rattle.ghes_ack.specs.declared.ends.FirmwareEnd.TheVariants.{Waits as OfWaits};
 ghost use Rattle.ghes_ack.specs.Machine.{Filling};
 ghost use Rattle.ghes_ack.specs.Queues.{HasRoom};
 ghost use Rattle.ghes_ack.specs.Sides.{state_of};
@@ -13,7 +13,7 @@ use crate::events::{Event, note};
 use apei_space::Ram;
 use ghes_window::PIECE;
 
-/// The next turns of the firmware: all that fill pieces, or else one. It answers how many, and writes their events.
+/// The next turns of the firmware: all that fill pieces of one block, or else one. It answers how many, and writes their events.
 pub fn firmware_run(
     end: FirmwareEnd,
     blocks: &mut Blocks,
@@ -27,8 +27,27 @@ pub fn firmware_run(
     ensures runs { FirmwareRuns end blocks.old ram.old (take result.1 events.new) result.0 blocks.new ram.new }
 {
     match end {
-        FirmwareEnd::Writes(write) => fill_or_publish(write, blocks, events, ram),
         FirmwareEnd::Waits(wait) => (look_for_ack(wait, blocks, events, ram), 1),
+        FirmwareEnd::Writes(write) => {
+            let Some(block) = blocks.next() else {
+                note(events, 1, Event::Idle);
+                return (FirmwareEnd::Writes(write), 1);
+            };
+            let at = PIECE * (blocks.filled as usize);
+            if at < block.len() {
+                let count = (block.len() - at).div_ceil(PIECE).min(events.len());
+                write.fill_more(&blocks.map, ram, &block, blocks.filled, count);
+                blocks.filled += count as u32;
+                blocks.at_work = Some(block);
+                note(events, count, Event::Fill);
+                return (FirmwareEnd::Writes(write), count);
+            }
+            let wait = write.publish(&blocks.map, ram, &block);
+            blocks.filled = 0;
+            blocks.at_work = Some(block);
+            note(events, 1, Event::Publish);
+            (FirmwareEnd::Waits(wait), 1)
+        }
     }
 }
 
@@ -47,39 +66,6 @@ fn look_for_ack(wait: MustWait, blocks: &Blocks, events: &mut [Event], ram: &Ram
             FirmwareEnd::Waits(wait)
         }
     }
-}
-
-/// Writes the next pieces, or publishes a block all of whose pieces are written.
-fn fill_or_publish(
-    write: MayWrite,
-    blocks: &mut Blocks,
-    events: &mut [Event],
-    ram: &mut Ram,
-) -> (FirmwareEnd, usize)
-    requires some { 0 < length events.old }
-    requires able { IsAble blocks.old ram.old }
-    ensures runs { FirmwareRuns (OfWrites write) blocks.old ram.old (take result.1 events.new) result.0 blocks.new ram.new }
-    ensures count { IsCount result.1 (length events.old) }
-    ensures room { HasRoom 0 blocks.new }
-{
-    let Some(block) = blocks.next() else {
-        note(events, 1, Event::Idle);
-        return (FirmwareEnd::Writes(write), 1);
-    };
-    let at = PIECE * (blocks.filled as usize);
-    if at < block.len() {
-        let count = (block.len() - at).div_ceil(PIECE).min(events.len());
-        write.fill_more(&blocks.map, ram, &block, blocks.filled, count);
-        blocks.filled += count as u32;
-        blocks.at_work = Some(block);
-        note(events, count, Event::Fill);
-        return (FirmwareEnd::Writes(write), count);
-    }
-    let wait = write.publish(&blocks.map, ram, &block);
-    blocks.filled = 0;
-    blocks.at_work = Some(block);
-    note(events, 1, Event::Publish);
-    (FirmwareEnd::Waits(wait), 1)
 }
 
 /// Writes the next piece of the block at work in place; `false` where there is none of 64 bytes.

@@ -3,7 +3,7 @@ use Rattle.flash_model.specs.Layouts.{layout_of}
 use Rattle.record_model.specs.Records.{NearlyOnlyFirstUp}
 use Rattle.record_store.specs.Kept.{MayMake, pending_of}
 use Rattle.record_store.specs.declared.work.Work.TheVariants.{Clear}
-use Rattle.record_store.proofs.FaultLemmas.{one_change}
+use Rattle.record_store.proofs.FaultLemmas.{asks_lit, one_change}
 use Rattle.record_store.proofs.WorkLemmas.{can_be_killed, cleared_may, cleared_spare, cleared_made}
 use Rattle.record_store.proofs.stepping.end_record.Given as given
 use Rattle.record_store.proofs.stepping.end_record.Goals as goal
@@ -24,7 +24,7 @@ torn g c buffer tells = (
 
 pub returns-in_err-kill-clause-makes : goal.returns-in_err-kill-clause-makes
 returns-in_err-kill-clause-makes g c buffer =
-    record { made = search rules; crash = λ tells. (torn g (goal.at.returns-in_err-kill-clause-makes g c).After-kill buffer tells).0; spare = λ tells. (torn g (goal.at.returns-in_err-kill-clause-makes g c).After-kill buffer tells).1; change = search rules }
+    record { made = search rules; crash = λ tells. (torn g (goal.at.returns-in_err-kill-clause-makes g c).After-kill buffer tells).0; spare = λ tells. (torn g (goal.at.returns-in_err-kill-clause-makes g c).After-kill buffer tells).1; change = search rules; lit = search rules }
 
 pub returns-clause-makes : goal.returns-clause-makes
 returns-clause-makes g c buffer = record {
@@ -32,5 +32,6 @@ returns-clause-makes g c buffer = record {
       (λ tells. g.met.F.Flash.sized c.args.flash.now tells ∙ c.requires.fits.size) c.requires.knows c.kill.ensures.change.told c.in_ok-kill.ensures.stands c.record_cleared.ensures.list;
   crash = λ tells. (torn g (goal.at.returns-clause-makes g c).After-kill buffer tells).0;
   spare = λ tells. (torn g (goal.at.returns-clause-makes g c).After-kill buffer tells).1;
-  change = one_change g.F.Flash.tells _ _ (g.F.Flash.state c.args.flash.now) (g.F.Flash.state c.kill.new.flash) _ _ c.in_ok-kill.ensures.change;
+  change = one_change (g.F.Flash.state c.args.flash.now) (g.F.Flash.state c.kill.new.flash) _ _ c.in_ok-kill.ensures.change.one;
+  lit = asks_lit g.F.Flash.tells _ _ (g.F.Flash.state c.args.flash.now) (g.F.Flash.state c.kill.new.flash) _ c.in_ok-kill.ensures.change;
 }

@@ -4,7 +4,7 @@ use Rattle.record_draft.specs.declared.draft.Stage.TheVariants.{Fill}
 use Rattle.record_model.specs.Records.{NearlyOnlyFirstUp}
 use Rattle.record_store.specs.Kept.{MayMake, pending_of}
 use Rattle.record_store.specs.declared.work.Work.TheVariants.{Write}
-use Rattle.record_store.proofs.FaultLemmas.{one_change}
+use Rattle.record_store.proofs.FaultLemmas.{asks_lit, one_change}
 use Rattle.record_store.proofs.WorkLemmas.{filled_may, filled_spare, filled_made}
 use Rattle.record_store.proofs.stepping.fill_slot.Given as given
 use Rattle.record_store.proofs.stepping.fill_slot.Goals as goal
@@ -25,7 +25,7 @@ torn g c tells =
 pub returns-in_err-next : goal.returns-in_err-next
 returns-in_err-next g c =
     let after = (goal.at.returns-in_err-next g c).After-prepare in
-    record { makes = record { made = search rules; crash = λ tells. (torn g after tells).0; spare = λ tells. (torn g after tells).1; change = search rules } }
+    record { makes = record { made = search rules; crash = λ tells. (torn g after tells).0; spare = λ tells. (torn g after tells).1; change = search rules; lit = search rules } }
 
 pub returns : goal.returns
 returns g c =
@@ -39,6 +39,7 @@ returns g c =
             old.told new.told c.requires.form c.requires.knows c.prepare.ensures.kept c.in_ok-next.ensures.form c.in_ok-next.ensures.next c.in_ok-next.ensures.stands;
         crash = λ tells. (torn g after tells).0;
         spare = λ tells. (torn g after tells).1;
-        change = one_change g.F.Flash.tells _ _ old new _ _ c.in_ok-next.ensures.change;
+        change = one_change old new _ _ c.in_ok-next.ensures.change.one;
+        lit = asks_lit g.F.Flash.tells _ _ old new _ c.in_ok-next.ensures.change;
       };
     }

@@ -9,7 +9,7 @@ use Rattle.record_store.specs.Kept.{HasMade, further_in}
 use Rattle.record_store.specs.declared.work.Work.{Work}
 use Rattle.record_store.specs.declared.work.Work.TheVariants.{Write}
 use Rattle.record_draft.specs.declared.draft.Stage.TheVariants.{Gate}
-use Rattle.record_store.proofs.FaultLemmas.{one_change}
+use Rattle.record_store.proofs.FaultLemmas.{asks_lit, one_change}
 use Rattle.record_store.proofs.WorkLemmas.{gate_may, gate_made, gate_nearly_only, has_opened, opened_entry_of, opened_within, MayChange-same}
 use Rattle.record_store.proofs.stepping.open_slot.Goals as goal
 
@@ -26,6 +26,7 @@ returns-in_err-publish-clause-makes g c =
           gate_nearly_only c.args.geometry.now c.args.found.now c.args.draft.now (take c.args.draft.now.len c.args.buffer.now) c.args.replaced old.told new.told
           c.requires.form.planned (c.requires.knows tells) (c.publish.ensures.change.told tells);
       change = search rules;
+      lit = search rules;
     }
 
 pub returns-clause-makes : goal.returns-clause-makes
@@ -53,7 +54,8 @@ returns-clause-makes g c =
       spare = λ tells.
           gate_nearly_only geometry c.args.found.now draft body c.args.replaced old new
           c.requires.form.planned (c.requires.knows tells) (c.publish.ensures.change.told tells);
-      change = one_change g.F.Flash.tells _ _ (g.F.Flash.state c.args.flash.now) (g.F.Flash.state c.publish.new.flash) _ _ c.in_ok-publish.ensures.change;
+      change = one_change (g.F.Flash.state c.args.flash.now) (g.F.Flash.state c.publish.new.flash) _ _ c.in_ok-publish.ensures.change.one;
+      lit = asks_lit g.F.Flash.tells _ _ (g.F.Flash.state c.args.flash.now) (g.F.Flash.state c.publish.new.flash) _ c.in_ok-publish.ensures.change;
     }
 
 pub record_opened-requires-clause-within : goal.record_opened-requires-clause-within

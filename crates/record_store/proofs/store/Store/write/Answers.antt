@@ -17,13 +17,7 @@ returns-in-Ok g c =
       steps = c.finish.ensures.steps;
       at_most = c.finish.ensures.at_most;
       reads = c.finish.ensures.reads;
-      doubt = c.finish.ensures.doubt;
-      idle = c.finish.ensures.idle;
-      alike = c.finish.ensures.alike;
-      power = c.finish.ensures.power;
-      powered = c.finish.ensures.powered;
-      cause = c.finish.ensures.cause;
-      ends = c.finish.ensures.ends;
+      over = c.finish.ensures.over;
     }) in
     record {
       answer = made.answer;
