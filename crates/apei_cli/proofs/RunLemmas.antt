@@ -266,7 +266,7 @@ module _ {L : Type 0} (hearing : L → Hearing) (told_source told_sink tells : T
       → PlaysScript hearing told_source told_sink tells script rest_now written now first members_now old new FlashFault
   ends_failed script rest rest_now written middle now first members members_now old mid new a b line stop so_far next is stops why quiet said =
       stopped script rest rest_now written middle now first members members_now old mid new a FlashFault so_far (
-        (λ told. record { line = last_line b; number = b.number; stops = at told; asked = line; is = is; fails = fails }),
+        (λ told. record { asked = line; before = record { line = last_line b; number = b.number; stops = at told; is = is }; fails = fails }),
         λ told. said ∙ so_far.text told,
       )
       (line, fails) quiet
@@ -293,7 +293,7 @@ module _ {L : Type 0} (hearing : L → Hearing) (told_source told_sink tells : T
       let left : Stops tells mid line new NoMemory = subst (Stops tells mid line new) why stops in
       let at = stops_at script rest rest_now written middle first members old mid a b b.number so_far next refl in
       stopped script rest rest_now written middle now first members members_now old mid new a Memory so_far (
-        (λ told. record { line = last_line b; number = b.number; stops = at told; asked = line; is = is; brings_table = left.1 }),
+        (λ told. record { asked = line; before = record { line = last_line b; number = b.number; stops = at told; is = is }; brings_table = left.1 }),
         λ told. said ∙ so_far.text told,
       )
       (ap (λ (p : PlayerState). p.machine) left.0) quiet (λ e. absurd (cc e))

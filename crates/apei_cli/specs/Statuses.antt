@@ -68,22 +68,23 @@ pub record StopsBad (script : List ℕ) (played : List Played) (number column : 
   pub stops : StopsAt script played number line
   pub bad : IsBadFrom IsLine column line
 
--- the flash failed in the restart of a line
-pub record StopsInRestart (tells : Type 0) (script : List ℕ) (played : List Played) (last final : MachineState) : Type 0 where
+-- the lines before one of the script were played, and that one is this line
+pub record StopsBefore (script : List ℕ) (played : List Played) (asked : ScriptLine) : Type 0 where
   pub line : Line
   pub number : ℕ
   pub stops : StopsAt script played number line
-  pub asked : ScriptLine
   pub is : CanPlay line asked
+
+-- the flash failed in the restart of a line
+pub record StopsInRestart (tells : Type 0) (script : List ℕ) (played : List Played) (last final : MachineState) : Type 0 where
+  pub asked : ScriptLine
+  pub before : StopsBefore script played asked
   pub fails : FailsRestart tells last asked final
 
 -- there was no memory for the table of a line
 pub record StopsAtTable (script : List ℕ) (played : List Played) : Type 0 where
-  pub line : Line
-  pub number : ℕ
-  pub stops : StopsAt script played number line
   pub asked : ScriptLine
-  pub is : CanPlay line asked
+  pub before : StopsBefore script played asked
   pub brings_table : BringsTable asked
 
 -- the lines of the script that were played once the machine was booted, by a status that the sink has no part in; `last` is the machine after

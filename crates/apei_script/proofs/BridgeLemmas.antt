@@ -34,7 +34,7 @@ use Rattle.bridge_turns.proofs.TurnsLemmas.{told_again, sides_more, made_more, c
 use Rattle.script_text.specs.ScriptGrammar.{Line, turns}
 use Rattle.apei_script.specs.Players.{PlayerState, budget_of}
 use Rattle.apei_script.specs.Words.{Reply, at_step, said_at, words_of_block, text_of_reply, text_of_replies, reply_at}
-use Rattle.apei_script.specs.Happened.{side_of}
+use Rattle.script_text.specs.Turns.{side_of}
 use Rattle.apei_script.specs.Bridged.{words_of_turn, words_of_step, words_of_steps, words_of_made, HasTaken, block_of, blocks_in, block_replies, replies_of, ByBridge, Enters, StaysAs, BridgesTurns, TurnsShown}
 use Rattle.apei_script.specs.Plays.{Plays, Blank, ByClient, GivenTable, OwnTable, GivenShadow, OnMachine, ByTheBridge, OnlyTells, Reset, Power, Told, changes_in, LinePlayed, PlaysLine, PlaysUnheard, LeftIn, AtLast, InBridged}
 use Rattle.apei_script.specs.History.{ShowsLine}

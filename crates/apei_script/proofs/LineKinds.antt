@@ -27,7 +27,8 @@ use Rattle.apei_script.specs.Players.{PlayerState, client_of, budget_of, with_ma
 use Rattle.apei_script.specs.Words.{Reply, said_at, refused, words_of_write, words_of_read, words_of_clear, words_of_count, words_of_next, words_of_dummy, words_of_action, words_of_table, words_of_no_table, words_of_no_client, words_of_turns, words_of_block, words_of_bert, words_of_reset, words_of_power}
 use Rattle.apei_script.specs.Asked.{READ_BUFFER, Asked, WritesRecord, ReadsRecord, ClearsRecord, CountsRecords, FindsNext, WritesDummy, RunsAction}
 use Rattle.apei_script.specs.Tables.{ATTACH_STEPS, BeginsWith, GivesTable, IsNoTable, IsNotAttached, IsAttached, GivesShadow}
-use Rattle.apei_script.specs.Happened.{side_of, AsksFor, Happened, Once, Turn, IsListed}
+use Rattle.apei_script.specs.Happened.{AsksFor, Happened, Once, Turn, IsListed}
+use Rattle.script_text.specs.Turns.{side_of}
 use Rattle.apei_script.specs.Bridged.{bridge_refusal, words_of_bridge, replies_of, blocks_in, NeedsNoBridge, ByBridge, Enters, StaysAs, BridgesTurns}
 use Rattle.apei_script.specs.Plays.{words_told, Plays, Blank, ByClient, GivenTable, OwnTable, GivenShadow, OnMachine, ByTheBridge, OnlyTells, Reset, Power, restarted, changes_in, step_of}
 use Rattle.apei_script.proofs.TurnsAlike.{TurnsBy, turns_by}

@@ -14,7 +14,8 @@ use Rattle.script_text.specs.ScriptGrammar.{Line}
 use Rattle.apei_script.specs.Words.{Reply}
 use Rattle.apei_script.specs.Players.{PlayerState, budget_of}
 use Rattle.apei_script.specs.Tables.{GivesTable, IsNoTable, IsNotAttached, IsAttached}
-use Rattle.apei_script.specs.Happened.{side_of, Turned, NoTurn, OneMore, Happened, Once, Turn, IsListed}
+use Rattle.apei_script.specs.Happened.{Turned, NoTurn, OneMore, Happened, Once, Turn, IsListed}
+use Rattle.script_text.specs.Turns.{side_of}
 use Rattle.apei_script.specs.Bridged.{ByBridge, Enters, StaysAs, BridgesTurns}
 use Rattle.apei_script.specs.Plays.{Plays, Blank, ByClient, GivenTable, OwnTable, GivenShadow, OnMachine, ByTheBridge, OnlyTells, Reset, Power, FailsRestart, ResetFails, PowerFails, HasHappened}
 use Rattle.apei_script.proofs.EventChanges.{along}

@@ -56,8 +56,9 @@ other_bridge old new same = same_state new.machine old.own new.own old.other new
 pub other_machine : {F : Type 0} (old new : Desk F) → SameClients old new → new.bridge ≡ old.bridge → state_of new ≡ with_machine new.machine (state_of old)
 other_machine old new same bridge = other_bridge old new same ∙ ap (λ (b : BridgeState). record (state_of old) { machine = new.machine; bridge = b }) bridge
 
-pub same_desk : {F : Type 0} (old new : Desk F) → SameClients old new → new.bridge ≡ old.bridge → new.machine ≡ old.machine → state_of new ≡ state_of old
-same_desk old new same bridge machine = other_machine old new same bridge ∙ ap (λ (m : MachineState). with_machine m (state_of old)) machine
+-- a desk with the same state has the same machine
+pub same_machine : {F : Type 0} (old new : Desk F) → state_of new ≡ state_of old → new.machine ≡ old.machine
+same_machine old new same = ap (λ (s : PlayerState). s.machine) same
 
 -- a line that was answered, with all that is said of it
 pub line_answered : (tells : Type 0) (old : PlayerState) (line : Line) (new : PlayerState) (made reply : List ℕ) (step : ℕ)

@@ -7,7 +7,8 @@ use Rattle.erst_machine.specs.MachineState.{MachineState}
 use Rattle.erst_machine.specs.Events.{Turns}
 use Rattle.erst_twins.specs.Alike.{MachineOutline, machine_outline, AlikeMachines}
 use Rattle.erst_twins.proofs.EventOutlines.{turns_alike}
-use Rattle.apei_script.specs.Happened.{side_of, taken_by, Turned, NoTurn, OneMore}
+use Rattle.apei_script.specs.Happened.{taken_by, Turned, NoTurn, OneMore}
+use Rattle.script_text.specs.Turns.{side_of}
 
 -- the same turns, by their letters
 abbrev pub TurnsBy : MachineState → List ℕ → List Event → List (List ℕ) → MachineState → Type 0

@@ -19,7 +19,7 @@ use Rattle.script_text.specs.ClientWords.{words_of_client}
 use Rattle.script_text.specs.ScriptGrammar.{Line, turns, bridge}
 use Rattle.apei_script.specs.Players.{PlayerState, budget_of}
 use Rattle.apei_script.specs.Words.{Reply, at_step, said_at, refused, word_of, words_of_block}
-use Rattle.apei_script.specs.Happened.{side_of}
+use Rattle.script_text.specs.Turns.{side_of}
 
 -- how many flash changes were made so far
 abbrev pub changes_in : MachineState → ℕ

@@ -1,20 +1,15 @@
 -- What a line asks of the machine itself: its handover of error status blocks, its boot error region, and its memory.
-use Rattle.std.specs.Prelude.{◌≡◌, ℕ, ◌==◌, if◌then◌else◌, List, [], ◌∷◌, ◌++◌, length, map, Ok}
+use Rattle.std.specs.Prelude.{◌≡◌, ℕ, List, [], ◌∷◌, ◌++◌, length, map, Ok}
 use Rattle.hex.specs.Hex.{decode_of}
 use Rattle.apei_space.specs.Calls.{ReadBytes}
 use Rattle.bert_region.specs.Region.{IsLaidOut}
 use Rattle.ghes_ack.specs.declared.events.Event.{Event}
 use Rattle.ghes_ack.specs.declared.events.Event.TheVariants.{Took}
-use Rattle.ghes_ack.specs.declared.events.Side.{Side}
-use Rattle.ghes_ack.specs.declared.events.Side.TheVariants.{Firmware, Reader}
 use Rattle.erst_machine.specs.MachineState.{MachineState}
 use Rattle.erst_machine.specs.Events.{Turns, Event as MachineEvent, Accessed, Submitted, Laid, Happens}
+use Rattle.script_text.specs.Turns.{side_of}
 use Rattle.script_text.specs.ScriptGrammar.{Line, error, turns, peek, fatal, bert}
 use Rattle.apei_script.specs.Words.{words_of_submission, words_of_turns, words_of_block, words_of_peek, words_of_laid, words_of_bert}
-
--- the side of a letter: F is the firmware, any other one the reader
-abbrev pub side_of : ℕ → Side
-side_of letter = if letter == 70 then Firmware else Reader
 
 -- the block of a turn, where it took one
 abbrev pub taken_by : Event → MachineState → List (List ℕ)

@@ -5,7 +5,7 @@ ghost use Rattle.line_grammar.specs.Parts.{IsPairs};
 ghost use Rattle.script_text.specs.ScriptGrammar.{error, peek, fatal};
 ghost use Rattle.apei_script.specs.Words.{words_of_submission, words_of_laid};
 ghost use Rattle.apei_script.specs.Replies.{IsMade};
-ghost use Rattle.apei_script.specs.Happened.{Happened, side_of};
+ghost use Rattle.apei_script.specs.Happened.{Happened};
 ghost use Rattle.apei_script.specs.Desks.{state_of, MakesReply};
 
 use crate::desk::Desk;
@@ -14,7 +14,7 @@ use crate::reply::put_number;
 use apei_space::Space;
 use erst_machine::{FatalError, Machine};
 use flash_model::Flash;
-use ghes_ack::{Side, SubmitError};
+use ghes_ack::SubmitError;
 use script_text::{Reply, decode_line};
 
 impl<F: Flash> Desk<F> {
@@ -95,16 +95,5 @@ fn make_bytes<F: Flash>(
             reply.add_hex(out);
         }
         Err(fault) => refuse(reply, &fault),
-    }
-}
-
-/// The side of a letter.
-pub fn side_of(letter: u8) -> Side
-    ensures { result ≡ side_of letter }
-{
-    if letter == b'F' {
-        Side::Firmware
-    } else {
-        Side::Reader
     }
 }

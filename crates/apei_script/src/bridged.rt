@@ -9,12 +9,11 @@ ghost use Rattle.bridge_turns.specs.Made.{turn_of, side_in};
 ghost use Rattle.script_text.specs.ScriptGrammar.{bridge, turns};
 ghost use Rattle.apei_script.specs.Players.{budget_of};
 ghost use Rattle.apei_script.specs.Words.{reply_at};
-ghost use Rattle.apei_script.specs.Happened.{side_of};
+ghost use Rattle.script_text.specs.Turns.{side_of};
 ghost use Rattle.apei_script.specs.Bridged.{HasTaken, words_of_turn, words_of_made};
 ghost use Rattle.apei_script.specs.Desks.{state_of, SameClients, MakesReply};
 ghost use Rattle.apei_script.specs.Played.{AreBridged, AreBridgedUnheard};
 
-use crate::blocks::side_of;
 use crate::desk::Desk;
 use crate::events::hear_of_block;
 use crate::reply::{end_line, put_number};
@@ -29,7 +28,7 @@ use erst_machine::Machine;
 use flash_model::Flash;
 use ghes_ack::{Event, Station, a_taken_block_fits};
 use line_text::LineText;
-use script_text::{Refusal, Reply, word_of};
+use script_text::{Refusal, Reply, side_of, word_of};
 
 impl<F: Flash> Desk<F> {
     /// Turns the bridge on, where it is off and the reader idle: the first block that is stored gets this identifier.

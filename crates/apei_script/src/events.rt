@@ -6,22 +6,21 @@ ghost use Rattle.bert_region.specs.Region.{next_from};
 ghost use Rattle.ghes_ack.specs.Machine.{Fits};
 ghost use Rattle.erst_machine.specs.Events.{Turns};
 ghost use Rattle.apei_script.specs.Replies.{IsMade};
-ghost use Rattle.apei_script.specs.Happened.{side_of};
+ghost use Rattle.script_text.specs.Turns.{side_of};
 ghost use Rattle.apei_script.specs.Words.{words_of_turns, words_of_heard, words_of_block, words_of_bert, reply_at};
 ghost use Rattle.apei_script.specs.Plays.{changes_in};
 ghost use Rattle.apei_script.specs.Desks.{state_of, SameClients, Lists, ListsUnheard};
 ghost use Rattle.apei_script.specs.Played.{AreTold, heard_by, AreTurned, AreTurnedUnheard};
 
-use crate::blocks::side_of;
 use crate::desk::Desk;
 use crate::reply::{end_line, put_block};
 use apei_bytes::{Sink, SinkFault, get_u32, write_all};
 use apei_notify::{Chain, Listener};
 use apei_space::Space;
-use erst_machine::Machine;
+use erst_machine::{BOOT_ERRORS, Machine};
 use flash_model::Flash;
 use ghes_ack::{Event, a_taken_block_fits};
-use script_text::{Reply, word_of};
+use script_text::{Reply, side_of, word_of};
 
 /// Turns of both sides, one for each letter. The listeners are told of each block when it is taken, and its line is written right after;
 /// where the sink refuses that, no further turn is made.
@@ -108,9 +107,7 @@ fn say_turns(events: &[Event], reply: &mut Reply)
 pub fn list_blocks<F: Flash, O: Sink>(desk: &mut Desk<F>, out: &mut O) -> Result<(), SinkFault>
     ensures listed { OnOk result (Lists F.tells O.tells desk.old.machine (O.written out.old) (O.written out.new)) }
     ensures unheard { OnErr result (ListsUnheard F.tells O.tells desk.old.machine (O.written out.old) (O.written out.new)) }
-    ensures machine { desk.new.machine ≡ desk.old.machine }
-    ensures clients { SameClients desk.old desk.new }
-    ensures bridge { desk.new.bridge ≡ desk.old.bridge }
+    ensures desk { state_of desk.new ≡ state_of desk.old }
     ensures cause { HasCause (O.faults out.old) (O.faults out.new) result }
 {
     desk.machine.stands();
@@ -137,9 +134,6 @@ fn next_block<F: Flash>(machine: &Machine<F>, at: u32) -> Option<u32>
     }
 }
 
-/// Where the boot error region begins.
-const REGION: u64 = 0x40_0000;
-
 /// Shows the block from one place of the boot error region to another.
 fn show_block<F: Flash, O: Sink>(
     desk: &mut Desk<F>,
@@ -153,9 +147,7 @@ fn show_block<F: Flash, O: Sink>(
         ++ reply_at (changes_in desk.old.machine) (words_of_block (part desk.old.machine.memory.region at (next - at)))) }
     ensures part { OnErr result (O.tells → (n : ℕ) × (O.written out.new ≡ O.written out.old
         ++ take n (reply_at (changes_in desk.old.machine) (words_of_block (part desk.old.machine.memory.region at (next - at)))))) }
-    ensures machine { desk.new.machine ≡ desk.old.machine }
-    ensures clients { SameClients desk.old desk.new }
-    ensures bridge { desk.new.bridge ≡ desk.old.bridge }
+    ensures desk { state_of desk.new ≡ state_of desk.old }
     ensures cause { HasCause (O.faults out.old) (O.faults out.new) result }
 {
     let step = desk.machine.steps();
@@ -198,16 +190,14 @@ fn region_bytes<F: Flash>(machine: &mut Machine<F>, at: u32, out: &mut [u8])
     ensures machine { machine.new ≡ machine.old }
 {
     machine.stands();
-    let _ = machine.read_bytes(REGION + u64::from(at), out);
+    let _ = machine.read_bytes(BOOT_ERRORS + u64::from(at), out);
 }
 
 /// Shows how many blocks there are.
 fn end_list<F: Flash, O: Sink>(desk: &mut Desk<F>, count: u64, out: &mut O) -> Result<(), SinkFault>
     ensures all { OnOk result (O.tells → O.written out.new ≡ O.written out.old ++ reply_at (changes_in desk.old.machine) (words_of_bert count)) }
     ensures part { OnErr result (O.tells → (n : ℕ) × (O.written out.new ≡ O.written out.old ++ take n (reply_at (changes_in desk.old.machine) (words_of_bert count)))) }
-    ensures machine { desk.new.machine ≡ desk.old.machine }
-    ensures clients { SameClients desk.old desk.new }
-    ensures bridge { desk.new.bridge ≡ desk.old.bridge }
+    ensures desk { state_of desk.new ≡ state_of desk.old }
     ensures cause { HasCause (O.faults out.old) (O.faults out.new) result }
 {
     let step = desk.machine.steps();

@@ -17,4 +17,4 @@ pub use laws::{
 };
 pub use plain::Ram;
 pub use spaces::Space;
-pub use windows::Window;
+pub use windows::{Window, address};

@@ -17,7 +17,7 @@ use Rattle.hest_sources.specs.declared.sources.Ack.{Ack}
 use Rattle.hest_sources.specs.Layout.{ghes_bytes}
 use Rattle.bert_region.specs.declared.table.Bert.{Bert}
 use Rattle.erst_machine.specs.declared.areas.Area.TheVariants.{Device, Handover, BootErrors}
-use Rattle.erst_machine.specs.Areas.{base_of}
+use Rattle.erst_machine.specs.Areas.{base_of, region_len}
 
 abbrev pub own_header : List ℕ → ℕ → ℕ → Header
 own_header signature size checksum = record {
@@ -130,7 +130,7 @@ unfoldable pub own_hest : List ℕ
 own_hest = header_spelling (own_header (codes "HEST") 132 0x1E) ++ spelled 4 1 ++ ghes_bytes own_source
 
 abbrev pub own_bert : Bert
-own_bert = record { len = 16384; region = base_of BootErrors }
+own_bert = record { len = region_len; region = base_of BootErrors }
 
 -- 48 bytes
 unfoldable pub own_bert_bytes : List ℕ

@@ -9,7 +9,6 @@ ghost use Rattle.record_recovery.specs.Answers.{IsOneFault};
 ghost use Rattle.record_store.specs.Answers.{RefusesFlash};
 ghost use Rattle.apei_gas.specs.Access.{bits};
 ghost use Rattle.erst_device.specs.DeviceState.{at_first, records};
-ghost use Rattle.apei_space.specs.Windows.{address_of};
 ghost use Rattle.ghes_block.specs.Grammar.{IsBlock};
 ghost use Rattle.erst_entries.specs.Layout.{spelling, FitsErst};
 ghost use Rattle.erst_entries.specs.Tables.{IsErst};
@@ -33,7 +32,7 @@ use crate::errors::{BootError, BootRefused, FatalError};
 use crate::tables;
 use apei_bytes::Memory;
 use apei_gas::{Place, Width};
-use apei_space::{Space, SpaceFault};
+use apei_space::{Space, SpaceFault, address};
 use erst_device::Device;
 use erst_entries::Action;
 use flash_model::{Flash, Geometry};
@@ -352,14 +351,6 @@ fn bytes_of(width: Width) -> usize
     width.bytes()
 }
 
-fn address_of(at: Place) -> u64
-    ensures { result ≡ address_of at }
-{
-    match at {
-        Place::Memory(address) | Place::Io(address) => address,
-    }
-}
-
 impl<F: Flash> Space for Machine<F> {
     ghost use Rattle.erst_machine.specs.MachineState.{MachineState};
     ghost use Rattle.erst_machine.specs.Allowed.{Allows};
@@ -377,7 +368,7 @@ impl<F: Flash> Space for Machine<F> {
 
     fn read(&mut self, at: Place, width: Width) -> Result<u64, SpaceFault> {
         let spot = self.spot(at, bytes_of(width));
-        read_number(&self.device, &self.contents, spot, address_of(at), width)
+        read_number(&self.device, &self.contents, spot, address(at), width)
     }
 
     fn write(&mut self, at: Place, width: Width, value: u64) -> Result<(), SpaceFault> {
@@ -386,7 +377,7 @@ impl<F: Flash> Space for Machine<F> {
             &mut self.device,
             &mut self.contents,
             spot,
-            address_of(at),
+            address(at),
             width,
             value,
         )

@@ -9,6 +9,7 @@ use Rattle.erst_client.specs.declared.requests.Request.{Request}
 use Rattle.erst_client.specs.Sequences.{write_requests, dummy_requests}
 use Rattle.erst_client.specs.Commands.{ClientState, write_refusal, copy_refusal}
 use Rattle.erst_device.specs.Timings.{timings_of}
+use Rattle.erst_machine.specs.Areas.{scratch_len}
 use Rattle.erst_machine.specs.MachineState.{MachineState, reach_in}
 use Rattle.erst_commands.specs.OwnPrograms.{with_value}
 use Rattle.erst_commands.specs.Attached.{own_client}
@@ -37,7 +38,7 @@ shadow_client state = record {
 pub record AttachesShadow (budget : ℕ) (first : MachineState) (result : Result ClientState AttachError) (left : ℕ) (last : MachineState) : Type 0 where
   pub result_is : result ≡ Ok (shadow_client first)
   pub left_is : left + 8 ≡ budget
-  pub scratch : length last.memory.scratch ≡ 4096
+  pub scratch : length last.memory.scratch ≡ scratch_len
   pub last_is : last ≡ holding first.memory.range last.memory.scratch (with_value (timings_of first.device.store.layout) first)
 
 -- a command by the machine's own table, between a machine beside the first and one beside the last, with fewer steps by the two moves

@@ -5,6 +5,7 @@ use Rattle.erst_entries.specs.declared.actions.Action.TheVariants.{ExecuteOperat
 use Rattle.erst_interp.specs.declared.stops.RunStop.{RunStop}
 use Rattle.erst_interp.specs.declared.stops.RunStop.TheVariants.{Budget}
 use Rattle.erst_client.specs.Requests.{Performs}
+use Rattle.erst_machine.specs.Areas.{scratch_len}
 use Rattle.erst_machine.specs.MachineState.{MachineState}
 use Rattle.erst_machine.specs.Allowed.{Allows}
 use Rattle.erst_machine.specs.OwnTables.{own_entries}
@@ -20,7 +21,7 @@ AgreesElsewhere one other = one ≡ holding one.memory.range one.memory.scratch 
 
 -- both memories have room for so many pieces, the scratch memory below the registers of a move
 pub record HoldsPieces (state : MachineState) (pieces : ℕ) : Type 0 where
-  pub scratch : length state.memory.scratch ≡ 4096
+  pub scratch : length state.memory.scratch ≡ scratch_len
   pub range : 128 * pieces ≤ length state.memory.range
   pub small : length state.memory.range ≤ 65536
   pub some : 0 < pieces
@@ -29,7 +30,7 @@ pub record HoldsPieces (state : MachineState) (pieces : ℕ) : Type 0 where
 -- a move changes no other thing than the bytes of the two memories
 pub record KeepsOthers (first last : MachineState) : Type 0 where
   pub range : length last.memory.range ≡ length first.memory.range
-  pub scratch : length last.memory.scratch ≡ 4096
+  pub scratch : length last.memory.scratch ≡ scratch_len
   pub elsewhere : AgreesElsewhere last first
 
 -- the log range of a machine once the record of its scratch memory was moved into it

@@ -5,6 +5,7 @@ use Rattle.erst_client.specs.declared.errors.ClientError.{ClientError}
 use Rattle.erst_client.specs.declared.errors.ClientError.TheVariants.{Stopped, Late}
 use Rattle.erst_client.specs.declared.requests.Request.{Request}
 use Rattle.erst_client.specs.Sequences.{Sequence}
+use Rattle.erst_machine.specs.Areas.{scratch_len}
 use Rattle.erst_machine.specs.MachineState.{MachineState}
 use Rattle.erst_machine.specs.Allowed.{Allows}
 use Rattle.erst_machine.specs.OwnTables.{own_entries}
@@ -33,7 +34,7 @@ pub record ShowsRecord (pieces : ℕ) (last own_last : MachineState) : Type 0 wh
 -- the two memories alone. Where it is answered with `Ok`, the record that then stands in the log range stands in the scratch memory too
 pub record SequenceAsOwn (tells : Type 0) (pieces : ℕ) (timings : Option (ℕ × ℕ)) (requests : List Request) (budget : ℕ) (first : MachineState) (result : Result (Unit {0}) ClientError) (left : ℕ) (last : MachineState) : Type 0 where
   pub scratch : List ℕ
-  pub long : length scratch ≡ 4096
+  pub long : length scratch ≡ scratch_len
   pub own_budget : ℕ
   pub own_left : ℕ
   pub own_last : MachineState

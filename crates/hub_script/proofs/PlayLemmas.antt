@@ -17,7 +17,8 @@ use Rattle.hub_script.specs.declared.refusals.HubRefusal.TheVariants.{NoHub}
 use Rattle.hub_script.specs.Replies.{refused, reply_line, text_of_replies, words_of_block, words_of_turns, word_of}
 use Rattle.script_text.specs.Shown.{IsPartWritten}
 use Rattle.hub_script.specs.Stages.{Stage, Waiting, Serving}
-use Rattle.hub_script.specs.Plays.{Plays, IsRefused, source_of, side_of, AllNamed, Turned, NoTurn, OneMore, AllTurned}
+use Rattle.hub_script.specs.Plays.{Plays, IsRefused, source_of, AllNamed, Turned, NoTurn, OneMore, AllTurned}
+use Rattle.script_text.specs.Turns.{side_of}
 use Rattle.hub_script.specs.Lines.{PlaysLine, PlaysUnheard, TextIs, IsLeft, LeftOfTurns, AtLast, InBlock}
 use Rattle.hub_script.specs.TurnLines.{TakesTurn, TakesUnheard}
 use Rattle.hub_script.specs.Made.{MakesReply}

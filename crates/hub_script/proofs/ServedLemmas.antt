@@ -8,7 +8,8 @@ use Rattle.ghes_hub.specs.Opens.{IsOpened}
 use Rattle.ghes_hub.proofs.OpenLemmas.{from_opening}
 use Rattle.hub_script.specs.HubGrammar.{Line, blank, comment, hest, error, turns, heard, removal}
 use Rattle.hub_script.specs.Stages.{Stage, Waiting, Serving}
-use Rattle.hub_script.specs.Plays.{Plays, source_of, side_of, NoTable, NoOpening, Opened, NoSource, NotTaken, Queued, Turned, NoTurn, OneMore, NotNamed, AllTurned, NoneToCount, Counted, NoneToDrop, NoListener, Dropped}
+use Rattle.hub_script.specs.Plays.{Plays, source_of, NoTable, NoOpening, Opened, NoSource, NotTaken, Queued, Turned, NoTurn, OneMore, NotNamed, AllTurned, NoneToCount, Counted, NoneToDrop, NoListener, Dropped}
+use Rattle.script_text.specs.Turns.{side_of}
 use Rattle.hub_script.specs.History.{Played, Follows, calls_of, AreServed, NoHub, ByHub}
 
 -- calls, and then calls

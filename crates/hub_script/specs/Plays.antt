@@ -1,13 +1,11 @@
 -- What one line of a script makes of a stage: its replies, its calls of the hub, and the stage after it.
-use Rattle.std.specs.Prelude.{◌≡◌, ℕ, ◌-◌, ◌*◌, ◌^◌, ◌<◌, ◌≤◌, nat_lt, ◌==◌, if◌then◌else◌, List, [], ◌∷◌, ◌++◌, length, take, map, get_or, Some, None, slice_get, Ok}
+use Rattle.std.specs.Prelude.{◌≡◌, ℕ, ◌-◌, ◌*◌, ◌^◌, ◌<◌, ◌≤◌, nat_lt, if◌then◌else◌, List, [], ◌∷◌, ◌++◌, length, take, map, get_or, Some, None, slice_get, Ok}
 use Rattle.hex.specs.Hex.{decode_of}
 use Rattle.apei_notify.specs.Telling.{Hearing, counts_of}
 use Rattle.hest_sources.specs.declared.sources.HestSource.{HestSource}
 use Rattle.hest_sources.specs.declared.tables.HestError.{HestError}
 use Rattle.hest_sources.specs.Tables.{IsHest, refusal}
 use Rattle.ghes_ack.specs.declared.events.Event.{Event}
-use Rattle.ghes_ack.specs.declared.events.Side.{Side}
-use Rattle.ghes_ack.specs.declared.events.Side.TheVariants.{Firmware, Reader}
 use Rattle.ghes_ack.specs.declared.submission.SubmitError.{SubmitError}
 use Rattle.ghes_hub.specs.declared.errors.HubError.{HubError}
 use Rattle.ghes_hub.specs.declared.source.Source.{Source}
@@ -16,6 +14,7 @@ use Rattle.ghes_hub.specs.OneSource.{refusal_of, waiting_of}
 use Rattle.ghes_hub.specs.Opens.{IsOpened}
 use Rattle.ghes_hub.specs.Refusals.{hub_refusal}
 use Rattle.ghes_hub.specs.Runs.{told_at}
+use Rattle.script_text.specs.Turns.{side_of}
 use Rattle.hub_script.specs.HubGrammar.{Line, blank, comment, hest, error, turns, heard, removal}
 use Rattle.hub_script.specs.RefusalWords.{words_of_refusal}
 use Rattle.hub_script.specs.Replies.{refused, words_of_opened, words_of_queued, words_of_block, words_of_turns, words_of_heard, words_of_dropped}
@@ -26,10 +25,6 @@ use Rattle.hub_script.specs.declared.refusals.HubRefusal.TheVariants.{Open, Tabl
 -- the source of a hexadecimal digit in lower case
 abbrev pub source_of : ℕ → ℕ
 source_of digit = if nat_lt digit 58 then digit - 48 else digit - 87
-
--- F is the firmware, R the reader
-abbrev pub side_of : ℕ → Side
-side_of letter = if letter == 70 then Firmware else Reader
 
 -- the source that pair number `at` of some turns names
 abbrev pub named_at : List ℕ → ℕ → ℕ

@@ -6,7 +6,7 @@ ghost use Rattle.ghes_hub.specs.{Hubs.sources_in, Runs.takes, Seen.seen};
 ghost use Rattle.hub_script.specs.HubGrammar.{turns};
 ghost use Rattle.hub_script.specs.Turns.{AreTurns};
 ghost use Rattle.hub_script.specs.Stages.{Serving};
-ghost use Rattle.hub_script.specs.Plays.{source_of, side_of, named_at, AllNamed};
+ghost use Rattle.hub_script.specs.Plays.{source_of, named_at, AllNamed};
 ghost use Rattle.hub_script.specs.Lines.{PlaysLine, PlaysUnheard};
 ghost use Rattle.hub_script.specs.TurnLines.{TakesTurn, TakesUnheard};
 
@@ -16,7 +16,7 @@ use crate::reply::end_line;
 use apei_bytes::{Sink, SinkFault, write_all};
 use ghes_ack::{Event, Side};
 use ghes_hub::Hub;
-use script_text::word_of;
+use script_text::{side_of, word_of};
 
 /// What is behind the digit 9 is 10 from the letter `a` on.
 const BEFORE_LETTERS: u8 = b'a' - 10;
@@ -29,17 +29,6 @@ fn source_of(digit: u8) -> u32
         u32::from(digit.saturating_sub(b'0'))
     } else {
         u32::from(digit.saturating_sub(BEFORE_LETTERS))
-    }
-}
-
-/// The side of a letter: `F` is the firmware, `R` the reader.
-fn side_of(letter: u8) -> Side
-    ensures { result ≡ side_of letter }
-{
-    if letter == b'F' {
-        Side::Firmware
-    } else {
-        Side::Reader
     }
 }
 

@@ -1,4 +1,3 @@
-pub mod Places
 pub mod LookLemmas
 pub mod SlotLemmas
 pub mod KindLemmas

@@ -9,7 +9,7 @@ use record_slots::Head;
 use std::alloc::{AllocError, Global};
 
 /// The place of a slot's first byte.
-#[tactic(auto, using(crate::proofs::Places::slot_within))]
+#[tactic(auto, using(record_model::proofs::SlotLemmas::slot_within))]
 pub fn place_of(geometry: &Geometry, slot: u32) -> usize
     requires { slot < geometry.now.slots }
     ensures place { result ≡ slot * geometry.now.slot_size }

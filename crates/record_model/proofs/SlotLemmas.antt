@@ -1,7 +1,7 @@
 -- What a change of bytes does to what is seen of a slot. Nothing above these lemmas speaks of a slot's bytes.
 use Rattle.std.proofs.Common.{◌≡◌, ◌≢◌, ℕ, ◌+◌, ◌-◌, ◌*◌, ◌<◌, ◌≤◌, true, false, List, [], ◌∷◌, ◌++◌, replicate, Option, sym, ap, ◌∙◌, arith, inl, inr}
 use Rattle.std.specs.Prelude.{take, drop}
-use Rattle.std.proofs.Math.Nat.{add-mul, mul-le-mul_right}
+use Rattle.std.proofs.Math.Nat.{add-mul, mul_comm, mul-le-mul_right}
 use Rattle.std.proofs.lemmas.List.{take-replicate, drop-replicate, replicate-append-replicate}
 use Rattle.std.proofs.lemmas.Bool.{cases_eq, cases_order, eqb-true, and_parts, both_ways, false_from_ne_true}
 use Rattle.base_model.specs.Bytes.{part, little, number_at, SameOutside}
@@ -15,6 +15,13 @@ pub slots_apart : (k j size : ℕ) → k < j → k * size + size ≤ j * size
 slots_apart k j size h =
     let next : (k + 1) * size ≡ k * size + 1 * size = add-mul k 1 size in
     let below : (k + 1) * size ≤ j * size = mul-le-mul_right size (omega arith) in
+    omega arith
+
+-- a slot lies within all of them
+pub slot_within : (slot size slots : ℕ) → slot < slots → slot * size + size ≤ size * slots
+slot_within slot size slots h =
+    let below = slots_apart slot slots size h in
+    let turned = mul_comm size slots in
     omega arith
 
 -- a head whose numbers are the same is the same

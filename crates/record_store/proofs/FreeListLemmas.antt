@@ -2,7 +2,6 @@
 use Rattle.std.proofs.Common.{◌≡◌, ◌⊎◌, ℕ, zero, suc, ◌+◌, ◌<◌, ◌≤◌, Bool, true, false, not, List, [], ◌∷◌, ◌++◌, length, take, drop, get_or, Option, Result, Ok, Err, refl, sym, ap, subst, ◌∙◌, arith, inl, inr}
 use Rattle.std.specs.Prelude.{insert, OnOk, OnErr, ◌==◌, ◌||◌, ◌&&◌}
 use Rattle.std.specs.List.{list_any}
-use Rattle.std.specs.VecDeque.{deque_capacity}
 use Rattle.std.specs.Ordering.{nat_cmp}
 use Rattle.std.proofs.lemmas.Bool.{cases_Bool, eqb-true, eq-eqb, or_cases, both_ways, not-true}
 use Rattle.std.proofs.lemmas.List.Edits.{length-insert}
@@ -15,7 +14,7 @@ use Rattle.record_recovery.specs.declared.found.SlotOf.{SlotOf}
 use Rattle.record_recovery.specs.Listed.{IsListed, AreSlots, free_slots}
 use Rattle.record_recovery.proofs.ListedLemmas.{rising-insert, IsListed-insert, IsListed-inserted}
 use Rattle.record_recovery.proofs.FreeLemmas.{rising-tail, insert_listed, length-rising, list_below-are, list_below-all, are_below}
-use Rattle.record_store.specs.Index.{Gains}
+use Rattle.record_store.specs.Index.{Frees, Gains}
 
 -- one number is among one
 one_is : (k n : ℕ) → list_any (λ m. k == m) (n ∷ []) ≡ true → k ≡ n
@@ -166,13 +165,8 @@ length_drop (suc n) [] = inr refl
 length_drop (suc n) (x ∷ xs) = elim (length_drop n xs) [ inl fits ↦ inl (omega arith) | inr none ↦ inr none ]
 
 -- the first slots of a record joined the free ones
-pub record HasFreed (slots : ℕ) (place : SlotOf) (at : ℕ) (old now : Found) : Type 0 where
-  pub gains : Gains old.free.items now.free.items (place.slot ∷ take at place.next)
-  pub free : AreSlots slots now.free.items
-  pub room : deque_capacity old.free ≤ deque_capacity now.free
-  pub ids : now.ids ≡ old.ids
-  pub places : now.places ≡ old.places
-  pub looks : now.looks ≡ old.looks
+abbrev pub HasFreed : (slots : ℕ) → (place : SlotOf) → (at : ℕ) → (old now : Found) → Type 0
+HasFreed slots place at old now = Frees slots (place.slot ∷ take at place.next) old now
 
 pub gains_next : (first mid last xs : List ℕ) (slot at : ℕ) → at < length xs → Gains first mid (slot ∷ take at xs) → Gains mid last (get_or xs at 0 ∷ []) → Gains first last (slot ∷ take (at + 1) xs)
 gains_next first mid last xs slot at h one other =

@@ -2,6 +2,7 @@
 use Rattle.std.specs.Prelude.{◌≡◌, ◌≢◌, ◌⊎◌, ℕ, ◌+◌, ◌-◌, ◌<◌, ◌≤◌, true, ◌==◌, ◌&&◌, not, List, ◌∷◌, Option, Some, None, length, take, slice_index, slice_index_or}
 use Rattle.std.specs.List.{list_any}
 use Rattle.std.specs.FinMap.{get}
+use Rattle.std.specs.VecDeque.{deque_capacity}
 use Rattle.record_model.specs.Records.{Entry, IsChosen, selected, parts_of, is_taken, holds}
 use Rattle.record_recovery.specs.declared.found.Found.{Found}
 use Rattle.record_recovery.specs.declared.found.SlotOf.{SlotOf}
@@ -73,6 +74,15 @@ pub record Gains (old new more : List ℕ) : Type 0 where
   pub each : (k : ℕ) → IsListed new k → IsListed old k ⊎ (list_any (λ n. k == n) more ≡ true)
   pub kept : (k : ℕ) → IsListed old k → IsListed new k
   pub all : (k : ℕ) → list_any (λ n. k == n) more ≡ true → IsListed new k
+
+-- these slots are listed as free too, and nothing else is another
+pub record Frees (slots : ℕ) (freed : List ℕ) (old new : Found) : Type 0 where
+  pub gains : Gains old.free.items new.free.items freed
+  pub free : AreSlots slots new.free.items
+  pub room : deque_capacity old.free ≤ deque_capacity new.free
+  pub ids : new.ids ≡ old.ids
+  pub places : new.places ≡ old.places
+  pub looks : new.looks ≡ old.looks
 
 -- the record of an identifier is the whole entry of the slot at its place, and what the map of the slots has
 pub record IsStoredAt (entry : ℕ → Option Entry) (slots id : ℕ) (place : SlotOf) (e : Entry) : Type 0 where

@@ -1,5 +1,5 @@
 -- What one change of what is pending leaves.
-use Rattle.std.specs.Prelude.{◌≡◌, ℕ, ◌+◌, true, List, Result, OnOk, OnErr, IfOk}
+use Rattle.std.specs.Prelude.{ℕ, List, Result, IfOk}
 use Rattle.flash_model.specs.declared.flash.FlashFailed.{FlashFailed}
 use Rattle.flash_model.specs.declared.geometry.Geometry.{Geometry}
 use Rattle.flash_model.specs.Layouts.{layout_of}

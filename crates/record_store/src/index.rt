@@ -7,7 +7,7 @@ ghost use Rattle.record_model.specs.Records.{Entry, selected, is_reserved};
 ghost use Rattle.record_model.specs.RecordMap.{IsNextAbove};
 ghost use Rattle.record_recovery.specs.Listed.{AreSlots, IsIndex, IsWithin};
 ghost use Rattle.record_recovery.specs.Listing.{IsNewlyListed, IsListedAgain};
-ghost use Rattle.record_store.specs.Index.{IsListing, IsListOf, HasItsParts, HasOpened, HasLost, IsEntryOf, IsOlderCopy, IsOnlyCopy, IsPlaceFound, IsPlaceAt, Gains, slots_at};
+ghost use Rattle.record_store.specs.Index.{IsListing, IsListOf, HasItsParts, HasOpened, HasLost, IsEntryOf, IsOlderCopy, IsOnlyCopy, IsPlaceFound, IsPlaceAt, Frees, slots_at};
 
 use erst_ids::{RecordId, next_after, position_of};
 use flash_model::Geometry;
@@ -121,12 +121,7 @@ fn free_record(found: &mut Found, geometry: &Geometry, place: SlotOf)
     requires free { AreSlots geometry.now.slots found.old.free.items }
     requires room { geometry.now.slots ≤ deque_capacity found.old.free }
     requires within { IsWithin geometry.now.slots geometry.now.slot_size place }
-    ensures gains { Gains found.old.free.items found.new.free.items (slots_at (geometry.now.slot_size - 64) place) }
-    ensures free { AreSlots geometry.now.slots found.new.free.items }
-    ensures room { deque_capacity found.old.free ≤ deque_capacity found.new.free }
-    ensures ids { found.new.ids ≡ found.old.ids }
-    ensures places { found.new.places ≡ found.old.places }
-    ensures looks { found.new.looks ≡ found.old.looks }
+    ensures { Frees geometry.now.slots (slots_at (geometry.now.slot_size - 64) place) found.old found.new }
 {
     list_free(found, geometry, place.slot);
     let further = parts_of(geometry, place.len) - 1;
@@ -140,12 +135,7 @@ fn list_free(found: &mut Found, geometry: &Geometry, slot: u32)
     requires free { AreSlots geometry.now.slots found.old.free.items }
     requires room { geometry.now.slots ≤ deque_capacity found.old.free }
     requires within { slot < geometry.now.slots }
-    ensures gains { Gains found.old.free.items found.new.free.items (slot ∷ []) }
-    ensures free { AreSlots geometry.now.slots found.new.free.items }
-    ensures room { deque_capacity found.old.free ≤ deque_capacity found.new.free }
-    ensures ids { found.new.ids ≡ found.old.ids }
-    ensures places { found.new.places ≡ found.old.places }
-    ensures looks { found.new.looks ≡ found.old.looks }
+    ensures { Frees geometry.now.slots (slot ∷ []) found.old found.new }
 {
     if let Err(at) = found.free.binary_search(&slot) {
         let _ = found.free.insert(at, slot);

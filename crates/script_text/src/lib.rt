@@ -19,3 +19,4 @@ pub use laws::{
 pub use refusal::Refusal;
 pub use reply::{Reply, word_of};
 pub use script_line::{BadLine, ScriptLine};
+pub use turns::side_of;

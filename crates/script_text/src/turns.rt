@@ -1,7 +1,9 @@
 // The letters of a `turns` line.
 ghost use Rattle.std.specs.Prelude.{◌≡◌, ◌==◌, ◌||◌, MatchResult};
 ghost use Rattle.line_grammar.specs.Columns.{Breaks};
-ghost use Rattle.script_text.specs.Turns.{IsTurns};
+ghost use Rattle.script_text.specs.Turns.{IsTurns, side_of};
+
+use ghes_ack::Side;
 
 // The most turns of one line.
 const MAX_TURNS: usize = 4096;
@@ -25,4 +27,15 @@ fn is_turn(byte: u8) -> bool
     ensures { result ≡ (byte == 70 || byte == 82) }
 {
     byte == b'F' || byte == b'R'
+}
+
+/// The side of a letter: `F` is the firmware, `R` the reader.
+pub fn side_of(letter: u8) -> Side
+    ensures { result ≡ side_of letter }
+{
+    if letter == b'F' {
+        Side::Firmware
+    } else {
+        Side::Reader
+    }
 }
