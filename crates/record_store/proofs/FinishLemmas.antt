@@ -13,10 +13,10 @@ use Rattle.record_model.proofs.MapLemmas.{after-done}
 use Rattle.record_model.proofs.RefusalLemmas.{changes_of-refused, changes_of-new, changes_of-over, changes_of-clear}
 use Rattle.record_store.specs.Store.{StoreView, Pending, Idle, Writing, Clearing, stored, records_of, map_after, pending_after, changes_before_gate, changes_in_all, StandsIn, slots_for, PlacedAfter, KeepsOrMakes, KeepsMap, DividesAlike}
 use Rattle.record_store.specs.Answers.{FailsByFlash, AnswersWrite, AnswersClear, RefusesWrite, RefusesClear, UnlessFlash, HasFaultsOf, HasDoubtOf, EndsAtFault, StartsWrite, StartsClear, TakesReads, copies_of}
-use Rattle.record_store.specs.Calls.{OnlyStarts, IsOver, Changes}
+use Rattle.record_store.specs.Calls.{OnlyStarts, Changes}
 use Rattle.record_store.specs.declared.errors.StoreError.{StoreError}
 use Rattle.record_store.specs.declared.errors.StoreError.TheVariants.{NoSpace, LastGeneration, NotFound, Empty, Flash, Small}
-use Rattle.record_store.specs.Finish.{IsUnfinished, changes_left, map_at_end, PlacedAtEnd, PlacesAlike, IsOnWay}
+use Rattle.record_store.specs.Finish.{IsUnfinished, changes_left, map_at_end, PlacedAtEnd, PlacesAlike, IsOnWay, IsFinished}
 use Rattle.record_store.proofs.FaultLemmas.{ends_then, loses_then}
 use Rattle.record_store.proofs.StoreLemmas.{kept_map, alike_refl, alike_then}
 
@@ -335,17 +335,6 @@ clear_steps : (old mid : StoreView) (id : ℕ) → mid.pending ≡ Clearing id �
 clear_steps old mid id pending taken = ap (changes_left mid.layout) pending ∙ sym (changes_of-clear old.layout id (stored old) taken)
 
 -- what a whole command leaves
-
--- all that is left of a command was made
-pub record IsFinished (tells : Type 0) (old new : StoreView) (result : Result (Unit {0}) StoreError) : Type 0 where
-  pub error : FailsByFlash result
-  pub made : OnOk result (tells → stored new ≡ map_at_end old.layout old.pending (stored old))
-  pub placed : OnOk result (tells → PlacedAtEnd old.layout old.pending new.flash.told.image)
-  pub crash : tells → KeepsOrMakes old new (map_at_end old.layout old.pending (stored old))
-  pub steps : OnOk result (new.flash.steps ≡ old.flash.steps + changes_left old.layout old.pending)
-  pub at_most : new.flash.steps ≤ old.flash.steps + changes_left old.layout old.pending
-  pub reads : new.flash.reads ≡ old.flash.reads
-  pub over : IsOver old new result
 
 finish_cause : (before mid after : ℕ) (result : Result (Unit {0}) StoreError) → FailsByFlash result → mid ≡ before → HasFaultsOf mid after result → HasFaultsOf before after result
 finish_cause before mid after result fails same cause = subst (λ (n : ℕ). HasFaultsOf n after result) same cause

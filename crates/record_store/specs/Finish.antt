@@ -1,10 +1,13 @@
 -- What is left of a command that is pending.
-use Rattle.std.specs.Prelude.{◌≡◌, ℕ, ◌+◌, ◌-◌, ◌<◌, ◌≤◌, nat_le, if◌then◌else◌, List}
+use Rattle.std.specs.Prelude.{◌≡◌, ℕ, ◌+◌, ◌-◌, ◌<◌, ◌≤◌, nat_le, if◌then◌else◌, List, Result, OnOk}
 use Rattle.flash_words.specs.Flash.{StaysLit}
 use Rattle.flash_words.specs.Layout.{Layout}
 use Rattle.record_model.specs.Records.{Stored}
 use Rattle.record_model.specs.RecordMap.{Write, Clear, made_by}
 use Rattle.record_store.specs.Store.{StoreView, Pending, Idle, Writing, Clearing, stored, changes_before_gate, changes_in_all, StandsIn, KeepsOrMakes, DividesAlike}
+use Rattle.record_store.specs.Answers.{FailsByFlash}
+use Rattle.record_store.specs.Calls.{IsOver}
+use Rattle.record_store.specs.declared.errors.StoreError.{StoreError}
 
 -- some of its changes are left
 abbrev pub IsUnfinished : Layout → Pending → Type 0
@@ -48,3 +51,14 @@ pub record IsOnWay (tells : Type 0) (old now : StoreView) : Type 0 where
   pub places : PlacesAlike old.layout old.pending now.pending
   pub end : tells → map_at_end now.layout now.pending (stored now) ≡ map_at_end old.layout old.pending (stored old)
   pub crash : tells → KeepsOrMakes old now (map_at_end old.layout old.pending (stored old))
+
+-- all that is left of a command was made
+pub record IsFinished (tells : Type 0) (old new : StoreView) (result : Result (Unit {0}) StoreError) : Type 0 where
+  pub error : FailsByFlash result
+  pub made : OnOk result (tells → stored new ≡ map_at_end old.layout old.pending (stored old))
+  pub placed : OnOk result (tells → PlacedAtEnd old.layout old.pending new.flash.told.image)
+  pub crash : tells → KeepsOrMakes old new (map_at_end old.layout old.pending (stored old))
+  pub steps : OnOk result (new.flash.steps ≡ old.flash.steps + changes_left old.layout old.pending)
+  pub at_most : new.flash.steps ≤ old.flash.steps + changes_left old.layout old.pending
+  pub reads : new.flash.reads ≡ old.flash.reads
+  pub over : IsOver old new result

@@ -9,9 +9,9 @@ ghost use Rattle.record_model.specs.RecordMap.{Write, Clear, Read, IsNextAbove};
 ghost use Rattle.record_slots.specs.Slots.{Fits};
 ghost use Rattle.record_recovery.specs.Answers.{IsOneFault};
 ghost use Rattle.record_store.specs.Store.{Idle, Clearing, stored, free_in, slots_for, map_after, IsBusy, IsWriteOf, IsSettled, IsReady, IsOpened, IsFlashOf, StandsIn, PlacedAfter, DividesAlike, KeepsMap, KeepsOrMakes, KeepsRecordsOf, abandoned, doubted, restarted};
-ghost use Rattle.record_store.specs.Finish.{IsUnfinished, map_at_end, changes_left, PlacedAtEnd};
+ghost use Rattle.record_store.specs.Finish.{IsUnfinished, IsFinished};
 ghost use Rattle.record_store.specs.Answers.{HasFaultsOf, EndsAtFault, StartsWrite, StartsClear, IsStep, HasStepped, AnswersWrite, AnswersClear, AnswersRead, AnswersLength, FailsByFlash, RefusesFlash, ReadsExactly, StartsByItself, AnswersByItself, HasLooked, TakesReads, copies_in, copies_pending};
-ghost use Rattle.record_store.specs.Calls.{OnlyLooks, OnlyStarts, IsOver, Changes};
+ghost use Rattle.record_store.specs.Calls.{OnlyLooks, OnlyStarts, Changes};
 
 use crate::errors::{StoreError, StoreRefused};
 use crate::index::{next_id, place_of};
@@ -462,14 +462,7 @@ impl<F: Flash> Store<F> {
     // Makes all changes of what is pending.
     fn finish(&mut self) -> Result<(), StoreError>
         requires unfinished { IsUnfinished self.old.layout self.old.pending }
-        ensures error { FailsByFlash result }
-        ensures made { OnOk result (F.tells → stored self.new ≡ map_at_end self.old.layout self.old.pending (stored self.old)) }
-        ensures placed { OnOk result (F.tells → PlacedAtEnd self.old.layout self.old.pending self.new.flash.told.image) }
-        ensures crash { F.tells → KeepsOrMakes self.old self.new (map_at_end self.old.layout self.old.pending (stored self.old)) }
-        ensures steps { OnOk result (self.new.flash.steps ≡ self.old.flash.steps + changes_left self.old.layout self.old.pending) }
-        ensures at_most { self.new.flash.steps ≤ self.old.flash.steps + changes_left self.old.layout self.old.pending }
-        ensures reads { self.new.flash.reads ≡ self.old.flash.reads }
-        ensures over { IsOver self.old self.new result }
+        ensures { IsFinished F.tells self.old self.new result }
     {
         while !self.step()? {}
         Ok(())

@@ -4,17 +4,7 @@ use Rattle.record_store.proofs.store.Store.clear.Goals as goal
 
 pub returns-in-Ok : goal.returns-in-Ok
 returns-in-Ok g c =
-    let made = clear_made g.F.Flash.tells c.args.self.now c.start_clear.new.self c.finish.new.self c.args.id _ c.finish.result c.in-Ok.ensures.leaves c.in-Ok.ensures.answer
-    (record {
-      error = c.finish.ensures.error;
-      made = c.finish.ensures.made;
-      placed = c.finish.ensures.placed;
-      crash = c.finish.ensures.crash;
-      steps = c.finish.ensures.steps;
-      at_most = c.finish.ensures.at_most;
-      reads = c.finish.ensures.reads;
-      over = c.finish.ensures.over;
-    }) in
+    let made = clear_made g.F.Flash.tells c.args.self.now c.start_clear.new.self c.finish.new.self c.args.id _ c.finish.result c.in-Ok.ensures.leaves c.in-Ok.ensures.answer c.finish.ensures in
     record {
       answer = made.answer;
       reads = finish_reads (λ (x : Unit {0}) (reads : ℕ). reads) c.args.self.now c.start_clear.new.self c.finish.new.self _ c.finish.result c.in-Ok.ensures.reads c.finish.ensures.error c.finish.ensures.reads;

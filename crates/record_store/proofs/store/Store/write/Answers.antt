@@ -8,17 +8,7 @@ use Rattle.record_store.proofs.store.Store.write.Goals as goal
 pub returns-in-Ok : goal.returns-in-Ok
 returns-in-Ok g c =
     let made = write_made g.F.Flash.tells c.args.self.now c.start_write.new.self c.finish.new.self c.args.id c.args.bytes.now _ c.finish.result
-    c.in-Ok.ensures.leaves c.in-Ok.ensures.answer c.in-Ok.ensures.slots
-    (record {
-      error = c.finish.ensures.error;
-      made = c.finish.ensures.made;
-      placed = c.finish.ensures.placed;
-      crash = c.finish.ensures.crash;
-      steps = c.finish.ensures.steps;
-      at_most = c.finish.ensures.at_most;
-      reads = c.finish.ensures.reads;
-      over = c.finish.ensures.over;
-    }) in
+    c.in-Ok.ensures.leaves c.in-Ok.ensures.answer c.in-Ok.ensures.slots c.finish.ensures in
     record {
       answer = made.answer;
       placed = made.placed;
