@@ -1,5 +1,5 @@
 -- Lists of bytes: parts, numbers in them, fields that stand one after another.
-use Rattle.std.specs.Prelude.{◌≡◌, ℕ, zero, suc, ◌+◌, ◌*◌, ◌<◌, ◌/◌, ◌%◌, List, [], ◌∷◌, ◌++◌, length, take, drop}
+use Rattle.std.specs.Prelude.{◌≡◌, ℕ, zero, suc, ◌+◌, ◌*◌, ◌<◌, ◌/◌, ◌%◌, List, [], ◌∷◌, ◌++◌, length, take, drop, replicate}
 
 -- the n bytes at a place
 unfoldable pub part : List ℕ → ℕ → ℕ → List ℕ
@@ -22,6 +22,10 @@ spelled (suc n) x = x % 256 ∷ spelled n (x / 256)
 -- the bytes with others in the place of those at `at`
 unfoldable pub put_at : List ℕ → ℕ → List ℕ → List ℕ
 put_at bytes at others = take at bytes ++ others ++ drop (at + length others) bytes
+
+-- so many zeros
+abbrev pub zeros : ℕ → List ℕ
+zeros n = replicate n 0
 
 -- the two differ in no byte outside the n bytes at a place
 pub record SameOutside (at n : ℕ) (old new : List ℕ) : Type 0 where

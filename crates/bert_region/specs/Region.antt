@@ -1,6 +1,7 @@
 -- The boot error region: error status blocks that stand one after another.
-use Rattle.std.specs.Prelude.{◌≡◌, ℕ, ◌+◌, nat_lt, ◌==◌, ◌||◌, if◌then◌else◌, Bool, true, List, [], ◌∷◌, ◌++◌, length, drop, replicate, All, Option, Some, None, Result, Ok, Err}
+use Rattle.std.specs.Prelude.{◌≡◌, ℕ, ◌+◌, nat_lt, ◌==◌, ◌||◌, if◌then◌else◌, Bool, true, List, [], ◌∷◌, ◌++◌, length, drop, All, Option, Some, None, Result, Ok, Err}
 use Rattle.base_model.specs.Bytes.{part, number_at, joined}
+pub use Rattle.base_model.specs.Bytes.{zeros}
 use Rattle.ghes_block.specs.declared.error.BlockError.{BlockError}
 use Rattle.ghes_block.specs.Grammar.{BlockValue, IsBlock}
 use Rattle.ghes_block.specs.Reading.{checked}
@@ -19,9 +20,6 @@ pub record IsListOf (blocks : List (List ℕ)) (region : List ℕ) : Type 0 wher
   pub rest : List ℕ
   pub begins : region ≡ joined blocks ++ rest
   pub done : ends rest ≡ true
-
-abbrev pub zeros : ℕ → List ℕ
-zeros n = replicate n 0
 
 -- whole blocks, and then so many zeros
 pub record IsLaidOut (blocks : List (List ℕ)) (left : ℕ) (region : List ℕ) : Type 0 where

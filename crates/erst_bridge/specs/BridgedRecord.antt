@@ -1,12 +1,10 @@
 -- The record that a bridge makes of an error status block (UEFI 2.8, appendix N.2): one section, whose body is the block.
-use Rattle.std.specs.Prelude.{ℕ, ◌+◌, ◌++◌, nat_lt, if◌then◌else◌, List, length, codes, replicate}
+use Rattle.std.specs.Prelude.{ℕ, ◌+◌, ◌++◌, nat_lt, if◌then◌else◌, List, length, codes}
 use Rattle.base_model.specs.Bytes.{number_at, joined}
+pub use Rattle.base_model.specs.Bytes.{zeros}
 use Rattle.cper_frame.specs.declared.heads.RecordHead.{RecordHead}
 use Rattle.cper_frame.specs.declared.heads.SectionHead.{SectionHead}
 use Rattle.cper_frame.specs.Grammar.{header, descriptor_fields}
-
-abbrev pub zeros : ℕ → List ℕ
-zeros n = replicate n 0
 
 -- the severity that a block says (ACPI 6.4, table 18.11); a number that is none counts as informational
 abbrev pub severity_in : List ℕ → ℕ

@@ -1,5 +1,7 @@
 -- The serialization actions (ACPI 6.4, section 18.5.1.1): their codes, of which 0xC has none, and the standard's names.
 use Rattle.std.specs.Prelude.{ℕ, List, [], ◌∷◌, Option, Some, None, slice_get, codes}
+use Rattle.apei_gas.specs.declared.structure.Gas.{Gas}
+use Rattle.erst_entries.specs.declared.entries.Entry.{Entry}
 use Rattle.erst_entries.specs.declared.actions.Action.{Action}
 use Rattle.erst_entries.specs.declared.actions.Action.TheVariants.{BeginWriteOperation, BeginReadOperation, BeginClearOperation, EndOperation, SetRecordOffset, ExecuteOperation, CheckBusyStatus, GetCommandStatus, GetRecordIdentifier, SetRecordIdentifier, GetRecordCount, BeginDummyWriteOperation, GetErrorLogAddressRange, GetErrorLogAddressRangeLength, GetErrorLogAddressRangeAttributes, GetExecuteOperationTimings}
 
@@ -57,3 +59,7 @@ action_name action = elim action [
   | GetErrorLogAddressRangeAttributes ↦ codes "GET_ERROR_LOG_ADDRESS_RANGE_ATTRIBUTES"
   | GetExecuteOperationTimings ↦ codes "GET_EXECUTE_OPERATION_TIMINGS"
 ]
+
+-- an entry of an action, without flags
+abbrev pub plain_entry : Action → ℕ → Gas → ℕ → ℕ → Entry
+plain_entry action code region value mask = record { action = code_of action; code = code; flags = 0; spare = 0; region = region; value = value; mask = mask }

@@ -8,14 +8,14 @@ use Rattle.apei_tables.specs.Layout.{spelling as header_spelling, IsHeader}
 use Rattle.apei_tables.specs.Tables.{IsSealed, IsTable}
 use Rattle.erst_entries.specs.declared.actions.Action.{Action}
 use Rattle.erst_entries.specs.declared.actions.Action.TheVariants.{BeginWriteOperation, BeginReadOperation, BeginClearOperation, EndOperation, SetRecordOffset, ExecuteOperation, CheckBusyStatus, GetCommandStatus, GetRecordIdentifier, SetRecordIdentifier, GetRecordCount, BeginDummyWriteOperation, GetErrorLogAddressRange, GetErrorLogAddressRangeLength, GetErrorLogAddressRangeAttributes}
-use Rattle.erst_entries.specs.Actions.{code_of}
+use Rattle.erst_entries.specs.Actions.{code_of, plain_entry}
 use Rattle.erst_entries.specs.Layout.{IsEntry, AreEntries, entry_spelling, front_spelling, spelling, FitsErst}
 use Rattle.erst_entries.specs.Tables.{IsErst}
 use Rattle.hest_sources.specs.declared.sources.HestSource.TheVariants.{Ghes as Generic}
 use Rattle.hest_sources.specs.Layout.{ghes_bytes, IsGhes}
 use Rattle.hest_sources.specs.Tables.{IsHest}
 use Rattle.bert_region.specs.Table.{IsBert}
-use Rattle.erst_machine.specs.OwnTables.{own_header, action_register, value_register, entry_of, act, give, is_one, answer, tell, told_actions, own_entries, own_size, own_checksum, own_erst, own_source, own_hest, own_bert, own_bert_bytes}
+use Rattle.erst_machine.specs.OwnTables.{own_header, action_register, value_register, act, give, is_one, answer, tell, told_actions, own_entries, own_size, own_checksum, own_erst, own_source, own_hest, own_bert, own_bert_bytes}
 use Rattle.erst_machine.proofs.SealLemmas.{count_is}
 
 -- entries fit their fields
@@ -29,7 +29,7 @@ action_gas = record { space = lit< tt; width = lit< tt; offset = lit< tt; access
 pub value_gas : IsGas value_register
 value_gas = record { space = lit< tt; width = lit< tt; offset = lit< tt; access = lit< tt; address = lit< tt }
 
-pub entry_fits : (action : Action) (code : ℕ) (region : Gas) (value mask : ℕ) → code < 256 → IsGas region → value < 2 ^ 64 → mask < 2 ^ 64 → IsEntry (entry_of action code region value mask)
+pub entry_fits : (action : Action) (code : ℕ) (region : Gas) (value mask : ℕ) → code < 256 → IsGas region → value < 2 ^ 64 → mask < 2 ^ 64 → IsEntry (plain_entry action code region value mask)
 entry_fits action code region value mask code_is region_is value_is mask_is = record {
   action = code_fits action;
   code = code_is;

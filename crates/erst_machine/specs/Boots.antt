@@ -1,10 +1,10 @@
 -- The boot of a machine.
-use Rattle.std.specs.Prelude.{◌≡◌, ◌*◌, ◌≤◌}
+use Rattle.std.specs.Prelude.{◌≡◌, ◌≤◌}
 use Rattle.base_model.specs.Faults.{Rose}
 use Rattle.flash_words.specs.Flash.{FlashState}
 use Rattle.flash_words.specs.Layout.{room_of, reach_of}
 use Rattle.flash_model.specs.declared.geometry.Geometry.{Geometry}
-use Rattle.flash_model.specs.Layouts.{layout_of}
+use Rattle.flash_model.specs.Layouts.{layout_of, Fits}
 use Rattle.record_store.specs.Store.{IsOpened}
 use Rattle.ghes_ack.specs.Machine.{started}
 use Rattle.ghes_ack.specs.Maps.{window, memory_started}
@@ -15,16 +15,11 @@ use Rattle.erst_machine.specs.declared.errors.BootError.TheVariants.{Size, Flash
 use Rattle.erst_machine.specs.Memories.{blank, cleared}
 use Rattle.erst_machine.specs.MachineState.{MachineState, IsMachine, own_map}
 
--- the flash has the geometry's size and sector size
-pub record FitsGeometry (geometry : Geometry) (flash : FlashState) : Type 0 where
-  pub size : flash.size ≡ geometry.slot_size * geometry.slots
-  pub sector_size : flash.sector_size ≡ geometry.sector
-
 -- why a flash is refused, with what it was and what is handed back
 abbrev pub RefusesBoot : Geometry → FlashState → FlashState → BootError → Type 0
-RefusesBoot geometry old back (Size found sector) = (FitsGeometry geometry old → ⊥) × (found ≡ old.size) × (sector ≡ old.sector_size) × (back ≡ old)
-RefusesBoot geometry old back Flash = FitsGeometry geometry old × (old.faults ≤ back.faults) × Rose old.faults back.faults
-RefusesBoot geometry old back Memory = FitsGeometry geometry old × (back ≡ old)
+RefusesBoot geometry old back (Size found sector) = (Fits geometry old → ⊥) × (found ≡ old.size) × (sector ≡ old.sector_size) × (back ≡ old)
+RefusesBoot geometry old back Flash = Fits geometry old × (old.faults ≤ back.faults) × Rose old.faults back.faults
+RefusesBoot geometry old back Memory = Fits geometry old × (back ≡ old)
 
 -- a machine right after its boot: nothing is begun, memory is zeros, and the handover is at its start
 pub record IsBooted (geometry : Geometry) (state : MachineState) : Type 0 where

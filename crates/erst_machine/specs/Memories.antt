@@ -1,5 +1,6 @@
 -- The bytes of the machine's areas but for the device's registers.
-use Rattle.std.specs.Prelude.{◌≡◌, ℕ, ◌≤◌, List, [], ◌∷◌, length, replicate}
+use Rattle.std.specs.Prelude.{◌≡◌, ℕ, ◌≤◌, List, [], ◌∷◌, length}
+pub use Rattle.base_model.specs.Bytes.{zeros}
 use Rattle.apei_gas.specs.declared.registers.Place.TheVariants.{Memory}
 use Rattle.apei_space.specs.declared.windows.Window.{Window}
 use Rattle.apei_space.specs.RamState.{RamState}
@@ -72,9 +73,6 @@ pub record HasSizes (reach : ℕ) (memory : MemoryState) : Type 0 where
 -- the boot error region holds whole blocks and then zeros
 abbrev pub IsLaid : List ℕ → Type 0
 IsLaid region = (blocks : List (List ℕ)) × (left : ℕ) × IsLaidOut blocks left region
-
-abbrev pub zeros : ℕ → List ℕ
-zeros n = replicate n 0
 
 -- the handover's memory before its first start
 abbrev pub blank : RamState

@@ -10,7 +10,7 @@ use Rattle.apei_tables.specs.Layout.{spelling as header_spelling}
 use Rattle.erst_entries.specs.declared.actions.Action.{Action}
 use Rattle.erst_entries.specs.declared.actions.Action.TheVariants.{BeginWriteOperation, BeginReadOperation, BeginClearOperation, EndOperation, SetRecordOffset, ExecuteOperation, CheckBusyStatus, GetCommandStatus, GetRecordIdentifier, SetRecordIdentifier, GetRecordCount, BeginDummyWriteOperation, GetErrorLogAddressRange, GetErrorLogAddressRangeLength, GetErrorLogAddressRangeAttributes, GetExecuteOperationTimings}
 use Rattle.erst_entries.specs.declared.entries.Entry.{Entry}
-use Rattle.erst_entries.specs.Actions.{code_of}
+use Rattle.erst_entries.specs.Actions.{code_of, plain_entry}
 use Rattle.erst_entries.specs.Layout.{Erst}
 use Rattle.hest_sources.specs.declared.sources.Ghes.{Ghes}
 use Rattle.hest_sources.specs.declared.sources.Ack.{Ack}
@@ -50,25 +50,21 @@ action_at = record { place = Memory (base_of Device); access = B32; offset = 0 }
 abbrev pub value_at : Register
 value_at = record { place = Memory (base_of Device + 8); access = B64; offset = 0 }
 
--- an entry of an action that replaces the whole register
-abbrev pub entry_of : Action → ℕ → Gas → ℕ → ℕ → Entry
-entry_of action code region value mask = record { action = code_of action; code = code; flags = 0; spare = 0; region = region; value = value; mask = mask }
-
 -- WRITE_REGISTER_VALUE: the action's code goes to ACTION
 abbrev pub act : Action → Entry
-act action = entry_of action 0x3 action_register (code_of action) (2 ^ 32 - 1)
+act action = plain_entry action 0x3 action_register (code_of action) (2 ^ 32 - 1)
 
 -- WRITE_REGISTER: the given value goes to VALUE
 abbrev pub give : Action → Entry
-give action = entry_of action 0x2 value_register 0 (2 ^ 64 - 1)
+give action = plain_entry action 0x2 value_register 0 (2 ^ 64 - 1)
 
 -- READ_REGISTER_VALUE: whether VALUE is 1
 abbrev pub is_one : Action → Entry
-is_one action = entry_of action 0x1 value_register 1 (2 ^ 64 - 1)
+is_one action = plain_entry action 0x1 value_register 1 (2 ^ 64 - 1)
 
 -- READ_REGISTER: VALUE under a mask
 abbrev pub answer : Action → ℕ → Entry
-answer action mask = entry_of action 0x0 value_register 0 mask
+answer action mask = plain_entry action 0x0 value_register 0 mask
 
 -- the entries of actions that leave a number of 64 bits in VALUE, two of each
 abbrev pub tell : List Action → List Entry

@@ -1,7 +1,8 @@
 // Instruction entries over the device's registers, and those of the machine's own table.
 ghost use Rattle.std.specs.Prelude.{◌≡◌, ℕ, Some};
 ghost use Rattle.erst_entries.specs.Instructions.{instruction_of};
-ghost use Rattle.erst_machine.specs.OwnTables.{register_of, action_register, value_register, entry_of, act, give, is_one, answer, tell, told_actions, own_entries};
+ghost use Rattle.erst_entries.specs.Actions.{plain_entry};
+ghost use Rattle.erst_machine.specs.OwnTables.{register_of, action_register, value_register, act, give, is_one, answer, tell, told_actions, own_entries};
 
 use crate::areas::{ACTION, VALUE};
 use apei_gas::Gas;
@@ -40,7 +41,7 @@ pub fn entry_of(
     value: u64,
     mask: u64,
 ) -> Entry
-    ensures { (code : ℕ) → instruction_of code ≡ Some instruction → result ≡ entry_of action code region value mask }
+    ensures { (code : ℕ) → instruction_of code ≡ Some instruction → result ≡ plain_entry action code region value mask }
 {
     Entry {
         action: action.code(),

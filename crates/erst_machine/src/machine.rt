@@ -4,6 +4,7 @@ ghost use Rattle.base_model.specs.Bytes.{part, joined};
 ghost use Rattle.std.specs.FinMap.{len};
 ghost use Rattle.flash_words.specs.Flash.{FlashState, LosesOnlyByChange, StaysLit, raised, next_count};
 ghost use Rattle.record_model.specs.Records.{second_copies};
+ghost use Rattle.flash_model.specs.Layouts.{Fits};
 ghost use Rattle.record_store.specs.Store.{IsReady, IsFlashOf, IsSettled, KeepsRecordsOf};
 ghost use Rattle.record_recovery.specs.Answers.{IsOneFault};
 ghost use Rattle.record_store.specs.Answers.{RefusesFlash};
@@ -21,7 +22,7 @@ ghost use Rattle.erst_machine.specs.Memories.{IsLaid};
 ghost use Rattle.erst_machine.specs.MachineState.{MachineState, IsMachine, reach_in, spot_of};
 ghost use Rattle.erst_machine.specs.OwnTables.{own_size, own_erst, own_source, own_hest, own_bert, own_bert_bytes};
 ghost use Rattle.erst_machine.specs.Shown.{changes_of};
-ghost use Rattle.erst_machine.specs.Boots.{FitsGeometry, RefusesBoot, IsBooted};
+ghost use Rattle.erst_machine.specs.Boots.{RefusesBoot, IsBooted};
 ghost use Rattle.erst_machine.specs.Events.{Warms, Powers, Submits, Turns, LaysFatal, fatal_refusal};
 
 use crate::accesses::{copy_bytes, read_bytes, read_number, write_bytes, write_number};
@@ -69,7 +70,7 @@ impl<F: Flash> Machine<F> {
     /// its sizes are compared before anything is taken.
     pub fn boot(alloc: Global, flash: F, geometry: Geometry) -> Result<Machine<F>, BootRefused<F>>
         ensures booted { IfOk result (IsBooted geometry) }
-        ensures fits { IsOk result → FitsGeometry geometry (F.state flash) }
+        ensures fits { IsOk result → Fits geometry (F.state flash) }
         ensures flash { IfOk result (λ machine. IsFlashOf (F.state flash) machine.device.store.flash) }
         ensures settled { IfOk result (λ machine. F.tells → IsSettled machine.device.store) }
         ensures reads { IfOk result (λ machine. machine.device.store.flash.reads ≡ raised (2 * geometry.slots) (F.state flash).reads) }
@@ -263,7 +264,7 @@ impl<F: Flash> Machine<F> {
 
 /// The refusal of a flash of another size or sector size.
 fn misfit<F: Flash>(flash: &F, geometry: &Geometry) -> Option<BootError>
-    ensures { MatchOption result (FitsGeometry geometry.now (F.state flash.now))
+    ensures { MatchOption result (Fits geometry.now (F.state flash.now))
         (λ why. RefusesBoot geometry.now (F.state flash.now) (F.state flash.now) why) }
 {
     let size = flash.size();

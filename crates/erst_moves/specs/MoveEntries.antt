@@ -3,7 +3,7 @@ use Rattle.std.specs.Prelude.{ℕ, ◌-◌, ◌^◌, List, [], ◌∷◌}
 use Rattle.apei_gas.specs.declared.structure.Gas.{Gas}
 use Rattle.erst_entries.specs.declared.actions.Action.{Action}
 use Rattle.erst_entries.specs.declared.entries.Entry.{Entry}
-use Rattle.erst_entries.specs.Actions.{code_of}
+pub use Rattle.erst_entries.specs.Actions.{plain_entry}
 
 -- what the program keeps in memory: how far it is, the two addresses, and how many bytes it copies at once
 pub data MoveRegister : Type 0 where
@@ -22,10 +22,6 @@ region_of r = record { space = 0; width = 64; offset = 0; access = 4; address = 
 -- the region of an instruction that uses no register
 abbrev pub no_region : Gas
 no_region = record { space = 0; width = 0; offset = 0; access = 0; address = 0 }
-
--- an entry without flags
-abbrev pub plain_entry : Action → ℕ → Gas → ℕ → ℕ → Entry
-plain_entry action code region value mask = record { action = code_of action; code = code; flags = 0; spare = 0; region = region; value = value; mask = mask }
 
 -- WRITE_REGISTER_VALUE: a number goes to a register
 abbrev pub put_number : Action → MoveRegister → ℕ → Entry

@@ -2,7 +2,8 @@
 ghost use Rattle.std.specs.Prelude.{◌≡◌, ℕ, Some};
 ghost use Rattle.erst_entries.specs.Instructions.{instruction_of};
 ghost use Rattle.erst_machine.specs.OwnTables.{register_of};
-ghost use Rattle.erst_moves.specs.MoveEntries.{plain_entry, move_entries};
+ghost use Rattle.erst_entries.specs.Actions.{plain_entry};
+ghost use Rattle.erst_moves.specs.MoveEntries.{move_entries};
 ghost use Rattle.erst_shadow.specs.ShadowTables.{entries_before, entries_between, entries_behind};
 
 use erst_entries::{Action, Entry, Instruction};

@@ -1,13 +1,11 @@
 -- Blocks in pieces of 64 bytes.
-use Rattle.std.specs.Prelude.{ℕ, ◌+◌, ◌-◌, ◌*◌, ◌/◌, min, List, ◌++◌, length, drop, replicate}
+use Rattle.std.specs.Prelude.{ℕ, ◌+◌, ◌-◌, ◌*◌, ◌/◌, min, List, ◌++◌, length, drop}
 use Rattle.base_model.specs.Bytes.{part, put_at}
+pub use Rattle.base_model.specs.Bytes.{zeros}
 
 -- a block's pieces have 64 bytes, the last one the rest
 abbrev pub pieces : List ℕ → ℕ
 pieces block = (length block + 63) / 64
-
-abbrev pub zeros : ℕ → List ℕ
-zeros n = replicate n 0
 
 -- a block as it is filled: its status word is 0 until it is published
 abbrev pub hidden : List ℕ → List ℕ
