@@ -9,8 +9,9 @@ ghost use Rattle.erst_entries.specs.Actions.{action_of};
 ghost use Rattle.erst_device.specs.DeviceState.{at_first, KnowsCopies};
 ghost use Rattle.erst_device.specs.Actions.{Acts, gives_up};
 ghost use Rattle.erst_device.specs.Effects.{Effect};
+ghost use Rattle.erst_device.specs.Registers.{seen};
 
-use crate::registers::Registers;
+use crate::registers::{Registers, Running};
 use erst_entries::Action;
 use flash_model::Flash;
 use record_store::{Store, StoreError};
@@ -47,6 +48,22 @@ impl<F: Flash> Device<F> {
             store,
             registers: Registers::new(),
         }
+    }
+
+    /// The device of a store, with these registers, in which no execution runs.
+    pub fn resume(store: Store<F>, registers: Registers) -> Device<F>
+        requires idle { store.pending ≡ Idle }
+        requires still { registers.running ≡ Running.Nothing }
+        ensures { result ≡ seen registers store }
+    {
+        Device { store, registers }
+    }
+
+    /// All that the device keeps beside its store.
+    pub fn registers(&self) -> Registers
+        ensures { self.now ≡ seen result self.now.store }
+    {
+        self.registers
     }
 
     /// VALUE.

@@ -13,5 +13,5 @@ mod stepping;
 mod timings;
 
 pub use device::{Device, LOG_RANGE};
-pub use registers::Operation;
+pub use registers::{Operation, Registers, Running};
 pub use status::CommandStatus;

@@ -1,0 +1,56 @@
+-- What C is told of media and of their formats.
+use Rattle.std.specs.Prelude.{◌≡◌, ◌⊎◌, ℕ, Bool, true, false, List, slice_get, Option, Some, None}
+use Rattle.flash_model.specs.declared.geometry.Geometry.{Geometry}
+use Rattle.flash_model.specs.Limits.{IsGeometry}
+use Rattle.erst_medium.specs.declared.format.FormatChange.{FormatChange}
+use Rattle.erst_medium.specs.declared.format.Content.{Content}
+use Rattle.erst_medium.specs.declared.format.Content.TheVariants.{Header, Mark, Erased}
+use Rattle.erst_medium.specs.Headers.{medium_size}
+use Rattle.erst_medium.specs.Formats.{format_changes}
+use Rattle.apei_c.specs.Buffers.{Fills}
+use Rattle.apei_c.specs.declared.status.Status.{Status}
+use Rattle.apei_c.specs.declared.status.Status.TheVariants.{Done, Nothing, Short, Geometry as BadGeometry}
+use Rattle.apei_c.specs.declared.structs.MediumGeometry.{MediumGeometry}
+use Rattle.apei_c.specs.declared.structs.MediumChange.{MediumChange}
+
+-- these numbers are those of a geometry
+pub record Divides (numbers : MediumGeometry) (geometry : Geometry) : Type 0 where
+  pub sector : geometry.sector ≡ numbers.sector
+  pub per_slot : geometry.per_slot ≡ numbers.sectors_per_slot
+  pub slots : geometry.slots ≡ numbers.slots
+
+-- they are outside their limits
+abbrev pub DividesNothing : MediumGeometry → Type 0
+DividesNothing numbers = IsGeometry numbers.sector numbers.sectors_per_slot numbers.slots → ⊥
+
+abbrev pub TellsSize : MediumGeometry → (before : ℕ) → Status → (after : ℕ) → Type 0
+TellsSize numbers before status after =
+    ((status ≡ Done) × ((geometry : Geometry) × Divides numbers geometry × (after ≡ medium_size geometry)))
+    ⊎ ((status ≡ BadGeometry) × DividesNothing numbers × (after ≡ before))
+
+abbrev pub kind_of : Content → ℕ
+kind_of (Header bytes) = 0
+kind_of (Mark byte) = 0
+kind_of Erased = 1
+
+abbrev pub change_of : FormatChange → MediumChange
+change_of change = record { offset = change.at; length = change.len; kind = kind_of change.content }
+
+-- the bytes that are programmed are handed out in a buffer, if it has room for them
+abbrev pub HandsOut : Content → (before : List ℕ) → (has_room : Bool) → (after : List ℕ) → Type 0
+HandsOut (Header bytes) before has_room after = Fills bytes before has_room after
+HandsOut (Mark byte) before has_room after = Fills byte before has_room after
+HandsOut Erased before has_room after = (has_room ≡ true) × (after ≡ before)
+
+-- the next change is told
+abbrev pub TellsNext : Option FormatChange → MediumChange → List ℕ → Status → MediumChange → List ℕ → Type 0
+TellsNext (Some next) change bytes status change_after bytes_after =
+    ((status ≡ Done) × (change_after ≡ change_of next) × HandsOut next.content bytes true bytes_after)
+    ⊎ ((status ≡ Short) × (change_after ≡ change) × HandsOut next.content bytes false bytes_after)
+TellsNext None change bytes status change_after bytes_after = (status ≡ Nothing) × (change_after ≡ change) × (bytes_after ≡ bytes)
+
+-- the answer to a question for a change of a format
+abbrev pub Formats : MediumGeometry → (step : ℕ) → MediumChange → List ℕ → Status → MediumChange → List ℕ → Type 0
+Formats numbers step change bytes status change_after bytes_after =
+    ((geometry : Geometry) × Divides numbers geometry × TellsNext (slice_get (format_changes geometry) step) change bytes status change_after bytes_after)
+    ⊎ ((status ≡ BadGeometry) × DividesNothing numbers × (change_after ≡ change) × (bytes_after ≡ bytes))

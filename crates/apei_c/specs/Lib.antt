@@ -1,0 +1,9 @@
+pub mod Owners
+pub mod Statuses
+pub mod Numbers
+pub mod Buffers
+pub mod Handles
+pub mod Devices
+pub mod Openings
+pub mod Formats
+pub mod Checks

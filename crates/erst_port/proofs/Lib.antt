@@ -1,0 +1,4 @@
+pub mod LookLemmas
+pub mod ActLemmas
+pub mod TableLemmas
+pub mod OpenLemmas

@@ -1,0 +1,5 @@
+pub mod Walks
+pub mod Puts
+pub mod Dues
+pub mod Logs
+pub mod Made

@@ -1,0 +1,5 @@
+pub mod Pasts
+pub mod Dues
+pub mod Contents
+pub mod Logs
+pub mod States

@@ -1,0 +1,5 @@
+pub mod Calls
+pub mod Beginnings
+pub mod Losses
+pub mod Commands
+pub mod Prefixes

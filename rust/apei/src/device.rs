@@ -1,0 +1,247 @@
+use crate::error::{answer, Error, Failure, NONE};
+use crate::geometry::{make, Geometry};
+use crate::medium::Medium;
+use crate::raw;
+
+/// The bytes of the register window.
+pub const REGISTERS_SIZE: u64 = 16;
+
+/// One of the device's two windows of guest-physical memory.
+#[derive(Clone, Copy, Debug, PartialEq, Eq, Hash)]
+pub enum Window {
+    /// ACTION: 4 bytes at 0. VALUE: 8 bytes at 8, or its halves, 4 bytes at 8 and at 12.
+    Registers,
+    /// The log range: any bytes.
+    LogRange,
+}
+
+/// Where the guest finds the two windows.
+#[derive(Clone, Copy, Debug, PartialEq, Eq, Hash)]
+pub struct Addresses {
+    /// Of the registers.
+    pub registers: u64,
+    /// Of the log range.
+    pub log_range: u64,
+}
+
+impl Addresses {
+    fn as_raw(self) -> raw::Addresses {
+        raw::Addresses {
+            registers: self.registers,
+            range: self.log_range,
+        }
+    }
+}
+
+/// The error record device over a medium (ACPI 6.4, section 18.5).
+///
+/// Each change that an access makes due is made on the medium before the access returns. Where the medium fails one, the
+/// device takes no further action: drop it and open the medium anew.
+///
+/// ```
+/// use apei::{format, Addresses, Device, Geometry, MemoryMedium, Window};
+///
+/// let mut medium = MemoryMedium::default();
+/// format(&mut medium, Geometry::new(4096, 2, 16)?)?;
+/// let addresses = Addresses { registers: 0xFED4_0000, log_range: 0xFED5_0000 };
+/// let mut device = Device::open(medium, addresses)?;
+///
+/// // GET_RECORD_COUNT: the action's code goes to ACTION, and the answer stands in VALUE.
+/// device.write(Window::Registers, 0, &0x0A_u32.to_le_bytes())?;
+/// let mut count = [0; 8];
+/// device.read(Window::Registers, 8, &mut count)?;
+/// assert_eq!(u64::from_le_bytes(count), 0);
+/// # Ok::<(), Box<dyn std::error::Error>>(())
+/// ```
+pub struct Device<M: Medium> {
+    erst: raw::Erst,
+    medium: M,
+}
+
+// SAFETY: what the handle owns is reached by nothing else.
+unsafe impl<M: Medium + Send> Send for Device<M> {}
+
+impl<M: Medium> Device<M> {
+    /// Opens the device of a formatted medium.
+    pub fn open(medium: M, addresses: Addresses) -> Result<Self, Failure<M::Error>> {
+        Self::open_by(medium, |erst, bytes| {
+            // SAFETY: the bytes and the references live as long as the call.
+            unsafe { raw::apei_c_erst_open(erst, bytes.as_ptr(), bytes.len(), &addresses.as_raw()) }
+        })
+    }
+
+    /// Opens the device of a medium that has no sector to spare: all of it is flash of this geometry. Nothing says that it is the
+    /// right one.
+    pub fn open_raw(
+        medium: M,
+        geometry: Geometry,
+        addresses: Addresses,
+    ) -> Result<Self, Failure<M::Error>> {
+        Self::open_by(medium, |erst, bytes| {
+            // SAFETY: as above.
+            unsafe {
+                raw::apei_c_erst_open_raw(
+                    erst,
+                    bytes.as_ptr(),
+                    bytes.len(),
+                    &geometry.as_raw(),
+                    &addresses.as_raw(),
+                )
+            }
+        })
+    }
+
+    fn open_by(
+        mut medium: M,
+        open: impl FnOnce(&mut raw::Erst, &[u8]) -> u32,
+    ) -> Result<Self, Failure<M::Error>> {
+        let bytes = medium.contents().map_err(Failure::Medium)?;
+        let mut erst = raw::Erst::closed();
+        answer(open(&mut erst, &bytes))?;
+        let mut device = Device { erst, medium };
+        device.make_changes()?;
+        Ok(device)
+    }
+
+    /// Reads bytes of a window, as the guest does.
+    pub fn read(&mut self, window: Window, offset: u64, bytes: &mut [u8]) -> Result<(), Error> {
+        match window {
+            // SAFETY: the bytes and the handle live as long as the call.
+            Window::LogRange => answer(unsafe {
+                raw::apei_c_erst_get(&mut self.erst, offset, bytes.as_mut_ptr(), bytes.len())
+            }),
+            Window::Registers => {
+                let size = register_size(bytes.len())?;
+                let mut value = 0;
+                // SAFETY: the handle and the value live as long as the call.
+                answer(unsafe {
+                    raw::apei_c_erst_read(&mut self.erst, 0, offset, size, &mut value)
+                })?;
+                bytes.copy_from_slice(&value.to_le_bytes()[..bytes.len()]);
+                Ok(())
+            }
+        }
+    }
+
+    /// Writes bytes of a window, as the guest does, and makes the change on the medium that this may make due.
+    pub fn write(
+        &mut self,
+        window: Window,
+        offset: u64,
+        bytes: &[u8],
+    ) -> Result<(), Failure<M::Error>> {
+        match window {
+            // SAFETY: the bytes and the handle live as long as the call.
+            Window::LogRange => answer(unsafe {
+                raw::apei_c_erst_put(&mut self.erst, offset, bytes.as_ptr(), bytes.len())
+            })?,
+            Window::Registers => {
+                let size = register_size(bytes.len())?;
+                let mut value = [0; 8];
+                value[..bytes.len()].copy_from_slice(bytes);
+                // SAFETY: the handle lives as long as the call.
+                answer(unsafe {
+                    raw::apei_c_erst_write(
+                        &mut self.erst,
+                        0,
+                        offset,
+                        size,
+                        u64::from_le_bytes(value),
+                    )
+                })?;
+                self.make_changes()?;
+            }
+        }
+        Ok(())
+    }
+
+    /// The guest was reset: the registers are as at first, and an execution that runs is abandoned.
+    pub fn reset(&mut self) -> Result<(), Failure<M::Error>> {
+        // SAFETY: the handle lives as long as the call.
+        answer(unsafe { raw::apei_c_erst_reset(&mut self.erst) })?;
+        self.make_changes()
+    }
+
+    /// Other addresses, as when the windows of a PCI device are moved. The table is another then.
+    pub fn move_to(&mut self, addresses: Addresses) -> Result<(), Error> {
+        // SAFETY: the handle and the addresses live as long as the call.
+        answer(unsafe { raw::apei_c_erst_move(&mut self.erst, &addresses.as_raw()) })
+    }
+
+    /// The Error Record Serialization Table for these addresses, sealed: give it to the guest.
+    pub fn table(&mut self) -> Vec<u8> {
+        sized(|bytes, size| {
+            // SAFETY: the bytes and the references live as long as the call.
+            unsafe { raw::apei_c_erst_table(&mut self.erst, bytes.as_mut_ptr(), bytes.len(), size) }
+        })
+        .unwrap_or_default()
+    }
+
+    /// The bytes of the log range: those of the longest record.
+    pub fn log_range_size(&mut self) -> u64 {
+        let mut size = 0;
+        // SAFETY: the handle and the size live as long as the call.
+        unsafe { raw::apei_c_erst_range_size(&mut self.erst, &mut size) };
+        size
+    }
+
+    /// The medium.
+    pub fn medium(&self) -> &M {
+        &self.medium
+    }
+
+    fn make_changes(&mut self) -> Result<(), Failure<M::Error>> {
+        let mut bytes = [0; raw::PROGRAM_MAX];
+        loop {
+            let mut change = raw::Change::default();
+            // SAFETY: `bytes` has the room that is told, and the references live as long as the call.
+            let status = unsafe {
+                raw::apei_c_erst_change(
+                    &mut self.erst,
+                    &mut change,
+                    bytes.as_mut_ptr(),
+                    bytes.len(),
+                )
+            };
+            if status == NONE {
+                return Ok(());
+            }
+            answer(status)?;
+            make(&mut self.medium, &change, &bytes).map_err(Failure::Medium)?;
+            // SAFETY: the handle lives as long as the call.
+            answer(unsafe { raw::apei_c_erst_done(&mut self.erst) })?;
+        }
+    }
+}
+
+impl<M: Medium> Drop for Device<M> {
+    fn drop(&mut self) {
+        // SAFETY: the handle is this device's alone.
+        unsafe { raw::apei_c_erst_close(&mut self.erst) };
+    }
+}
+
+fn register_size(length: usize) -> Result<u32, Error> {
+    match length {
+        1 | 2 | 4 | 8 => Ok(length as u32),
+        _ => Err(Error::Access),
+    }
+}
+
+const SHORT: u32 = 8;
+
+/// What a call gives that tells how many bytes it wants.
+fn sized(mut call: impl FnMut(&mut [u8], &mut u64) -> u32) -> Result<Vec<u8>, Error> {
+    let mut size = 0;
+    let mut bytes = Vec::new();
+    loop {
+        match call(&mut bytes, &mut size) {
+            SHORT if size as usize > bytes.len() => bytes.resize(size as usize, 0),
+            status => {
+                answer(status)?;
+                bytes.truncate(size as usize);
+                return Ok(bytes);
+            }
+        }
+    }
+}

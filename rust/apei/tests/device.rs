@@ -1,0 +1,216 @@
+//! The device over a medium in memory: accesses, loss of power in each change, and the checks.
+
+use apei::{
+    check, format, Addresses, Device, Error, Failure, Geometry, Item, Medium, MemoryMedium, Window,
+};
+
+const ADDRESSES: Addresses = Addresses {
+    registers: 0xFED4_0000,
+    log_range: 0xFED5_0000,
+};
+
+fn geometry() -> Geometry {
+    Geometry::new(256, 2, 8).unwrap()
+}
+
+fn formatted() -> MemoryMedium {
+    let mut medium = MemoryMedium::default();
+    format(&mut medium, geometry()).unwrap();
+    medium
+}
+
+fn act<M: Medium>(device: &mut Device<M>, action: u32) -> Result<u64, Failure<M::Error>> {
+    device.write(Window::Registers, 0, &action.to_le_bytes())?;
+    let mut value = [0; 8];
+    device.read(Window::Registers, 8, &mut value)?;
+    Ok(u64::from_le_bytes(value))
+}
+
+fn record(identifier: u64, length: u32) -> Vec<u8> {
+    let mut record = vec![identifier as u8; length as usize];
+    record[..128].fill(0);
+    record[..10].copy_from_slice(b"CPER\x01\x01\xFF\xFF\xFF\xFF");
+    record[20..24].copy_from_slice(&length.to_le_bytes());
+    record[96..104].copy_from_slice(&identifier.to_le_bytes());
+    record
+}
+
+fn store<M: Medium>(device: &mut Device<M>, bytes: &[u8]) -> Result<u64, Failure<M::Error>> {
+    act(device, 0x0)?;
+    device.write(Window::LogRange, 0, bytes)?;
+    act(device, 0x5)?;
+    while act(device, 0x6)? == 1 {}
+    let status = act(device, 0x7)?;
+    act(device, 0x3)?;
+    Ok(status)
+}
+
+fn identifiers<M: Medium>(device: &mut Device<M>) -> Vec<u64>
+where
+    M::Error: std::fmt::Debug,
+{
+    let count = act(device, 0xA).unwrap();
+    (0..count).map(|_| act(device, 0x8).unwrap()).collect()
+}
+
+/// A medium in memory whose power is lost in one change.
+struct Cut {
+    medium: MemoryMedium,
+    changes: usize,
+    cut_at: usize,
+}
+
+impl Medium for Cut {
+    type Error = ();
+
+    fn contents(&mut self) -> Result<Vec<u8>, ()> {
+        Ok(self.medium.bytes().to_vec())
+    }
+
+    fn program(&mut self, offset: u64, bytes: &[u8]) -> Result<(), ()> {
+        self.changes += 1;
+        if self.changes > self.cut_at {
+            return Err(());
+        }
+        self.medium
+            .program(offset, bytes)
+            .map_err(|never| match never {})
+    }
+
+    fn erase(&mut self, offset: u64, length: u32) -> Result<(), ()> {
+        self.changes += 1;
+        if self.changes > self.cut_at {
+            return Err(());
+        }
+        self.medium
+            .erase(offset, length)
+            .map_err(|never| match never {})
+    }
+}
+
+#[test]
+fn a_record_is_found_by_the_next_opening() {
+    let mut device = Device::open(formatted(), ADDRESSES).unwrap();
+    assert_eq!(store(&mut device, &record(7, 300)).unwrap(), 0);
+    let medium = device.medium().clone();
+    drop(device);
+    let mut device = Device::open(medium, ADDRESSES).unwrap();
+    assert_eq!(identifiers(&mut device), [7]);
+}
+
+#[test]
+fn a_walk_over_identifiers_goes_round() {
+    let mut device = Device::open(formatted(), ADDRESSES).unwrap();
+    assert_eq!(act(&mut device, 0x8).unwrap(), u64::MAX);
+    for identifier in [3, 1, 2] {
+        store(&mut device, &record(identifier, 200)).unwrap();
+    }
+    let walk: Vec<u64> = (0..7).map(|_| act(&mut device, 0x8).unwrap()).collect();
+    assert_eq!(walk, [1, 2, 3, 1, 2, 3, 1]);
+}
+
+#[test]
+fn power_lost_in_any_change_leaves_the_record_before_or_after() {
+    for cut_at in 0.. {
+        let medium = Cut {
+            medium: formatted(),
+            changes: 0,
+            cut_at,
+        };
+        let mut device = Device::open(medium, ADDRESSES).unwrap();
+        let told = store(&mut device, &record(5, 400)).is_ok();
+        let mut device = Device::open(device.medium().medium.clone(), ADDRESSES).unwrap();
+        let found = identifiers(&mut device);
+        assert!(
+            found == [5] || (found.is_empty() && !told),
+            "cut at {cut_at}"
+        );
+        if told {
+            break;
+        }
+    }
+}
+
+#[test]
+fn value_has_two_halves() {
+    let mut device = Device::open(formatted(), ADDRESSES).unwrap();
+    device.write(Window::Registers, 8, &[0xFF; 8]).unwrap();
+    device
+        .write(Window::Registers, 8, &1u32.to_le_bytes())
+        .unwrap();
+    device
+        .write(Window::Registers, 12, &2u32.to_le_bytes())
+        .unwrap();
+    let (mut whole, mut high) = ([0; 8], [0; 4]);
+    device.read(Window::Registers, 8, &mut whole).unwrap();
+    device.read(Window::Registers, 12, &mut high).unwrap();
+    assert_eq!(u64::from_le_bytes(whole), 0x2_0000_0001);
+    assert_eq!(u32::from_le_bytes(high), 2);
+    assert_eq!(
+        device.read(Window::Registers, 16, &mut high),
+        Err(Error::Access)
+    );
+    assert_eq!(
+        device.read(Window::Registers, 8, &mut [0; 3]),
+        Err(Error::Access)
+    );
+}
+
+#[test]
+fn what_is_no_medium_is_refused() {
+    let open = |bytes: Vec<u8>| Device::open(MemoryMedium::new(bytes), ADDRESSES).err();
+    assert!(matches!(
+        open(Vec::new()),
+        Some(Failure::Refused(Error::Foreign))
+    ));
+    assert!(matches!(
+        open(vec![0xFF; 4352]),
+        Some(Failure::Refused(Error::Foreign))
+    ));
+    let mut longer = formatted().bytes().to_vec();
+    longer.push(0);
+    assert!(matches!(open(longer), Some(Failure::Refused(Error::Size))));
+    assert_eq!(Geometry::new(300, 2, 8), Err(Error::Geometry));
+    let overlapping = Addresses {
+        registers: 8,
+        log_range: 0,
+    };
+    let refused = Device::open(formatted(), overlapping).err();
+    assert!(matches!(refused, Some(Failure::Refused(Error::Addresses))));
+}
+
+#[test]
+fn the_table_is_one() {
+    let mut device = Device::open(formatted(), ADDRESSES).unwrap();
+    let table = device.table();
+    let parts = check(Item::Erst, &table).unwrap();
+    assert!(parts.len() > 16);
+    assert!(parts.clone().all(|part| part.header.len() == 32));
+    assert_eq!(parts.len(), parts.count());
+    assert!(check(Item::Hest, &table).is_err());
+    device
+        .move_to(Addresses {
+            registers: 0x1000,
+            log_range: 0x10_0000,
+        })
+        .unwrap();
+    assert_ne!(device.table(), table);
+    assert!(check(Item::Erst, &device.table()).is_ok());
+}
+
+#[test]
+fn a_record_shows_its_parts() {
+    let bytes = record(9, 128);
+    assert_eq!(check(Item::Record, &bytes).unwrap().count(), 0);
+    assert!(check(Item::Record, &bytes[..100]).is_err());
+    assert!(check(Item::Block, &[0; 19]).is_err());
+}
+
+#[test]
+fn a_device_may_go_to_another_thread() {
+    let mut device = Device::open(formatted(), ADDRESSES).unwrap();
+    let count = std::thread::spawn(move || act(&mut device, 0xA).unwrap())
+        .join()
+        .unwrap();
+    assert_eq!(count, 0);
+}
