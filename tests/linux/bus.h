@@ -1,0 +1,33 @@
+/* bus.h - the memory bus: one device at a base, counts of its accesses, and the place where the machine stops. */
+#ifndef BUS_H
+#define BUS_H
+
+#include <stdbool.h>
+#include <stdint.h>
+#include "device.h"
+
+/* The exit status of a process whose machine was stopped. */
+enum { STOPPED = 3 };
+
+/* What a stop within a change leaves in its range: nothing, its first half, all of it, or other bytes. */
+enum tear { NOTHING, HALF, WHOLE, OTHER, TEARS };
+
+struct bus_counts {
+    uint64_t accesses; /* reads, writes and copies of the driver */
+    uint64_t changes;  /* changes of the image */
+    uint64_t waits;    /* times that the driver waited for a device that was busy */
+};
+
+extern struct bus_counts bus_counts;
+
+void bus_attach(struct device *device, uint64_t base);
+
+/* The machine stops before the access, or within the change, of this number, counted from this call. */
+void bus_stop_before(uint64_t access);
+void bus_stop_within(uint64_t change, enum tear tear);
+void bus_stop_nowhere(void);
+
+/* The last access that the bus or the device refused, in words; "" where there was none. */
+const char *bus_refusal(void);
+
+#endif
