@@ -6,13 +6,15 @@ output; the gate runs it.
 
 PROGRAM is the built program, by default crates/apei/out/apei. `play` writes, replaces and clears records over several slots; the write or sync
 of each of its flash changes fails with EIO, and with ENOSPC. Afterwards the file is opened again: the records are those that the replies
-acknowledged, a command that was refused as `hardware` being in or out. So it is where the first write of that opening fails as well. A file that
-is made meets the same faults, and those of its two names; then it is there, whole and erased, or it is not, and the next run makes it. A file in
-a folder that is missing is refused. `sim` ends at the read and at the write that fails, with the replies before it. The last line is 'N runs, M
+acknowledged, a command that was refused as `hardware` being in or out. So it is where the first write of that opening fails as well. Right
+behind such a fault the run reads the range of its change back, writes these bytes once more and syncs them. A file that is made is synced, and
+then its folder; it meets the same faults, and those of its two names; then it is there, whole and erased, or it is not, and the next run makes
+it. A file in a folder that is missing is refused. `sim` ends at the read and at the write that fails, with the replies before it. The last line is 'N runs, M
 wrong'; the exit status is 0 where none is, and where there is no strace, or none that may trace, which is said.
 """
 
 import os
+import re
 import shutil
 import subprocess
 import sys
@@ -35,18 +37,41 @@ PLAIN = [("count", "count 0"), ("next", "next end"), ("# nothing", None), ("dumm
 PLAIN += [("#" * 100000, None)] * 6 + [("count", "count 0")]
 
 
-def traced(call, error, when):
+def traced(call, error, when, log=os.devnull, seen=()):
     # What strace says of itself goes to a file of its own; the program is not told apart from another one.
-    return ["strace", "-f", "-qq", "-o", os.devnull, "-e", f"trace={call}", "-e", f"inject={call}:error={error}:when={when}"]
+    return ["strace", "-f", "-qq", "-y", "-xx", "-s", "65536", "-o", log, "-e", "trace=" + ",".join([call, *seen]), "-e",
+            f"inject={call}:error={error}:when={when}"]
+
+
+def calls_in(log):
+    """The calls of the kernel in what strace wrote: name, path of the file, bytes, place and what was answered."""
+    form = re.compile(r"\d+ +(\w+)\(\d+<([^>]*)>(?:, \"([^\"]*)\", \d+, (\d+))?\) += +(.*)")
+    return [match.groups() for match in map(form.match, log.read().decode().splitlines()) if match]
+
+
+def stored_again(calls):
+    """Whether a change whose write or sync failed was read back, and what was read was written there once more and synced."""
+    failed = [at for at, call in enumerate(calls) if call[4].endswith("(INJECTED)")]
+    if len(failed) != 1:
+        return False
+    at = failed[0]
+    change = calls[at] if calls[at][0] == "pwrite64" else calls[at - 1]
+    behind = calls[at + 1 : at + 4]
+    if [call[0] for call in behind] != ["pread64", "pwrite64", "fdatasync"]:
+        return False
+    read, write, sync = behind
+    place = change[1], len(change[2]), change[3]
+    return all((call[1], len(call[2]), call[3]) == place for call in (read, write)) and read[2] == write[2] and sync[1] == change[1]
 
 
 def calls_of(program, image, lines):
-    """How often each of these calls of the kernel is made."""
+    """How often each of these calls of the kernel is made, and the paths that are synced whole."""
     names = ["pwrite64", "fdatasync", "fsync", "link", "unlink"]
     with tempfile.NamedTemporaryFile() as log:
-        status, _, said = play(program, image, lines, ["strace", "-f", "-qq", "-o", log.name, "-e", "trace=" + ",".join(names)])
-        text = log.read().decode()
-    return status, {name: sum(f" {name}(" in line for line in text.splitlines()) for name in names}
+        status, _, said = play(program, image, lines, ["strace", "-f", "-qq", "-y", "-o", log.name, "-e", "trace=" + ",".join(names)])
+        text = log.read().decode().splitlines()
+    synced = [line.split("<")[1].split(">")[0] for line in text if " fsync(" in line]
+    return status, {name: sum(f" {name}(" in line for line in text) for name in names}, synced
 
 
 def opened_again(program, image, states, what):
@@ -66,11 +91,16 @@ def change_fails(program, folder, call, error, when):
     with open(image, "wb") as file:
         file.write(b"\xff" * SIZE)
     what = f"{call} {when} with {error}"
-    status, replies, said = play(program, image, LINES, traced(call, error, when))
+    with tempfile.NamedTemporaryFile() as log:
+        seen = ["pread64", "pwrite64", "fdatasync"]
+        status, replies, said = play(program, image, LINES, traced(call, error, when, log.name, seen))
+        calls = calls_in(log)
     refused = replies.count("refused hardware")
     states = after(LINES, replies, [{}])
     if status or len(replies) != len(LINES) or refused != 1 or not states:
         return [f"{what}: status {status}, {[reply[:30] for reply in replies]}, {said}"]
+    if not stored_again(calls):
+        return [f"{what}: what the file then had was not stored once more"]
     return opened_again(program, image, states, what)
 
 
@@ -138,10 +168,10 @@ def main():
     with tempfile.TemporaryDirectory() as folder:
         wrong = []
         image = os.path.join(folder, "image")
-        status, made = calls_of(program, image, [])
-        if status or not made["pwrite64"] or not made["fsync"]:
-            wrong.append(f"a new file: status {status}, {made}")
-        status, changed = calls_of(program, image, LINES)
+        status, made, synced = calls_of(program, image, [])
+        if status or not made["pwrite64"] or len(synced) != 2 or not synced[0].startswith(image + ".") or synced[1] != folder:
+            wrong.append(f"a new file: status {status}, {made}, {synced}")
+        status, changed, _ = calls_of(program, image, LINES)
         if status or changed["pwrite64"] < 80 or changed["pwrite64"] != changed["fdatasync"]:
             wrong.append(f"the script: status {status}, {changed}")
         full = play(program, os.path.join(folder, "whole"), LINES)

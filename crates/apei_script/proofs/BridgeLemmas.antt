@@ -42,24 +42,27 @@ use Rattle.apei_script.specs.declared.desk.Desk.{Desk}
 use Rattle.apei_script.specs.Desks.{state_of, SameClients}
 use Rattle.apei_script.proofs.PlayLemmas.{quiet_with, shows_none, other_bridge}
 use Rattle.apei_script.proofs.KeptTurns.{blocks_kept}
+use Rattle.apei_script.proofs.MappedTurns.{turns_mapped, turns_end}
 use Rattle.apei_notify.proofs.ToldLemmas.{told_none, told_then}
 
 -- What power lost shows
 
 module _ (tells : Type 0) (programs : OwnProgramsRun tells) (told : tells) (client : ClientState) (budget : ℕ) where
   pub turns_shown : (state : BridgeState) (old : MachineState) (steps : List Step) (next : BridgeState) (last : MachineState) → client ≡ own_client old → IsMachine old
-      → AreTurns tells client budget state old steps next last → TurnsShown state old steps last
+      → AreTurns tells client budget state old steps next last → TurnsShown budget state old steps last
   turns_shown state old steps next last own machine are = record {
     each = λ some s image from crash. turns_show tells client budget programs told state old steps next last own machine are s image from crash;
     first = λ some m paired s image from crash. turns_show_prefix tells programs told client budget state old steps next last m own machine are paired s image from crash;
     stored = λ s image from crash. blocks_kept tells programs told client budget (λ id. Unit {0}) s (shown_by old image) state old steps next last own machine are
         (λ _. inl (turns_show tells client budget programs told state old steps next last own machine are s image from crash));
+    mapped = turns_mapped tells programs told client budget state old steps next last own machine are;
+    ends = turns_end tells client budget told state old steps next last are;
   }
 
 pub line_turned : (tells : Type 0) → OwnProgramsRun tells → tells → (counts : List ℕ) (old : PlayerState) (line : Line) (said : List Reply) (blocks : List (List ℕ)) (steps : List Step) (new : PlayerState)
-    → Plays tells counts old line said blocks steps new → IsMachine old.machine → old.own ≡ own_client old.machine → TurnsShown old.bridge old.machine steps new.machine
+    → Plays tells counts old line said blocks steps new → IsMachine old.machine → old.own ≡ own_client old.machine → TurnsShown (budget_of old) old.bridge old.machine steps new.machine
 line_turned tells programs told counts old line said blocks steps new plays machine own =
-    elim plays as (λ line said blocks steps new plays. TurnsShown old.bridge old.machine steps new.machine) [
+    elim plays as (λ line said blocks steps new plays. TurnsShown (budget_of old) old.bridge old.machine steps new.machine) [
       | Blank ↦ shows_none old.bridge old.machine old.machine
       | ByClient line words machine commanded ↦ shows_none old.bridge old.machine machine
       | GivenTable hex bytes words machine other decoded gives ↦ shows_none old.bridge old.machine machine
@@ -73,8 +76,8 @@ line_turned tells programs told counts old line said blocks steps new plays mach
     ]
   where
     of_bridge : (line : Line) (said : List Reply) (blocks : List (List ℕ)) (steps : List Step) (next : BridgeState) (last : MachineState) → ByBridge tells old line said blocks steps next last
-        → TurnsShown old.bridge old.machine steps last
-    of_bridge line said blocks steps next last by = elim by as (λ line said blocks steps next last by. TurnsShown old.bridge old.machine steps last) [
+        → TurnsShown (budget_of old) old.bridge old.machine steps last
+    of_bridge line said blocks steps next last by = elim by as (λ line said blocks steps next last by. TurnsShown (budget_of old) old.bridge old.machine steps last) [
       | Enters id none ↦ shows_none old.bridge old.machine old.machine
       | StaysAs id why refuses ↦ shows_none old.bridge old.machine old.machine
       | BridgesTurns letters steps next last on are sides counted ↦ turns_shown tells programs told old.own (budget_of old) old.bridge old.machine steps next last own machine are

@@ -25,7 +25,6 @@ use Rattle.erst_bridge.specs.Bridges.{BridgeState}
 use Rattle.bridge_durability.specs.Turns.{Step, AreTurns}
 use Rattle.bridge_durability.specs.Shown.{IsStoredAs}
 use Rattle.bridge_durability.proofs.RecordLemmas.{stored_after}
-use Rattle.bridge_durability.proofs.ShownLemmas.{one_of}
 use Rattle.script_text.specs.ScriptGrammar.{Line, write, clear}
 use Rattle.apei_script.specs.Players.{PlayerState, client_of, budget_of, GivenNoOther}
 use Rattle.apei_script.specs.Words.{Reply}
@@ -135,15 +134,16 @@ module _ (tells : Type 0) (programs : OwnProgramsRun tells) (told : tells) where
       ]
 
   pub kept_lines : (wants : List (ℕ → Bool)) (counts : List ℕ) (first : PlayerState) (played : List Played) (last : PlayerState) → IsMachine first.machine → first.own ≡ own_client first.machine → GivenNoOther first
-      → AreOwnLines played → Follows tells wants counts first played last → (id : ℕ) (bytes : List ℕ) → SpareLines id first played → IsStoredAs id bytes (records_of first.machine)
-      → (s : ℕ) (shown : Records) → ShowsLines s first played shown → IsStoredAs id bytes shown
-  kept_lines wants counts first [] last machine own none lines follows id bytes spares there s shown shows = subst (IsStoredAs id bytes) (sym shows) there
-  kept_lines wants counts first (line ∷ rest) last machine own none lines follows id bytes spares there s shown shows =
+      → AreOwnLines played → Follows tells wants counts first played last → (s id : ℕ) (bytes : List ℕ) → SpareLines s id first played → IsStoredAs id bytes (records_of first.machine)
+      → (shown : Records) → ShowsLines s first played shown → IsStoredAs id bytes shown
+  kept_lines wants counts first [] last machine own none lines follows s id bytes spares there shown shows = subst (IsStoredAs id bytes) (sym shows) there
+  kept_lines wants counts first (line ∷ rest) last machine own none lines follows s id bytes spares there shown shows =
       let keeps = keeps_line counts first line.line line.said line.blocks line.steps line.left id bytes machine own none lines.0 follows.0 spares.0 spares.1 there in
-      elim (one_of (nat_le (changes_of line.left.machine) s) _ _ shows) [
-        | inl behind ↦ kept_lines wants (heard_after wants line.blocks counts) line.left rest last (machine_then tells counts first line follows.0 machine) (own_then tells counts first line follows.0 own)
-            (other_then tells counts first line follows.0 lines.0 none) lines.1 follows.1 id bytes spares.2 keeps.0 s shown behind
-        | inr under_way ↦ keeps.1 s shown under_way
+      elim (cases_lt s (changes_of line.left.machine)) [
+        | inl under_way ↦ keeps.1 s shown (not_behind (nat_le (changes_of line.left.machine) s) _ _ (lt-leb (changes_of line.left.machine) s under_way) shows)
+        | inr ended ↦ kept_lines wants (heard_after wants line.blocks counts) line.left rest last (machine_then tells counts first line follows.0 machine) (own_then tells counts first line follows.0 own)
+            (other_then tells counts first line follows.0 lines.0 none) lines.1 follows.1 s id bytes (spares.2 ended) keeps.0 shown
+            (on_behind (nat_le (changes_of line.left.machine) s) _ _ (le-leb (changes_of line.left.machine) s ended) shows)
       ]
 
   -- the blocks that the turns of one line stored
@@ -175,11 +175,11 @@ module _ (tells : Type 0) (programs : OwnProgramsRun tells) (told : tells) where
       let none_now = other_then tells counts first line follows.0 lines.0 none in
       let behind : changes_of left.machine ≤ s → ShowsLines s left rest shown =
       λ from. on_behind (nat_le (changes_of left.machine) s) _ _ (le-leb (changes_of left.machine) s from) (shows (omega (arith, from))) in (
-        blocks_of_line counts first line s shown (λ id. SpareLines id left rest) machine own follows.0
+        blocks_of_line counts first line s shown (λ id. changes_of left.machine ≤ s → SpareLines s id left rest) machine own follows.0
             (λ from. elim (cases_lt s (changes_of left.machine)) [
               | inl before ↦ inl (not_behind (nat_le (changes_of left.machine) s) _ _ (lt-leb (changes_of left.machine) s before) (shows from))
               | inr after ↦ inr (λ id bytes spares there.
-                  kept_lines wants (heard_after wants line.blocks counts) left rest last machine_now own_now none_now lines.1 follows.1 id bytes spares there s shown (behind after))
+                  kept_lines wants (heard_after wants line.blocks counts) left rest last machine_now own_now none_now lines.1 follows.1 s id bytes (spares after) there shown (behind after))
             ])
             line.steps refl,
         all_kept wants (heard_after wants line.blocks counts) left rest last machine_now own_now none_now lines.1 follows.1 s shown behind,

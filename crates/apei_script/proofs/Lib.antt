@@ -25,6 +25,8 @@ pub mod Owning
 pub mod DeskLines
 pub mod PlayLemmas
 pub mod KeptTurns
+mod MappedTurns
+mod GivenBack
 pub mod BridgeLemmas
 pub mod KeptLines
 pub mod KeptCauses

@@ -10,7 +10,7 @@ use Rattle.bridge_durability.specs.Turns.{Step}
 use Rattle.script_text.specs.ScriptGrammar.{Line, blank, bert, heard}
 use Rattle.apei_notify.specs.Telling.{Hearing, counts_of}
 use Rattle.apei_script.specs.declared.desk.Desk.{Desk}
-use Rattle.apei_script.specs.Players.{PlayerState, client_of, with_machine}
+use Rattle.apei_script.specs.Players.{PlayerState, budget_of, client_of, with_machine}
 use Rattle.apei_script.specs.Words.{Reply, at_step, said_at, words_of_heard, reply_at, replies_at}
 use Rattle.apei_script.specs.Bridged.{NeedsNoBridge, TurnsShown}
 use Rattle.apei_script.specs.Plays.{Plays, Blank, OnMachine, OnlyTells, LinePlayed, PlaysLine, PlaysUnheard, Occurred, OccurredUnheard, LeftIn, AtLast, InList, InTurns, InBridged, names_command, step_of}
@@ -21,7 +21,7 @@ use Rattle.apei_notify.proofs.ToldLemmas.{told_none}
 
 -- a line that is no command on records
 pub quiet_with : (tells : Type 0) (counts : List ℕ) (old : PlayerState) (line : Line) (said : List Reply) (blocks : List (List ℕ)) (steps : List Step) (new : PlayerState) → names_command line ≡ false → Plays tells counts old line said blocks steps new
-    → (tells → old.own ≡ own_client old.machine → TurnsShown old.bridge old.machine steps new.machine) → LinePlayed tells counts old line said blocks steps new
+    → (tells → old.own ≡ own_client old.machine → TurnsShown (budget_of old) old.bridge old.machine steps new.machine) → LinePlayed tells counts old line said blocks steps new
 quiet_with tells counts old line said blocks steps new none plays turned = record {
   plays = plays;
   happened = line_happened tells counts old line said blocks steps new plays;
@@ -34,8 +34,8 @@ quiet_with tells counts old line said blocks steps new none plays turned = recor
 }
 
 -- no turn of the bridge was made
-pub shows_none : (state : BridgeState) (old new : MachineState) → TurnsShown state old [] new
-shows_none state old new = record { each = λ some. absurd (some refl); first = λ some. absurd (some refl); stored = λ s image from crash. tt }
+pub shows_none : {budget : ℕ} (state : BridgeState) (old new : MachineState) → TurnsShown budget state old [] new
+shows_none state old new = record { each = λ some. absurd (some refl); first = λ some. absurd (some refl); stored = λ s image from crash. tt; mapped = tt; ends = tt }
 
 quiet : (tells : Type 0) (counts : List ℕ) (old : PlayerState) (line : Line) (said : List Reply) (blocks : List (List ℕ)) (new : PlayerState) → names_command line ≡ false → Plays tells counts old line said blocks [] new
     → LinePlayed tells counts old line said blocks [] new

@@ -1,13 +1,16 @@
 -- Lines of the bridge: the one that turns it on, and turns while it is on.
-use Rattle.std.specs.Prelude.{◌≡◌, ℕ, ◌≤◌, not, if◌then◌else◌, Bool, true, false, List, [], ◌∷◌, ◌++◌, codes, decimal, map, Option, Some, None}
+use Rattle.std.specs.Prelude.{◌≡◌, ℕ, ◌≤◌, not, if◌then◌else◌, Bool, true, false, List, [], ◌∷◌, ◌++◌, codes, decimal, map, Option, Some, None, Result, Ok, Err}
 use Rattle.std.specs.List.{flat_map}
-use Rattle.flash_words.specs.Flash.{CrashImage}
+use Rattle.flash_words.specs.Flash.{CrashImage, image_at}
 use Rattle.record_model.specs.Records.{is_reserved, Stored as Records}
 use Rattle.ghes_ack.specs.declared.events.Event.TheVariants.{Took}
 use Rattle.ghes_ack.specs.Machine.{Machine as HandoverMachine, is_idle}
 use Rattle.erst_machine.specs.MachineState.{MachineState, records_of, told_of}
 use Rattle.erst_machine.specs.Shown.{shown_by, changes_of}
+use Rattle.erst_client.specs.declared.errors.ClientError.{ClientError}
+use Rattle.erst_commands.specs.Writes.{WriteAnswered}
 use Rattle.erst_bridge.specs.declared.events.BridgeEvent.TheVariants.{Line as ByReader, Stored, Kept, Out}
+use Rattle.erst_bridge.specs.BridgedRecord.{bridged}
 use Rattle.erst_bridge.specs.Bridges.{BridgeState, Off, Awaits, Holds, Releases}
 use Rattle.bridge_durability.specs.Turns.{last_of, Turn, OfFirmware, OfBridge, Step, AreTurns}
 use Rattle.bridge_durability.specs.Shown.{stored_record, ShowsTurns, IsStoredAs}
@@ -106,8 +109,34 @@ abbrev pub KeepsBlocks : (ℕ → Type 0) → ℕ → BridgeState → List Step 
 KeepsBlocks spared s state [] shown = Unit {0}
 KeepsBlocks spared s state (step ∷ rest) shown = KeepsBlock spared s state step.turn step.machine shown × KeepsBlocks spared s step.bridge rest shown
 
--- What power lost in the turns of a line shows. A line that made no turn of the bridge is none of these
-pub record TurnsShown (state : BridgeState) (old : MachineState) (steps : List Step) (new : MachineState) : Type 0 where
+-- the record of the held block was written, with so many steps, and the write was answered as the record map has it
+abbrev pub HeldIsWritten : ℕ → BridgeState → MachineState → Result (Unit {0}) ClientError → MachineState → Type 0
+HeldIsWritten budget Off old result new = ⊥
+HeldIsWritten budget (Awaits id) old result new = ⊥
+HeldIsWritten budget (Holds id block) old result new = (left : ℕ) × WriteAnswered (bridged block id) budget old result left new
+HeldIsWritten budget (Releases id) old result new = ⊥
+
+-- a turn that is answered `Stored` or `Kept` is such a write; `Out` leaves everything, and each other turn leaves the device and its records
+abbrev pub TurnIsMapped : ℕ → BridgeState → MachineState → Turn → MachineState → Type 0
+TurnIsMapped budget state old (OfFirmware event) new = new.device ≡ old.device
+TurnIsMapped budget state old (OfBridge (ByReader event)) new = new.device ≡ old.device
+TurnIsMapped budget state old (OfBridge (Stored id)) new = HeldIsWritten budget state old (Ok tt) new
+TurnIsMapped budget state old (OfBridge (Kept error)) new = HeldIsWritten budget state old (Err error) new
+TurnIsMapped budget state old (OfBridge Out) new = new ≡ old
+
+abbrev pub TurnsAreMapped : ℕ → BridgeState → MachineState → List Step → Type 0
+TurnsAreMapped budget state old [] = Unit {0}
+TurnsAreMapped budget state old (step ∷ rest) =
+    TurnIsMapped budget state old step.turn step.machine × TurnsAreMapped budget step.bridge step.machine rest
+
+-- at the step at which each turn ended, the image showed the records that it leaves
+abbrev pub ShowsEachTurn : MachineState → MachineState → List Step → Type 0
+ShowsEachTurn last old [] = Unit {0}
+ShowsEachTurn last old (step ∷ rest) =
+    (shown_by old (image_at (told_of last) (changes_of step.machine)) ≡ records_of step.machine) × ShowsEachTurn last step.machine rest
+
+-- What power lost in the turns of a line shows, and what the turns make of the records. A line that made no turn of the bridge is none of these
+pub record TurnsShown (budget : ℕ) (state : BridgeState) (old : MachineState) (steps : List Step) (new : MachineState) : Type 0 where
   -- the records after the turns that had ended by then, or as the next one leaves them where nothing fails
   pub each : (steps ≡ [] → ⊥) → (s : ℕ) (image : List ℕ) → changes_of old ≤ s → CrashImage (told_of new) s image → ShowsTurns s state old steps (shown_by old image)
   -- so also the records from before them, with those of the first blocks that were held, or submitted and not yet taken
@@ -115,3 +144,6 @@ pub record TurnsShown (state : BridgeState) (old : MachineState) (steps : List S
       → HasPrefix state m (bytes_in (records_of old)) (shown_by old image)
   -- and the record of each block that they had stored by then
   pub stored : (s : ℕ) (image : List ℕ) → changes_of old ≤ s → CrashImage (told_of new) s image → KeepsBlocks (λ id. Unit {0}) s state steps (shown_by old image)
+  -- each turn makes of the records what the record map has it make, and at the step at which it ended the image showed these
+  pub mapped : TurnsAreMapped budget state old steps
+  pub ends : ShowsEachTurn new old steps

@@ -154,8 +154,8 @@ pub record LinePlayed (tells : Type 0) (counts : List ℕ) (old : PlayerState) (
   pub enough : UsesEither old → names_command line ≡ true → enough_steps (client_of old).timings ≤ budget_of old → (SaysStopped said → ⊥) × (SaysLate said → ⊥)
   -- and power lost in it leaves the records from before it, or as it leaves them where nothing fails
   pub leaves : tells → (names_command line ≡ true → UsesEither old) → IsOwnLine line → steps ≡ [] → LineLeaves (client_of old).range old.machine line new.machine
-  -- but where it made turns of the bridge, each of these is shown, and each block that they stored stays stored
-  pub turned : tells → old.own ≡ own_client old.machine → TurnsShown old.bridge old.machine steps new.machine
+  -- but where it made turns of the bridge, each of these is shown and is the record map's, and each block that they stored stays stored
+  pub turned : tells → old.own ≡ own_client old.machine → TurnsShown (budget_of old) old.bridge old.machine steps new.machine
 
 -- a line with a table to be kept: its bytes begin with one, or it names the machine's second
 pub data BringsTable : Line → Type 0 where

@@ -1,7 +1,8 @@
 -- The promise over lines: the record of a block that was stored stays, as long as its identifier is spared.
-use Rattle.std.specs.Prelude.{◌≡◌, ◌≢◌, ℕ, List, [], ◌∷◌, Ok}
+use Rattle.std.specs.Prelude.{◌≡◌, ◌≢◌, ◌≤◌, ℕ, List, [], ◌∷◌, Ok}
 use Rattle.hex.specs.Hex.{decode_of}
 use Rattle.record_model.specs.Records.{Stored as Records}
+use Rattle.erst_machine.specs.Shown.{changes_of}
 use Rattle.erst_commands.specs.Writes.{id_of}
 use Rattle.erst_bridge.specs.declared.events.BridgeEvent.TheVariants.{Line as ByReader, Stored, Kept, Out}
 use Rattle.erst_bridge.specs.Bridges.{BridgeState}
@@ -30,11 +31,15 @@ abbrev pub SpareTurns : ℕ → BridgeState → List Step → Type 0
 SpareTurns id state [] = Unit {0}
 SpareTurns id state (step ∷ rest) = SparesTurn id state step.turn × SpareTurns id step.bridge rest
 
-abbrev pub SpareLines : ℕ → PlayerState → List Played → Type 0
-SpareLines id state [] = Unit {0}
-SpareLines id state (played ∷ rest) = Spares id played.line × SpareTurns id state.bridge played.steps × SpareLines id played.left rest
+-- of these lines the first one does, and behind it those that begin at step s or before
+abbrev pub SpareLines : ℕ → ℕ → PlayerState → List Played → Type 0
+SpareLines s id state [] = Unit {0}
+SpareLines s id state (played ∷ rest) =
+    Spares id played.line × SpareTurns id state.bridge played.steps × (changes_of played.left.machine ≤ s → SpareLines s id played.left rest)
 
--- power lost at step s shows the record of each block whose storing had ended by s, as long as the lines behind its own spare its identifier
+-- power lost at step s shows the record of each block whose storing had ended by s, as long as the lines behind its own that begin at s or
+-- before spare its identifier; what a later line does is no matter
 abbrev pub KeepsAll : ℕ → PlayerState → List Played → Records → Type 0
 KeepsAll s state [] shown = Unit {0}
-KeepsAll s state (played ∷ rest) shown = KeepsBlocks (λ id. SpareLines id played.left rest) s state.bridge played.steps shown × KeepsAll s played.left rest shown
+KeepsAll s state (played ∷ rest) shown =
+    KeepsBlocks (λ id. changes_of played.left.machine ≤ s → SpareLines s id played.left rest) s state.bridge played.steps shown × KeepsAll s played.left rest shown

@@ -1,5 +1,5 @@
 // Laws on whole histories: the functions do nothing, and their clauses are the laws.
-ghost use Rattle.std.specs.Prelude.{◌≡◌, ℕ, ◌≤◌, Bool, List, Option};
+ghost use Rattle.std.specs.Prelude.{◌≡◌, ℕ, ◌≤◌, Bool, List, Option, None};
 ghost use Rattle.flash_words.specs.Flash.{CrashImage, IsLater, FlashState};
 ghost use Rattle.flash_model.specs.declared.geometry.Geometry.{Geometry as AnyGeometry};
 ghost use Rattle.flash_model.specs.Layouts.{layout_of};
@@ -17,7 +17,7 @@ ghost use Rattle.bridge_durability.specs.{Turns.Step, InStep.KeepOrder, Shown.Is
 ghost use Rattle.apei_script.specs.Words.{Reply};
 ghost use Rattle.apei_script.specs.Plays.{Plays, HasHappened};
 ghost use Rattle.apei_script.specs.KeptCauses.{AllHaveCauses};
-ghost use Rattle.apei_script.specs.Orders.{IsInStep, AlwaysInStep};
+ghost use Rattle.apei_script.specs.Orders.{HasNoBridge, IsInStep, AlwaysInStep, AllGiveStoredBack};
 ghost use Rattle.apei_script.specs.Spares.{SpareLines, KeepsAll};
 ghost use Rattle.apei_script.specs.Alike.{AlikePlayers, own_player, WantAlike, lines_in, PlayedAlike};
 ghost use Rattle.apei_script.specs.History.{Played, Follows, EndInOrder, ShowsLines, ShowsEachLine, AreOwnLines, AreMapped, NoneSaysHardware, AllGoThrough, AlwaysUsesEither};
@@ -65,13 +65,13 @@ pub fn lines_are_shown<F: Flash>()
         → ShowsLines s first played (shown_by first.machine image) }
 {}
 
-/// A record that is stored is shown by power lost at any step from then on, as long as no line and no turn of the bridge writes or clears
-/// its identifier; so is the record of each block that the bridge stored, from the end of the turn that stored it on.
+/// A record that is stored is shown by power lost at any step from then on until a line begins that writes or clears its identifier, or has
+/// a turn of the bridge that writes it; so is the record of each block that the bridge stored, from the end of the turn that stored it on.
 pub fn stored_blocks_stay<F: Flash>()
     ensures records { F.tells → (wants : List (ℕ → Bool)) (counts : List ℕ) (first : PlayerState) (played : List Played) (last : PlayerState)
         → IsMachine first.machine → first.own ≡ own_client first.machine → GivenNoOther first → AreOwnLines played
-        → Follows F.tells wants counts first played last → (id : ℕ) (bytes : List ℕ) → SpareLines id first played → IsStoredAs id bytes (records_of first.machine)
-        → (s : ℕ) (shown : Stored) → ShowsLines s first played shown → IsStoredAs id bytes shown }
+        → Follows F.tells wants counts first played last → (s id : ℕ) (bytes : List ℕ) → SpareLines s id first played → IsStoredAs id bytes (records_of first.machine)
+        → (shown : Stored) → ShowsLines s first played shown → IsStoredAs id bytes shown }
     ensures stored { F.tells → (wants : List (ℕ → Bool)) (counts : List ℕ) (first : PlayerState) (played : List Played) (last : PlayerState)
         → IsMachine first.machine → first.own ≡ own_client first.machine → GivenNoOther first → AreOwnLines played
         → Follows F.tells wants counts first played last
@@ -81,12 +81,14 @@ pub fn stored_blocks_stay<F: Flash>()
 }
 
 /// A bridge that is on stays in step with the handover, whatever the tables and actions of the lines; and in each line of turns the reader
-/// gives a block back behind the storing of its record.
+/// gives a block back behind the storing of its record: the block that it clears or acknowledges is the one that was stored last.
 pub fn lines_keep_in_step<F: Flash>()
     ensures line { (counts : List ℕ) (old : PlayerState) (line : Line) (said : List Reply) (blocks : List (List ℕ)) (steps : List Step) (new : PlayerState)
         → IsMachine old.machine → Plays F.tells counts old line said blocks steps new → IsInStep old → KeepOrder old.bridge steps × IsInStep new }
     ensures lines { (wants : List (ℕ → Bool)) (counts : List ℕ) (first : PlayerState) (played : List Played) (last : PlayerState)
         → IsMachine first.machine → Follows F.tells wants counts first played last → IsInStep first → AlwaysInStep first played }
+    ensures given_back { (wants : List (ℕ → Bool)) (counts : List ℕ) (first : PlayerState) (played : List Played) (last : PlayerState)
+        → IsMachine first.machine → Follows F.tells wants counts first played last → HasNoBridge first → AllGiveStoredBack None first played }
 {}
 
 /// A turn of the bridge keeps a block for a failure of the flash only where the flash's count of faults rose in that very turn, and where

@@ -12,10 +12,10 @@ use Rattle.ghes_hub.specs.declared.plain.map.PlainMap.{PlainMap}
 use Rattle.ghes_window.specs.declared.blocks.Blocks.{Blocks}
 use Rattle.ghes_window.specs.Queues.{TakesOut, HoldsNone, count_of}
 use Rattle.ghes_hub.specs.Plain.{HasPlainWindows, plain_window, plain_window_of, with_plain_window, PlainState, PlainStands}
-use Rattle.ghes_hub.specs.PlainSides.{Turns, Stands}
+use Rattle.ghes_hub.specs.PlainSides.{Turns, Stands, with_next_piece, ReaderMakes, Copies, Takes, Clears}
 use Rattle.ghes_ack.specs.Sides.{state_of, in_work, IsCopiedSoFar}
-use Rattle.ghes_ack.proofs.SideLemmas.{in_hand, none_in_hand, begins_at}
-use Rattle.ghes_hub.proofs.PlainTurns.{next_fits, fills, publishes, frees, idles, finds, copies_over, copies_more, copies_last, clears}
+use Rattle.ghes_ack.proofs.SideLemmas.{in_hand, none_in_hand}
+use Rattle.ghes_hub.proofs.PlainTurns.{next_fits, fills, publishes, frees, idles, finds}
 
 -- the block in hand is one that the window takes
 pub fits_in_hand : (b t : Blocks PlainMap) (block : Vec ℕ Global) (ram : RamState) → TakesOut plain_window_of b t block → Stands (state_of Filling b) ram → HasPlainWindows b.map ram × Fits b.map.window.len block.items
@@ -56,47 +56,34 @@ frees_at b ram none m st =
     subst (λ (o : Option (List ℕ)). Turns Firmware Free h ram (record h { situation = Filling; at_work = o }) ram m) same (frees h ram m refl st)
 
 -- the reader copies
+copied_items : (b : Blocks PlainMap) (block : Vec ℕ Global) (bytes copied : List ℕ) (ram : RamState) → bytes ≡ block.items →
+    copied ≡ put_at bytes (64 * b.copied) (part (plain_window b.map ram) (64 * b.copied) (min 64 (length bytes - 64 * b.copied))) → length copied ≡ block.len →
+    (with_items block copied).items ≡ with_next_piece (state_of Reading b) ram block.items
+copied_items b block bytes copied ram is memory long = with_items_is block copied long ∙ memory ∙ ap (with_next_piece (state_of Reading b) ram) is
+
+pub copies_at : (b : Blocks PlainMap) (block : Vec ℕ Global) (bytes copied : List ℕ) (ram : RamState) → b.at_work ≡ Some block → bytes ≡ block.items → 64 * (b.copied + 1) < length block.items →
+    copied ≡ put_at bytes (64 * b.copied) (part (plain_window b.map ram) (64 * b.copied) (min 64 (length bytes - 64 * b.copied))) → length copied ≡ block.len →
+    ReaderMakes (state_of Reading b) ram Copied (state_of Reading (record b { at_work = Some (with_items block copied); copied = b.copied + 1 })) ram
+copies_at b block bytes copied ram some is more memory long =
+    let work : in_work Reading b.at_work b.last ≡ Some block.items = ap (λ (o : Option (Vec ℕ Global)). in_work Reading o b.last) some in
+    Copies block.items work more refl
+    (ap (λ (x : List ℕ). record (state_of Reading b) { at_work = Some x; copied = b.copied + 1 }) (copied_items b block bytes copied ram is memory long)) refl
+
+pub takes_at : (b after : Blocks PlainMap) (block : Vec ℕ Global) (bytes copied : List ℕ) (ram : RamState) → b.at_work ≡ Some block → bytes ≡ block.items →
+    64 * b.copied < length block.items → length block.items ≤ 64 * (b.copied + 1) →
+    copied ≡ put_at bytes (64 * b.copied) (part (plain_window b.map ram) (64 * b.copied) (min 64 (length bytes - 64 * b.copied))) → length copied ≡ block.len →
+    after ≡ record b { at_work = None; copied = b.copied + 1; last = with_items block copied; spare = after.spare } → ReaderMakes (state_of Reading b) ram Took (state_of Reading after) ram
+takes_at b after block bytes copied ram some is more all memory long is_after =
+    let work : in_work Reading b.at_work b.last ≡ Some block.items = ap (λ (o : Option (Vec ℕ Global)). in_work Reading o b.last) some in
+    Takes block.items work more all refl
+    (ap (state_of Reading) is_after ∙ ap (λ (x : List ℕ). record (state_of Reading b) { at_work = Some x; copied = b.copied + 1; last = x }) (copied_items b block bytes copied ram is memory long)) refl
+
 pub clears_at : (b : Blocks PlainMap) (rest : Option (Vec ℕ Global)) (ram new : RamState) → b.at_work ≡ None → rest ≡ None → IsCopiedSoFar b.copied b.at_work b.last →
-    new ≡ with_plain_window b.map ram (with_status (plain_window b.map ram) (spelled 4 0)) → (m : Machine) → PlainStands (state_of Reading b) ram m →
-    Turns Reader Clear (state_of Reading b) ram (state_of Acknowledged (record b { at_work = rest })) new m
-clears_at b rest ram new none gone far memory m st =
-    let h = state_of Reading b in
-    let last : in_work Reading b.at_work b.last ≡ Some b.last.items = ap (λ (o : Option (Vec ℕ Global)). in_work Reading o b.last) none in
-    let after : None ≡ in_work Acknowledged rest b.last = sym (ap (λ (o : Option (Vec ℕ Global)). in_work Acknowledged o b.last) gone) in
+    new ≡ with_plain_window b.map ram (with_status (plain_window b.map ram) (spelled 4 0)) → ReaderMakes (state_of Reading b) ram Clear (state_of Acknowledged (record b { at_work = rest })) new
+clears_at b rest ram new none gone far memory =
+    let work : in_work Reading b.at_work b.last ≡ Some b.last.items = ap (λ (o : Option (Vec ℕ Global)). in_work Reading o b.last) none in
     let all : length b.last.items ≤ 64 * b.copied = subst (λ (o : Option (Vec ℕ Global)). IsCopiedSoFar b.copied o b.last) none far in
-    subst (λ (o : Option (List ℕ)). Turns Reader Clear h ram (record h { situation = Acknowledged; at_work = o }) new m) after (clears h ram new m b.last.items refl last all memory st)
-
--- a copy leaves the block at work as it is
-pub same_items : (p : ℕ) (b : Blocks PlainMap) (block : Vec ℕ Global) (bytes copied : List ℕ) (ram : RamState) → b.at_work ≡ Some block → bytes ≡ block.items → IsCopiedSoFar b.copied b.at_work b.last →
-    copied ≡ put_at bytes (64 * b.copied) (part (plain_window b.map ram) (64 * b.copied) (min p (length bytes - 64 * b.copied))) → Stands (state_of Reading b) ram → length copied ≡ block.len → (with_items block copied).items ≡ block.items
-same_items p b block bytes copied ram some is far memory stands long =
-    let h = state_of Reading b in
-    let work : h.at_work ≡ Some block.items = ap (λ (o : Option (Vec ℕ Global)). in_work Reading o b.last) some in
-    let begins = begins_at b block some far in
-    with_items_is block copied long
-    ∙ memory
-    ∙ ap (λ (x : List ℕ). put_at x (64 * b.copied) (part (plain_window b.map ram) (64 * b.copied) (min p (length x - 64 * b.copied)))) is
-    ∙ copies_over h ram block.items (64 * b.copied) (min p (length block.items - 64 * b.copied)) refl work begins (omega (arith, begins)) stands
-
-pub copies_at : (b : Blocks PlainMap) (block after : Vec ℕ Global) (ram : RamState) → b.at_work ≡ Some block → after.items ≡ block.items → 64 * (b.copied + 1) < length block.items →
-    (m : Machine) → PlainStands (state_of Reading b) ram m →
-    Turns Reader Copied (state_of Reading b) ram (state_of Reading (record b { at_work = Some after; copied = b.copied + 1 })) ram m
-copies_at b block after ram some same more m st =
-    let h = state_of Reading b in
-    let work : h.at_work ≡ Some block.items = ap (λ (o : Option (Vec ℕ Global)). in_work Reading o b.last) some in
-    let kept_same : h.at_work ≡ Some after.items = work ∙ ap (λ (x : List ℕ). Some x) (sym same) in
-    subst (λ (o : Option (List ℕ)). Turns Reader Copied h ram (record h { copied = b.copied + 1; at_work = o }) ram m) kept_same (copies_more h ram m block.items refl work more st)
-
-pub takes_at : (b after : Blocks PlainMap) (block last : Vec ℕ Global) (ram : RamState) → b.at_work ≡ Some block → last.items ≡ block.items → 64 * b.copied < length block.items → length block.items ≤ 64 * (b.copied + 1) →
-    after ≡ record b { at_work = None; copied = b.copied + 1; last = last; spare = after.spare } → (m : Machine) → PlainStands (state_of Reading b) ram m →
-    Turns Reader Took (state_of Reading b) ram (state_of Reading after) ram m
-takes_at b after block last ram some same more all is m st =
-    let h = state_of Reading b in
-    let work : h.at_work ≡ Some block.items = ap (λ (o : Option (Vec ℕ Global)). in_work Reading o b.last) some in
-    let kept_same : h.at_work ≡ Some last.items = work ∙ ap (λ (x : List ℕ). Some x) (sym same) in
-    subst (λ (s : Blocks PlainMap). Turns Reader Took h ram (state_of Reading s) ram m) (sym is)
-    (subst (λ (o : Option (List ℕ)). Turns Reader Took h ram (record h { copied = b.copied + 1; last = last.items; at_work = o }) ram m) kept_same
-    (subst (λ (x : List ℕ). Turns Reader Took h ram (record h { copied = b.copied + 1; last = x }) ram m) (sym same) (copies_last h ram m block.items refl work more all st)))
+    Clears b.last.items work all refl (ap (λ (o : Option (Vec ℕ Global)). state_of Acknowledged (record b { at_work = o })) gone) memory
 
 pub idles_at : (b new : Blocks PlainMap) (ram : RamState) → HoldsNone plain_window_of b new → (m : Machine) → PlainStands (state_of Filling b) ram m → Turns Firmware Idle (state_of Filling b) ram (state_of Filling new) ram m
 idles_at b new ram none m st = subst (λ (after : PlainState). Turns Firmware Idle (state_of Filling b) ram after ram m) (sym (none_in_hand b new none)) (idles (state_of Filling b) ram m refl none.held st)

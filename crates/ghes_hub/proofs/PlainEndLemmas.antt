@@ -1,5 +1,5 @@
 -- A turn of one side of a plain handover is the machine's turn, whatever the other side does.
-use Rattle.std.proofs.Common.{◌≡◌, ℕ, ◌<◌, inl, inr, Vec, Option, Some, None, refl, sym, ap, subst, arith}
+use Rattle.std.proofs.Common.{◌≡◌, ◌∙◌, ℕ, ◌<◌, ◌≤◌, List, length, inl, inr, Vec, Option, Some, None, IfSome, refl, sym, ap, subst, arith}
 use Rattle.std.specs.declared.alloc.Global.{Global}
 use Rattle.apei_space.specs.RamState.{RamState}
 use Rattle.ghes_ack.specs.declared.events.Side.{Side}
@@ -7,7 +7,7 @@ use Rattle.ghes_ack.specs.declared.events.Side.TheVariants.{Firmware, Reader}
 use Rattle.ghes_ack.specs.declared.events.Event.{Event}
 use Rattle.ghes_ack.specs.declared.events.Event.TheVariants.{Free, Wait, Nothing, Found}
 use Rattle.ghes_ack.specs.Machine.{Machine, Situation, Filling, Published, Reading, Cleared, Acknowledged}
-use Rattle.ghes_ack.specs.Sides.{looking_at, waiting_at, state_of, handover_of, in_work, AreApart, IsCopiedSoFar}
+use Rattle.ghes_ack.specs.Sides.{looking_at, waiting_at, state_of, handover_of, view_of, in_work, AreApart, IsCopiedSoFar}
 use Rattle.ghes_ack.specs.declared.ends.Ends.{Ends}
 use Rattle.ghes_ack.specs.declared.ends.FirmwareEnd.{FirmwareEnd}
 use Rattle.ghes_ack.specs.declared.ends.FirmwareEnd.TheVariants.{Writes, Waits}
@@ -18,24 +18,33 @@ use Rattle.ghes_window.specs.Queues.{count_of}
 use Rattle.ghes_window.proofs.RoomLemmas.{room_with}
 use Rattle.ghes_hub.specs.declared.plain.map.PlainMap.{PlainMap}
 use Rattle.ghes_hub.specs.Plain.{plain_status, PlainState, PlainStands}
-use Rattle.ghes_hub.specs.PlainSides.{IsSound, IsConsistent, Stands, Turns, SideDone, FirmwareIsAble, FirmwareTurns, ReaderIsAble, ReaderTurns}
+use Rattle.ghes_hub.specs.PlainSides.{IsSound, IsConsistent, AreConsistent, Stands, Turns, SideDone, FirmwareIsAble, FirmwareTurns, ReaderIsAble, ReaderTurns, SideIsAble, SideTurns}
 use Rattle.ghes_ack.proofs.SideLemmas.{none_copied}
 use Rattle.ghes_ack.proofs.JoinLemmas.{situation_at}
-use Rattle.ghes_hub.proofs.PlainTurns.{waits, held_status, no_status, finds_nothing, work_fits}
+use Rattle.ghes_hub.proofs.PlainTurns.{waits, held_status, no_status, finds_nothing, work_fits, reader_made}
 use Rattle.ghes_hub.proofs.PlainBlocks.{frees_at, finds_at}
 
 -- each side can make a turn
-pub firmware_able : (firmware : FirmwareEnd) (reader : ReaderEnd) (b : Blocks PlainMap) (ram : RamState) → IsConsistent (record { firmware = firmware; reader = reader }) b → Stands (handover_of (record { firmware = firmware; reader = reader }) b) ram → FirmwareIsAble firmware b ram
+firmware_able : (firmware : FirmwareEnd) (reader : ReaderEnd) (b : Blocks PlainMap) (ram : RamState) → IsConsistent (record { firmware = firmware; reader = reader }) b → Stands (handover_of (record { firmware = firmware; reader = reader }) b) ram → FirmwareIsAble firmware b ram
 firmware_able (Writes write) reader b ram all stands = (all.sound, stands)
 firmware_able (Waits wait) reader b ram all (m, st) = st.windows
 
-pub reader_able : (firmware : FirmwareEnd) (reader : ReaderEnd) (b : Blocks PlainMap) (ram : RamState) → IsConsistent (record { firmware = firmware; reader = reader }) b → Stands (handover_of (record { firmware = firmware; reader = reader }) b) ram → ReaderIsAble reader b ram
+-- the block that the reader copies fits
+fitting_work : (b : Blocks PlainMap) (ram : RamState) (m : Machine) (work : Option (Vec ℕ Global)) → b.at_work ≡ work → PlainStands (state_of Reading b) ram m → IfSome work (λ block. length block.items ≤ b.map.window.len)
+fitting_work b ram m None is st = tt
+fitting_work b ram m (Some block) is st = (work_fits (state_of Reading b) ram m block.items (ap (λ (o : Option (Vec ℕ Global)). in_work Reading o b.last) is) st).fits
+
+reader_able : (firmware : FirmwareEnd) (reader : ReaderEnd) (b : Blocks PlainMap) (ram : RamState) → IsConsistent (record { firmware = firmware; reader = reader }) b → Stands (handover_of (record { firmware = firmware; reader = reader }) b) ram → ReaderIsAble reader b ram
 reader_able (Writes write) (Looks look) b ram all (m, st) = st.windows
 reader_able (Waits wait) (Looks look) b ram all (m, st) = st.windows
 reader_able (Writes write) (Reads read) b ram all stands = absurd all.apart
-reader_able (Waits wait) (Reads read) b ram all stands = (all.sound, stands)
+reader_able (Waits wait) (Reads read) b ram all (m, st) = (all.sound, st.windows, fitting_work b ram m b.at_work refl st)
 reader_able (Writes write) (Acknowledges end) b ram all stands = absurd all.apart
 reader_able (Waits wait) (Acknowledges end) b ram all stands = absurd all.sound.under_way
+
+side_able : (side : Side) (ends : Ends) (b : Blocks PlainMap) (ram : RamState) → IsConsistent ends b → Stands (handover_of ends b) ram → SideIsAble side ends b ram
+side_able Firmware ends b ram all stands = firmware_able ends.firmware ends.reader b ram all stands
+side_able Reader ends b ram all stands = reader_able ends.firmware ends.reader b ram all stands
 
 -- it has the same blocks and memory
 same_done : (side : Side) (event other : Event) (ends next : Ends) (old new after : Blocks PlainMap) (ram memory left : RamState) → event ≡ other → new ≡ after → memory ≡ left →
@@ -71,7 +80,7 @@ shown : (work : Option (Vec ℕ Global)) → count_of work ≡ 1 → Published �
 shown None is = absurd (omega (arith, is))
 shown (Some block) is = refl
 
-pub firmware_done : (firmware end : FirmwareEnd) (reader : ReaderEnd) (b new : Blocks PlainMap) (ram memory : RamState) (event : Event) → IsConsistent (record { firmware = firmware; reader = reader }) b →
+firmware_done : (firmware end : FirmwareEnd) (reader : ReaderEnd) (b new : Blocks PlainMap) (ram memory : RamState) (event : Event) → IsConsistent (record { firmware = firmware; reader = reader }) b →
     Stands (handover_of (record { firmware = firmware; reader = reader }) b) ram → FirmwareTurns firmware b ram event end new memory →
     SideDone Firmware event (record { firmware = firmware; reader = reader }) (record { firmware = end; reader = reader }) b new ram memory
 firmware_done (Writes write) (Writes later) (Looks look) b new ram memory event all stands makes = record {
@@ -135,7 +144,7 @@ returned_at : (work : Option (Vec ℕ Global)) → work ≡ None → Acknowledge
 returned_at None is = refl
 returned_at (Some block) is = absurd cc
 
-pub reader_done : (firmware : FirmwareEnd) (reader end : ReaderEnd) (b new : Blocks PlainMap) (ram memory : RamState) (event : Event) → IsConsistent (record { firmware = firmware; reader = reader }) b →
+reader_done : (firmware : FirmwareEnd) (reader end : ReaderEnd) (b new : Blocks PlainMap) (ram memory : RamState) (event : Event) → IsConsistent (record { firmware = firmware; reader = reader }) b →
     Stands (handover_of (record { firmware = firmware; reader = reader }) b) ram → ReaderTurns reader b ram event end new memory →
     SideDone Reader event (record { firmware = firmware; reader = reader }) (record { firmware = firmware; reader = end }) b new ram memory
 reader_done (Writes write) (Looks look) (Looks later) b new ram memory event all stands (found, is_memory) =
@@ -162,12 +171,46 @@ reader_done (Waits wait) (Reads read) (Looks look) b new ram memory event all st
     let is : Acknowledged ≡ looking_at new.at_work = returned_at new.at_work makes.0.under_way in
     record {
       consistent = record { apart = tt; sound = subst (λ (s : Situation). IsSound s new) is makes.0 };
-      turns = λ m st. subst (λ (s : Situation). Turns Reader event (state_of Reading b) ram (state_of s new) memory m) is (makes.1 m st);
+      turns = λ m st. subst (λ (s : Situation). Turns Reader event (state_of Reading b) ram (state_of s new) memory m) is (reader_made (state_of Reading b) (state_of Acknowledged new) ram memory event m refl makes.1 st);
     }
 reader_done (Waits wait) (Reads read) (Reads later) b new ram memory event all stands makes = record {
   consistent = record { apart = tt; sound = makes.0 };
-  turns = makes.1;
+  turns = λ m st. reader_made (state_of Reading b) (state_of Reading new) ram memory event m refl makes.1 st;
 }
 reader_done firmware (Looks look) (Acknowledges end) b new ram memory event all stands (found, is_memory) = absurd found
 reader_done (Waits wait) (Reads read) (Acknowledges end) b new ram memory event all stands makes = absurd makes.0.under_way
 reader_done firmware (Acknowledges acknowledge) end b new ram memory event all stands makes = absurd makes
+
+-- whichever side it was, the other one is where it was
+side_done : (side : Side) (ends next : Ends) (b new : Blocks PlainMap) (ram memory : RamState) (event : Event) → IsConsistent ends b → Stands (handover_of ends b) ram → SideTurns side ends b ram event next new memory →
+    SideDone side event ends next b new ram memory
+side_done Firmware ends next b new ram memory event all stands (turns, same) =
+    subst (λ (reader : ReaderEnd). SideDone Firmware event ends (record { firmware = next.firmware; reader = reader }) b new ram memory) (sym same)
+    (firmware_done ends.firmware next.firmware ends.reader b new ram memory event all stands turns)
+side_done Reader ends next b new ram memory event all stands (turns, same) =
+    subst (λ (firmware : FirmwareEnd). SideDone Reader event ends (record { firmware = firmware; reader = next.reader }) b new ram memory) (sym same)
+    (reader_done ends.firmware ends.reader next.reader b new ram memory event all stands turns)
+
+-- the same of a handover whose sides were taken out of their place
+module _ (side : Side) (place : Option Ends) (ends : Ends) (b : Blocks PlainMap) (h : PlainState) (ram : RamState) (taken : place ≡ Some ends) (all : AreConsistent place b) (seen : view_of place b ≡ h) where
+  at_hand : AreConsistent (Some ends) b
+  at_hand = subst (λ (o : Option Ends). AreConsistent o b) taken all
+
+  seen_as : handover_of ends b ≡ h
+  seen_as = sym (ap (λ (o : Option Ends). view_of o b) taken) ∙ seen
+
+  stands_so : (m : Machine) → PlainStands h ram m → PlainStands (handover_of ends b) ram m
+  stands_so m st = subst (λ (at : PlainState). PlainStands at ram m) (sym seen_as) st
+
+  pub taken_able : Stands h ram → SideIsAble side ends b ram
+  taken_able (m, st) = side_able side ends b ram at_hand (m, stands_so m st)
+
+  module _ (next : Ends) (new : Blocks PlainMap) (memory : RamState) (event : Event) (stands : Stands h ram) (turns : SideTurns side ends b ram event next new memory) where
+    done : SideDone side event ends next b new ram memory
+    done = side_done side ends next b new ram memory event at_hand (stands.0, stands_so stands.0 stands.1) turns
+
+    pub taken_consistent : IsConsistent next new
+    taken_consistent = done.consistent
+
+    pub taken_turns : (m : Machine) → PlainStands h ram m → Turns side event h ram (handover_of next new) memory m
+    taken_turns m st = subst (λ (at : PlainState). Turns side event at ram (handover_of next new) memory m) seen_as (done.turns m (stands_so m st))

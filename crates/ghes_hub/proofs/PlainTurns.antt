@@ -1,5 +1,5 @@
 -- Each turn of a plain handover is the machine's turn.
-use Rattle.std.proofs.Common.{◌≡◌, ◌∙◌, ℕ, ◌+◌, ◌*◌, ◌<◌, ◌≤◌, ◌⊎◌, List, [], ◌∷◌, ◌++◌, length, take, Option, Some, None, option_to_list, refl, sym, ap, subst, arith}
+use Rattle.std.proofs.Common.{◌≡◌, ◌∙◌, ℕ, ◌+◌, ◌-◌, ◌*◌, ◌<◌, ◌≤◌, ◌⊎◌, min, List, [], ◌∷◌, ◌++◌, length, take, Option, Some, None, option_to_list, refl, sym, ap, subst, arith}
 use Rattle.std.proofs.lemmas.List.{length-take}
 use Rattle.base_model.specs.Bytes.{part, spelled, put_at}
 use Rattle.base_model.proofs.BytesLemmas.{length-spelled}
@@ -17,7 +17,7 @@ use Rattle.ghes_hub.specs.declared.plain.map.PlainMap.{PlainMap}
 use Rattle.ghes_hub.specs.Kinds.{ByStatus, settled, plainly, turned_by, Occurs}
 use Rattle.ghes_hub.specs.Plain.{HasPlainWindows, plain_window, plain_status, plain_address, with_plain_window, PlainState, PlainStands}
 use Rattle.ghes_ack.specs.Handovers.{kept}
-use Rattle.ghes_hub.specs.PlainSides.{Turns, Stands}
+use Rattle.ghes_hub.specs.PlainSides.{Turns, Stands, with_next_piece, ReaderMakes, Copies, Takes, Clears}
 use Rattle.ghes_window.proofs.AddressLemmas.{length-window, window-with_window, address-with_window}
 use Rattle.ghes_hub.proofs.PlainMemory.{windows_window, length-plain_status, unchanged}
 
@@ -162,3 +162,27 @@ clears h ram new m block now is all memory st =
     let both : turned_by ByStatus Reader m ≡ (Clear, done.machine) =
     ap plainly cleared.is ∙ ap (λ (n : Machine). (Clear, n)) (settles cleared.machine cleared.agrees.situation_is ∙ ap (λ (t : Turned). t.1) done.is) in
     writes Reader Clear h (record h { situation = Acknowledged; at_work = None }) ram new (with_status (plain_window h.map ram) (spelled 4 0)) m done.machine both done.agrees tt refl wide memory st
+
+-- what a reader makes that may read is the machine's turn: the window's piece is the block's own
+made_as : (event other : Event) (h after next : PlainState) (ram memory left : RamState) (m : Machine) → event ≡ other → after ≡ next → memory ≡ left → Turns Reader other h ram next left m → Turns Reader event h ram after memory m
+made_as event other h after next ram memory left m is_event is_after is_memory done =
+    subst (λ (e : Event). Turns Reader e h ram after memory m) (sym is_event)
+    (subst (λ (s : PlainState). Turns Reader other h ram s memory m) (sym is_after)
+    (subst (λ (r : RamState). Turns Reader other h ram next r m) (sym is_memory) done))
+
+next_is : (h : PlainState) (ram : RamState) (m : Machine) (block : List ℕ) → h.situation ≡ Reading → h.at_work ≡ Some block → 64 * h.copied < length block → PlainStands h ram m → with_next_piece h ram block ≡ block
+next_is h ram m block now is begins st = copies_over h ram block (64 * h.copied) (min 64 (length block - 64 * h.copied)) now is begins (omega (arith, begins)) (m, st)
+
+pub reader_made : (h after : PlainState) (ram memory : RamState) (event : Event) (m : Machine) → h.situation ≡ Reading → ReaderMakes h ram event after memory → PlainStands h ram m → Turns Reader event h ram after memory m
+reader_made h after ram memory event m now (Copies block is more is_event is_after is_memory) st =
+    let same = next_is h ram m block now is (omega (arith, more)) st in
+    made_as event Copied h after (record h { copied = h.copied + 1 }) ram memory ram m is_event
+    (is_after ∙ ap (λ (x : List ℕ). record h { at_work = Some x; copied = h.copied + 1 }) same ∙ ap (λ (o : Option (List ℕ)). record h { at_work = o; copied = h.copied + 1 }) (sym is)) is_memory
+    (copies_more h ram m block now is more st)
+reader_made h after ram memory event m now (Takes block is more all is_event is_after is_memory) st =
+    let same = next_is h ram m block now is more st in
+    made_as event Took h after (record h { copied = h.copied + 1; last = block }) ram memory ram m is_event
+    (is_after ∙ ap (λ (x : List ℕ). record h { at_work = Some x; copied = h.copied + 1; last = x }) same ∙ ap (λ (o : Option (List ℕ)). record h { at_work = o; copied = h.copied + 1; last = block }) (sym is)) is_memory
+    (copies_last h ram m block now is more all st)
+reader_made h after ram memory event m now (Clears block is all is_event is_after is_memory) st =
+    made_as event Clear h after (record h { situation = Acknowledged; at_work = None }) ram memory memory m is_event is_after refl (clears h ram memory m block now is all is_memory st)

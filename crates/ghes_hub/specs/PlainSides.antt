@@ -1,14 +1,16 @@
 -- The two sides and the blocks of a plain handover, and what they are together.
-use Rattle.std.specs.Prelude.{◌≡◌, ◌<◌, Option, Some, None, ◌^◌, map}
+use Rattle.std.specs.Prelude.{◌≡◌, ℕ, ◌+◌, ◌*◌, ◌<◌, ◌≤◌, ◌^◌, List, length, Option, Some, None, IfSome, map}
+use Rattle.base_model.specs.Bytes.{spelled}
 use Rattle.apei_space.specs.RamState.{RamState}
 use Rattle.ghes_ack.specs.declared.events.Side.{Side}
 use Rattle.ghes_ack.specs.declared.events.Side.TheVariants.{Firmware, Reader}
 use Rattle.ghes_ack.specs.declared.events.Event.{Event}
-use Rattle.ghes_ack.specs.declared.events.Event.TheVariants.{Free, Wait, Nothing, Found}
-use Rattle.ghes_ack.specs.Machine.{Machine, Situation, Filling, Published, Reading, Cleared, Acknowledged}
+use Rattle.ghes_ack.specs.declared.events.Event.TheVariants.{Free, Wait, Nothing, Found, Copied, Took, Clear}
+use Rattle.ghes_ack.specs.Machine.{Machine, Situation, Filling, Published, Reading, Cleared, Acknowledged, with_status}
 use Rattle.ghes_ack.specs.Sides.{IsCopiedSoFar, AreApart, situation_of, state_of, handover_of}
 use Rattle.ghes_window.specs.declared.blocks.Blocks.{Blocks}
 use Rattle.ghes_window.specs.Queues.{HasRoom, count_of}
+use Rattle.ghes_window.specs.Pieces.{read_over}
 use Rattle.ghes_hub.specs.declared.plain.map.PlainMap.{PlainMap}
 use Rattle.ghes_ack.specs.declared.ends.Ends.{Ends}
 use Rattle.ghes_ack.specs.declared.ends.FirmwareEnd.{FirmwareEnd}
@@ -86,10 +88,14 @@ reader_at (Looks look) = Acknowledged
 reader_at (Reads read) = Reading
 reader_at (Acknowledges end) = Cleared
 
+-- the block at work, if any, fits into the window
+abbrev pub HasFittingWork : Blocks PlainMap → Type 0
+HasFittingWork b = IfSome b.at_work (λ block. length block.items ≤ b.map.window.len)
+
 -- the reader can make a turn
 abbrev pub ReaderIsAble : ReaderEnd → Blocks PlainMap → RamState → Type 0
 ReaderIsAble (Looks look) b ram = HasPlainWindows b.map ram
-ReaderIsAble (Reads read) b ram = IsSound Reading b × Stands (state_of Reading b) ram
+ReaderIsAble (Reads read) b ram = IsSound Reading b × HasPlainWindows b.map ram × HasFittingWork b
 ReaderIsAble (Acknowledges end) b ram = ⊥
 
 -- a turn of a reader that looks for a block: there is one exactly where the block status isn't 0, and none of its pieces is copied
@@ -98,9 +104,34 @@ FindsBlock old ram event (Looks look) new = (plain_status old.map ram ≡ 0) × 
 FindsBlock old ram event (Reads read) new = (0 < plain_status old.map ram) × (event ≡ Found) × (new ≡ record old { copied = 0 })
 FindsBlock old ram event (Acknowledges end) new = ⊥
 
+-- the block at work with the window's next piece in its place
+abbrev pub with_next_piece : PlainState → RamState → List ℕ → List ℕ
+with_next_piece old ram block = read_over (plain_window old.map ram) block old.copied 1
+
+-- a turn of a reader that may read the block: it copies the next piece, the last one too, or it clears the block status once it has them all
+pub data ReaderMakes (old : PlainState) (ram : RamState) (event : Event) (new : PlainState) (memory : RamState) : Type 0 where
+  Copies : (block : List ℕ) → old.at_work ≡ Some block → 64 * (old.copied + 1) < length block → event ≡ Copied →
+      new ≡ record old { at_work = Some (with_next_piece old ram block); copied = old.copied + 1 } → memory ≡ ram → ReaderMakes old ram event new memory
+  Takes : (block : List ℕ) → old.at_work ≡ Some block → 64 * old.copied < length block → length block ≤ 64 * (old.copied + 1) → event ≡ Took →
+      new ≡ record old { at_work = Some (with_next_piece old ram block); copied = old.copied + 1; last = with_next_piece old ram block } →
+      memory ≡ ram → ReaderMakes old ram event new memory
+  Clears : (block : List ℕ) → old.at_work ≡ Some block → length block ≤ 64 * old.copied → event ≡ Clear →
+      new ≡ record old { situation = Acknowledged; at_work = None } → memory ≡ with_plain_window old.map ram (with_status (plain_window old.map ram) (spelled 4 0)) →
+      ReaderMakes old ram event new memory
+
 -- a turn of the reader, whatever the firmware does
 abbrev pub ReaderTurns : ReaderEnd → Blocks PlainMap → RamState → Event → ReaderEnd → Blocks PlainMap → RamState → Type 0
 ReaderTurns (Looks look) old ram event end new memory = FindsBlock old ram event end new × (memory ≡ ram)
 ReaderTurns (Reads read) old ram event end new memory =
-    IsSound (reader_at end) new × ((m : Machine) → PlainStands (state_of Reading old) ram m → Turns Reader event (state_of Reading old) ram (state_of (reader_at end) new) memory m)
+    IsSound (reader_at end) new × ReaderMakes (state_of Reading old) ram event (state_of (reader_at end) new) memory
 ReaderTurns (Acknowledges acknowledge) old ram event end new memory = ⊥
+
+-- a side can make a turn: of the other side nothing is known
+abbrev pub SideIsAble : Side → Ends → Blocks PlainMap → RamState → Type 0
+SideIsAble Firmware ends b ram = FirmwareIsAble ends.firmware b ram
+SideIsAble Reader ends b ram = ReaderIsAble ends.reader b ram
+
+-- a turn of a side by its own end, the blocks and the memory. The other side stays where it is
+abbrev pub SideTurns : Side → Ends → Blocks PlainMap → RamState → Event → Ends → Blocks PlainMap → RamState → Type 0
+SideTurns Firmware ends old ram event next new memory = FirmwareTurns ends.firmware old ram event next.firmware new memory × (next.reader ≡ ends.reader)
+SideTurns Reader ends old ram event next new memory = ReaderTurns ends.reader old ram event next.reader new memory × (next.firmware ≡ ends.firmware)

@@ -78,6 +78,7 @@ module _ {L : Type 0} (hearing : L → Hearing) (told_sink : Type 0) (old new : 
     before = [];
     last = words;
     left = left_one hearing old line words calls new plays;
+    named = inl refl;
     plays = plays;
     text = λ t. let part = text t in (part.0, part.1 ∙ ap (λ (xs : List ℕ). xs ++ take part.0 (reply_line words)) (sym (append-nil written)));
   }
@@ -227,6 +228,7 @@ module _ {L : Type 0} (hearing : L → Hearing) (told_sink : Type 0) where
         left = subst (λ (xs : List ℕ). LeftOfTurns xs (turns front) ((so.said ++ block ∷ []) ++ words_of_turns events ∷ []) so.said block) (take-append-drop (2 * (at + 1)) all)
             (subst (λ (xs : List (List ℕ)). LeftOfTurns (front ++ drop (2 * (at + 1)) all) (turns front) xs so.said block) (sym (append_assoc so.said (block ∷ []) (words_of_turns events ∷ [])))
             (InBlock front (drop (2 * (at + 1)) all) so.events so.said block));
+        named = inr named;
         plays = AllTurned (so.calls ++ Turns (source_of digit) (side_of letter) Took ∷ []) events (so.said ++ block ∷ []) new (named_front old all (2 * (at + 1)) (omega (arith, within)) named) made;
         text = λ t. let part = turn.text t in (part.0, part.1 ∙ ap (λ (xs : List ℕ). xs ++ take part.0 (reply_line block)) (so.text t));
       }
@@ -270,6 +272,7 @@ module _ {L : Type 0} (hearing : L → Hearing) (told_sink : Type 0) where
         before = so.said;
         last = words_of_turns so.events;
         left = AtLast all so.said (words_of_turns so.events);
+        named = inl refl;
         plays = AllTurned so.calls so.events so.said new named so.turned;
         text = λ t. let part = text t in (
           part.0,

@@ -12,10 +12,10 @@ use Rattle.script_lines.specs.Reads.{HasRead, StandsAt, AreReadInOrder, last_lin
 use Rattle.hub_script.specs.HubGrammar.{Line, IsLine, hest}
 use Rattle.hub_script.specs.HubText.{IsWritten}
 use Rattle.hub_script.specs.Replies.{text_of_replies, reply_line}
-use Rattle.hub_script.specs.Stages.{Stage, Waiting, members_in}
+use Rattle.hub_script.specs.Stages.{Stage, Waiting, IsWaiting, members_in}
 use Rattle.hub_script.specs.Plays.{Plays}
-use Rattle.hub_script.specs.Lines.{PlaysLine, PlaysUnheard, TextIs, GivesTable}
-use Rattle.hub_script.specs.History.{Played, Follows, IsLineOf, ArePlayed, AreInGrammar, text_of_played}
+use Rattle.hub_script.specs.Lines.{PlaysLine, PlaysUnheard, TextIs, GivesTable, PairsAreNamed}
+use Rattle.hub_script.specs.History.{Played, Follows, IsLineOf, ArePlayed, AreInGrammar, stage_behind, text_of_played}
 use Rattle.hub_script.specs.Scripts.{StopsAt, EndsLines, PlaysScript, ServesScript}
 use Rattle.script_lines.specs.Ends.{EndsReading, fault_of}
 use Rattle.script_lines.specs.declared.ending.ScriptEnd.{ScriptEnd}
@@ -30,6 +30,11 @@ Follows-push : {L : Type 0} (hearing : L → Hearing) (first : Stage L) (some : 
     → Plays hearing mid one.line one.said one.calls one.left → Follows hearing first (some ++ one ∷ []) one.left
 Follows-push {L} hearing first [] mid one is plays = (subst (λ (stage : Stage L). Plays hearing stage one.line one.said one.calls one.left) is plays, refl)
 Follows-push hearing first (head ∷ some) mid one (plays, follows) line = (plays, Follows-push hearing head.left some mid one follows line)
+
+-- the stage behind lines is the one that the last of them left
+behind_is : {L : Type 0} (hearing : L → Hearing) (first : Stage L) (some : List (Played L)) (last : Stage L) → Follows hearing first some last → stage_behind first some ≡ last
+behind_is hearing first [] last follows = sym follows
+behind_is hearing first (head ∷ some) last (plays, follows) = behind_is hearing head.left some last follows
 
 ArePlayed-push : {L : Type 0} (texts : List TextLine) (text : TextLine) (some : List (Played L)) (one : Played L) → ArePlayed texts some → IsLineOf text one.line → ArePlayed (texts ++ text ∷ []) (some ++ one ∷ [])
 ArePlayed-push [] text [] one are is = (is, tt)
@@ -56,24 +61,24 @@ module _ {L : Type 0} (hearing : L → Hearing) (told_source told_sink : Type 0)
 
   -- an end behind a line that was read, or where none is
   ends_by : (old new : Stage L) (script rest rest_now written now : List ℕ) (reading : Reading) (ending : ScriptEnd) → (so_far : SoFar old new script rest written now reading)
-      → EndsLines told_source told_sink script rest_now written now so_far.played ending → PlaysScript hearing told_source told_sink old new script rest_now written now ending
-  ends_by old new script rest rest_now written now reading ending so_far ends = record { played = so_far.played; follows = so_far.follows; ends = ends }
+      → EndsLines told_source told_sink old script rest_now written now so_far.played ending → (ending ≡ Memory → ⊥) → PlaysScript hearing told_source told_sink old new script rest_now written now ending
+  ends_by old new script rest rest_now written now reading ending so_far ends other = record { played = so_far.played; follows = so_far.follows; ends = ends; waits = λ memory. absurd (other memory) }
 
   -- there is no next line
   pub ends_none : (order : AreReadInOrder told_source) (old new : Stage L) (script rest rest_now written now : List ℕ) (a b : Reading) (ending : ScriptEnd)
       → SoFar old new script rest written now a → EndsReading told_source a b rest rest_now ending → PlaysScript hearing told_source told_sink old new script rest_now written now ending
   ends_none order old new script rest rest_now written now a b Done so_far end = ends_by old new script rest rest_now written now a Done so_far
-      ((λ told. let at = order.at_end script rest rest_now so_far.lines a b so_far.read end told in (at.1, subst (λ (lines : List TextLine). ArePlayed lines so_far.played) (sym at.0) so_far.are)), so_far.text)
+      ((λ told. let at = order.at_end script rest rest_now so_far.lines a b so_far.read end told in (at.1, subst (λ (lines : List TextLine). ArePlayed lines so_far.played) (sym at.0) so_far.are)), so_far.text) (λ e. absurd (cc e))
   ends_none order old new script rest rest_now written now a b (BadLine number column) so_far end = absurd end
   ends_none order old new script rest rest_now written now a b SourceFault so_far end = ends_by old new script rest rest_now written now a SourceFault so_far
-      ((λ told. (so_far.lines, order.failed script rest rest_now so_far.lines a b so_far.read end told, so_far.are)), so_far.text)
+      ((λ told. (so_far.lines, order.failed script rest rest_now so_far.lines a b so_far.read end told, so_far.are)), so_far.text) (λ e. absurd (cc e))
   ends_none order old new script rest rest_now written now a b SinkFault so_far end = absurd end
   ends_none order old new script rest rest_now written now a b (TooLong number) so_far (is, long) = ends_by old new script rest rest_now written now a (TooLong number) so_far (
     (λ told.
         let at = order.too_long script rest so_far.lines a b so_far.read long told in
         (at.0, record { before = so_far.lines; stands = subst (λ (n : ℕ). StandsAt script so_far.lines n at.0) (sym is) at.1; are = so_far.are }, at.2)),
     so_far.text,
-  )
+  ) (λ e. absurd (cc e))
   ends_none order old new script rest rest_now written now a b Memory so_far end = absurd end
 
   -- the line that was read last
@@ -117,9 +122,11 @@ module _ {L : Type 0} (hearing : L → Hearing) (told_source told_sink : Type 0)
             before = made.before;
             unheard = made.last;
             left = made.left;
+            named = subst (λ (stage : Stage L). (made.made ≡ plays.line) ⊎ PairsAreNamed stage plays.line) (sym (behind_is hearing old so_far.played mid so_far.follows)) made.named;
             lines = λ told. let at = stands told in record { before = so_far.lines; text = last_line b; behind = at.behind; lines = at.lines; are = so_far.are; is = is_line plays.line plays.written };
             text = λ told. let part = made.text told in (part.0, part.1 ∙ ap (λ (bs : List ℕ). bs ++ text_of_replies made.before ++ take part.0 (reply_line made.last)) (so_far.text told));
           };
+          waits = λ e. absurd (cc e);
         }
 
     -- it is none
@@ -132,18 +139,20 @@ module _ {L : Type 0} (hearing : L → Hearing) (told_source told_sink : Type 0)
         (λ told. (last_line b, stops_at number is stands told, record { within = next.within; breaks = subst (λ (t : List ℕ). BreaksAt IsLine t column) same breaks })),
         (λ told. kept ∙ so_far.text told),
       );
+      waits = λ e. absurd (cc e);
     }
 
     -- there was no memory for it
-    pub ends_memory : (new : Stage L) (now : List ℕ) → new ≡ mid → now ≡ middle → (told_source → StandsAt script so_far.lines b.number (last_line b)) → GivesTable text
+    pub ends_memory : (new : Stage L) (now : List ℕ) → new ≡ mid → now ≡ middle → (told_source → StandsAt script so_far.lines b.number (last_line b)) → GivesTable text → IsWaiting mid
         → PlaysScript hearing told_source told_sink old new script rest_now written now Memory
-    ends_memory new now stays kept stands table = record {
+    ends_memory new now stays kept stands table waits = record {
       played = so_far.played;
       follows = subst (Follows hearing old so_far.played) (sym stays) so_far.follows;
       ends = (
         (λ told. (last_line b, b.number, table.hex, stops_at b.number refl stands told, is_line (hest table.hex) table.written)),
         (λ told. kept ∙ so_far.text told),
       );
+      waits = λ memory. subst IsWaiting (sym stays) waits;
     }
 
 -- from listeners that wait on
@@ -152,7 +161,7 @@ pub serves_script : {L : Type 0} (hearing : L → Hearing) (told_source told_sin
     → ServesScript hearing told_source told_sink script rest written now listeners listeners_now ending
 serves_script {L} hearing told_source told_sink old new script rest written now listeners listeners_now ending plays begins back =
     let follows = subst (λ (stage : Stage L). Follows hearing stage plays.played new) begins plays.follows in
-    record { played = plays.played; last = new; follows = follows; ends = plays.ends; members = back; served = are_served hearing listeners plays.played new follows }
+    record { played = plays.played; last = new; follows = follows; ends = subst (λ (stage : Stage L). EndsLines told_source told_sink stage script rest written now plays.played ending) begins plays.ends; waits = plays.waits; members = back; served = are_served hearing listeners plays.played new follows }
 
 -- a line among those in the grammar
 in_grammar_at : (before : List TextLine) (line : TextLine) (behind : List TextLine) → AreInGrammar (before ++ line ∷ behind) → (IsTooLong line → ⊥) × IsLine line.text

@@ -27,7 +27,7 @@ use Rattle.hub_script.specs.RefusalWords.{words_of_refusal, HubHasWords}
 use Rattle.hub_script.specs.declared.refusals.HubRefusal.TheVariants.{Open, Table, NoHub, Nobody, Submit}
 use Rattle.hub_script.specs.declared.refusals.HubRefusal.TheVariants as why_not
 use Rattle.hub_script.specs.Replies.{refused, reply_line, words_of_opened, words_of_queued, words_of_heard, words_of_dropped}
-use Rattle.hub_script.specs.Stages.{Stage, Waiting, Serving, stage_in}
+use Rattle.hub_script.specs.Stages.{Stage, Waiting, Serving, IsWaiting, stage_in}
 use Rattle.hub_script.specs.Plays.{Plays, listed, most_listed, named_at, NoTable, NoOpening, Opened, NoSource, NotTaken, Queued, NotNamed, NoneToCount, Counted, NoneToDrop, NoListener, Dropped}
 use Rattle.hub_script.specs.Made.{MakesReply, OpensFor, NotOpened, IsOpen}
 use Rattle.script_text.specs.Shown.{IsPartWritten}
@@ -65,6 +65,10 @@ not_below a b n k one other h = omega (arith, one, other, h)
 
 pub is_below : (a b n k : ℕ) → a ≡ b → b ≡ n → k < a → k < n
 is_below a b n k one other h = omega (arith, one, other, h)
+
+-- without a hub the listeners wait
+pub still_waiting : {X : Type 0} {H : X → Type 0} (hub : Option (Hub X H)) (listeners : List (DynBox X Global H)) → hub ≡ None → IsWaiting (stage_in hub listeners)
+still_waiting {X} {H} hub listeners none = subst (λ (o : Option (Hub X H)). IsWaiting (stage_in o listeners)) (sym none) tt
 
 -- the bytes of a line, lent
 pub as_lent : (hex bytes lent : List ℕ) (len : ℕ) → decode_of hex ≡ Ok (take len bytes) → lent ≡ bytes → decode_of hex ≡ Ok (take len lent)

@@ -29,6 +29,11 @@ abbrev pub Follows : {L : Type 0} → (L → Hearing) → Stage L → List (Play
 Follows hearing first [] last = last ≡ first
 Follows hearing first (played ∷ rest) last = Plays hearing first played.line played.said played.calls played.left × Follows hearing played.left rest last
 
+-- the stage behind some lines
+abbrev pub stage_behind : {L : Type 0} → Stage L → List (Played L) → Stage L
+stage_behind first [] = first
+stage_behind first (played ∷ rest) = stage_behind played.left rest
+
 -- all calls of the hub, in order
 abbrev pub calls_of : {L : Type 0} → List (Played L) → List Call
 calls_of {L} lines = flat_map (λ (played : Played L). played.calls) lines

@@ -1,5 +1,5 @@
 -- A line of a script as a text, and what is written of it.
-use Rattle.std.specs.Prelude.{◌≡◌, ℕ, List, [], ◌∷◌, ◌++◌, take, None, Ok}
+use Rattle.std.specs.Prelude.{◌≡◌, ◌⊎◌, ℕ, List, [], ◌∷◌, ◌++◌, take, None, Ok}
 use Rattle.hex.specs.Hex.{decode_of}
 use Rattle.apei_notify.specs.Telling.{Hearing}
 use Rattle.ghes_ack.specs.declared.events.Event.{Event}
@@ -9,8 +9,8 @@ use Rattle.ghes_hub.specs.Hubs.{Call}
 use Rattle.hub_script.specs.HubGrammar.{Line, blank, comment, hest, turns}
 use Rattle.hub_script.specs.HubText.{IsWritten}
 use Rattle.hub_script.specs.Replies.{text_of_replies, reply_line, words_of_turns}
-use Rattle.hub_script.specs.Stages.{Stage}
-use Rattle.hub_script.specs.Plays.{Plays}
+use Rattle.hub_script.specs.Stages.{Stage, Waiting, Serving}
+use Rattle.hub_script.specs.Plays.{Plays, AllNamed}
 use Rattle.hub_script.specs.declared.hub_line.HubLine.{HubLine}
 use Rattle.hub_script.specs.declared.hub_line.HubLine.TheVariants.{Hest}
 
@@ -39,7 +39,14 @@ IsLeft line made said before last = (made ≡ line) × (said ≡ last ∷ []) ×
 abbrev pub ArePartlyWritten : List (List ℕ) → List ℕ → List ℕ → List ℕ → Type 0
 ArePartlyWritten before last written written_now = (n : ℕ) × (written_now ≡ written ++ text_of_replies before ++ take n (reply_line last))
 
--- a line was played, or what is left of it, and the sink refused a reply
+-- each pair of turns that a hub may make names a source
+abbrev pub PairsAreNamed : {L : Type 0} → Stage L → Line → Type 0
+PairsAreNamed (Serving hub) (turns pairs) = AllNamed hub pairs
+PairsAreNamed (Serving hub) line = Unit {0}
+PairsAreNamed (Waiting listeners) line = Unit {0}
+
+-- A line was played, or what is left of it, and the sink refused a reply. Less than the whole line is left only of turns each of whose pairs
+-- names a source: with a pair that names none, no turn is made
 pub record PlaysUnheard {L : Type 0} (hearing : L → Hearing) (told_sink : Type 0) (old : Stage L) (line : Line) (new : Stage L) (written written_now : List ℕ) : Type 0 where
   pub made : Line
   pub said : List (List ℕ)
@@ -47,6 +54,7 @@ pub record PlaysUnheard {L : Type 0} (hearing : L → Hearing) (told_sink : Type
   pub before : List (List ℕ)
   pub last : List ℕ
   pub left : IsLeft line made said before last
+  pub named : (made ≡ line) ⊎ PairsAreNamed old line
   pub plays : Plays hearing old made said calls new
   pub text : told_sink → ArePartlyWritten before last written written_now
 

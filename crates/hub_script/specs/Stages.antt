@@ -12,6 +12,11 @@ pub data Stage (L : Type 0) : Type 0 where
   Waiting : List L → Stage L
   Serving : HubState L → Stage L
 
+-- no hub was opened yet
+abbrev pub IsWaiting : {L : Type 0} → Stage L → Type 0
+IsWaiting (Waiting listeners) = Unit {0}
+IsWaiting (Serving hub) = ⊥
+
 -- the listeners that are left: source by source where a hub was opened
 abbrev pub members_in : {L : Type 0} → Stage L → List L
 members_in (Waiting listeners) = listeners

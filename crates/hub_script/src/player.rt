@@ -33,7 +33,7 @@ pub enum HubStop {
     BadLine { column: u32 },
     /// The sink refused a reply.
     SinkFault,
-    /// There was no memory for a table or its hub.
+    /// There was no memory for a table or its hub. A line that gives a table while a hub is open takes none.
     Memory,
 }
 
@@ -81,6 +81,7 @@ impl HubPlayer {
         ensures unheard { result ≡ Err HubStop.SinkFault → TextIs line.now (λ asked. PlaysUnheard hearing O.tells (stage_of self.old) asked (stage_of self.new) (O.written out.old) (O.written out.new)) }
         ensures bad { (column : ℕ) → result ≡ Err (HubStop.BadLine column) → BreaksAt IsLine line.now column }
         ensures memory { result ≡ Err HubStop.Memory → GivesTable line.now }
+        ensures waits { result ≡ Err HubStop.Memory → self.old.hub ≡ None }
         ensures stopped { IfErr result (λ stop. stop ≢ HubStop.SinkFault → (stage_of self.new ≡ stage_of self.old) × (out.new ≡ out.old)) }
         ensures fault { result ≡ Err HubStop.SinkFault → Rose (O.faults out.old) (O.faults out.new) }
         ensures no_fault { result ≢ Err HubStop.SinkFault → O.faults out.new ≡ O.faults out.old }
@@ -99,6 +100,7 @@ impl HubPlayer {
         ensures unheard { result ≡ Err HubStop.SinkFault → PlaysUnheard hearing O.tells (stage_of self.old) (line_of line.entry) (stage_of self.new) (O.written out.old) (O.written out.new) }
         ensures bad { (column : ℕ) → result ≢ Err (HubStop.BadLine column) }
         ensures memory { result ≡ Err HubStop.Memory → IsTable line.entry }
+        ensures waits { result ≡ Err HubStop.Memory → self.old.hub ≡ None }
         ensures stopped { IfErr result (λ stop. stop ≢ HubStop.SinkFault → (stage_of self.new ≡ stage_of self.old) × (out.new ≡ out.old)) }
         ensures fault { result ≡ Err HubStop.SinkFault → Rose (O.faults out.old) (O.faults out.new) }
         ensures no_fault { result ≢ Err HubStop.SinkFault → O.faults out.new ≡ O.faults out.old }
@@ -130,6 +132,7 @@ impl HubPlayer {
         requires fits { length hex.now ≤ LONGEST_LINE }
         ensures made { OnOk result (MakesReply hearing (stage_of self.old) (hest hex.now) (stage_of self.new) self.new.desk.reply) }
         ensures memory { OnErr result (BringsTable hex.now) }
+        ensures waits { OnErr result (self.old.hub ≡ None) }
         ensures stays { OnErr result (stage_of self.new ≡ stage_of self.old) }
     {
         if self.hub.is_some() {

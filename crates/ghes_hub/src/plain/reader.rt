@@ -1,10 +1,9 @@
 // The reader's turns of a plain handover, by its own end, the block that it copies and the memory alone.
 ghost use Rattle.std.specs.Prelude.{◌≡◌, ◌-◌, ◌*◌, ◌<◌, ◌≤◌, min, length};
 ghost use Rattle.base_model.specs.Bytes.{part, put_at};
-ghost use Rattle.ghes_ack.specs.declared.events.Side.TheVariants.{Reader as OfReader};
-ghost use Rattle.ghes_ack.specs.Machine.{Machine, Reading};
-ghost use Rattle.ghes_hub.specs.Plain.{HasPlainWindows, PlainStands, plain_window};
-ghost use Rattle.ghes_hub.specs.PlainSides.{IsSound, Stands, Turns, FindsBlock, ReaderIsAble, ReaderTurns, reader_at};
+ghost use Rattle.ghes_ack.specs.Machine.{Reading};
+ghost use Rattle.ghes_hub.specs.Plain.{HasPlainWindows, plain_window};
+ghost use Rattle.ghes_hub.specs.PlainSides.{IsSound, HasFittingWork, FindsBlock, ReaderMakes, ReaderIsAble, ReaderTurns, reader_at};
 ghost use Rattle.ghes_ack.specs.Sides.{state_of};
 
 use crate::plain::map::PlainMap;
@@ -42,14 +41,14 @@ fn look_for_block(look: MustLook, blocks: &mut Blocks<PlainMap>, ram: &Ram) -> (
     }
 }
 
-/// Copies the next piece, or clears the block status once all are copied. The block at work holds the same bytes already, so its
-/// own buffer takes them.
+/// Copies the next piece of the window, or clears the block status once all are copied. The pieces go to the buffer of the block at
+/// work.
 fn copy_or_clear(read: MayRead, blocks: &mut Blocks<PlainMap>, ram: &mut Ram) -> (ReaderEnd, Event)
     requires sound { IsSound Reading blocks.old }
-    requires stands { Stands (state_of Reading blocks.old) ram.old }
+    requires windows { HasPlainWindows blocks.old.map ram.old }
+    requires fits { HasFittingWork blocks.old }
     ensures sound { IsSound (reader_at result.0) blocks.new }
-    ensures turns { (m : Machine) → PlainStands (state_of Reading blocks.old) ram.old m →
-        Turns OfReader result.1 (state_of Reading blocks.old) ram.old (state_of (reader_at result.0) blocks.new) ram.new m }
+    ensures makes { ReaderMakes (state_of Reading blocks.old) ram.old result.1 (state_of (reader_at result.0) blocks.new) ram.new }
 {
     let Some(mut bytes) = blocks.at_work.take() else {
         let look = read.release(&blocks.map, ram);

@@ -1,6 +1,5 @@
 // One turn of either side of a plain handover.
-ghost use Rattle.ghes_hub.specs.PlainSides.{IsConsistent, Stands, SideDone};
-ghost use Rattle.ghes_ack.specs.Sides.{handover_of};
+ghost use Rattle.ghes_hub.specs.PlainSides.{SideIsAble, SideTurns};
 
 use crate::plain::firmware::firmware_turn;
 use crate::plain::map::PlainMap;
@@ -9,16 +8,15 @@ use apei_space::Ram;
 use ghes_ack::{Ends, Event, Side};
 use ghes_window::Blocks;
 
-/// One turn of a side. The other one stays where it is.
+/// One turn of a side, which knows of the other one what the memory shows.
 pub fn one_turn(
     side: Side,
     ends: Ends,
     blocks: &mut Blocks<PlainMap>,
     ram: &mut Ram,
 ) -> (Ends, Event)
-    requires consistent { IsConsistent ends blocks.old }
-    requires stands { Stands (handover_of ends blocks.old) ram.old }
-    ensures { SideDone side result.1 ends result.0 blocks.old blocks.new ram.old ram.new }
+    requires { SideIsAble side ends blocks.old ram.old }
+    ensures { SideTurns side ends blocks.old ram.old result.1 result.0 blocks.new ram.new }
 {
     let Ends { firmware, reader } = ends;
     match side {

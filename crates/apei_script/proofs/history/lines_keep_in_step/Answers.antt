@@ -1,4 +1,5 @@
 use Rattle.apei_script.proofs.OrderLemmas.{line_order, history_order}
+use Rattle.apei_script.proofs.GivenBack.{history_gives_back}
 use Rattle.apei_script.proofs.history.lines_keep_in_step.Goals as goal
 
 pub returns-clause-line : goal.returns-clause-line
@@ -6,3 +7,6 @@ returns-clause-line g c = line_order g.F.Flash.tells
 
 pub returns-clause-lines : goal.returns-clause-lines
 returns-clause-lines g c = history_order g.F.Flash.tells
+
+pub returns-clause-given_back : goal.returns-clause-given_back
+returns-clause-given_back g c = history_gives_back g.F.Flash.tells

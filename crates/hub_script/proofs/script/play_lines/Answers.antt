@@ -3,6 +3,7 @@ use Rattle.script_lines.specs.Lines.{Reading}
 use Rattle.script_lines.specs.Reads.{last_line}
 use Rattle.script_lines.proofs.EndLemmas.{source_cause, no_sink}
 use Rattle.hub_script.proofs.ScriptLemmas.{is_short, start, so_far_next, ends_none, ends_bad, ends_unheard, ends_memory}
+use Rattle.hub_script.proofs.StageLemmas.{still_waiting}
 use Rattle.hub_script.proofs.script.play_lines.Goals as goal
 
 pub lines-init : goal.lines-init
@@ -64,3 +65,4 @@ returns-in-Err-Memory-clause-played g c =
     let stopped = c.in-Err-Memory.ensures.stopped (λ e. absurd (cc e)) in
     ends_memory _ _ _ _ _ _ _ _ _ _ _ _ inv.so_far _ next c.line.ensures _ _ stopped.0 (ap g.O.Sink.written stopped.1)
     (c.lines_are_read_in_order.ensures.stands _ _ _ _ _ _ inv.so_far.read next) (c.in-Err-Memory.ensures.memory (ap Err c.in-Err-Memory.field-0-is))
+    (still_waiting c.lines.player.hub c.lines.player.listeners.items (c.in-Err-Memory.ensures.waits (ap Err c.in-Err-Memory.field-0-is)))

@@ -1,33 +1,27 @@
 use Rattle.std.proofs.Common.{◌≡◌, ◌∙◌, ℕ, ◌+◌, length, Vec, Option, Some, sym, ap, arith}
 use Rattle.std.specs.declared.alloc.Global.{Global}
 use Rattle.std.specs.Vec.{with_items}
-use Rattle.ghes_hub.proofs.PlainBlocks.{clears_at, same_items, copies_at, takes_at}
+use Rattle.ghes_hub.proofs.PlainBlocks.{clears_at, copies_at, takes_at}
 use Rattle.ghes_ack.proofs.SideLemmas.{begins_at}
 use Rattle.ghes_hub.proofs.plain.reader.copy_or_clear.Goals as goal
 use Rattle.ghes_hub.proofs.plain.reader.copy_or_clear.Goals.{After-copy_piece}
 
--- the block at work keeps its bytes, as many as it had
-same : (c : After-copy_piece) → (with_items c.in-Some.bytes c.copy_piece.new.bytes).items ≡ c.in-Some.bytes.items
-same c =
-    same_items 64 c.args.blocks.now c.in-Some.bytes c.deref_mut.result.now c.copy_piece.new.bytes c.args.ram.now (sym c.in-Some.ensures.value) c.deref_mut.ensures.value c.requires.sound.under_way c.copy_piece.ensures
-    c.requires.stands (c.copy_piece.auto.bytes ∙ c.deref_mut.ensures.len)
-
 long : (c : After-copy_piece) → length c.in-Some.bytes.items ≡ c.in-Some.bytes.len
 long c = ap length (sym c.deref_mut.ensures.value) ∙ c.deref_mut.ensures.len
 
-pub returns-in_default-clause-turns : goal.returns-in_default-clause-turns
-returns-in_default-clause-turns c = λ m st. clears_at c.args.blocks.now c.take.new.self c.args.ram.now c.release-look.new.ram (sym c.in_default.ensures.value) c.take.ensures.after c.requires.sound.under_way c.release-look.ensures m st
+pub returns-in_default-clause-makes : goal.returns-in_default-clause-makes
+returns-in_default-clause-makes c = clears_at c.args.blocks.now c.take.new.self c.args.ram.now c.release-look.new.ram (sym c.in_default.ensures.value) c.take.ensures.after c.requires.sound.under_way c.release-look.ensures
 
-pub returns-then-blocks-len-clause-turns : goal.returns-then-blocks-len-clause-turns
-returns-then-blocks-len-clause-turns c =
-    let copied = (goal.at.returns-then-blocks-len-clause-turns c).After-copy_piece in
-    λ m st. copies_at c.args.blocks.now c.in-Some.bytes (with_items c.in-Some.bytes c.copy_piece.new.bytes) c.args.ram.now (sym c.in-Some.ensures.value) (same copied) (omega (arith, long copied, c.len.ensures, c.if-blocks-len.true)) m st
+pub returns-then-blocks-len-clause-makes : goal.returns-then-blocks-len-clause-makes
+returns-then-blocks-len-clause-makes c =
+    let copied = (goal.at.returns-then-blocks-len-clause-makes c).After-copy_piece in
+    copies_at c.args.blocks.now c.in-Some.bytes c.deref_mut.result.now c.copy_piece.new.bytes c.args.ram.now (sym c.in-Some.ensures.value) c.deref_mut.ensures.value
+    (omega (arith, long copied, c.len.ensures, c.if-blocks-len.true)) c.copy_piece.ensures (c.copy_piece.auto.bytes ∙ c.deref_mut.ensures.len)
 
-pub returns-clause-turns : goal.returns-clause-turns
-returns-clause-turns c =
-    let copied = (goal.at.returns-clause-turns c).After-copy_piece in
+pub returns-clause-makes : goal.returns-clause-makes
+returns-clause-makes c =
+    let copied = (goal.at.returns-clause-makes c).After-copy_piece in
     let some : c.args.blocks.now.at_work ≡ Some c.in-Some.bytes = sym c.in-Some.ensures.value in
-    let begins = begins_at c.args.blocks.now c.in-Some.bytes some c.requires.sound.under_way in
-    λ m st. takes_at c.args.blocks.now c.take-2.new.self c.in-Some.bytes (with_items c.in-Some.bytes c.copy_piece.new.bytes) c.args.ram.now some (same copied) begins
-    (omega (arith, long copied, c.len.ensures, c.if-blocks-len.false))
-    (c.take-2.ensures.last ∙ ap (λ (o : Option (Vec ℕ Global)). record c.args.blocks.now { at_work = o; copied = c.args.blocks.now.copied + 1; last = with_items c.in-Some.bytes c.copy_piece.new.bytes; spare = c.take-2.new.self.spare }) c.take.ensures.after) m st
+    takes_at c.args.blocks.now c.take-2.new.self c.in-Some.bytes c.deref_mut.result.now c.copy_piece.new.bytes c.args.ram.now some c.deref_mut.ensures.value
+    (begins_at c.args.blocks.now c.in-Some.bytes some c.requires.sound.under_way) (omega (arith, long copied, c.len.ensures, c.if-blocks-len.false)) c.copy_piece.ensures (c.copy_piece.auto.bytes ∙ c.deref_mut.ensures.len)
+    (c.take-2.ensures.last ∙ ap (λ (o : Option (Vec ℕ Global)). record c.args.blocks.now { at_work = o; copied = c.args.blocks.now.copied + 1; last = with_items c.in-Some.bytes c.copy_piece.new.bytes; spare = c.take-2.new.self.spare }) c.take.ensures.after)
