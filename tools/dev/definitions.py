@@ -1,0 +1,112 @@
+#!/usr/bin/env python3
+"""Counts the definitions of the repository, and lists those that a reader of one contract follows.
+
+    tools/dev/definitions.py [--list] [CRATE/FILE] [FUNCTION]
+
+A definition is what a file of specs/ names by `abbrev`, `unfoldable`, `record` or `data`. The contract is that of FUNCTION in
+crates/CRATE/src/FILE, by default `run` in apei_cli/program.rt. What it reaches are the definitions that its clauses name, and those
+that these name, and so on. With --list they are written in reading order: each before what it stands on.
+"""
+
+import argparse
+import collections
+import pathlib
+import re
+import sys
+from collections.abc import Iterator
+from dataclasses import dataclass, field
+
+TOP = pathlib.Path(__file__).resolve().parent.parent.parent
+HEAD = re.compile(r"^(?:pub )?(?:abbrev|unfoldable|record|data)(?: pub)? (\S+)|^pub (?:record|data) (\S+)", re.MULTILINE)
+USE = re.compile(r"(?:ghost )?use (Rattle[\w.]*)\.\{([^}]*)\}")
+NAME = re.compile(r"[^\s(){}\[\],;.:→λ×∷≡]+")
+
+
+@dataclass
+class Definition:
+    """One definition: where it stands, its lines, and the names in them with the definitions that they stand for."""
+
+    name: str
+    module: str
+    text: str
+    uses: dict[str, str] = field(default_factory=dict)
+
+    @property
+    def key(self) -> str:
+        return f"{self.module}.{self.name}"
+
+    @property
+    def lines(self) -> int:
+        return sum(1 for line in self.text.splitlines() if line.strip() and not line.startswith("--"))
+
+
+def imports(text: str) -> dict[str, str]:
+    """The names that a file takes from other modules, each with what it stands for there."""
+    found = {}
+    for module, names in USE.findall(text):
+        for name in names.split(","):
+            outer, _, inner = name.strip().partition(" as ")
+            found[inner or outer] = f"{module}.{outer}"
+    return found
+
+
+def definitions(crates: pathlib.Path) -> Iterator[Definition]:
+    for path in sorted(crates.glob("*/specs/*.antt")):
+        module = f"Rattle.{path.parent.parent.name}.specs.{path.stem}"
+        text = path.read_text()
+        heads = [match for match in HEAD.finditer(text) if (match[1] or match[2])]
+        uses = imports(text)
+        names = {match[1] or match[2] for match in heads}
+        for match, following in zip(heads, [*heads[1:], None]):
+            body = text[match.start() : following.start() if following else len(text)]
+            own = {name: f"{module}.{name}" for name in names}
+            yield Definition(match[1] or match[2], module, body, {**uses, **own})
+
+
+def named_in(text: str, uses: dict[str, str]) -> list[str]:
+    """What the names of a text stand for, in their order."""
+    return list(dict.fromkeys(uses[word] for word in NAME.findall(text) if word in uses))
+
+
+def contract(path: pathlib.Path, function: str) -> tuple[str, dict[str, str]]:
+    """The head of a function, from its name to its body, and what its file takes from elsewhere."""
+    text = path.read_text()
+    start = re.search(rf"\bfn {function}\b", text)
+    if start is None:
+        sys.exit(f"definitions: there is no function {function} in {path}")
+    end = re.search(r"^\s*\{\s*$", text[start.start() :], re.MULTILINE)
+    return text[start.start() : start.start() + (end.start() if end else len(text))], imports(text)
+
+
+def reached(first: list[str], known: dict[str, Definition]) -> list[Definition]:
+    """The definitions that these and what they name reach, each once, in the order in which they are met."""
+    found: dict[str, Definition] = {}
+    open_ones = list(first)
+    while open_ones:
+        key = open_ones.pop(0)
+        if key in known and key not in found:
+            found[key] = known[key]
+            open_ones += named_in(known[key].text, known[key].uses)
+    return list(found.values())
+
+
+def main() -> None:
+    words = argparse.ArgumentParser(description=__doc__, formatter_class=argparse.RawDescriptionHelpFormatter)
+    words.add_argument("--list", action="store_true", help="write the definitions that are reached")
+    words.add_argument("file", nargs="?", default="apei_cli/program.rt")
+    words.add_argument("function", nargs="?", default="run")
+    asked = words.parse_args()
+    crate, _, file = asked.file.partition("/")
+    known = {it.key: it for it in definitions(TOP / "crates")}
+    head, uses = contract(TOP / "crates" / crate / "src" / file, asked.function)
+    met = reached(named_in(head, uses), known)
+    if asked.list:
+        for it in met:
+            print(f"{it.module.removeprefix('Rattle.').replace('.specs.', '/')} {it.name}")
+    named = collections.Counter(key for it in known.values() for key in named_in(it.text, it.uses) if key != it.key)
+    print(f"{len(known)} definitions, {sum(1 for it in known if named[it] == 1)} of them named by one other")
+    print(f"{asked.function} reaches {len(met)}, of {sum(it.lines for it in met)} lines")
+
+
+if __name__ == "__main__":
+    main()
