@@ -8,8 +8,8 @@ PROGRAM is run on an erased image, on images that scripts leave by the model of 
 one that power lost in it left, on the images of tests/scripts and of tools/slots.py, slots of the old format among them, and on IMAGES more, 60
 where it is not said, of slots and of bytes that are drawn at random. It is also run on the images that PLAYER leaves: behind each line of a script
 of writes, replacements, clears and losses of power, behind scripts that are drawn at random, and behind those of examples/. The kinds of the slots,
-the totals and the records are those of the model, the bytes of each record are its own, and the file is as before, with its times but that of
-access. Then what is no image of the geometry is refused: a file of another length, a folder, a pipe, a file that is not there, one that another
+the totals, the records and the kind of file are those of the model, the bytes of each record are its own, and the file is as before, with its times
+but that of access. Images that are cut off are shown as far as they go, and the geometry of others is guessed. Then what is no image of the geometry is refused: a file of another length, a folder, a pipe, a file that is not there, one that another
 run holds and one without the right to read it; a file without the right to write is shown. The last line is 'N images, M wrong'; the exit status
 is 0 where none is.
 """
@@ -27,7 +27,7 @@ import uuid
 from itertools import chain
 
 import slots as slot_images
-from look_model import PER_SLOT, SECTOR, SIZE, Shown
+from look_model import LINUX, PER_SLOT, SECTOR, SIZE, Shown, seeming
 from model import Model, line, record
 
 TOP = os.path.dirname(os.path.dirname(os.path.abspath(__file__)))
@@ -107,11 +107,11 @@ def cut_images():
             yield b"".join(bytes(slot) for slot in model.slots)
 
 
-def named_record(identifier, severity, time, notification, *kinds):
+def named_record(identifier, severity, time, notification, *kinds, creator="03020100-0504-0706-0809-0a0b0c0d0e0f"):
     """A record with a section of eight bytes for each type, and with a time where one is given."""
     at = 128 + 72 * len(kinds)
     header = b"CPER\x01\x01" + b"\xff" * 4 + little(len(kinds), 2) + little(severity, 4) + little(2 if time else 0, 4)
-    header += little(at + 8 * len(kinds), 4) + (time or bytes(8)) + bytes(32) + bytes(range(16)) + uuid.UUID(notification).bytes_le
+    header += little(at + 8 * len(kinds), 4) + (time or bytes(8)) + bytes(32) + uuid.UUID(creator).bytes_le + uuid.UUID(notification).bytes_le
     header += little(identifier, 8) + bytes(24)
     parts = b"".join(
         little(at + 8 * index, 4) + little(8, 4) + bytes(8) + uuid.UUID(kind).bytes_le + bytes(16) + little(severity + index, 4) + bytes(20)
@@ -132,8 +132,12 @@ def named_images():
         named_record(3, 0, bytes.fromhex("0015060128112620"), check, memory, iommu),
         named_record(4, 1, bytes.fromhex("5959230031129919"), boot, other, memory, memory, memory, memory),
         named_record(5, 7, None, other),
+        named_record(6, 1, bytes.fromhex("0060281106152620"), check, other),
+        named_record(7, 1, bytes.fromhex("866df76900000000"), check, other, creator=LINUX),
+        named_record(8, 1, bytes.fromhex("ffffffffffffff7f"), check, other, creator=LINUX),
+        named_record(9, 1, bytes.fromhex("595923002902002a"), check, other),
     ]
-    yield from played(8, *("write " + it.hex() for it in records))[-1:]
+    yield from played(20, *("write " + it.hex() for it in records))[-1:]
 
 
 def some_images(count, chance):
@@ -198,7 +202,7 @@ def refusals(program, folder):
         return path
 
     image = file_of("image", b"\xff" * (SIZE * 3))
-    refused("another length", image, 6, "has 1536 bytes", slots=4)
+    refused("a greater length", image, 6, "has 1536 bytes", slots=2)
     refused("a geometry outside its limits", image, 6, "limits", slots=1)
     refused("a folder", folder, 5, "regular file")
     refused("no file", os.path.join(folder, "none"), 5, "no such image")
@@ -206,6 +210,9 @@ def refusals(program, folder):
     os.mkfifo(pipe)
     refused("a pipe", pipe, 5, "regular file")
     refused("an option twice", image, 1, "bad words", "--slots=3")
+    refused("a path twice", image, 1, "bad words", image)
+    refused("an empty path", "", 1, "bad words")
+    refused("a flag with a value", image, 1, "bad words", "--guess=1")
     refused("a record and JSON", image, 1, "bad words", "--json", "--record=1")
     refused("a number with a sign", image, 1, "bad words", "--record=+1")
     refused("a job", image, 1, "bad words", "play")
@@ -233,6 +240,44 @@ def refusals(program, folder):
     return wrong
 
 
+def shown_otherwise(program, folder):
+    """Images that are cut off, and images whose geometry is guessed."""
+    wrong = []
+    path = os.path.join(folder, "other")
+    whole = played(6, *REPLACEMENT)[-2]
+    for held in (0, 1, SIZE - 1, SIZE, SIZE + 300, len(whole) - 1):
+        with open(path, "wb") as file:
+            file.write(whole[:held])
+        wanted = Shown(whole[:held] + b"\xff" * (len(whole) - held), held)
+        text, facts = run(program, path, 6), run(program, path, 6, "--json")
+        if (text.returncode, text.stdout.decode()) != (6, wanted.text()) or f"has {held} bytes" not in text.stderr.decode():
+            wrong.append(f"an image of {held} bytes: {text}")
+        if facts.returncode != 6 or json.loads(facts.stdout) != wanted.json():
+            wrong.append(f"an image of {held} bytes: {facts.stdout.decode()}, wanted {wanted.json()}")
+    forms = [(256, 2, 6), (512, 2, 8), (256, 3, 7), (1024, 4, 5), (4096, 2, 4), (256, 16, 3)]
+    for sector, per_slot, slots in forms:
+        model = Model(per_slot, slots, sector=sector)
+        for command in [*REPLACEMENT, "write " + record(7, 300).hex(), "write " + record(9, 140).hex()][: slots - 1]:
+            model.play(command)
+        image = b"".join(bytes(slot) for slot in model.slots)
+        with open(path, "wb") as file:
+            file.write(image)
+        heads, *form = seeming(image)
+        # By its path alone, as a word by itself.
+        facts = json.loads(subprocess.run([program, path, "--guess", "--json"], capture_output=True, timeout=60).stdout)
+        geometry = [facts["geometry"][name] for name in ("sector", "per_slot", "slots")]
+        if geometry[:2] != form or facts["heads"] != heads or facts["file"] != "store" or form[0] * form[1] != sector * per_slot:
+            wrong.append(f"a flash of {slots} slots of {per_slot} sectors of {sector}: {geometry} are guessed, {facts['heads']} heads")
+        if facts["records"] != len(model.records()):
+            wrong.append(f"a flash of {slots} slots of {per_slot} sectors of {sector}: {facts['records']} records are found")
+    with open(path, "wb") as file:
+        file.write(b"\xff" * (8192 * 32))
+    facts = json.loads(subprocess.run([program, "--guess", path, "--json"], capture_output=True, timeout=60).stdout)
+    if (facts["geometry"], facts["seems"], facts["file"]) != ({"sector": 4096, "per_slot": 2, "slots": 32}, None, "store"):
+        wrong.append(f"an erased flash: {facts['geometry']}, {facts['seems']}, {facts['file']}")
+    return wrong
+
+
 def main(words):
     program = os.path.abspath(words[0] if words else os.path.join(TOP, "crates/apei_look/out/apei_look"))
     count = int(words[1]) if len(words) > 1 else 60
@@ -248,7 +293,7 @@ def main(words):
             wrong += bool(found)
             for what in found:
                 print(f"image {images - 1}: {what}"[:2000], file=sys.stderr)
-        for what in refusals(program, folder):
+        for what in shown_otherwise(program, folder) + refusals(program, folder):
             wrong += 1
             print(what, file=sys.stderr)
     print(f"{images} images, {wrong} wrong")

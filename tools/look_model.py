@@ -4,6 +4,7 @@ Kinds of slots are told by the words of docs/FORMATS.md, records by the model of
 places (UEFI 2.8, N.2.1 and N.2.2). Only the names that the images of tools/look.py need stand here.
 """
 
+import datetime
 import uuid
 
 from model import GATE_FURTHER, GATE_OPEN, NOT_KILLED, TAIL_MARK, Model, number
@@ -19,6 +20,7 @@ LEGEND = (
 )
 SEVERITIES = ["recoverable", "fatal", "corrected", "informational"]
 NOTIFICATIONS = {"2dce8bb1-bdd7-450e-b9ad-9cf4ebd4f890": "Corrected Machine Check", "3d61a466-ab40-409a-a698-f362d464b38f": "Boot"}
+LINUX = "75a574e3-5052-4b29-8a8e-be2c6490b89d"
 SECTIONS = {"a5bc1114-6f64-4ede-b863-3e83ed7c83b1": "Platform Memory", "036f84e1-7f37-428c-a79e-575fdfaa84ec": "IOMMU"}
 
 
@@ -26,6 +28,34 @@ def model_of(image):
     model = Model(PER_SLOT, len(image) // SIZE, sector=SECTOR)
     model.slots = [bytearray(image[at : at + SIZE]) for at in range(0, len(image), SIZE)]
     return model
+
+
+def heads_in(image, sector, per_slot):
+    """How many slots of this form have the head of a record's first slot, be it killed or not; none where the length is another."""
+    size = sector * per_slot
+    slots, rest = divmod(len(image), size)
+    if rest or not 2 <= slots <= 1024 or size > 65536 + 64 or len(image) > 2**26:
+        return 0
+    model = Model(per_slot, slots, sector=sector)
+    model.slots = [bytearray(image[at : at + 1]) + bytes([NOT_KILLED]) + bytearray(image[at + 2 : at + size]) for at in range(0, len(image), size)]
+    return sum(model.upright(slot) is not None for slot in range(slots))
+
+
+def seeming(image):
+    """The heads of the geometry that an image seems to have, its sector and the sectors of its slots; no heads where it seems to have none."""
+    best = (0, 0, 0)
+    for per_slot in range(2, 17):
+        for sector in [256 << bit for bit in range(8)]:
+            heads = heads_in(image, sector, per_slot)
+            if heads > best[0]:
+                best = (heads, sector, per_slot)
+    return best
+
+
+def file_kind(heads, most, unknown):
+    if most > heads:
+        return "other-geometry"
+    return "foreign" if most == 0 and unknown > 2 else "store"
 
 
 def kind_of(model, firsts, taken, slot):
@@ -47,10 +77,11 @@ def kind_of(model, firsts, taken, slot):
 
 
 class Shown:
-    """The kinds of an image's slots, its records by their first slots, and its totals."""
+    """The kinds of an image's slots, its records by their first slots, its totals, and what kind of file it is, of which so many bytes are there."""
 
-    def __init__(self, image):
+    def __init__(self, image, held=None):
         model = model_of(image)
+        self.held, self.size = len(image) if held is None else held, len(image)
         found = {slot: (identifier, generation, bytes(body), further) for identifier, (slot, generation, body, further) in model.records().items()}
         self.records = dict(sorted(found.items()))
         taken = set(found) | {slot for _, _, _, further in found.values() for slot in further}
@@ -59,9 +90,31 @@ class Shown:
         self.free = len(model.slots) - len(taken)
         self.copies = self.kinds.count("second-copy")
         self.bytes = sum(len(body) for _, _, body, _ in found.values())
+        self.heads = heads_in(image, SECTOR, PER_SLOT)
+        self.most, *self.form = seeming(image)
+        self.file = file_kind(self.heads, self.most, self.kinds.count("unknown"))
+
+    def file_text(self):
+        out = ""
+        if self.held < self.size:
+            out += f"the image ends at byte {self.held}, in slot {self.held // SIZE}; what is behind it is shown as erased\n"
+        if self.file == "other-geometry":
+            sector, per_slot = self.form
+            slots = self.size // (sector * per_slot)
+            out += f"heads stand where slots of {per_slot} sectors of {sector} begin: --sector={sector} --per-slot={per_slot} --slots={slots}\n"
+        if self.file == "foreign":
+            out += "no head of a record stands in it: it is none of ours\n"
+        return out
+
+    def file_json(self):
+        def geometry(sector, per_slot):
+            return {"sector": sector, "per_slot": per_slot, "slots": self.size // (sector * per_slot)}
+
+        seems = geometry(*self.form) if self.most else None
+        return {"geometry": geometry(SECTOR, PER_SLOT), "held": self.held, "file": self.file, "heads": self.heads, "seems": seems}
 
     def text(self):
-        out = f"slots {len(self.slots)} free {self.free} records {len(self.records)} second copies {self.copies} bytes {self.bytes}\n"
+        out = f"slots {len(self.slots)} free {self.free} records {len(self.records)} second copies {self.copies} bytes {self.bytes}\n" + self.file_text()
         letters = "".join(LETTERS[kind] for kind in self.kinds)
         for at in range(0, len(letters), 64):
             out += f"\n{at:>5} {letters[at : at + 64]}"
@@ -96,7 +149,7 @@ class Shown:
         for slot in slots:
             if "id" in slot:
                 slot["id"] = str(slot["id"])
-        return {**totals, "slots": slots, "stored": stored}
+        return {**self.file_json(), **totals, "slots": slots, "stored": stored}
 
 
 def head_of(data):
@@ -125,19 +178,35 @@ def frame_of(body):
     """What an error record says of itself; none where the bytes are none."""
     if body[:4] != b"CPER":
         return None
-    severity, notification, time = number(body[12:16]), guid(body[80:96]), body[24:32]
-    has_time = number(body[16:20]) & 2 != 0
-    digits = [f"{byte:02x}" for byte in time]
+    severity, notification = number(body[12:16]), guid(body[80:96])
+    time, is_precise, time_bytes = time_of(body)
     return {
         "severity": severity,
         "severity_name": severity_name(severity),
-        "time": "{7}{6}-{5}-{4}T{2}:{1}:{0}".format(*digits) if has_time else None,
-        "precise": has_time and time[3] & 1 != 0,
+        "time": time,
+        "precise": is_precise,
+        "time_bytes": time_bytes,
         "creator": guid(body[64:80]),
         "notification": notification,
         "notification_name": NOTIFICATIONS.get(notification),
         "sections": [section_of(body[at : at + 72]) for at in range(128, 128 + 72 * number(body[10:12]), 72)],
     }
+
+
+def time_of(body):
+    """A record's time, whether it is that of the error, and the bytes in its place where they are none."""
+    if number(body[16:20]) & 2 == 0:
+        return None, False, None
+    stamp, from_linux = body[24:32], guid(body[64:80]) == LINUX
+    try:
+        if from_linux:
+            time = datetime.datetime(1970, 1, 1) + datetime.timedelta(seconds=number(stamp))
+        else:
+            second, minute, hour, _, day, month, year, century = (int(f"{byte:02x}") for byte in stamp)
+            time = datetime.datetime(100 * century + year, month, day, hour, minute, second)
+    except (ValueError, OverflowError):
+        return None, False, stamp.hex()
+    return time.isoformat(), from_linux or stamp[3] & 1 != 0, None
 
 
 def section_of(descriptor):
@@ -153,7 +222,7 @@ def frame_text(body):
     frame = frame_of(body)
     if not frame:
         return "  no error record\n"
-    time = frame["time"] or "none"
+    time = frame["time"] or (f"bytes {frame['time_bytes']}" if frame["time_bytes"] else "none")
     out = f"  severity {named(frame['severity'], frame['severity_name'])}\n"
     out += f"  time {time}{' or about then' if frame['time'] and not frame['precise'] else ''}\n"
     out += f"  creator {frame['creator']}\n  notification {named(frame['notification'], frame['notification_name'])}\n"

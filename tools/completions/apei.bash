@@ -17,7 +17,7 @@ _apei_values() {
   local values=() value
   case $1 in
     --image) _apei_files "$2" ;;
-    --show) values=(HEAD PARTS 'HEAD\|PARTS') ;;
+    --show) values=(HEAD PARTS HEAD,PARTS) ;;
     --torn) values=(0 1 2 3) ;;
     --sector) values=(256 512 1024 2048 4096 8192 16384 32768) ;;
   esac

@@ -1,15 +1,20 @@
--- How the file of an image is refused.
-use Rattle.std.specs.Prelude.{ℕ, ◌≡◌, ◌≢◌, ⊤, ◌==◌, if◌then◌else◌, Result, Ok, Err}
+-- How the file of an image is refused, and how a run ends that showed one.
+use Rattle.std.specs.Prelude.{ℕ, ◌≡◌, ◌<◌, ⊤, ◌==◌, nat_le, if◌then◌else◌, Result, Ok, Err}
 use Rattle.apei_look.specs.declared.status.Status.{Status}
-use Rattle.apei_look.specs.declared.status.Status.TheVariants.{File, Length, Memory}
+use Rattle.apei_look.specs.declared.status.Status.TheVariants.{Done, File, Length, Memory}
 
--- where the image has to have so many bytes
+-- where the image may have so many bytes
 abbrev pub IsFileRefusal : ℕ → Status → Type 0
-IsFileRefusal size (File fault) = ⊤
-IsFileRefusal size (Length found wanted) = (wanted ≡ size) × (found ≢ size)
-IsFileRefusal size Memory = ⊤
-IsFileRefusal size other = ⊥
+IsFileRefusal most (File fault) = ⊤
+IsFileRefusal most (Length found wanted) = (wanted ≡ most) × (most < found)
+IsFileRefusal most Memory = ⊤
+IsFileRefusal most other = ⊥
 
--- a file of so many bytes, where so many are wanted
+-- a file of so many bytes, where at most so many are wanted
 abbrev pub length_checked : ℕ → ℕ → Result (Unit {0}) Status
-length_checked found wanted = if found == wanted then Ok tt else Err (Length found wanted)
+length_checked found most = if nat_le found most then Ok tt else Err (Length found most)
+
+-- what was shown of a file that is cut off is followed by its length
+abbrev pub ended_as : Status → ℕ → ℕ → Status
+ended_as Done found wanted = if found == wanted then Done else Length found wanted
+ended_as other found wanted = other

@@ -1,5 +1,5 @@
 // The file of an image, opened for reading alone.
-ghost use Rattle.std.specs.Prelude.{◌≡◌, length, IfOk, IfErr};
+ghost use Rattle.std.specs.Prelude.{◌≡◌, ◌≤◌, ◌^◌, length, IfOk, IfErr};
 ghost use Rattle.apei_look.specs.Refusals.{IsFileRefusal, length_checked};
 
 use crate::status::Status;
@@ -30,19 +30,20 @@ pub enum FileFault {
     Held,
 }
 
-/// The bytes of the regular file at `path`, which has to have `size` of them. A file that another run holds for its changes
-/// is refused; while it is read no run can hold it so.
-pub fn read_file(rt: &HostRuntime, alloc: Global, path: &str, size: u64) -> Result<Vec<u8>, Status>
-    ensures whole { IfOk result (λ image. length image.items ≡ size) }
-    ensures refused { IfErr result (IsFileRefusal size) }
+/// The bytes of the regular file at `path`, which has at most so many. A file that another run holds for its changes is refused; while
+/// it is read no run can hold it so.
+pub fn read_file(rt: &HostRuntime, alloc: Global, path: &str, most: u64) -> Result<Vec<u8>, Status>
+    requires { most ≤ 2 ^ 26 }
+    ensures whole { IfOk result (λ image. length image.items ≤ most) }
+    ensures refused { IfErr result (IsFileRefusal most) }
 {
     let file = open(rt, path).map_err(Status::File)?;
     let found = match file.metadata() {
         Ok(metadata) => metadata.len(),
         Err(_) => return Err(Status::File(FileFault::Unreadable)),
     };
-    check_length(found, size)?;
-    let Ok(mut image) = vec![in alloc; ERASED; size as usize] else {
+    check_length(found, most)?;
+    let Ok(mut image) = vec![in alloc; ERASED; found as usize] else {
         return Err(Status::Memory);
     };
     match file.read_exact_at(&mut image, 0) {
@@ -51,14 +52,17 @@ pub fn read_file(rt: &HostRuntime, alloc: Global, path: &str, size: u64) -> Resu
     }
 }
 
-// A file of another length than the geometry's is refused.
-fn check_length(found: u64, wanted: u64) -> Result<(), Status>
-    ensures { result ≡ length_checked found wanted }
+// A file that is longer is refused.
+fn check_length(found: u64, most: u64) -> Result<(), Status>
+    ensures { result ≡ length_checked found most }
 {
-    if found == wanted {
+    if found <= most {
         Ok(())
     } else {
-        Err(Status::Length { found, wanted })
+        Err(Status::Length {
+            found,
+            wanted: most,
+        })
     }
 }
 

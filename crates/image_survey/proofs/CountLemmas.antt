@@ -5,6 +5,7 @@ use Rattle.record_model.specs.Records.{count_below, one_if, is_up, slot_at, entr
 use Rattle.record_model.proofs.FirstLemmas.{first_count}
 use Rattle.image_survey.specs.Kinds.{kind_at}
 use Rattle.image_survey.specs.Counts.{is_free, is_record, is_second_copy, bytes_of, bytes_among, AreTotals}
+use Rattle.image_survey.specs.Heads.{is_unknown}
 use Rattle.image_survey.specs.declared.survey.SlotView.{SlotView}
 use Rattle.image_survey.specs.Shown.{IsShown}
 use Rattle.image_survey.proofs.KindLemmas.{record_kind, copy_kind}
@@ -19,6 +20,10 @@ pub record Counted (size slots : ℕ) (image : List ℕ) (n f r s b : ℕ) : Typ
 pub counted-none : (size slots : ℕ) (image : List ℕ) → Counted size slots image 0 0 0 0 0
 unfolding count_below
 counted-none size slots image = record { free = refl; records = refl; second_copies = refl; bytes = refl }
+
+pub count_none : (test : ℕ → Bool) → 0 ≡ count_below test 0
+unfolding count_below
+count_none test = refl
 
 -- one more of what a test counts
 pub count_more : (test : ℕ → Bool) (n so_far more : ℕ) → so_far ≡ count_below test n → more ≡ one_if (test n) → so_far + more ≡ count_below test (n + 1)
@@ -59,3 +64,10 @@ totals_are size slots image n f r s b end all = record {
   second_copies = all.second_copies ∙ ap (count_below (λ k. is_up (size - 64) slots (slot_at size image k) && not (is_first (entry_at size slots image) slots k))) end;
   bytes = all.bytes ∙ ap (bytes_among size slots image) end;
 }
+
+-- one more slot of those of no known form
+pub unknown_more : (size slots : ℕ) (image : List ℕ) (n so_far more : ℕ) (view : SlotView) → IsShown size slots image n view
+    → so_far ≡ count_below (λ k. is_unknown (kind_at size slots image k)) n → more ≡ one_if (is_unknown view.kind)
+    → so_far + more ≡ count_below (λ k. is_unknown (kind_at size slots image k)) (n + 1)
+unknown_more size slots image n so_far more view shown had is =
+    count_more (λ k. is_unknown (kind_at size slots image k)) n so_far more had (is ∙ (λ i. one_if (is_unknown (shown.kind i))))

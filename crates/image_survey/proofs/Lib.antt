@@ -4,3 +4,4 @@ pub mod KindLemmas
 pub mod CountLemmas
 pub mod ReadLemmas
 pub mod ErasedLemmas
+pub mod GuessLemmas

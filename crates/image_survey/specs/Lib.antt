@@ -3,3 +3,4 @@ pub mod Shown
 pub mod Reading
 pub mod Copies
 pub mod Counts
+pub mod Heads

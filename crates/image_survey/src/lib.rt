@@ -2,10 +2,12 @@
 //! finds.
 #![tactic(auto)]
 
+mod files;
 mod finding;
 mod firsts;
 mod flash;
 mod further;
+mod heads;
 mod kinds;
 mod lives;
 mod looks;
@@ -13,8 +15,10 @@ mod reading;
 mod survey;
 mod totals;
 
+pub use files::{FileKind, FileView, view_file};
 pub use finding::find;
 pub use flash::read_image;
+pub use heads::{Guess, best_guess, count_heads};
 pub use kinds::SlotKind;
 pub use reading::record_at;
 pub use record_recovery::{Look, ScanError};

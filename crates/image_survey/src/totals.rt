@@ -45,7 +45,8 @@ pub fn count_slots(views: &[SlotView], geometry: &Geometry) -> Totals
     }
 }
 
-fn one_if(is: bool) -> u32
+/// One for what passes a test.
+pub fn one_if(is: bool) -> u32
     ensures value { result ≡ one_if is }
     ensures few { result ≤ 1 }
 {

@@ -1,7 +1,9 @@
--- The letters and the words for what a slot is.
+-- The letters and the words for what a slot is, and the words for what a file is.
 use Rattle.std.specs.Prelude.{ℕ, List, codes}
 use Rattle.image_survey.specs.declared.kinds.SlotKind.{SlotKind}
 use Rattle.image_survey.specs.declared.kinds.SlotKind.TheVariants.{First, Further, SecondCopy, Orphan, Filling, Killed, Erased, Unknown}
+use Rattle.image_survey.specs.declared.files.FileKind.{FileKind}
+use Rattle.image_survey.specs.declared.files.FileKind.TheVariants.{Store, Other, Foreign}
 
 -- the letter as ASCII numbers it, R + 2 o w k . ?, and the word
 abbrev pub legend_of : SlotKind → ℕ × List ℕ
@@ -19,3 +21,8 @@ letter_of kind = (legend_of kind).0
 
 abbrev pub word_of : SlotKind → List ℕ
 word_of kind = (legend_of kind).1
+
+abbrev pub file_word_of : FileKind → List ℕ
+file_word_of Store = codes "store"
+file_word_of Other = codes "other-geometry"
+file_word_of Foreign = codes "foreign"

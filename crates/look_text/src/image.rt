@@ -19,6 +19,8 @@ pub struct Image<'a> {
     pub bytes: &'a [u8],
     pub geometry: &'a Geometry,
     pub views: &'a [SlotView],
+    /// How many of the bytes the file has: those behind them, where it is cut off, stand here as erased.
+    pub held: u64,
     pub ghost sized: { length bytes.now ≡ geometry.now.slot_size * geometry.now.slots },
     pub ghost all: { length views.now ≡ geometry.now.slots },
     pub ghost shown: { AreShown geometry.now.slot_size geometry.now.slots bytes.now views.now },

@@ -3,11 +3,12 @@ ghost use Rattle.std.specs.Prelude.{◌<◌, length};
 
 use crate::guid::add_guid;
 use crate::image::{Image, further_slots};
-use crate::kind::word;
-use crate::records::add_slot_numbers;
-use crate::time::{add_time, has_time, is_precise};
+use crate::kind::{file_word, word};
+use crate::records::{add_bytes, add_slot_numbers};
+use crate::time::{RecordTime, time_of};
 use cper_frame::{Record, RecordHead, notification_name, section_name, severity_name};
-use image_survey::{Look, SlotKind, SlotView, count_slots};
+use flash_model::Geometry;
+use image_survey::{FileView, Look, SlotKind, SlotView, count_slots, view_file};
 use record_slots::Head;
 use std::alloc::{AllocError, Global};
 
@@ -15,6 +16,7 @@ use std::alloc::{AllocError, Global};
 /// numbers.
 pub fn json_of(alloc: Global, image: &Image<'_>) -> Result<String, AllocError> {
     let mut out = String::new(alloc);
+    add_file(&mut out, image)?;
     add_totals(&mut out, image)?;
     add_slots(&mut out, image.views)?;
     add_records(alloc, &mut out, image)?;
@@ -22,11 +24,38 @@ pub fn json_of(alloc: Global, image: &Image<'_>) -> Result<String, AllocError> {
     Ok(out)
 }
 
+// The geometry that the image is looked at by, how many bytes of it the file has, and what kind of file it is.
+fn add_file(out: &mut String, image: &Image<'_>) -> Result<(), AllocError> {
+    let held = image.held;
+    let FileView { heads, guess, kind } = view_file(image.bytes, image.geometry, image.views);
+    let kind = file_word(kind);
+    out.push_str("{\"geometry\":")?;
+    add_geometry(out, image.geometry)?;
+    write!(
+        out,
+        ",\"held\":{held},\"file\":\"{kind}\",\"heads\":{heads},\"seems\":"
+    )?;
+    match guess {
+        Some(guess) => add_geometry(out, &guess.geometry),
+        None => out.push_str("null"),
+    }
+}
+
+fn add_geometry(out: &mut String, geometry: &Geometry) -> Result<(), AllocError> {
+    let sector = geometry.sector();
+    let per_slot = geometry.per_slot();
+    let slots = geometry.slots();
+    write!(
+        out,
+        "{{\"sector\":{sector},\"per_slot\":{per_slot},\"slots\":{slots}}}"
+    )
+}
+
 fn add_totals(out: &mut String, image: &Image<'_>) -> Result<(), AllocError> {
     let totals = count_slots(image.views, image.geometry);
     write!(
         out,
-        "{{\"free\":{},\"records\":{}",
+        ",\"free\":{},\"records\":{}",
         totals.free, totals.records
     )?;
     write!(
@@ -140,10 +169,8 @@ fn add_head(out: &mut String, head: &RecordHead) -> Result<(), AllocError> {
         ",\"frame\":{{\"severity\":{severity},\"severity_name\":"
     )?;
     add_name(out, severity_name(severity))?;
-    out.push_str(",\"time\":")?;
-    add_time_or_null(out, head)?;
-    let is_precise = has_time(head) && is_precise(head);
-    write!(out, ",\"precise\":{is_precise},\"creator\":\"")?;
+    add_time(out, &time_of(head))?;
+    out.push_str(",\"creator\":\"")?;
     add_guid(out, &head.creator)?;
     out.push_str("\",\"notification\":\"")?;
     add_guid(out, &head.notification)?;
@@ -151,13 +178,24 @@ fn add_head(out: &mut String, head: &RecordHead) -> Result<(), AllocError> {
     add_name(out, notification_name(&head.notification))
 }
 
-fn add_time_or_null(out: &mut String, head: &RecordHead) -> Result<(), AllocError> {
-    if !has_time(head) {
-        return out.push_str("null");
+// A time as text, or as bytes where it is none of the calendar.
+fn add_time(out: &mut String, time: &RecordTime) -> Result<(), AllocError> {
+    match time {
+        RecordTime::Missing => {
+            out.push_str(",\"time\":null,\"precise\":false,\"time_bytes\":null")
+        }
+        RecordTime::Calendar { time, is_precise } => {
+            write!(
+                out,
+                ",\"time\":\"{time}\",\"precise\":{is_precise},\"time_bytes\":null"
+            )
+        }
+        RecordTime::Bytes(stamp) => {
+            out.push_str(",\"time\":null,\"precise\":false,\"time_bytes\":\"")?;
+            add_bytes(out, *stamp)?;
+            out.push('"')
+        }
     }
-    out.push('"')?;
-    add_time(out, head)?;
-    out.push('"')
 }
 
 // What the descriptor of a section says.

@@ -1,8 +1,8 @@
 // The letters and the words for what a slot is.
 ghost use Rattle.std.specs.Prelude.{◌≡◌};
-ghost use Rattle.look_text.specs.Words.{letter_of, word_of};
+ghost use Rattle.look_text.specs.Words.{file_word_of, letter_of, word_of};
 
-use image_survey::SlotKind;
+use image_survey::{FileKind, SlotKind};
 
 /// The letter of the picture.
 pub fn letter(kind: SlotKind) -> char
@@ -33,5 +33,16 @@ pub fn word<'a>(kind: SlotKind) -> &'a str
         SlotKind::Killed => "killed",
         SlotKind::Erased => "erased",
         SlotKind::Unknown => "unknown",
+    }
+}
+
+/// The word of a kind of file.
+pub fn file_word<'a>(kind: FileKind) -> &'a str
+    ensures { result.now ≡ file_word_of kind }
+{
+    match kind {
+        FileKind::Store => "store",
+        FileKind::Other => "other-geometry",
+        FileKind::Foreign => "foreign",
     }
 }

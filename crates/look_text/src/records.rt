@@ -3,7 +3,7 @@ ghost use Rattle.std.specs.Prelude.{◌<◌, length};
 
 use crate::guid::add_guid;
 use crate::image::{Image, further_slots};
-use crate::time::{add_time, has_time, is_precise};
+use crate::time::{RecordTime, time_of};
 use cper_frame::{Record, RecordHead, notification_name, section_name, severity_name};
 use record_slots::Head;
 use std::alloc::{AllocError, Global};
@@ -62,20 +62,40 @@ fn add_frame(out: &mut String, bytes: &[u8]) -> Result<(), AllocError> {
 fn add_head(out: &mut String, head: &RecordHead) -> Result<(), AllocError> {
     add_severity(out, "  severity ", head.severity)?;
     out.push_str("\n  time ")?;
-    if has_time(head) {
-        add_time(out, head)?;
-        if !is_precise(head) {
-            out.push_str(" or about then")?;
-        }
-    } else {
-        out.push_str("none")?;
-    }
+    add_time(out, &time_of(head))?;
     out.push_str("\n  creator ")?;
     add_guid(out, &head.creator)?;
     out.push_str("\n  notification ")?;
     add_guid(out, &head.notification)?;
     add_name(out, notification_name(&head.notification))?;
     out.push('\n')
+}
+
+// A time, or the bytes that stand in its place.
+fn add_time(out: &mut String, time: &RecordTime) -> Result<(), AllocError> {
+    match time {
+        RecordTime::Missing => out.push_str("none"),
+        RecordTime::Calendar { time, is_precise } => {
+            write!(out, "{time}")?;
+            if *is_precise {
+                Ok(())
+            } else {
+                out.push_str(" or about then")
+            }
+        }
+        RecordTime::Bytes(stamp) => {
+            out.push_str("bytes ")?;
+            add_bytes(out, *stamp)
+        }
+    }
+}
+
+/// The bytes of a number, from the low one on.
+pub fn add_bytes(out: &mut String, number: u64) -> Result<(), AllocError> {
+    for byte in number.to_le_bytes() {
+        write!(out, "{byte:02x}")?;
+    }
+    Ok(())
 }
 
 // What the descriptor of a section says.

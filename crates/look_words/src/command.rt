@@ -1,14 +1,19 @@
-// The command that clap reads: the options and the flag.
+// The command that clap reads: the options, the flags, and the path that stands by itself.
 ghost use Rattle.std.specs.Prelude.{◌≡◌, IfOk, false};
 ghost use Rattle.clap.specs.Words.{app_of, rule_of};
-ghost use Rattle.look_words.specs.Commands.{json_rule, the_command};
+ghost use Rattle.look_words.specs.Commands.{file_rule, flag_rule, the_command};
 
 use clap::{Arg, ArgAction, Command};
 use clap_words::{bare, option};
 use std::alloc::{AllocError, Global};
 
-/// The name of the one flag.
+// The names of the flags.
 pub(crate) const JSON: &str = "json";
+
+pub(crate) const GUESS: &str = "guess";
+
+/// The name of the one positional, which is the image's path.
+pub(crate) const FILE: &str = "file";
 
 // The names of the options.
 pub(crate) const IMAGE: &str = "image";
@@ -21,12 +26,14 @@ pub(crate) const SLOTS: &str = "slots";
 
 pub(crate) const RECORD: &str = "record";
 
-/// A flag, and options with one value each.
+/// Two flags, a path, and options with one value each.
 pub(crate) fn command<'a>(alloc: Global) -> Result<Command<'a>, AllocError>
     ensures { IfOk result (λ command. app_of command ≡ the_command) }
 {
     let command = bare(alloc, "apei-look")
-        .arg(flag(alloc))?
+        .arg(flag(alloc, JSON))?
+        .arg(flag(alloc, GUESS))?
+        .arg(file(alloc))?
         .arg(option(alloc, IMAGE))?
         .arg(option(alloc, SECTOR))?
         .arg(option(alloc, PER_SLOT))?
@@ -35,9 +42,16 @@ pub(crate) fn command<'a>(alloc: Global) -> Result<Command<'a>, AllocError>
     Ok(command)
 }
 
-fn flag<'a>(alloc: Global) -> Arg<'a>
-    ensures rule { rule_of result ≡ json_rule }
+fn flag<'a>(alloc: Global, name: &'a str) -> Arg<'a>
+    ensures rule { rule_of result ≡ flag_rule name.entry.now }
     ensures local { result.global ≡ false }
 {
-    Arg::new(alloc, JSON).long(JSON).action(ArgAction::SetTrue)
+    Arg::new(alloc, name).long(name).action(ArgAction::SetTrue)
+}
+
+fn file<'a>(alloc: Global) -> Arg<'a>
+    ensures rule { rule_of result ≡ file_rule }
+    ensures local { result.global ≡ false }
+{
+    Arg::new(alloc, FILE)
 }

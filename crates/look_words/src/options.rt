@@ -5,8 +5,8 @@ ghost use Rattle.clap_words.specs.Commands.{NoneFits};
 ghost use Rattle.clap_words.specs.declared.error.WordsError.TheVariants.{BadWords};
 ghost use Rattle.look_words.specs.Options.{AreBad, AreOptionsIn, AreOptionsOf};
 
-use crate::command::{PER_SLOT, SECTOR, SLOTS, command};
-use crate::values::{image, number_or, show};
+use crate::command::{GUESS, PER_SLOT, SECTOR, SLOTS, command};
+use crate::values::{image, is_set, number_or, show};
 use clap::ArgMatches;
 use clap_words::{WordsError, matches_in};
 use std::alloc::Global;
@@ -32,11 +32,13 @@ pub struct Options {
     /// The sectors of a slot.
     pub per_slot: u64,
     pub slots: u64,
+    /// Whether the geometry is to be that which the image seems to have, if it seems to have one.
+    pub guess: bool,
     pub show: Show,
 }
 
-/// What the words behind the program's name ask for: `--image`, which has to be there, `--sector`, `--per-slot` and `--slots`,
-/// and `--record` or `--json`, each at most once.
+/// What the words behind the program's name ask for: the image's path, by `--image` or by itself, which has to be there, `--sector`,
+/// `--per-slot`, `--slots` and `--guess`, and `--record` or `--json`, each at most once.
 pub fn options_of(alloc: Global, words: &[String]) -> Result<Options, WordsError>
     ensures options { IfOk result (AreOptionsOf words.now) }
     ensures bad_words { result ≡ Err BadWords → AreBad words.now }
@@ -56,6 +58,7 @@ fn options_in(alloc: Global, matches: &ArgMatches<'_>) -> Result<Options, WordsE
         sector: number_or(matches, SECTOR, 4096)?,
         per_slot: number_or(matches, PER_SLOT, 2)?,
         slots: number_or(matches, SLOTS, 32)?,
+        guess: is_set(matches, GUESS),
         show: show(matches)?,
     })
 }

@@ -1,23 +1,23 @@
 // The values of the options.
-ghost use Rattle.std.specs.Prelude.{◌≡◌, Err, IfOk, MatchResult, codes};
+ghost use Rattle.std.specs.Prelude.{◌≡◌, Err, IfOk, MatchResult, codes, option_map};
 ghost use Rattle.clap.specs.Words.{first_of, found_of, rows_of};
 ghost use Rattle.clap_words.specs.Commands.{NoneFits};
 ghost use Rattle.clap_words.specs.declared.error.WordsError.TheVariants.{BadWords};
-ghost use Rattle.look_words.specs.Options.{IsGivenOr, IsImage, IsShow, wants_json};
+ghost use Rattle.look_words.specs.Options.{IsGivenOr, IsImage, IsShow, is_set, one_of};
 
 use crate::Show;
-use crate::command::{IMAGE, JSON, RECORD};
+use crate::command::{FILE, IMAGE, JSON, RECORD};
 use crate::number::number;
 use clap::ArgMatches;
 use clap_words::{WordsError, text};
 use std::alloc::Global;
 
-/// The path of the image, which is not empty.
+/// The path of the image, by the option or by itself, which is not empty.
 pub(crate) fn image(alloc: Global, matches: &ArgMatches<'_>) -> Result<String, WordsError>
-    ensures image { IfOk result (IsImage (first_of (codes "image") (rows_of (found_of matches.now)))) }
-    ensures bad_words { result ≡ Err BadWords → NoneFits (IsImage (first_of (codes "image") (rows_of (found_of matches.now)))) BadWords }
+    ensures image { IfOk result (IsImage (one_of (first_of (codes "image") (rows_of (found_of matches.now))) (first_of (codes "file") (rows_of (found_of matches.now))))) }
+    ensures bad_words { result ≡ Err BadWords → NoneFits (IsImage (one_of (first_of (codes "image") (rows_of (found_of matches.now))) (first_of (codes "file") (rows_of (found_of matches.now))))) BadWords }
 {
-    match text(matches, IMAGE) {
+    match path(matches) {
         Some(path) => {
             if path.is_empty() {
                 return Err(WordsError::BadWords);
@@ -25,6 +25,19 @@ pub(crate) fn image(alloc: Global, matches: &ArgMatches<'_>) -> Result<String, W
             Ok(String::from_str(alloc, path)?)
         }
         None => Err(WordsError::BadWords),
+    }
+}
+
+// The path that is given once.
+fn path<'a>(matches: &ArgMatches<'a>) -> Option<&'a str>
+    ensures { option_map (λ text. text.now) result ≡ one_of (first_of (codes "image") (rows_of (found_of matches.now))) (first_of (codes "file") (rows_of (found_of matches.now))) }
+{
+    match text(matches, IMAGE) {
+        Some(path) => match text(matches, FILE) {
+            Some(_) => None,
+            None => Some(path),
+        },
+        None => text(matches, FILE),
     }
 }
 
@@ -47,10 +60,10 @@ pub(crate) fn number_or(
 
 /// One record, JSON, or text where neither is asked for. Both are none.
 pub(crate) fn show(matches: &ArgMatches<'_>) -> Result<Show, WordsError>
-    ensures { MatchResult result (IsShow (wants_json (rows_of (found_of matches.now))) (first_of (codes "record") (rows_of (found_of matches.now))))
-        (NoneFits (IsShow (wants_json (rows_of (found_of matches.now))) (first_of (codes "record") (rows_of (found_of matches.now))))) }
+    ensures { MatchResult result (IsShow (is_set (codes "json") (rows_of (found_of matches.now))) (first_of (codes "record") (rows_of (found_of matches.now))))
+        (NoneFits (IsShow (is_set (codes "json") (rows_of (found_of matches.now))) (first_of (codes "record") (rows_of (found_of matches.now))))) }
 {
-    let json = wants_json(matches);
+    let json = is_set(matches, JSON);
     match text(matches, RECORD) {
         Some(_) if json => Err(WordsError::BadWords),
         Some(digits) => match number(digits) {
@@ -62,11 +75,11 @@ pub(crate) fn show(matches: &ArgMatches<'_>) -> Result<Show, WordsError>
     }
 }
 
-// Whether JSON is asked for: clap keeps the text "true" of a flag that was given.
-fn wants_json(matches: &ArgMatches<'_>) -> bool
-    ensures { result ≡ wants_json (rows_of (found_of matches.now)) }
+/// Whether a flag was given: clap keeps the text "true" of one that was.
+pub(crate) fn is_set(matches: &ArgMatches<'_>, name: &str) -> bool
+    ensures { result ≡ is_set name.now (rows_of (found_of matches.now)) }
 {
-    match text(matches, JSON) {
+    match text(matches, name) {
         Some(text) => text == "true",
         None => false,
     }
