@@ -27,6 +27,8 @@ from words import read
 TOP = Path(__file__).resolve().parent.parent
 BAD = "apei: ./apei --help says which jobs and options there are"
 LOOK_BAD = "apei-look: ./apei-look --help says which options there are"
+# The signals that end a run.
+ENDING = signal.SIGTERM, signal.SIGINT, signal.SIGHUP
 # Words and input, the status, and the lines on standard error.
 SAID: list[tuple[str, bytes, int, list[str]]] = [
     ("apei simulate", b"", 1, ["apei: bad words", "apei: 'simulate' is no job; the nearest is sim", BAD]),
@@ -146,10 +148,23 @@ def child_of(pid: int) -> Optional[int]:
     return None
 
 
+def let_signals_end_it() -> None:
+    """A run in the background, as a gate's may be, passes on that it ignores them."""
+    for number in ENDING:
+        signal.signal(number, signal.SIG_DFL)
+
+
 def signals(runs: Runs) -> None:
     """A script that is told to end ends when its program has, and the lock is free then."""
-    for number in (signal.SIGTERM, signal.SIGINT, signal.SIGHUP):
-        started = subprocess.Popen(["apei", "play", "--image=six"], cwd=runs.folder, env=runs.environment, stdin=subprocess.PIPE, stdout=subprocess.DEVNULL)
+    for number in ENDING:
+        started = subprocess.Popen(
+            ["apei", "play", "--image=six"],
+            cwd=runs.folder,
+            env=runs.environment,
+            stdin=subprocess.PIPE,
+            stdout=subprocess.DEVNULL,
+            preexec_fn=let_signals_end_it,
+        )
         child = child_of(started.pid)
         started.send_signal(number)
         status = started.wait(20)
