@@ -1,0 +1,5 @@
+pub mod CarryLemmas
+pub mod SequenceLemmas
+pub mod PlaceLemmas
+pub mod AccessLemmas
+pub mod ProgramLemmas

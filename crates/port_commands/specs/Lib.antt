@@ -1,0 +1,2 @@
+pub mod PortSpaces
+pub mod Machines
