@@ -1,6 +1,7 @@
 -- Each access of a port is one of the machine with its device.
 use Rattle.std.proofs.Common.{◌≡◌, ℕ, ◌+◌, ◌-◌, ◌%◌, ◌^◌, ◌<◌, ◌≤◌, true, List, length, Option, Some, Result, Ok, Err, inl, inr, refl, sym, ap, subst, ◌∙◌, arith}
 use Rattle.base_model.specs.Bytes.{part, put_at}
+use Rattle.base_model.proofs.BytesLemmas.{length-put_at}
 use Rattle.flash_words.specs.Layout.{Layout, room_of, reach_of}
 use Rattle.apei_gas.specs.declared.registers.Place.TheVariants.{Memory}
 use Rattle.apei_gas.specs.declared.widths.Width.TheVariants.{B8, B32, B64}
@@ -140,7 +141,7 @@ module _ (addresses : Addresses) (old new : SpaceState) where
   module _ (at machine_at k : ℕ) (is : at ≡ addresses.range + k) where
     pub bytes_written : (bytes : List ℕ) (answer : Result (Unit {0}) SpaceFault) → 0 < length bytes → k + length bytes ≤ length old.port.range
         → memory_spot (length old.port.range) machine_at (length bytes) ≡ Inside InRange k → Goes addresses old (WriteBytes at bytes answer) new
-        → (answer ≡ Ok tt) × Allows (Unit {0}) (machine_of old) (WriteBytes machine_at bytes answer) (machine_of new)
+        → (answer ≡ Ok tt) × Allows (Unit {0}) (machine_of old) (WriteBytes machine_at bytes answer) (machine_of new) × (length new.port.range ≡ length old.port.range)
     bytes_written bytes answer some fits spot goes =
         let place = in_range addresses old goes.there at k goes.before.apart is (omega (arith, some, fits)) in
         let bytes_at = range-bytes (length old.port.range) k (length bytes) fits in
@@ -152,6 +153,7 @@ module _ (addresses : Addresses) (old new : SpaceState) where
           answer_is,
           (answer_is ∙ sym (ap (λ (s : MachineSpot). (machine_stored s (machine_of old) machine_at bytes).0) spot),
           ap machine_of new_is ∙ sym (ap (λ (s : MachineSpot). (machine_stored s (machine_of old) machine_at bytes).1) spot)),
+          ap (λ (s : SpaceState). length s.port.range) new_is ∙ length-put_at old.port.range k bytes fits,
         )
 
     pub bytes_told : (before after : List ℕ) (answer : Result (Unit {0}) SpaceFault) → 0 < length before → k + length before ≤ length old.port.range

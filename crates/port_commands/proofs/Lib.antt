@@ -3,3 +3,5 @@ pub mod SequenceLemmas
 pub mod PlaceLemmas
 pub mod AccessLemmas
 pub mod ProgramLemmas
+pub mod MachineLemmas
+pub mod CommandLemmas

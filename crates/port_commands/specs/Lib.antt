@@ -1,2 +1,3 @@
 pub mod PortSpaces
 pub mod Machines
+pub mod PortClients
