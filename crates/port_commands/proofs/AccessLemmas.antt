@@ -46,7 +46,7 @@ module _ (addresses : Addresses) (old : SpaceState) (there : old.port.addresses 
 
 module _ (addresses : Addresses) (old new : SpaceState) where
   -- VALUE is read
-  value_told : (answer : Result ℕ SpaceFault) → Goes addresses old (Read (Memory (addresses.registers + 8)) B64 answer) new → (answer ≡ Ok old.port.device.value) × (new ≡ caught_up old)
+  pub value_told : (answer : Result ℕ SpaceFault) → Goes addresses old (Read (Memory (addresses.registers + 8)) B64 answer) new → (answer ≡ Ok old.port.device.value) × (new ≡ caught_up old)
   value_told answer goes =
       let place = in_registers addresses old goes.there (addresses.registers + 8) 8 refl (omega arith) in
       (goes.does.0 ∙ ap (λ (p : Option (Window × ℕ)). read_at p (caught_up old).port (addresses.registers + 8) B64) place, goes.does.1)

@@ -5,3 +5,4 @@ pub mod AccessLemmas
 pub mod ProgramLemmas
 pub mod MachineLemmas
 pub mod CommandLemmas
+pub mod TellLemmas

@@ -1,3 +1,4 @@
 pub mod PortSpaces
 pub mod Machines
 pub mod PortClients
+pub mod Looks
