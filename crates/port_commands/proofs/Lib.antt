@@ -6,3 +6,4 @@ pub mod ProgramLemmas
 pub mod MachineLemmas
 pub mod CommandLemmas
 pub mod TellLemmas
+pub mod RoundLemmas
