@@ -98,7 +98,7 @@ module _ (addresses : Addresses) (old new : SpaceState) where
       )
 
   -- what the device left is what the port shows, but for two codes
-  left_is : (address code : ℕ) (left : DeviceState) (range : List ℕ) (device : DeviceState) → (code ≡ 0xD → ⊥) → (code ≡ 0x8 → ⊥) → Tells address code left range device → device ≡ left
+  pub left_is : (address code : ℕ) (left : DeviceState) (range : List ℕ) (device : DeviceState) → (code ≡ 0xD → ⊥) → (code ≡ 0x8 → ⊥) → Tells address code left range device → device ≡ left
   left_is address code left range device not_address not_next tells = elim tells as (λ device tells. device ≡ left) [
     | Address is ↦ absurd (not_address is)
     | Round next is all acts ↦ absurd (not_next is)

@@ -7,3 +7,4 @@ pub mod MachineLemmas
 pub mod CommandLemmas
 pub mod TellLemmas
 pub mod RoundLemmas
+pub mod AttachLemmas
