@@ -28,13 +28,13 @@ use Rattle.erst_port.specs.declared.windows.Addresses.{Addresses}
 use Rattle.erst_port.specs.PortState.{IsPort}
 use Rattle.erst_port.specs.PortTables.{port_entries}
 use Rattle.port_commands.specs.PortSpaces.{SpaceState, Goes}
-use Rattle.port_commands.specs.Machines.{machine_of}
+use Rattle.port_commands.specs.Machines.{machine_of, IsShared, AreShared}
 use Rattle.port_commands.specs.PortClients.{port_client}
 use Rattle.port_commands.proofs.PlaceLemmas.{apart_says}
-use Rattle.port_commands.proofs.SequenceLemmas.{sequence_carried, AllCarried}
+use Rattle.port_commands.proofs.SequenceLemmas.{AllCarried, sequence_carried}
 use Rattle.port_commands.proofs.AccessLemmas.{bytes_written, bytes_told}
 use Rattle.port_commands.proofs.MachineLemmas.{is_machine}
-use Rattle.port_commands.proofs.ProgramLemmas.{IsMachines, performed, are_performed}
+use Rattle.port_commands.proofs.ProgramLemmas.{performed, are_performed}
 
 -- the machine's own programs run through
 pub own_runs : OwnProgramsRun (Unit {0})
@@ -42,22 +42,26 @@ own_runs = own_programs_run (Unit {0}) (λ program straight given budget first r
 
 -- Sequences
 
-pub sequence_own : (addresses : Addresses) (timings : Option (ℕ × ℕ)) (requests : List Request) → AllCarried IsMachines requests → (budget : ℕ) (first : SpaceState) (result : Result (Unit {0}) ClientError) (left : ℕ) (last : SpaceState)
+all_carried : (requests : List Request) → AreShared requests → AllCarried IsShared requests
+all_carried [] are = tt
+all_carried (request ∷ requests) are = (are.0, all_carried requests are.1)
+
+pub sequence_own : (addresses : Addresses) (timings : Option (ℕ × ℕ)) (requests : List Request) → AreShared requests → (budget : ℕ) (first : SpaceState) (result : Result (Unit {0}) ClientError) (left : ℕ) (last : SpaceState)
     → Sequence (Goes addresses) (port_entries addresses.registers) timings requests budget first result left last
     → Sequence (Allows (Unit {0})) own_entries timings requests budget (machine_of first) result left (machine_of last)
 sequence_own addresses timings requests are budget first result left last sequence =
-    sequence_carried (Goes addresses) (Allows (Unit {0})) machine_of (port_entries addresses.registers) own_entries IsMachines (are_performed addresses) timings tt tt requests are budget first tt result left last sequence
+    sequence_carried (Goes addresses) (Allows (Unit {0})) machine_of (port_entries addresses.registers) own_entries IsShared (are_performed addresses) timings tt tt requests (all_carried requests are) budget first tt result left last sequence
 
-pub write_carried : AllCarried IsMachines write_requests
+pub write_carried : AreShared write_requests
 write_carried = (tt, (tt, (tt, tt)))
 
-pub read_carried : (id : ℕ) → AllCarried IsMachines (read_requests id)
+pub read_carried : (id : ℕ) → AreShared (read_requests id)
 read_carried id = (tt, (tt, (tt, (tt, tt))))
 
-pub clear_carried : (id : ℕ) → AllCarried IsMachines (clear_requests id)
+pub clear_carried : (id : ℕ) → AreShared (clear_requests id)
 clear_carried id = (tt, (tt, (tt, tt)))
 
-pub dummy_carried : AllCarried IsMachines dummy_requests
+pub dummy_carried : AreShared dummy_requests
 dummy_carried = (tt, (tt, (tt, tt)))
 
 pub counts_own : (addresses : Addresses) (budget : ℕ) (first : SpaceState) (result : Result ℕ ClientError) (left : ℕ) (last : SpaceState) → Counts (Goes addresses) (port_entries addresses.registers) budget first result left last

@@ -8,3 +8,4 @@ pub mod CommandLemmas
 pub mod TellLemmas
 pub mod RoundLemmas
 pub mod AttachLemmas
+pub mod ListingLemmas

@@ -21,23 +21,17 @@ use Rattle.erst_machine.specs.OwnTables.{own_entries, act, give, is_one, answer,
 use Rattle.erst_port.specs.declared.windows.Addresses.{Addresses}
 use Rattle.erst_port.specs.PortTables.{port_entries, carries_out, gives, asks_for_one, takes}
 use Rattle.port_commands.specs.PortSpaces.{SpaceState, Goes}
-use Rattle.port_commands.specs.Machines.{machine_of}
+use Rattle.port_commands.specs.Machines.{machine_of, IsShared}
 use Rattle.port_commands.proofs.CarryLemmas.{IsCarried, AreCarried, NoEntry, OneEntry, run_carried, ReadsCarried, WritesCarried, take_step, take_halts, store_step, store_halts}
 use Rattle.port_commands.proofs.SequenceLemmas.{IsPerformed, ArePerformed}
 use Rattle.port_commands.proofs.AccessLemmas.{value_read, value_read_served, value_written, value_write_served, action_written, action_served, wait_made}
 
--- all actions but the two that a port carries out in its own way
-abbrev pub IsMachines : Action → Type 0
-IsMachines GetRecordIdentifier = ⊥
-IsMachines GetErrorLogAddressRange = ⊥
-IsMachines action = Unit {0}
-
-not_address : (action : Action) → IsMachines action → code_of action ≡ 0xD → ⊥
+not_address : (action : Action) → IsShared action → code_of action ≡ 0xD → ⊥
 not_address GetRecordIdentifier is e = is
 not_address GetErrorLogAddressRange is e = is
 not_address action is e = absurd (omega (arith, e))
 
-not_next : (action : Action) → IsMachines action → code_of action ≡ 0x8 → ⊥
+not_next : (action : Action) → IsShared action → code_of action ≡ 0x8 → ⊥
 not_next GetRecordIdentifier is e = is
 not_next GetErrorLogAddressRange is e = is
 not_next action is e = absurd (omega (arith, e))
@@ -64,7 +58,7 @@ module _ (addresses : Addresses) where
     served = λ old new fault h. action_served addresses old new number fault h;
   }
 
-  act_own : (action : Action) → IsMachines action → IsOwn addresses (carries_out addresses.registers action) (act action)
+  act_own : (action : Action) → IsShared action → IsOwn addresses (carries_out addresses.registers action) (act action)
   act_own action is =
       let written = codes_written (stored (code_of action) 0 (2 ^ 32 - 1)) (code_of action) (code_kept action) (not_address action is) (not_next action is) in
       record {
@@ -100,23 +94,23 @@ module _ (addresses : Addresses) where
         (record { entry = takes addresses.registers action mask; given = given; len = len; at = at }) ReadRegister (λ x. record (next at) { result = Some x }) refl refl refl paid old stop left new halt;
   }
 
-  alone : (action : Action) → IsMachines action → AreCarried (Goes addresses) (Allows (Unit {0})) machine_of (carries_out addresses.registers action ∷ []) (act action ∷ [])
+  alone : (action : Action) → IsShared action → AreCarried (Goes addresses) (Allows (Unit {0})) machine_of (carries_out addresses.registers action ∷ []) (act action ∷ [])
   alone action is = OneEntry _ _ [] [] (act_own action is) NoEntry
 
-  given_first : (action : Action) → IsMachines action
+  given_first : (action : Action) → IsShared action
       → AreCarried (Goes addresses) (Allows (Unit {0})) machine_of (gives addresses.registers action ∷ carries_out addresses.registers action ∷ []) (give action ∷ act action ∷ [])
   given_first action is = OneEntry _ _ _ _ (give_own action) (alone action is)
 
-  asked_then : (action : Action) → IsMachines action
+  asked_then : (action : Action) → IsShared action
       → AreCarried (Goes addresses) (Allows (Unit {0})) machine_of (carries_out addresses.registers action ∷ asks_for_one addresses.registers action ∷ []) (act action ∷ is_one action ∷ [])
   asked_then action is = OneEntry _ _ _ _ (act_own action is) (OneEntry _ _ [] [] (one_own action) NoEntry)
 
-  answered_then : (action : Action) (mask : ℕ) → IsMachines action
+  answered_then : (action : Action) (mask : ℕ) → IsShared action
       → AreCarried (Goes addresses) (Allows (Unit {0})) machine_of (carries_out addresses.registers action ∷ takes addresses.registers action mask ∷ []) (act action ∷ answer action mask ∷ [])
   answered_then action mask is = OneEntry _ _ _ _ (act_own action is) (OneEntry _ _ [] [] (answer_own action mask) NoEntry)
 
   -- each program
-  pub performed : (action : Action) → IsMachines action → IsPerformed (Goes addresses) (Allows (Unit {0})) machine_of (port_entries addresses.registers) own_entries action
+  pub performed : (action : Action) → IsShared action → IsPerformed (Goes addresses) (Allows (Unit {0})) machine_of (port_entries addresses.registers) own_entries action
   unfolding port_entries own_entries entries_of
   performed GetRecordIdentifier is given budget first result left last run = absurd is
   performed GetErrorLogAddressRange is given budget first result left last run = absurd is
@@ -133,5 +127,5 @@ module _ (addresses : Addresses) where
       run_carried _ _ _ _ _ _ (answered_then GetExecuteOperationTimings (2 ^ 64 - 1) is) given budget first result left last run
   performed action is given budget first result left last run = run_carried _ _ _ _ _ _ (alone action is) given budget first result left last run
 
-  pub are_performed : ArePerformed (Goes addresses) (Allows (Unit {0})) machine_of (port_entries addresses.registers) own_entries IsMachines
+  pub are_performed : ArePerformed (Goes addresses) (Allows (Unit {0})) machine_of (port_entries addresses.registers) own_entries IsShared
   are_performed = record { waits = λ micros old new h. wait_made addresses old new micros h; performs = performed }
