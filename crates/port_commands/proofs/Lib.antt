@@ -9,3 +9,5 @@ pub mod TellLemmas
 pub mod RoundLemmas
 pub mod AttachLemmas
 pub mod ListingLemmas
+pub mod OtherLemmas
+pub mod LawLemmas
