@@ -23,6 +23,7 @@ use Rattle.erst_interp.specs.Accesses.{FieldRead, Got, Refused, Store, Whole, Be
 use Rattle.erst_interp.specs.Steps.{Step, Takes, Stores, Halt}
 use Rattle.erst_interp.specs.Runs.{HasProgram, HasEntry, NeedsNone, Walk, Begun, Then, Run, NoProgram, Finishes, Exhausted, Halts}
 use Rattle.erst_interp.proofs.StepLemmas.{same_register, StepBy, step_by, HaltBy, halt_by}
+use Rattle.erst_interp.proofs.StraightLemmas.{whole_of, refused_of}
 
 -- what an entry does on the one space, another does on the other; it never stops a run
 pub record IsCarried {W V : Type 0} (allows : W → Call → W → Type 0) (onto : V → Call → V → Type 0) (image : W → V) (entry other : Entry) : Type 0 where
@@ -99,30 +100,11 @@ module _ {W V : Type 0} (allows : W → Call → W → Type 0) (onto : V → Cal
     | Refused fault new h ↦ Refused fault (image new) (reads.carried old new (Err fault) h)
   ]
 
-  field_served : ReadsCarried allows onto image place other access → (mask : ℕ) (old : W) (answer : Result ℕ SpaceFault) (fault : SpaceFault) (new : W) → answer ≡ Err fault
-      → FieldRead allows (register_at place access) mask old answer new → ⊥
-  field_served reads mask old answer fault new is read = (elim read as (λ answer new read. answer ≡ Err fault → ⊥) [
-    | Got number new h ↦ λ e. absurd (cc e)
-    | Refused other_fault new h ↦ λ e. reads.served old new other_fault h
-  ]) is
-
   store_carried : (entry : Entry) (region : Gas) (value : ℕ) → WritesCarried allows onto image place other access (stored value 0 entry.mask) → bit_and entry.flags 1 ≡ 0
       → (old : W) (answer : Result (Unit {0}) SpaceFault) (new : W) → Store allows (register_at place access) entry value old answer new
       → Store onto (register_at other access) (record entry { region = region }) value (image old) answer (image new)
   store_carried entry region value writes whole old answer new store =
-      elim store as (λ answer new store. Store onto (register_at other access) (record entry { region = region }) value (image old) answer (image new)) [
-        | Whole answer new flags h ↦ Whole answer (image new) whole (writes.carried old new answer h)
-        | Beside number mid answer new keeps h k ↦ absurd (keeps whole)
-        | Unread fault new keeps h ↦ absurd (keeps whole)
-      ]
-
-  store_served : (entry : Entry) (value : ℕ) → WritesCarried allows onto image place other access (stored value 0 entry.mask) → bit_and entry.flags 1 ≡ 0
-      → (old : W) (answer : Result (Unit {0}) SpaceFault) (fault : SpaceFault) (new : W) → answer ≡ Err fault → Store allows (register_at place access) entry value old answer new → ⊥
-  store_served entry value writes whole old answer fault new is store = (elim store as (λ answer new store. answer ≡ Err fault → ⊥) [
-    | Whole answer new flags h ↦ λ e. writes.served old new fault (subst (λ (a : Result (Unit {0}) SpaceFault). allows old (Write place access (stored value 0 entry.mask) a) new) e h)
-    | Beside number mid answer new keeps h k ↦ λ e. absurd (keeps whole)
-    | Unread other_fault new keeps h ↦ λ e. absurd (keeps whole)
-  ]) is
+      Whole answer (image new) whole (writes.carried old new answer (whole_of allows (register_at place access) entry value old answer new store whole))
 
   -- an entry that takes its field
   pub take_step : ReadsCarried allows onto image place other access → (task : Task) (region : Gas) (i : Instruction) (taken : ℕ → Configuration) → instruction_of task.entry.code ≡ Some i
@@ -143,7 +125,7 @@ module _ {W V : Type 0} (allows : W → Call → W → Type 0) (onto : V → Cal
       let by : HaltBy allows task paid old (TakeField taken) stop left new =
       subst (λ (w : Work). HaltBy allows task paid old w stop left new) work (halt_by allows task i code (λ uses. (register_at place access, here)) paid old stop left new halt) in
       let same = same_register (register_at place access) by.0 (checked task.entry.region) here by.2 in
-      field_served reads task.entry.mask old (Err by.1) by.1 new refl (subst (λ (r : Register). FieldRead allows r task.entry.mask old (Err by.1) new) same by.3)
+      reads.served old new by.1 (refused_of allows (register_at place access) task.entry.mask old (Err by.1) new by.1 (subst (λ (r : Register). FieldRead allows r task.entry.mask old (Err by.1) new) same by.3) refl)
 
   -- and one that stores a value over its whole register
   pub store_step : (task : Task) (region : Gas) (i : Instruction) (value : ℕ) → WritesCarried allows onto image place other access (stored value 0 task.entry.mask) → bit_and task.entry.flags 1 ≡ 0
@@ -166,4 +148,4 @@ module _ {W V : Type 0} (allows : W → Call → W → Type 0) (onto : V → Cal
       let by : HaltBy allows task paid old (StoreValue value) stop left new =
       subst (λ (w : Work). HaltBy allows task paid old w stop left new) work (halt_by allows task i code (λ uses. (register_at place access, here)) paid old stop left new halt) in
       let same = same_register (register_at place access) by.0 (checked task.entry.region) here by.2 in
-      store_served task.entry value writes whole old (Err by.1) by.1 new refl (subst (λ (r : Register). Store allows r task.entry value old (Err by.1) new) same by.3)
+      writes.served old new by.1 (whole_of allows (register_at place access) task.entry value old (Err by.1) new (subst (λ (r : Register). Store allows r task.entry value old (Err by.1) new) same by.3) whole)
