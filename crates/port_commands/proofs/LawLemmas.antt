@@ -8,7 +8,7 @@ use Rattle.apei_space.specs.Calls.{Write as write_call, ReadBytes, WriteBytes}
 use Rattle.erst_client.specs.declared.errors.ClientError.{ClientError}
 use Rattle.erst_client.specs.declared.requests.Request.{Request}
 use Rattle.erst_client.specs.Commands.{Writes, Reads, Counts}
-use Rattle.erst_client.specs.Sequences.{Sequence, clear_requests, dummy_requests}
+use Rattle.erst_client.specs.Sequences.{Sequence, write_requests, read_requests, clear_requests, dummy_requests}
 use Rattle.erst_client.specs.Timings.{enough_steps}
 use Rattle.erst_device.specs.Actions.{log_range_at}
 use Rattle.erst_device.specs.DeviceState.{records}
@@ -16,16 +16,17 @@ use Rattle.erst_machine.specs.declared.areas.Area.TheVariants.{LogRange}
 use Rattle.erst_machine.specs.declared.areas.Spot.TheVariants.{Inside}
 use Rattle.erst_machine.specs.Areas.{memory_spot}
 use Rattle.erst_machine.specs.Allowed.{Allows}
-use Rattle.erst_machine.specs.MachineState.{MachineState, records_of}
+use Rattle.erst_machine.specs.MachineState.{MachineState, records_of, reach_in}
 use Rattle.erst_machine.proofs.PlaceLemmas.{area_found}
 use Rattle.erst_commands.specs.Causes.{HasItsCause, GoesThrough}
-use Rattle.erst_commands.specs.Changes.{ChangeCommand, IsTaken, IsRefused, IsFailed, IsStopped, DummyCommand}
+use Rattle.erst_commands.specs.Changes.{HoldsRecord, ChangeCommand, IsTaken, IsRefused, IsFailed, IsStopped, DummyCommand}
 use Rattle.erst_commands.specs.Looks.{CountMade, AsksOnce}
-use Rattle.erst_commands.specs.Reads.{ReadAnswered}
+use Rattle.erst_commands.specs.Reads.{ReadCommand, ReadAnswered}
 use Rattle.erst_commands.specs.Writes.{marked, id_of, WriteAnswered, IsNoRecord, IsWritten}
 use Rattle.erst_commands.proofs.WriteLemmas.{written}
 use Rattle.erst_commands.proofs.CopyLemmas.{read_out}
-use Rattle.erst_commands.proofs.StartLemmas.{clear_command, dummy_command}
+use Rattle.erst_commands.proofs.StartLemmas.{write_command, clear_command, dummy_command}
+use Rattle.erst_commands.proofs.ReadLemmas.{read_command}
 use Rattle.erst_commands.proofs.LookLemmas.{count_command}
 use Rattle.erst_commands.proofs.LimitLemmas.{reach-few, reach-least}
 use Rattle.erst_commands.proofs.CallCauses.{client_write_cause, client_read_cause, clear_cause}
@@ -40,7 +41,7 @@ use Rattle.port_commands.specs.Machines.{machine_of}
 use Rattle.port_commands.specs.PortClients.{port_client}
 use Rattle.port_commands.proofs.AccessLemmas.{action_written, bytes_told, bytes_written}
 use Rattle.port_commands.proofs.MachineLemmas.{is_machine}
-use Rattle.port_commands.proofs.CommandLemmas.{own_runs, sequence_own, clear_carried, dummy_carried, counts_own, writes_own, reads_own}
+use Rattle.port_commands.proofs.CommandLemmas.{own_runs, sequence_own, write_carried, read_carried, clear_carried, dummy_carried, counts_own, writes_own, reads_own}
 
 -- Accesses
 
@@ -96,6 +97,19 @@ pub read_answered : (id : ℕ) → id < 2 ^ 64 → (out : List ℕ) (budget : �
 read_answered id small out budget first port result after left last reads =
     read_out (Unit {0}) own_runs tt id out budget (machine_of first) result after left (machine_of last) (is_machine first port) small (reach-least first.port.device.store.layout)
     (reads_own first port id small out budget result after left last reads)
+
+pub write_sequence : (id : ℕ) (bytes : List ℕ) (addresses : Addresses) (budget : ℕ) (first : SpaceState) → HoldsRecord first.port.range id bytes → length bytes ≤ reach_in first.port.device → (result : Result (Unit {0}) ClientError) (left : ℕ) (last : SpaceState)
+    → Sequence (Goes addresses) (port_entries addresses.registers) (port_client first).timings write_requests budget first result left last
+    → ChangeCommand (machine_of first) (machine_of last) id (Write id bytes) write_requests budget result left
+write_sequence id bytes addresses budget first holds fits result left last sequence =
+    write_command (Unit {0}) own_runs tt (machine_of first) id bytes holds fits budget result left (machine_of last)
+    (sequence_own addresses (port_client first).timings write_requests write_carried budget first result left last sequence)
+
+pub read_sequence : (id : ℕ) → id < 2 ^ 64 → (addresses : Addresses) (timings : Option (ℕ × ℕ)) (budget : ℕ) (first : SpaceState) → IsPort first.port → (result : Result (Unit {0}) ClientError) (left : ℕ) (last : SpaceState)
+    → Sequence (Goes addresses) (port_entries addresses.registers) timings (read_requests id) budget first result left last → ReadCommand (machine_of first) (machine_of last) id budget result left
+read_sequence id small addresses timings budget first port result left last sequence =
+    read_command (Unit {0}) own_runs tt (machine_of first) (is_machine first port) id small timings budget result left (machine_of last)
+    (sequence_own addresses timings (read_requests id) (read_carried id) budget first result left last sequence)
 
 module _ (id : ℕ) (small : id < 2 ^ 64) (addresses : Addresses) (budget : ℕ) (first : SpaceState) where
   pub clear_answered : (result : Result (Unit {0}) ClientError) (left : ℕ) (last : SpaceState) → Sequence (Goes addresses) (port_entries addresses.registers) (port_client first).timings (clear_requests id) budget first result left last

@@ -1,5 +1,5 @@
 // The laws: the functions do nothing, and their clauses are the laws.
-ghost use Rattle.std.specs.Prelude.{◌≡◌, ℕ, ◌+◌, ◌≤◌, ◌<◌, ◌%◌, ◌^◌, List, length, Option, Result, Ok};
+ghost use Rattle.std.specs.Prelude.{◌≡◌, ℕ, ◌+◌, ◌≤◌, ◌<◌, ◌%◌, ◌^◌, List, length, Contains, Option, Some, Result, Ok};
 ghost use Rattle.record_model.specs.RecordMap.{Write, Clear, after};
 ghost use Rattle.apei_gas.specs.declared.registers.Place.TheVariants.{Memory};
 ghost use Rattle.apei_gas.specs.declared.widths.Width.TheVariants.{B32, B64};
@@ -21,17 +21,17 @@ ghost use Rattle.erst_device.specs.DeviceState.{records};
 ghost use Rattle.erst_machine.specs.declared.areas.Area.TheVariants.{Device};
 ghost use Rattle.erst_machine.specs.Areas.{base_of};
 ghost use Rattle.erst_machine.specs.Allowed.{Allows};
-ghost use Rattle.erst_machine.specs.MachineState.{IsMachine};
+ghost use Rattle.erst_machine.specs.MachineState.{IsMachine, reach_in};
 ghost use Rattle.erst_machine.specs.OwnTables.{own_entries};
 ghost use Rattle.erst_commands.specs.Causes.{HasItsCause, GoesThrough};
-ghost use Rattle.erst_commands.specs.Changes.{ChangeCommand, DummyCommand};
+ghost use Rattle.erst_commands.specs.Changes.{HoldsRecord, ChangeCommand, DummyCommand};
 ghost use Rattle.erst_commands.specs.Looks.{CountMade, AsksOnce};
 ghost use Rattle.erst_commands.specs.Reads.{ReadCommand, ReadAnswered};
 ghost use Rattle.erst_commands.specs.Writes.{marked, id_of, WriteAnswered};
 ghost use Rattle.erst_port.specs.declared.windows.Addresses.{Addresses};
 ghost use Rattle.erst_port.specs.PortState.{IsPort};
 ghost use Rattle.erst_port.specs.PortTables.{port_entries, port_erst};
-ghost use Rattle.port_commands.specs.Listings.{Climbs, AreAllAbove, StartsAnew, IsNotGreater};
+ghost use Rattle.port_commands.specs.Listings.{Lists, Rising, AreAll, AreAllAbove, StartsAnew, IsNotGreater};
 ghost use Rattle.port_commands.specs.Looks.{NextRound};
 ghost use Rattle.port_commands.specs.Machines.{machine_of, IsShared, AreShared};
 ghost use Rattle.port_commands.specs.Others.{KeepsOthers};
@@ -92,6 +92,20 @@ pub fn a_client_reads_as_the_map()
         → Reads (Goes first.port.addresses) (port_client first) id out budget first result after left last → ReadAnswered id out budget (machine_of first) result after left (machine_of last) }
 {}
 
+/// A write's sequence, from a log range that begins with the record.
+pub fn a_write_is_the_maps()
+    ensures { (id : ℕ) (bytes : List ℕ) (addresses : Addresses) (budget : ℕ) (first : SpaceState) → HoldsRecord first.port.range id bytes → length bytes ≤ reach_in first.port.device → (result : Result (Unit {0}) ClientError) (left : ℕ) (last : SpaceState)
+        → Sequence (Goes addresses) (port_entries addresses.registers) (port_client first).timings write_requests budget first result left last
+        → ChangeCommand (machine_of first) (machine_of last) id (Write id bytes) write_requests budget result left }
+{}
+
+/// A read's sequence: the log range then begins with the record, and the cursor is at its identifier; or it is refused as by the map.
+pub fn a_read_is_the_maps()
+    ensures { (id : ℕ) → id < 2 ^ 64 → (addresses : Addresses) (timings : Option (ℕ × ℕ)) (budget : ℕ) (first : SpaceState) → IsPort first.port → (result : Result (Unit {0}) ClientError) (left : ℕ) (last : SpaceState)
+        → Sequence (Goes addresses) (port_entries addresses.registers) timings (read_requests id) budget first result left last
+        → ReadCommand (machine_of first) (machine_of last) id budget result left }
+{}
+
 /// A clear's sequence. Where it is answered well, the port's records are those without the cleared one.
 pub fn a_clear_is_the_maps()
     ensures answered { (id : ℕ) → id < 2 ^ 64 → (addresses : Addresses) (budget : ℕ) (first : SpaceState) (result : Result (Unit {0}) ClientError) (left : ℕ) (last : SpaceState)
@@ -123,15 +137,22 @@ pub fn next_goes_round()
         → AsksOnce (NextRound (machine_of first) (machine_of last)) budget (machine_of first) (machine_of last) result left }
 {}
 
-/// A client that asks for the next identifier until an answer is not greater than the one before has been told each stored identifier above the
-/// cursor that it began at, once and in order; behind a restart the cursor is 0, and these are all. What is told then is the first one.
-pub fn a_listing_tells_each_once()
-    ensures listed { (addresses : Addresses) (first : SpaceState) (ids : List ℕ) (last : SpaceState) → Climbs addresses first ids last → (budget : ℕ) (result : Result (Option ℕ) ClientError) (left : ℕ) (end : SpaceState)
-        → Names (Goes addresses) (port_entries addresses.registers) budget last result left end → IsNotGreater last.port.device.cursor result
-        → AreAllAbove first.port.device.cursor (records first.port.device) ids }
-    ensures anew { (addresses : Addresses) (first : SpaceState) (ids : List ℕ) (last : SpaceState) → Climbs addresses first ids last → (budget : ℕ) (result : Result (Option ℕ) ClientError) (left : ℕ) (end : SpaceState)
-        → Names (Goes addresses) (port_entries addresses.registers) budget last result left end → IsNotGreater last.port.device.cursor result
-        → StartsAnew (records first.port.device) result }
+/// A client that asks for the next identifier until one comes again has been told each stored one, wherever it began. Each is told once, since
+/// it ends at the first that comes again.
+pub fn a_listing_comes_round()
+    ensures { (addresses : Addresses) (first : SpaceState) (ids : List ℕ) (last : SpaceState) → Lists addresses first ids last → (budget id left : ℕ) (end : SpaceState)
+        → Names (Goes addresses) (port_entries addresses.registers) budget last (Ok (Some id)) left end → Contains ids id → AreAll (records first.port.device) ids }
+{}
+
+/// One that asks while the identifiers rise has been told those above the cursor that it began at, each once and in order; behind a restart the
+/// cursor is 0, and these are all. What is told then is the first one.
+pub fn a_listing_rises()
+    ensures listed { (addresses : Addresses) (first : SpaceState) (ids : List ℕ) (last : SpaceState) → Lists addresses first ids last → Rising first.port.device.cursor ids
+        → (budget : ℕ) (result : Result (Option ℕ) ClientError) (left : ℕ) (end : SpaceState) → Names (Goes addresses) (port_entries addresses.registers) budget last result left end
+        → IsNotGreater last.port.device.cursor result → AreAllAbove first.port.device.cursor (records first.port.device) ids }
+    ensures anew { (addresses : Addresses) (first : SpaceState) (ids : List ℕ) (last : SpaceState) → Lists addresses first ids last → Rising first.port.device.cursor ids
+        → (budget : ℕ) (result : Result (Option ℕ) ClientError) (left : ℕ) (end : SpaceState) → Names (Goes addresses) (port_entries addresses.registers) budget last result left end
+        → IsNotGreater last.port.device.cursor result → StartsAnew (records first.port.device) result }
 {}
 
 /// The port's count of faults never falls, and a call is answered `Hardware` only where it rose.

@@ -5,7 +5,8 @@ mod laws;
 
 pub use laws::{
     a_clear_is_the_maps, a_client_reads_as_the_map, a_client_writes_as_the_map,
-    a_count_is_the_maps, a_dummy_write_changes_nothing, a_listing_tells_each_once,
-    accesses_leave_the_windows, an_access_is_the_machines, attaching_never_fails,
-    enough_steps_go_through, hardware_has_its_cause, next_goes_round, programs_run_as_the_machines,
+    a_count_is_the_maps, a_dummy_write_changes_nothing, a_listing_comes_round, a_listing_rises,
+    a_read_is_the_maps, a_write_is_the_maps, accesses_leave_the_windows, an_access_is_the_machines,
+    attaching_never_fails, enough_steps_go_through, hardware_has_its_cause, next_goes_round,
+    programs_run_as_the_machines,
 };
