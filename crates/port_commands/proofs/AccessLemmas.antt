@@ -1,12 +1,12 @@
 -- Each access of a port is one of the machine with its device.
-use Rattle.std.proofs.Common.{◌≡◌, ℕ, ◌+◌, ◌-◌, ◌%◌, ◌^◌, ◌<◌, ◌≤◌, true, List, length, Option, Some, Result, Ok, Err, inl, inr, refl, sym, ap, subst, ◌∙◌, arith}
-use Rattle.base_model.specs.Bytes.{part, put_at}
+use Rattle.std.proofs.Common.{◌≡◌, ℕ, ◌+◌, ◌%◌, ◌^◌, ◌<◌, ◌≤◌, true, List, length, Option, Some, Result, Ok, Err, inl, inr, refl, sym, ap, subst, ◌∙◌, arith}
+use Rattle.base_model.specs.Bytes.{part}
 use Rattle.base_model.proofs.BytesLemmas.{length-put_at}
 use Rattle.flash_words.specs.Layout.{Layout, room_of, reach_of}
 use Rattle.apei_gas.specs.declared.registers.Place.TheVariants.{Memory}
 use Rattle.apei_gas.specs.declared.widths.Width.TheVariants.{B8, B32, B64}
 use Rattle.apei_space.specs.declared.faults.SpaceFault.{SpaceFault}
-use Rattle.apei_space.specs.Calls.{Call, Read, Write, Wait, ReadBytes, WriteBytes}
+use Rattle.apei_space.specs.Calls.{Read, Write, Wait, ReadBytes, WriteBytes}
 use Rattle.erst_device.specs.Actions.{Acts}
 use Rattle.erst_entries.specs.Actions.{action_of}
 use Rattle.erst_device.specs.DeviceState.{DeviceState}
@@ -18,13 +18,12 @@ use Rattle.erst_machine.specs.Allowed.{Allows, ActsOn, bytes_read as machine_rea
 use Rattle.erst_port.specs.declared.errors.PortError.{PortError}
 use Rattle.erst_port.specs.declared.windows.Addresses.{Addresses}
 use Rattle.erst_port.specs.declared.windows.Spot.{Spot}
-use Rattle.erst_port.specs.declared.windows.Spot.TheVariants.{Bytes}
 use Rattle.erst_port.specs.declared.windows.Window.{Window}
 use Rattle.erst_port.specs.declared.windows.Window.TheVariants.{Registers, LogRange}
 use Rattle.erst_port.specs.Places.{are_apart}
 use Rattle.erst_port.specs.PortState.{PortState, IsPort}
 use Rattle.erst_port.specs.Accesses.{Tells, Address, Round, Number, Acted, ActionWritten, with_value, with_bytes, bytes_read, bytes_stored}
-use Rattle.port_commands.specs.PortSpaces.{SpaceState, place_in, as_told, read_at, WrittenAt, bytes_read_at, bytes_stored_at, Does, caught_up, Goes}
+use Rattle.port_commands.specs.PortSpaces.{SpaceState, place_in, as_told, read_at, WrittenAt, bytes_read_at, bytes_stored_at, caught_up, Goes}
 use Rattle.port_commands.specs.Machines.{machine_of}
 use Rattle.port_commands.proofs.PlaceLemmas.{place-register, place-range, range-bytes}
 
@@ -149,10 +148,12 @@ module _ (addresses : Addresses) (old new : SpaceState) where
         goes.does.0 ∙ ap (λ (p : Option (Window × ℕ)). (bytes_stored_at p (caught_up old).port at bytes).0) place ∙ ap (λ (s : Spot). as_told at B8 (bytes_stored s (caught_up old).port bytes).0) bytes_at in
         let new_is : new ≡ record (caught_up old) { port = with_bytes k bytes (caught_up old).port } =
         goes.does.1 ∙ ap (λ (p : Option (Window × ℕ)). record (caught_up old) { port = (bytes_stored_at p (caught_up old).port at bytes).1 }) place
-            ∙ ap (λ (s : Spot). record (caught_up old) { port = (bytes_stored s (caught_up old).port bytes).1 }) bytes_at in (
+        ∙ ap (λ (s : Spot). record (caught_up old) { port = (bytes_stored s (caught_up old).port bytes).1 }) bytes_at in (
           answer_is,
-          (answer_is ∙ sym (ap (λ (s : MachineSpot). (machine_stored s (machine_of old) machine_at bytes).0) spot),
-          ap machine_of new_is ∙ sym (ap (λ (s : MachineSpot). (machine_stored s (machine_of old) machine_at bytes).1) spot)),
+          (
+            answer_is ∙ sym (ap (λ (s : MachineSpot). (machine_stored s (machine_of old) machine_at bytes).0) spot),
+            ap machine_of new_is ∙ sym (ap (λ (s : MachineSpot). (machine_stored s (machine_of old) machine_at bytes).1) spot),
+          ),
           ap (λ (s : SpaceState). length s.port.range) new_is ∙ length-put_at old.port.range k bytes fits,
         )
 
@@ -167,7 +168,9 @@ module _ (addresses : Addresses) (old new : SpaceState) where
         let after_is : after ≡ part old.port.range k (length before) =
         goes.does.1 ∙ ap (λ (p : Option (Window × ℕ)). (bytes_read_at p (caught_up old).port at before).1) place ∙ ap (λ (s : Spot). (bytes_read s (caught_up old).port before).1) bytes_at in (
           answer_is,
-          (answer_is ∙ sym (ap (λ (s : MachineSpot). (machine_read s (machine_of old) machine_at before).0) spot),
-          after_is ∙ sym (ap (λ (s : MachineSpot). (machine_read s (machine_of old) machine_at before).1) spot),
-          ap machine_of goes.does.2),
+          (
+            answer_is ∙ sym (ap (λ (s : MachineSpot). (machine_read s (machine_of old) machine_at before).0) spot),
+            after_is ∙ sym (ap (λ (s : MachineSpot). (machine_read s (machine_of old) machine_at before).1) spot),
+            ap machine_of goes.does.2,
+          ),
         )

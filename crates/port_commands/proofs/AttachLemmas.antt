@@ -1,5 +1,5 @@
 -- Attaching to the table of a port never fails.
-use Rattle.std.proofs.Common.{◌≡◌, ℕ, ◌+◌, ◌*◌, ◌/◌, ◌%◌, ◌^◌, ◌<◌, ◌≤◌, Bool, List, [], ◌∷◌, length, Option, Some, Result, Ok, Err, refl, sym, ap, subst, ◌∙◌, arith, cond}
+use Rattle.std.proofs.Common.{◌≡◌, ℕ, ◌+◌, ◌*◌, ◌/◌, ◌%◌, ◌^◌, ◌≤◌, Bool, List, [], ◌∷◌, length, Option, Some, Result, Ok, Err, refl, ap, subst, ◌∙◌, arith, cond}
 use Rattle.std.proofs.lemmas.Bool.{le-ltb}
 use Rattle.flash_words.specs.Layout.{room_of, reach_of}
 use Rattle.erst_entries.specs.declared.actions.Action.{Action}
@@ -17,7 +17,7 @@ use Rattle.erst_device.specs.DeviceState.{DeviceState}
 use Rattle.erst_device.specs.Actions.{told_by, Acts, log_range_at}
 use Rattle.erst_device.specs.Timings.{timings_of, most_changes}
 use Rattle.erst_commands.proofs.ActionCases.{tells_number}
-use Rattle.erst_commands.proofs.AskLemmas.{with_answer, FirstAsked, Went, Halted, first_asked, none_asked}
+use Rattle.erst_commands.proofs.AskLemmas.{with_answer, Went, Halted, first_asked, none_asked}
 use Rattle.erst_commands.proofs.LimitLemmas.{reach-few, reach-least, timings-halves}
 use Rattle.erst_port.specs.declared.windows.Addresses.{Addresses}
 use Rattle.erst_port.specs.PortState.{PortState, IsPort}
@@ -60,7 +60,7 @@ module _ (addresses : Addresses) (old mid : SpaceState) where
   telling_is n code takes shows =
       let port : mid.port ≡ with_value n (caught_up old).port =
       takes.others ∙ ap (λ (d : DeviceState). record (caught_up old).port { device = d; range = mid.port.range }) shows.0
-          ∙ ap (λ (r : List ℕ). record (caught_up old).port { device = record old.port.device { value = n }; range = r }) shows.1 in
+      ∙ ap (λ (r : List ℕ). record (caught_up old).port { device = record old.port.device { value = n }; range = r }) shows.1 in
       ap (λ (p : PortState). caught_up (record { port = p; waited = mid.waited })) port ∙ ap (λ (w : ℕ). caught_up (record { port = with_value n (caught_up old).port; waited = w })) takes.waited
 
 abbrev request_of : Action → Request

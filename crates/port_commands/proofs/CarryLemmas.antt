@@ -19,7 +19,7 @@ use Rattle.erst_interp.specs.declared.configurations.Task.{Task}
 use Rattle.erst_interp.specs.declared.stops.RunStop.{RunStop}
 use Rattle.erst_interp.specs.Configurations.{next}
 use Rattle.erst_interp.specs.Instructions.{Work, TakeField, StoreValue, work_of}
-use Rattle.erst_interp.specs.Accesses.{FieldRead, Got, Refused, Store, Whole, Beside, Unread}
+use Rattle.erst_interp.specs.Accesses.{FieldRead, Got, Refused, Store, Whole}
 use Rattle.erst_interp.specs.Steps.{Step, Takes, Stores, Halt}
 use Rattle.erst_interp.specs.Runs.{HasProgram, HasEntry, NeedsNone, Walk, Begun, Then, Run, NoProgram, Finishes, Exhausted, Halts}
 use Rattle.erst_interp.proofs.StepLemmas.{same_register, StepBy, step_by, HaltBy, halt_by}

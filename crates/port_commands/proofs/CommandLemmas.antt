@@ -1,17 +1,16 @@
 -- A client's commands by the table of a port are those of a client of the machine's own table.
-use Rattle.std.proofs.Common.{◌≡◌, ℕ, ◌+◌, ◌%◌, ◌^◌, ◌<◌, ◌≤◌, List, [], ◌∷◌, ◌++◌, length, take, drop, Option, Some, None, Result, Ok, Err, refl, sym, ap, subst, ◌∙◌, arith}
+use Rattle.std.proofs.Common.{◌≡◌, ℕ, ◌+◌, ◌%◌, ◌^◌, ◌<◌, ◌≤◌, List, [], ◌∷◌, length, take, Option, None, Result, Ok, Err, refl, ap, subst, ◌∙◌, arith}
 use Rattle.std.specs.Prelude.{codes}
 use Rattle.std.proofs.lemmas.List.{length-take}
 use Rattle.base_model.specs.Bytes.{number_at}
 use Rattle.flash_words.specs.Layout.{Layout, room_of, reach_of}
 use Rattle.apei_space.specs.declared.faults.SpaceFault.{SpaceFault}
 use Rattle.apei_space.specs.Calls.{ReadBytes, WriteBytes}
-use Rattle.record_store.specs.Store.{DividesAlike}
 use Rattle.erst_entries.specs.declared.actions.Action.TheVariants.{GetRecordCount}
 use Rattle.erst_interp.proofs.StraightLemmas.{ran_straight}
 use Rattle.erst_client.specs.declared.errors.ClientError.{ClientError}
 use Rattle.erst_client.specs.declared.requests.Request.{Request}
-use Rattle.erst_client.specs.Commands.{ClientState, write_refusal, Puts, NotPut, NotMarked, IsPut, Writes, IsNoRecord, IsNotPut, IsAsked, copy_refusal, CopiesOut, IsFilled, IsNotFilled, copied, Reads, IsNotRead, HasNoLength, IsNotCopied, IsCopied, Counts}
+use Rattle.erst_client.specs.Commands.{write_refusal, Puts, NotPut, NotMarked, IsPut, Writes, IsNoRecord, IsNotPut, IsAsked, CopiesOut, IsFilled, IsNotFilled, Reads, IsNotRead, HasNoLength, IsNotCopied, IsCopied, Counts}
 use Rattle.erst_client.specs.Sequences.{Sequence, write_requests, read_requests, clear_requests, dummy_requests}
 use Rattle.erst_client.proofs.RefusalLemmas.{copies}
 use Rattle.erst_machine.specs.MachineState.{MachineState, reach_in}

@@ -1,5 +1,5 @@
 -- The laws, from a client's commands by the machine's own table.
-use Rattle.std.proofs.Common.{◌≡◌, ℕ, ◌+◌, ◌%◌, ◌^◌, ◌<◌, ◌≤◌, List, length, Option, Result, Ok, Err, refl, subst, ◌∙◌, sym, ap, arith}
+use Rattle.std.proofs.Common.{◌≡◌, ℕ, ◌+◌, ◌%◌, ◌^◌, ◌<◌, ◌≤◌, List, length, Option, Result, Ok, refl, arith}
 use Rattle.record_model.specs.RecordMap.{Command, Write, Clear, after}
 use Rattle.apei_gas.specs.declared.registers.Place.TheVariants.{Memory}
 use Rattle.apei_gas.specs.declared.widths.Width.TheVariants.{B32}

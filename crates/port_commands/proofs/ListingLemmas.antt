@@ -1,9 +1,9 @@
 -- A listing of the identifiers of a port.
-use Rattle.std.proofs.Common.{◌≡◌, ◌⊎◌, ℕ, zero, suc, ◌+◌, ◌<◌, ◌≤◌, List, [], ◌∷◌, ◌++◌, length, Option, Some, None, Result, Ok, Err, inl, inr, refl, sym, ap, subst, ◌∙◌, arith}
+use Rattle.std.proofs.Common.{◌≡◌, ◌⊎◌, ℕ, zero, suc, ◌<◌, ◌≤◌, List, [], ◌∷◌, ◌++◌, length, Option, Some, None, Result, Ok, Err, inl, inr, refl, sym, ap, subst, ◌∙◌, arith}
 use Rattle.std.specs.Prelude.{Contains, IsSome, slice_index_or}
 use Rattle.std.specs.FinMap.{get}
 use Rattle.std.proofs.lemmas.Bool.{cases_eq}
-use Rattle.record_model.specs.Records.{Stored, is_reserved}
+use Rattle.record_model.specs.Records.{Stored}
 use Rattle.record_model.specs.RecordMap.{IsNextAbove}
 use Rattle.record_model.proofs.RefusalLemmas.{allowed_not_zero}
 use Rattle.record_store.specs.Store.{StoreView, stored}
@@ -109,9 +109,9 @@ module _ (stored : Stored) (other : ℕ) (some : 0 < other) (here : IsSome (get 
           ],
         )
     | First id none least ↦ λ not past. (
-        λ below. absurd (nothing (get stored other) here (none other below)),
-        λ above. let at = less_of id other (least.least other some here) not in inr (past.0 at).1,
-      )
+      λ below. absurd (nothing (get stored other) here (none other below)),
+      λ above. let at = less_of id other (least.least other some here) not in inr (past.0 at).1,
+    )
   ]) not past
 
   walk_past : (from : ℕ) (ids : List ℕ) → Walks stored from ids → (Contains ids other → ⊥) → IsPast from (end_of from ids)
@@ -142,9 +142,9 @@ module _ (stored : Stored) (other : ℕ) (some : 0 < other) (here : IsSome (get 
               ]
             ]
         | First id none least ↦ λ not past. elim sides [
-            | inl below ↦ nothing (get stored other) here (none other below)
-            | inr above ↦ let rest = past.0 (less_of id other (least.least other some here) not) in absurd (omega (arith, rest.1, above, back))
-          ]
+          | inl below ↦ nothing (get stored other) here (none other below)
+          | inr above ↦ let rest = past.0 (less_of id other (least.least other some here) not) in absurd (omega (arith, rest.1, above, back))
+        ]
       ]) not past
 
 -- The walk from an identifier that was met

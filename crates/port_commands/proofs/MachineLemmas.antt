@@ -1,8 +1,7 @@
 -- The machine of a port is one.
-use Rattle.std.proofs.Common.{◌≡◌, ℕ, ◌<◌, ◌≤◌, ◌^◌, refl, sym, ap, subst, ◌∙◌, arith, lit<}
+use Rattle.std.proofs.Common.{◌≡◌, ℕ, ◌<◌, ◌^◌, refl, sym, subst, ◌∙◌, lit<}
 use Rattle.std.proofs.lemmas.List.{length-replicate}
-use Rattle.flash_words.specs.Layout.{room_of, reach_of}
-use Rattle.base_model.specs.Bytes.{part, little, spelled}
+use Rattle.base_model.specs.Bytes.{part, spelled}
 use Rattle.apei_gas.specs.Access.{bits}
 use Rattle.apei_space.specs.RamState.{RamState}
 use Rattle.ghes_ack.specs.Machine.{with_status, started}
@@ -11,8 +10,8 @@ use Rattle.ghes_ack.specs.Handovers.{fresh, StandsFor}
 use Rattle.ghes_ack.proofs.MemoryLemmas.{HasWindows-with_address, ack-with_address, set_bits}
 use Rattle.ghes_ack.proofs.EffectLemmas.{started_memory, started_set}
 use Rattle.ghes_ack.proofs.StartLemmas.{fresh_stands}
-use Rattle.erst_machine.specs.Memories.{MemoryState, HasSizes, IsLaid, blank}
-use Rattle.erst_machine.specs.MachineState.{IsMachine, own_map, reach_in}
+use Rattle.erst_machine.specs.Memories.{blank}
+use Rattle.erst_machine.specs.MachineState.{IsMachine, own_map}
 use Rattle.erst_machine.proofs.BootLemmas.{own_windows, own_bits}
 use Rattle.erst_machine.proofs.KeptLemmas.{nothing_laid}
 use Rattle.erst_commands.proofs.LimitLemmas.{reach-few}

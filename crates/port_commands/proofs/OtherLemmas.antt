@@ -1,5 +1,5 @@
 -- What accesses of a port leave alone.
-use Rattle.std.proofs.Common.{◌≡◌, ℕ, ◌%◌, ◌^◌, List, Option, Some, None, Result, Ok, Err, inl, inr, refl, sym, ap, subst, ◌∙◌}
+use Rattle.std.proofs.Common.{◌≡◌, ℕ, ◌%◌, ◌^◌, List, Option, Some, None, Result, inl, inr, refl, sym, ap, subst, ◌∙◌}
 use Rattle.apei_gas.specs.declared.registers.Place.TheVariants.{Memory}
 use Rattle.apei_gas.specs.declared.widths.Width.{Width}
 use Rattle.apei_space.specs.declared.faults.SpaceFault.{SpaceFault}

@@ -5,11 +5,10 @@ use Rattle.std.proofs.lemmas.Bool.Decides.{nat_tests}
 use Rattle.apei_gas.specs.declared.registers.Place.TheVariants.{Memory}
 use Rattle.erst_machine.specs.Areas.{holds}
 use Rattle.erst_port.specs.declared.windows.Addresses.{Addresses}
-use Rattle.erst_port.specs.declared.windows.Spot.{Spot}
 use Rattle.erst_port.specs.declared.windows.Spot.TheVariants.{Bytes, Nowhere}
 use Rattle.erst_port.specs.declared.windows.Window.{Window}
 use Rattle.erst_port.specs.declared.windows.Window.TheVariants.{Registers, LogRange}
-use Rattle.erst_port.specs.Places.{registers_size, are_apart, range_spot}
+use Rattle.erst_port.specs.Places.{are_apart, range_spot}
 use Rattle.erst_port.specs.PortState.{PortState}
 use Rattle.port_commands.specs.PortSpaces.{place_in}
 

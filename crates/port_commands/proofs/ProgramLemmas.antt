@@ -1,26 +1,21 @@
 -- The programs of a port's table are those of the machine's own, but for the two whose actions a port carries out in its own way.
-use Rattle.std.proofs.Common.{◌≡◌, ℕ, ◌+◌, ◌-◌, ◌%◌, ◌^◌, List, [], ◌∷◌, Some, Result, Ok, Err, refl, arith}
+use Rattle.std.proofs.Common.{◌≡◌, ℕ, ◌+◌, ◌-◌, ◌%◌, ◌^◌, [], ◌∷◌, Some, refl, arith}
 use Rattle.std.specs.Prelude.{◌==◌, if◌then◌else◌}
 use Rattle.apei_gas.specs.declared.registers.Place.TheVariants.{Memory}
 use Rattle.apei_gas.specs.declared.widths.Width.TheVariants.{B32, B64}
 use Rattle.apei_gas.specs.Fields.{stored}
-use Rattle.apei_space.specs.Calls.{Call}
 use Rattle.erst_entries.specs.declared.actions.Action.{Action}
-use Rattle.erst_entries.specs.declared.actions.Action.TheVariants.{BeginWriteOperation, BeginReadOperation, BeginClearOperation, EndOperation, SetRecordOffset, ExecuteOperation, CheckBusyStatus, GetCommandStatus, GetRecordIdentifier, SetRecordIdentifier, GetRecordCount, BeginDummyWriteOperation, GetErrorLogAddressRange, GetErrorLogAddressRangeLength, GetErrorLogAddressRangeAttributes, GetExecuteOperationTimings}
+use Rattle.erst_entries.specs.declared.actions.Action.TheVariants.{SetRecordOffset, CheckBusyStatus, GetCommandStatus, GetRecordIdentifier, SetRecordIdentifier, GetRecordCount, GetErrorLogAddressRange, GetErrorLogAddressRangeLength, GetErrorLogAddressRangeAttributes, GetExecuteOperationTimings}
 use Rattle.erst_entries.specs.declared.entries.Entry.{Entry}
 use Rattle.erst_entries.specs.declared.instructions.Instruction.TheVariants.{ReadRegister, ReadRegisterValue, WriteRegister, WriteRegisterValue}
 use Rattle.erst_entries.specs.Actions.{code_of}
 use Rattle.erst_entries.specs.Programs.{entries_of}
-use Rattle.erst_interp.specs.declared.configurations.Configuration.{Configuration}
-use Rattle.erst_interp.specs.declared.stops.RunStop.{RunStop}
 use Rattle.erst_interp.specs.Configurations.{next}
-use Rattle.erst_client.specs.Requests.{Performs}
-use Rattle.erst_machine.specs.MachineState.{MachineState}
 use Rattle.erst_machine.specs.Allowed.{Allows}
 use Rattle.erst_machine.specs.OwnTables.{own_entries, act, give, is_one, answer, action_register, value_register}
 use Rattle.erst_port.specs.declared.windows.Addresses.{Addresses}
 use Rattle.erst_port.specs.PortTables.{port_entries, carries_out, gives, asks_for_one, takes}
-use Rattle.port_commands.specs.PortSpaces.{SpaceState, Goes}
+use Rattle.port_commands.specs.PortSpaces.{Goes}
 use Rattle.port_commands.specs.Machines.{machine_of, IsShared}
 use Rattle.port_commands.proofs.CarryLemmas.{IsCarried, AreCarried, NoEntry, OneEntry, run_carried, ReadsCarried, WritesCarried, take_step, take_halts, store_step, store_halts}
 use Rattle.port_commands.proofs.SequenceLemmas.{IsPerformed, ArePerformed}

@@ -1,11 +1,11 @@
 -- GET_RECORD_IDENTIFIER by the table of a port.
-use Rattle.std.proofs.Common.{◌≡◌, ◌≢◌, ℕ, ◌+◌, ◌-◌, ◌%◌, ◌^◌, ◌<◌, ◌≤◌, Bool, true, false, cond, List, Option, Some, None, Result, Ok, Err, refl, sym, ap, subst, ◌∙◌, arith}
+use Rattle.std.proofs.Common.{◌≡◌, ◌≢◌, ℕ, ◌-◌, ◌%◌, ◌^◌, ◌<◌, Bool, true, false, cond, List, Option, Some, None, Result, Ok, Err, refl, sym, ap, subst, ◌∙◌, arith}
 use Rattle.std.specs.Prelude.{◌==◌, if◌then◌else◌}
 use Rattle.std.proofs.lemmas.Bool.{ne_eqb}
 use Rattle.record_model.specs.Records.{Stored, is_reserved}
 use Rattle.record_model.specs.RecordMap.{IsNextAbove}
 use Rattle.record_model.proofs.RefusalLemmas.{allowed_not_zero}
-use Rattle.record_store.specs.Store.{StoreView, stored, abandoned, DividesAlike}
+use Rattle.record_store.specs.Store.{StoreView, stored}
 use Rattle.record_store.specs.declared.errors.StoreError.{StoreError}
 use Rattle.record_store.proofs.StoreLemmas.{kept_map}
 use Rattle.erst_entries.specs.declared.actions.Action.TheVariants.{GetRecordIdentifier}
@@ -14,17 +14,16 @@ use Rattle.erst_entries.specs.Programs.{entries_of}
 use Rattle.erst_interp.specs.declared.stops.RunStop.{RunStop}
 use Rattle.erst_client.specs.declared.errors.ClientError.{ClientError}
 use Rattle.erst_client.specs.declared.errors.ClientError.TheVariants.{Hardware}
-use Rattle.erst_client.specs.Requests.{Performs}
 use Rattle.erst_client.specs.Commands.{Names, named}
 use Rattle.erst_device.specs.StoreCalls.{FoundNext}
 use Rattle.erst_device.specs.DeviceState.{DeviceState, given_up, records}
-use Rattle.erst_device.specs.Actions.{IsAllowed, found, Acts}
+use Rattle.erst_device.specs.Actions.{IsAllowed, found}
 use Rattle.erst_machine.specs.MachineState.{MachineState, records_of}
-use Rattle.erst_commands.specs.Looks.{HasAsked, HasFailed, AsksOnce, Answers, StopsBehind as stops_behind, StopsAtOnce as stops_at_once}
+use Rattle.erst_commands.specs.Looks.{HasAsked, AsksOnce, Answers, StopsBehind as stops_behind, StopsAtOnce as stops_at_once}
 use Rattle.erst_commands.proofs.LookLemmas.{has_asked, has_failed}
 use Rattle.erst_port.specs.declared.windows.Addresses.{Addresses}
 use Rattle.erst_port.specs.PortTables.{port_entries}
-use Rattle.erst_port.specs.Accesses.{Tells, Address, Round, Number, Acted}
+use Rattle.erst_port.specs.Accesses.{Tells, Address, Round, Number}
 use Rattle.erst_port.proofs.LookLemmas.{Looked, looked, IsBehind, behind, IsSecond, second}
 use Rattle.port_commands.specs.PortSpaces.{SpaceState, Goes, caught_up}
 use Rattle.port_commands.specs.Machines.{machine_of}

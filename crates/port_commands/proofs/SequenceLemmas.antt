@@ -1,5 +1,5 @@
 -- A client's sequence over one space is the same sequence over another, where the runs of its programs and its waits are.
-use Rattle.std.proofs.Common.{◌≡◌, ℕ, suc, List, [], ◌∷◌, Option, Result, Ok, Err}
+use Rattle.std.proofs.Common.{ℕ, suc, List, [], ◌∷◌, Option, Result, Ok, Err}
 use Rattle.apei_space.specs.Calls.{Call, Wait}
 use Rattle.erst_entries.specs.declared.actions.Action.{Action}
 use Rattle.erst_entries.specs.declared.actions.Action.TheVariants.{CheckBusyStatus, GetCommandStatus, EndOperation}

@@ -1,6 +1,6 @@
 -- A run of a program that carries out an action and takes what VALUE says then.
-use Rattle.std.proofs.Common.{◌≡◌, ℕ, zero, suc, ◌+◌, ◌-◌, ◌/◌, ◌%◌, ◌^◌, ◌<◌, ◌≤◌, List, [], ◌∷◌, Some, Result, Ok, Err, refl, sym, ap, subst, ◌∙◌, arith}
-use Rattle.std.specs.Prelude.{bit_and, unwrap_or}
+use Rattle.std.proofs.Common.{◌≡◌, ℕ, zero, suc, ◌+◌, ◌-◌, ◌/◌, ◌%◌, ◌^◌, ◌<◌, [], ◌∷◌, Some, Result, Ok, Err, refl, sym, ap, subst, ◌∙◌, arith}
+use Rattle.std.specs.Prelude.{unwrap_or}
 use Rattle.std.proofs.lemmas.Nat.{and_mask}
 use Rattle.apei_gas.specs.declared.registers.Place.TheVariants.{Memory}
 use Rattle.apei_gas.specs.declared.widths.Width.TheVariants.{B32, B64}
@@ -10,18 +10,17 @@ use Rattle.apei_space.specs.Calls.{Write}
 use Rattle.erst_entries.specs.declared.actions.Action.{Action}
 use Rattle.erst_entries.specs.declared.instructions.Instruction.TheVariants.{ReadRegister, WriteRegisterValue}
 use Rattle.erst_entries.specs.Actions.{code_of}
-use Rattle.erst_entries.specs.Programs.{Listed, program_of}
+use Rattle.erst_entries.specs.Programs.{Listed}
 use Rattle.erst_interp.specs.declared.configurations.Configuration.{Configuration}
 use Rattle.erst_interp.specs.declared.stops.RunStop.{RunStop}
 use Rattle.erst_interp.specs.declared.stops.RunStop.TheVariants.{Budget}
 use Rattle.erst_interp.specs.Configurations.{begin, next}
 use Rattle.erst_interp.specs.Runs.{Run}
-use Rattle.erst_interp.specs.Straight.{IsStraight, TakesOnly, StoresOnly, AreStraight, NoEntry, OneEntry, DoFirst, RanStraight, Through, OutOfSteps}
+use Rattle.erst_interp.specs.Straight.{IsStraight, TakesOnly, StoresOnly, AreStraight, NoEntry, OneEntry, DoFirst, Through, OutOfSteps}
 use Rattle.erst_interp.proofs.StraightLemmas.{ran_straight}
-use Rattle.erst_client.specs.Requests.{Performs}
 use Rattle.erst_port.specs.declared.windows.Addresses.{Addresses}
-use Rattle.erst_port.specs.PortState.{PortState, IsPort}
-use Rattle.erst_port.specs.PortTables.{port_entries, carries_out, takes}
+use Rattle.erst_port.specs.PortState.{IsPort}
+use Rattle.erst_port.specs.PortTables.{carries_out, takes}
 use Rattle.port_commands.specs.PortSpaces.{SpaceState, caught_up, Goes}
 use Rattle.port_commands.proofs.AccessLemmas.{Takes, action_taken, action_served, value_told, value_read_served}
 use Rattle.port_commands.proofs.ProgramLemmas.{code_kept}
