@@ -153,6 +153,11 @@ client_is first port address len timings address_is len_is timings_is =
     ∙ ap (λ (n : ℕ). Ok (record { table = port_erst first.port.addresses.registers; address = first.port.addresses.range; range = reach_of (room_of first.port.device.store.layout); timings = Some (n, timings % 2 ^ 32) })) greatest
     ∙ ap (λ (n : ℕ). Ok (record { table = port_erst first.port.addresses.registers; address = first.port.addresses.range; range = reach_of (room_of first.port.device.store.layout); timings = Some (10 * most_changes first.port.device.store.layout, n) })) nominal
 
+all_answers : (a b c d : ℕ) (all three two one none : Result (List ℕ) RunStop) → all ≡ with_answer a three → three ≡ with_answer b two → two ≡ with_answer c one → one ≡ with_answer d none → none ≡ Ok []
+    → all ≡ Ok (a ∷ b ∷ c ∷ d ∷ [])
+all_answers a b c d all three two one none first second third fourth end =
+    first ∙ ap (with_answer a) (second ∙ ap (with_answer b) (third ∙ ap (with_answer c) (fourth ∙ ap (with_answer d) end)))
+
 pub attaches_port : (budget : ℕ) (first : SpaceState) → IsPort first.port → (result : Result ClientState AttachError) (left : ℕ) (last : SpaceState) → 8 ≤ budget
     → Attaches (Goes first.port.addresses) (port_erst first.port.addresses.registers) budget first result left last → AttachesPort budget first result left last
 attaches_port budget first port result left last enough attaches =
@@ -172,8 +177,7 @@ attaches_port budget first port result left last enough attaches =
     (λ mid takes. shows_number addresses (telling 0 first) mid GetExecuteOperationTimings timings refl (λ e. absurd (omega (arith, e))) (λ e. absurd (omega (arith, e))) refl takes)
     (λ given budget result left last run. runs_timings addresses (telling 0 first) given budget result left last run) _ three.asked three.others left last (omega (arith, enough, one.spent, two.spent, three.spent)) three.more in
     let end = none_asked (Goes addresses) (port_entries addresses.registers) four.asked (telling timings first) four.others left last four.more in
-    let answers : attaches.answers ≡ Ok (addresses.range % 2 ^ 64 ∷ len % 2 ^ 64 ∷ 0 ∷ timings % 2 ^ 64 ∷ []) =
-    one.answers_are ∙ ap (with_answer (addresses.range % 2 ^ 64)) (two.answers_are ∙ ap (with_answer (len % 2 ^ 64)) (three.answers_are ∙ ap (with_answer 0) (four.answers_are ∙ ap (with_answer (timings % 2 ^ 64)) end.result_is))) in
+    let answers = all_answers (addresses.range % 2 ^ 64) (len % 2 ^ 64) 0 (timings % 2 ^ 64) attaches.answers one.others two.others three.others four.others one.answers_are two.answers_are three.answers_are four.answers_are end.result_is in
     record {
       result_is = attaches.result_is ∙ ap (attached (port_erst addresses.registers)) answers ∙ client_is first port (addresses.range % 2 ^ 64) (len % 2 ^ 64) (timings % 2 ^ 64) refl refl refl;
       left_is = omega (arith, end.left_is, four.spent, three.spent, two.spent, one.spent);
