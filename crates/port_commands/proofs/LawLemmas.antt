@@ -1,5 +1,5 @@
 -- The laws, from a client's commands by the machine's own table.
-use Rattle.std.proofs.Common.{◌≡◌, ℕ, ◌+◌, ◌%◌, ◌^◌, ◌<◌, ◌≤◌, List, length, Option, Result, Ok, refl, arith}
+use Rattle.std.proofs.Common.{◌≡◌, ℕ, ◌+◌, ◌%◌, ◌^◌, ◌<◌, ◌≤◌, List, length, Option, Result, Ok, refl, ap, arith}
 use Rattle.record_model.specs.RecordMap.{Command, Write, Clear, after}
 use Rattle.apei_gas.specs.declared.registers.Place.TheVariants.{Memory}
 use Rattle.apei_gas.specs.declared.widths.Width.TheVariants.{B32}
@@ -7,7 +7,7 @@ use Rattle.apei_space.specs.declared.faults.SpaceFault.{SpaceFault}
 use Rattle.apei_space.specs.Calls.{Write as write_call, ReadBytes, WriteBytes}
 use Rattle.erst_client.specs.declared.errors.ClientError.{ClientError}
 use Rattle.erst_client.specs.declared.requests.Request.{Request}
-use Rattle.erst_client.specs.Commands.{Writes, Reads, Counts}
+use Rattle.erst_client.specs.Commands.{Writes, Reads, Counts, Names}
 use Rattle.erst_client.specs.Sequences.{Sequence, write_requests, read_requests, clear_requests, dummy_requests}
 use Rattle.erst_client.specs.Timings.{enough_steps}
 use Rattle.erst_device.specs.Actions.{log_range_at}
@@ -20,7 +20,7 @@ use Rattle.erst_machine.specs.MachineState.{MachineState, records_of, reach_in}
 use Rattle.erst_machine.proofs.PlaceLemmas.{area_found}
 use Rattle.erst_commands.specs.Causes.{HasItsCause, GoesThrough}
 use Rattle.erst_commands.specs.Changes.{HoldsRecord, ChangeCommand, IsTaken, IsRefused, IsFailed, IsStopped, DummyCommand}
-use Rattle.erst_commands.specs.Looks.{CountMade, AsksOnce}
+use Rattle.erst_commands.specs.Looks.{CountMade, AsksOnce, Answers, StopsBehind, StopsAtOnce}
 use Rattle.erst_commands.specs.Reads.{ReadCommand, ReadAnswered}
 use Rattle.erst_commands.specs.Writes.{marked, id_of, WriteAnswered, IsNoRecord, IsWritten}
 use Rattle.erst_commands.proofs.WriteLemmas.{written}
@@ -29,18 +29,20 @@ use Rattle.erst_commands.proofs.StartLemmas.{write_command, clear_command, dummy
 use Rattle.erst_commands.proofs.ReadLemmas.{read_command}
 use Rattle.erst_commands.proofs.LookLemmas.{count_command}
 use Rattle.erst_commands.proofs.LimitLemmas.{reach-few, reach-least}
-use Rattle.erst_commands.proofs.CallCauses.{client_write_cause, client_read_cause, clear_cause}
+use Rattle.erst_commands.proofs.CallCauses.{write_cause, read_cause, clear_cause, dummy_cause, client_write_cause, client_read_cause}
 use Rattle.erst_commands.proofs.CauseLemmas.{count_cause}
-use Rattle.erst_commands.proofs.EnoughLemmas.{has_steps}
-use Rattle.erst_commands.proofs.ThroughLemmas.{client_write_through, client_read_through, clear_through, count_through}
+use Rattle.erst_commands.proofs.EnoughLemmas.{enough-most, has_steps}
+use Rattle.erst_commands.proofs.ThroughLemmas.{write_through, read_through, clear_through, dummy_through, count_through, client_write_through, client_read_through}
 use Rattle.erst_port.specs.declared.windows.Addresses.{Addresses}
 use Rattle.erst_port.specs.PortState.{IsPort}
 use Rattle.erst_port.specs.PortTables.{port_entries}
 use Rattle.port_commands.specs.PortSpaces.{SpaceState, Goes}
+use Rattle.port_commands.specs.Looks.{NextRound, IsAbove, IsFirst, IsNone, IsNotFound}
 use Rattle.port_commands.specs.Machines.{machine_of}
 use Rattle.port_commands.specs.PortClients.{port_client}
 use Rattle.port_commands.proofs.AccessLemmas.{action_written, bytes_told, bytes_written}
 use Rattle.port_commands.proofs.MachineLemmas.{is_machine}
+use Rattle.port_commands.proofs.RoundLemmas.{next_round}
 use Rattle.port_commands.proofs.CommandLemmas.{own_runs, sequence_own, write_carried, read_carried, clear_carried, dummy_carried, counts_own, writes_own, reads_own}
 
 -- Accesses
@@ -145,6 +147,21 @@ pub read_caused : (id : ℕ) → id < 2 ^ 64 → (out : List ℕ) (budget : ℕ)
 read_caused id small out budget first port result after left last reads =
     client_read_cause (Unit {0}) own_runs id out budget (machine_of first) result after left (machine_of last) (reads_own first port id small out budget result after left last reads)
 
+pub write_sequence_caused : (addresses : Addresses) (timings : Option (ℕ × ℕ)) (budget : ℕ) (first : SpaceState) (result : Result (Unit {0}) ClientError) (left : ℕ) (last : SpaceState)
+    → Sequence (Goes addresses) (port_entries addresses.registers) timings write_requests budget first result left last → HasItsCause (machine_of first) (machine_of last) result
+write_sequence_caused addresses timings budget first result left last sequence =
+    write_cause (Unit {0}) own_runs timings budget (machine_of first) result left (machine_of last) (sequence_own addresses timings write_requests write_carried budget first result left last sequence)
+
+pub read_sequence_caused : (id : ℕ) (addresses : Addresses) (timings : Option (ℕ × ℕ)) (budget : ℕ) (first : SpaceState) (result : Result (Unit {0}) ClientError) (left : ℕ) (last : SpaceState)
+    → Sequence (Goes addresses) (port_entries addresses.registers) timings (read_requests id) budget first result left last → HasItsCause (machine_of first) (machine_of last) result
+read_sequence_caused id addresses timings budget first result left last sequence =
+    read_cause (Unit {0}) own_runs id timings budget (machine_of first) result left (machine_of last) (sequence_own addresses timings (read_requests id) (read_carried id) budget first result left last sequence)
+
+pub dummy_caused : (addresses : Addresses) (timings : Option (ℕ × ℕ)) (budget : ℕ) (first : SpaceState) (result : Result (Unit {0}) ClientError) (left : ℕ) (last : SpaceState)
+    → Sequence (Goes addresses) (port_entries addresses.registers) timings dummy_requests budget first result left last → HasItsCause (machine_of first) (machine_of last) result
+dummy_caused addresses timings budget first result left last sequence =
+    dummy_cause (Unit {0}) own_runs timings budget (machine_of first) result left (machine_of last) (sequence_own addresses timings dummy_requests dummy_carried budget first result left last sequence)
+
 pub clear_caused : (id : ℕ) (addresses : Addresses) (timings : Option (ℕ × ℕ)) (budget : ℕ) (first : SpaceState) (result : Result (Unit {0}) ClientError) (left : ℕ) (last : SpaceState)
     → Sequence (Goes addresses) (port_entries addresses.registers) timings (clear_requests id) budget first result left last → HasItsCause (machine_of first) (machine_of last) result
 clear_caused id addresses timings budget first result left last sequence =
@@ -153,6 +170,27 @@ clear_caused id addresses timings budget first result left last sequence =
 pub count_caused : (addresses : Addresses) (budget : ℕ) (first : SpaceState) (result : Result ℕ ClientError) (left : ℕ) (last : SpaceState) → Counts (Goes addresses) (port_entries addresses.registers) budget first result left last
     → HasItsCause (machine_of first) (machine_of last) result
 count_caused addresses budget first result left last counts = count_cause (Unit {0}) own_runs budget (machine_of first) result left (machine_of last) (counts_own addresses budget first result left last counts)
+
+-- the action of a next identifier
+round_caused : (first last : MachineState) (result : Result (Option ℕ) ClientError) → NextRound first last result → HasItsCause first last result
+round_caused first last result round = elim round as (λ result round. HasItsCause first last result) [
+  | IsAbove id asked least cursor ↦ record { never_falls = asked.looked.never_falls; hardware = λ e. absurd (cc e) }
+  | IsFirst id asked none least cursor ↦ record { never_falls = asked.looked.never_falls; hardware = λ e. absurd (cc e) }
+  | IsNone asked none empty cursor ↦ record { never_falls = asked.looked.never_falls; hardware = λ e. absurd (cc e) }
+  | IsNotFound failed ↦ record { never_falls = failed.looked.never_falls; hardware = λ e. failed.rose }
+]
+
+pub next_caused : (addresses : Addresses) (budget : ℕ) (first : SpaceState) (result : Result (Option ℕ) ClientError) (left : ℕ) (last : SpaceState) → Names (Goes addresses) (port_entries addresses.registers) budget first result left last
+    → HasItsCause (machine_of first) (machine_of last) result
+next_caused addresses budget first result left last names =
+    elim (next_round addresses budget first result left last names) as (λ result left asks. HasItsCause (machine_of first) (machine_of last) result) [
+      | Answers result left made spent ↦ round_caused (machine_of first) (machine_of last) result made
+      | StopsBehind result made one ↦ record { never_falls = (round_caused (machine_of first) (machine_of last) result made).never_falls; hardware = λ e. absurd (cc e) }
+      | StopsAtOnce none same ↦ record { never_falls = faults_kept same; hardware = λ e. absurd (cc e) }
+    ]
+  where
+    faults_kept : machine_of last ≡ machine_of first → first.port.device.store.flash.faults ≤ last.port.device.store.flash.faults
+    faults_kept same = let kept : last.port.device.store.flash.faults ≡ first.port.device.store.flash.faults = ap (λ (m : MachineState). m.device.store.flash.faults) same in omega (arith, kept)
 
 -- Steps
 
@@ -171,6 +209,43 @@ module _ (first : SpaceState) (port : IsPort first.port) (budget : ℕ) (enough 
   clear_goes id small result left last sequence =
       clear_through (Unit {0}) own_runs (machine_of first) budget (has_steps (machine_of first) budget enough) port.range id small result left (machine_of last)
       (sequence_own first.port.addresses (port_client first).timings (clear_requests id) (clear_carried id) budget first result left last sequence)
+
+module _ (first : SpaceState) (port : IsPort first.port) (budget : ℕ) (enough : enough_steps (port_client first).timings ≤ budget) where
+  pub write_sequence_goes : (result : Result (Unit {0}) ClientError) (left : ℕ) (last : SpaceState)
+      → Sequence (Goes first.port.addresses) (port_entries first.port.addresses.registers) (port_client first).timings write_requests budget first result left last → GoesThrough result
+  write_sequence_goes result left last sequence =
+      write_through (Unit {0}) own_runs (machine_of first) budget (has_steps (machine_of first) budget enough) port.range result left (machine_of last)
+      (sequence_own first.port.addresses (port_client first).timings write_requests write_carried budget first result left last sequence)
+
+  pub read_sequence_goes : (id : ℕ) → id < 2 ^ 64 → (result : Result (Unit {0}) ClientError) (left : ℕ) (last : SpaceState)
+      → Sequence (Goes first.port.addresses) (port_entries first.port.addresses.registers) (port_client first).timings (read_requests id) budget first result left last → GoesThrough result
+  read_sequence_goes id small result left last sequence =
+      read_through (Unit {0}) own_runs (machine_of first) budget (has_steps (machine_of first) budget enough) port.range id small result left (machine_of last)
+      (sequence_own first.port.addresses (port_client first).timings (read_requests id) (read_carried id) budget first result left last sequence)
+
+  pub dummy_goes : (result : Result (Unit {0}) ClientError) (left : ℕ) (last : SpaceState)
+      → Sequence (Goes first.port.addresses) (port_entries first.port.addresses.registers) (port_client first).timings dummy_requests budget first result left last → GoesThrough result
+  dummy_goes result left last sequence =
+      dummy_through (Unit {0}) own_runs (machine_of first) budget (has_steps (machine_of first) budget enough) port.range result left (machine_of last)
+      (sequence_own first.port.addresses (port_client first).timings dummy_requests dummy_carried budget first result left last sequence)
+
+round_goes : (first last : MachineState) (result : Result (Option ℕ) ClientError) → NextRound first last result → GoesThrough result
+round_goes first last result round = elim round as (λ result round. GoesThrough result) [
+  | IsAbove id asked least cursor ↦ record { not_stopped = λ stop e. absurd (cc e); in_time = λ waited e. absurd (cc e) }
+  | IsFirst id asked none least cursor ↦ record { not_stopped = λ stop e. absurd (cc e); in_time = λ waited e. absurd (cc e) }
+  | IsNone asked none empty cursor ↦ record { not_stopped = λ stop e. absurd (cc e); in_time = λ waited e. absurd (cc e) }
+  | IsNotFound failed ↦ record { not_stopped = λ stop e. absurd (cc e); in_time = λ waited e. absurd (cc e) }
+]
+
+pub next_goes : (addresses : Addresses) (first : SpaceState) (budget : ℕ) → enough_steps (port_client first).timings ≤ budget → (result : Result (Option ℕ) ClientError) (left : ℕ) (last : SpaceState)
+    → Names (Goes addresses) (port_entries addresses.registers) budget first result left last → GoesThrough result
+next_goes addresses first budget enough result left last names =
+    let many : 2 ≤ budget = omega (arith, enough-most (machine_of first), enough) in
+    elim (next_round addresses budget first result left last names) as (λ result left asks. GoesThrough result) [
+      | Answers result left made spent ↦ round_goes (machine_of first) (machine_of last) result made
+      | StopsBehind result made one ↦ absurd (omega (arith, many, one))
+      | StopsAtOnce none same ↦ absurd (omega (arith, many, none))
+    ]
 
 pub count_goes : (addresses : Addresses) (first : SpaceState) (budget : ℕ) → enough_steps (port_client first).timings ≤ budget → (result : Result ℕ ClientError) (left : ℕ) (last : SpaceState)
     → Counts (Goes addresses) (port_entries addresses.registers) budget first result left last → GoesThrough result

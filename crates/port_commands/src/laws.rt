@@ -161,10 +161,18 @@ pub fn hardware_has_its_cause()
         → Writes (Goes first.port.addresses) (port_client first) bytes budget first result left last → HasItsCause (machine_of first) (machine_of last) result }
     ensures read { (id : ℕ) → id < 2 ^ 64 → (out : List ℕ) (budget : ℕ) (first : SpaceState) → IsPort first.port → (result : Result ℕ ClientError) (after : List ℕ) (left : ℕ) (last : SpaceState)
         → Reads (Goes first.port.addresses) (port_client first) id out budget first result after left last → HasItsCause (machine_of first) (machine_of last) result }
+    ensures write_sequence { (addresses : Addresses) (timings : Option (ℕ × ℕ)) (budget : ℕ) (first : SpaceState) (result : Result (Unit {0}) ClientError) (left : ℕ) (last : SpaceState)
+        → Sequence (Goes addresses) (port_entries addresses.registers) timings write_requests budget first result left last → HasItsCause (machine_of first) (machine_of last) result }
+    ensures read_sequence { (id : ℕ) (addresses : Addresses) (timings : Option (ℕ × ℕ)) (budget : ℕ) (first : SpaceState) (result : Result (Unit {0}) ClientError) (left : ℕ) (last : SpaceState)
+        → Sequence (Goes addresses) (port_entries addresses.registers) timings (read_requests id) budget first result left last → HasItsCause (machine_of first) (machine_of last) result }
+    ensures dummy_sequence { (addresses : Addresses) (timings : Option (ℕ × ℕ)) (budget : ℕ) (first : SpaceState) (result : Result (Unit {0}) ClientError) (left : ℕ) (last : SpaceState)
+        → Sequence (Goes addresses) (port_entries addresses.registers) timings dummy_requests budget first result left last → HasItsCause (machine_of first) (machine_of last) result }
     ensures clear_sequence { (id : ℕ) (addresses : Addresses) (timings : Option (ℕ × ℕ)) (budget : ℕ) (first : SpaceState) (result : Result (Unit {0}) ClientError) (left : ℕ) (last : SpaceState)
         → Sequence (Goes addresses) (port_entries addresses.registers) timings (clear_requests id) budget first result left last → HasItsCause (machine_of first) (machine_of last) result }
     ensures count { (addresses : Addresses) (budget : ℕ) (first : SpaceState) (result : Result ℕ ClientError) (left : ℕ) (last : SpaceState)
         → Counts (Goes addresses) (port_entries addresses.registers) budget first result left last → HasItsCause (machine_of first) (machine_of last) result }
+    ensures next { (addresses : Addresses) (budget : ℕ) (first : SpaceState) (result : Result (Option ℕ) ClientError) (left : ℕ) (last : SpaceState)
+        → Names (Goes addresses) (port_entries addresses.registers) budget first result left last → HasItsCause (machine_of first) (machine_of last) result }
 {}
 
 /// With the steps that are enough by the port's timings a command is never stopped, and never late.
@@ -173,10 +181,18 @@ pub fn enough_steps_go_through()
         → Writes (Goes first.port.addresses) (port_client first) bytes budget first result left last → GoesThrough result }
     ensures read { (first : SpaceState) → IsPort first.port → (budget : ℕ) → enough_steps (port_client first).timings ≤ budget → (id : ℕ) → id < 2 ^ 64 → (out : List ℕ) (result : Result ℕ ClientError) (after : List ℕ) (left : ℕ) (last : SpaceState)
         → Reads (Goes first.port.addresses) (port_client first) id out budget first result after left last → GoesThrough result }
+    ensures write_sequence { (first : SpaceState) → IsPort first.port → (budget : ℕ) → enough_steps (port_client first).timings ≤ budget → (result : Result (Unit {0}) ClientError) (left : ℕ) (last : SpaceState)
+        → Sequence (Goes first.port.addresses) (port_entries first.port.addresses.registers) (port_client first).timings write_requests budget first result left last → GoesThrough result }
+    ensures read_sequence { (first : SpaceState) → IsPort first.port → (budget : ℕ) → enough_steps (port_client first).timings ≤ budget → (id : ℕ) → id < 2 ^ 64 → (result : Result (Unit {0}) ClientError) (left : ℕ) (last : SpaceState)
+        → Sequence (Goes first.port.addresses) (port_entries first.port.addresses.registers) (port_client first).timings (read_requests id) budget first result left last → GoesThrough result }
+    ensures dummy_sequence { (first : SpaceState) → IsPort first.port → (budget : ℕ) → enough_steps (port_client first).timings ≤ budget → (result : Result (Unit {0}) ClientError) (left : ℕ) (last : SpaceState)
+        → Sequence (Goes first.port.addresses) (port_entries first.port.addresses.registers) (port_client first).timings dummy_requests budget first result left last → GoesThrough result }
     ensures clear_sequence { (first : SpaceState) → IsPort first.port → (budget : ℕ) → enough_steps (port_client first).timings ≤ budget → (id : ℕ) → id < 2 ^ 64 → (result : Result (Unit {0}) ClientError) (left : ℕ) (last : SpaceState)
         → Sequence (Goes first.port.addresses) (port_entries first.port.addresses.registers) (port_client first).timings (clear_requests id) budget first result left last → GoesThrough result }
     ensures count { (addresses : Addresses) (first : SpaceState) (budget : ℕ) → enough_steps (port_client first).timings ≤ budget → (result : Result ℕ ClientError) (left : ℕ) (last : SpaceState)
         → Counts (Goes addresses) (port_entries addresses.registers) budget first result left last → GoesThrough result }
+    ensures next { (addresses : Addresses) (first : SpaceState) (budget : ℕ) → enough_steps (port_client first).timings ≤ budget → (result : Result (Option ℕ) ClientError) (left : ℕ) (last : SpaceState)
+        → Names (Goes addresses) (port_entries addresses.registers) budget first result left last → GoesThrough result }
 {}
 
 /// Whatever accesses a client makes, the windows stay where they are, and so do the table and the flash's place in its medium.
