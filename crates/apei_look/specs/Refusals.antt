@@ -1,7 +1,15 @@
 -- How the file of an image is refused, and how a run ends that showed one.
 use Rattle.std.specs.Prelude.{ℕ, ◌≡◌, ◌<◌, ⊤, ◌==◌, nat_le, if◌then◌else◌, Result, Ok, Err}
 use Rattle.apei_look.specs.declared.status.Status.{Status}
+use Rattle.look_text.specs.declared.unread.Unread.{Unread}
 use Rattle.apei_look.specs.declared.status.Status.TheVariants.{Done, File, Length, Memory}
+use Rattle.apei_look.specs.declared.status.Status.TheVariants as statuses
+
+-- where its bytes are read
+abbrev pub IsReadRefusal : Status → Type 0
+IsReadRefusal (File fault) = ⊤
+IsReadRefusal Memory = ⊤
+IsReadRefusal other = ⊥
 
 -- where the image may have so many bytes
 abbrev pub IsFileRefusal : ℕ → Status → Type 0
@@ -18,3 +26,8 @@ length_checked found most = if nat_le found most then Ok tt else Err (Length fou
 abbrev pub ended_as : Status → ℕ → ℕ → Status
 ended_as Done found wanted = if found == wanted then Done else Length found wanted
 ended_as other found wanted = other
+
+-- what was said of a medium that is not shown is followed by why
+abbrev pub named_as : Status → Unread → Status
+named_as Done unread = statuses.Unread unread
+named_as other unread = other
