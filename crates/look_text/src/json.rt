@@ -32,10 +32,7 @@ fn add_file(out: &mut String, image: &Image<'_>) -> Result<(), AllocError> {
     let kind = file_word(image.is_medium, kind);
     out.push_str("{\"geometry\":")?;
     add_geometry(out, image.geometry)?;
-    write!(
-        out,
-        ",\"held\":{held},\"file\":\"{kind}\",\"medium\":"
-    )?;
+    write!(out, ",\"held\":{held},\"file\":\"{kind}\",\"medium\":")?;
     add_medium(out, image)?;
     write!(out, ",\"heads\":{heads},\"seems\":")?;
     match guess {

@@ -41,9 +41,7 @@ fn add_file(out: &mut String, image: &Image<'_>) -> Result<(), AllocError> {
     if image.is_medium {
         add_medium(out, image)?;
     }
-    if image.held < file_size(image.geometry, image.is_medium) {
-        add_end(out, image)?;
-    }
+    add_end(out, image)?;
     if image.is_medium {
         return Ok(());
     }
@@ -69,9 +67,19 @@ fn add_medium(out: &mut String, image: &Image<'_>) -> Result<(), AllocError> {
     )
 }
 
-// Where a file ends that is cut off.
+// Where a file ends that is cut off, and from where one that is longer is not shown.
 fn add_end(out: &mut String, image: &Image<'_>) -> Result<(), AllocError> {
     let held = image.held;
+    let size = file_size(image.geometry, image.is_medium);
+    if held == size {
+        return Ok(());
+    }
+    if held > size {
+        return writeln!(
+            out,
+            "the file has {held} bytes; those from byte {size} on are not shown"
+        );
+    }
     write!(out, "the image ends at byte {held}, in ")?;
     match image.last_slot() {
         Some(slot) => write!(out, "slot {slot}")?,
