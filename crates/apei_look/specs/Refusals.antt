@@ -22,7 +22,7 @@ IsFileRefusal most other = ⊥
 abbrev pub length_checked : ℕ → ℕ → Result (Unit {0}) Status
 length_checked found most = if nat_le found most then Ok tt else Err (Length found most)
 
--- what was shown of a file that is cut off is followed by its length
+-- what was shown of a file of another length is followed by that
 abbrev pub ended_as : Status → ℕ → ℕ → Status
 ended_as Done found wanted = if found == wanted then Done else Length found wanted
 ended_as other found wanted = other

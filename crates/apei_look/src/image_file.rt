@@ -89,8 +89,8 @@ impl ImageFile {
     }
 }
 
-// A file that is longer is refused.
-fn check_length(found: u64, most: u64) -> Result<(), Status>
+/// A file that is longer is refused.
+pub fn check_length(found: u64, most: u64) -> Result<(), Status>
     ensures { result ≡ length_checked found most }
 {
     if found <= most {

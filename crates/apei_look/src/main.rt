@@ -11,15 +11,13 @@ ghost use Rattle.apei_look.specs.Refusals.{ended_as, named_as};
 mod image_file;
 mod status;
 
-use crate::image_file::ImageFile;
+use crate::image_file::{ImageFile, check_length};
 use crate::status::Status;
 use clap_words::{WordsError, end, words};
 use erst_medium::{FirstSector, first_sector};
 use flash_model::Geometry;
 use image_survey::{best_guess, find, record_at, survey_slots};
-use look_text::{
-    Image, Unread, file_size, flash_of, json_of, text_of, unread_json, unread_text,
-};
+use look_text::{Image, Unread, file_size, flash_of, json_of, text_of, unread_json, unread_text};
 use look_words::{Options, Show, options_of};
 use std::io::Write;
 use std::process::ExitCode;
@@ -62,8 +60,8 @@ fn look_at_file(rt: &HostRuntime, options: &Options, given: Geometry) -> Result<
     let unread = match first_sector(&beginning) {
         FirstSector::Unsigned => return look_at_flash(rt, options, given, &file),
         FirstSector::Medium(geometry) => {
-            let bytes = file.bytes(rt.alloc(), file_size(&geometry, true))?;
-            return Ok(look_by(rt, bytes, &geometry, true, options.show));
+            let bytes = file.beginning(rt.alloc(), file_size(&geometry, true))?;
+            return Ok(look_by(rt, bytes, &file, &geometry, true, options.show));
         }
         FirstSector::Version { found } => Unread::Version(found),
         FirstSector::Damaged => Unread::Damaged,
@@ -84,7 +82,8 @@ fn look_at_flash(
     } else {
         given
     };
-    Ok(look_by(rt, image, &geometry, false, options.show))
+    check_length(file.size(), geometry.size())?;
+    Ok(look_by(rt, image, file, &geometry, false, options.show))
 }
 
 // The most bytes that are looked at: where the geometry is guessed those of any.
@@ -104,31 +103,25 @@ fn seeming(image: &[u8], given: Geometry) -> Geometry
     }
 }
 
-// Looks at a file by a geometry. One that is longer is refused, and one that is cut off is shown as far as it goes.
+// Looks at a file by a geometry. One that is cut off is shown as far as it goes.
 fn look_by(
     rt: &HostRuntime,
-    mut file: Vec<u8>,
+    mut bytes: Vec<u8>,
+    file: &ImageFile,
     geometry: &Geometry,
     is_medium: bool,
     show: Show,
 ) -> Status {
-    let held = file.len() as u64;
     let size = file_size(geometry, is_medium);
-    if held > size {
-        return Status::Length {
-            found: held,
-            wanted: size,
-        };
-    }
-    if file.resize(size as usize, ERASED).is_err() {
+    if bytes.resize(size as usize, ERASED).is_err() {
         return Status::Memory;
     }
-    let flash = flash_of(&file, geometry, is_medium);
-    let shown = show_flash(rt, flash, geometry, is_medium, held, show);
-    ended_as(shown, held, size)
+    let flash = flash_of(&bytes, geometry, is_medium);
+    let shown = show_flash(rt, flash, geometry, is_medium, file.size(), show);
+    ended_as(shown, file.size(), size)
 }
 
-// How a run ends that showed a file of so many bytes: one that is cut off is said to be.
+// How a run ends that showed a file of so many bytes: one of another length is said to be.
 #[tactic(auto, using(std::proofs::lemmas::Bool::Decides::nat_tests))]
 fn ended_as(shown: Status, found: u64, wanted: u64) -> Status
     ensures { result ≡ ended_as shown found wanted }
