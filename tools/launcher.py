@@ -4,7 +4,8 @@
 - Where the program has not been built since the last change of the sources, it is proved and built first. Where it is built and there is no
   toolchain, it is run as it is.
 - `apei`: --show takes a comma for the | that a shell wants in quotes. `play` looks at its file first, by apei-look: a file that seems to be none
-  of the geometry, or none of ours, ends the run with status 6 before anything is touched, but behind the word --force before the job.
+  of the geometry, none of ours, or a library's medium ends the run with status 6 before anything is touched, but behind the word --force before
+  the job.
 - `apei-look`: the bytes of a record are not written to a terminal, but behind the word --force.
 - Signals are passed on, and the script ends when the program has.
 - Where the status is not 0, lines in plain words come behind what the program said (tools/explain.py).
@@ -243,8 +244,13 @@ def seen_by_look(image: str, words: list[str]) -> Optional[dict]:
 
 def looks_foreign(image: str, shown: dict) -> Optional[str]:
     """Two sentences on a file that `play` would not find its records in: what was found, and which options would fit."""
-    seems = shown["seems"]
+    if shown["file"] in ("medium", "other-version", "damaged-medium"):
+        version = shown["medium"]["version"]
+        what = "whose first sector is damaged" if version is None else f"of version {version}"
+        return f"{image} is a medium of the library, {what}: play would write over its first sector. " \
+            "No options would fit; --force before the job writes over it."
     if shown["file"] == "other-geometry":
+        seems = shown["seems"]
         found = f"heads stand where slots of {seems['per_slot']} sectors of {seems['sector']} begin"
         fits = f"--sector={seems['sector']} --per-slot={seems['per_slot']} --slots={seems['slots']} would fit"
         return f"{image} has another geometry: {found}. {fits}; --force before the job plays on it as it is."
