@@ -1,5 +1,6 @@
 -- How the file of an image is refused, and how a run ends that showed one.
-use Rattle.std.specs.Prelude.{ℕ, ◌≡◌, ◌<◌, ⊤, ◌==◌, nat_le, if◌then◌else◌, Result, Ok, Err}
+use Rattle.std.specs.Prelude.{ℕ, ◌≡◌, ◌<◌, ◌*◌, ⊤, ◌==◌, nat_le, Bool, true, false, if◌then◌else◌, Result, Ok, Err}
+use Rattle.flash_model.specs.declared.geometry.Geometry.{Geometry}
 use Rattle.apei_look.specs.declared.status.Status.{Status}
 use Rattle.look_text.specs.declared.unread.Unread.{Unread}
 use Rattle.apei_look.specs.declared.status.Status.TheVariants.{Done, File, Length, Memory}
@@ -17,6 +18,11 @@ IsFileRefusal most (File fault) = ⊤
 IsFileRefusal most (Length found wanted) = (wanted ≡ most) × (most < found)
 IsFileRefusal most Memory = ⊤
 IsFileRefusal most other = ⊥
+
+-- the most bytes of a flash that is looked at: of any geometry where that is guessed
+abbrev pub most_of : (is_guessed : Bool) → Geometry → ℕ
+most_of true given = 0x400_0000
+most_of false given = given.slot_size * given.slots
 
 -- a file of so many bytes, where at most so many are wanted
 abbrev pub length_checked : ℕ → ℕ → Result (Unit {0}) Status

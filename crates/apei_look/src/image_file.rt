@@ -1,5 +1,5 @@
 // The file of an image, opened for reading alone.
-ghost use Rattle.std.specs.Prelude.{◌≡◌, ◌≤◌, ◌^◌, length, IfOk, IfErr};
+ghost use Rattle.std.specs.Prelude.{◌≡◌, ◌≤◌, ◌^◌, length, min, IfOk, IfErr};
 ghost use Rattle.apei_look.specs.Refusals.{IsFileRefusal, IsReadRefusal, length_checked};
 
 use crate::status::Status;
@@ -51,14 +51,16 @@ impl ImageFile {
     }
 
     /// How many bytes it has.
-    pub fn size(&self) -> u64 {
+    pub fn size(&self) -> u64
+        ensures { result ≡ self.now.size }
+    {
         self.size
     }
 
     /// Its first bytes: so many, or all where it has fewer.
     pub fn beginning(&self, alloc: Global, most: u64) -> Result<Vec<u8>, Status>
         requires { most ≤ 2 ^ 27 }
-        ensures { IfOk result (λ bytes. length bytes.items ≤ most) }
+        ensures { IfOk result (λ bytes. length bytes.items ≡ min self.now.size most) }
     {
         self.read(alloc, self.size.min(most))
     }
@@ -66,7 +68,7 @@ impl ImageFile {
     /// All its bytes, which are at most so many.
     pub fn bytes(&self, alloc: Global, most: u64) -> Result<Vec<u8>, Status>
         requires { most ≤ 2 ^ 27 }
-        ensures whole { IfOk result (λ bytes. length bytes.items ≤ most) }
+        ensures whole { IfOk result (λ bytes. (length bytes.items ≡ self.now.size) × (self.now.size ≤ most)) }
         ensures refused { IfErr result (IsFileRefusal most) }
     {
         check_length(self.size, most)?;

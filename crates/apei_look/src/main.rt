@@ -6,7 +6,7 @@ ghost use Rattle.std.specs.Prelude.{◌≡◌, ◌*◌, ◌^◌, ◌≤◌, leng
 ghost use Rattle.std.specs.Option.{option_map_or};
 ghost use Rattle.image_survey.specs.Heads.{IsGuess};
 ghost use Rattle.image_survey.specs.declared.heads.Guess.{Guess};
-ghost use Rattle.apei_look.specs.Refusals.{ended_as, named_as};
+ghost use Rattle.apei_look.specs.Refusals.{ended_as, most_of, named_as};
 
 mod image_file;
 mod status;
@@ -88,7 +88,8 @@ fn look_at_flash(
 
 // The most bytes that are looked at: where the geometry is guessed those of any.
 fn most_of(is_guessed: bool, given: &Geometry) -> u64
-    ensures { result ≤ 2 ^ 26 }
+    ensures most { result ≡ most_of is_guessed given.now }
+    ensures within { result ≤ 2 ^ 26 }
 {
     if is_guessed { MAX_IMAGE } else { given.size() }
 }
