@@ -116,11 +116,32 @@ def build(program: Program) -> tuple[int, bool]:
         return 0, True
     # Where `apei` is built so is what looks at a file before `play` does, which takes little beside it.
     crates = [program.crate, "apei_look"] if program.name == "apei" else [program.crate]
-    status = subprocess.run([os.path.join(TOP, "tools", "build"), *crates], stdin=subprocess.DEVNULL, check=False).returncode
+    status = build_all(crates)
     if status == 0:
         for crate in crates:
             os.utime(Program(crate.replace("_", "-")).path)
     return (status if status >= 0 else 128 - status), False
+
+
+def build_all(crates: list[str]) -> int:
+    """Proves and builds crates. A signal that would end this script ends the build, and this script once that has ended."""
+    taken: list[int] = []
+    child: list[subprocess.Popen[bytes]] = []
+
+    def end(number: int, _frame: object) -> None:
+        taken.append(number)
+        if child:
+            child[0].terminate()
+
+    ending = (signal.SIGINT, signal.SIGTERM, signal.SIGHUP)
+    kept = {number: signal.signal(number, end) for number in ending if signal.getsignal(number) != signal.SIG_IGN}
+    child.append(subprocess.Popen([os.path.join(TOP, "tools", "build"), *crates], stdin=subprocess.DEVNULL))
+    if taken:
+        child[0].terminate()
+    status = child[0].wait()
+    for number, before in kept.items():
+        signal.signal(number, before)
+    return end_as(-taken[0]) if taken else status
 
 
 class Input:

@@ -192,6 +192,39 @@ def signals(runs: Runs) -> None:
             fcntl.flock(file, fcntl.LOCK_EX | fcntl.LOCK_NB)
 
 
+# A build that says when it begins and when it is ended.
+BUILD = """#!/bin/sh
+trap 'echo > ended; exit 130' INT TERM HUP
+echo > begun
+for turn in $(seq 200); do sleep 0.05; done
+"""
+
+
+def builds(runs: Runs) -> None:
+    """A script that is told to end while its program is being built ends when the build has."""
+    kept = runs.folder / "lib/apei"
+    program, away = kept / "crates/apei_names/out/apei_names", runs.folder / "away"
+    program.rename(away)
+    (kept / "crates.txt").write_text("")
+    (kept / "tools/build").write_text(BUILD)
+    (kept / "tools/build").chmod(0o755)
+    for number in ENDING:
+        started = subprocess.Popen(["apei-names"], cwd=runs.folder, env=runs.environment, stdin=subprocess.DEVNULL, preexec_fn=let_signals_end_it)
+        begun, ended = runs.folder / "begun", runs.folder / "ended"
+        for _ in range(200):
+            if begun.exists():
+                break
+            time.sleep(0.02)
+        started.send_signal(number)
+        status = started.wait(20)
+        runs.expect(begun.exists() and ended.exists() and status == -number, f"{number} while it is built: status {status}")
+        begun.unlink(missing_ok=True)
+        ended.unlink(missing_ok=True)
+    (kept / "tools/build").unlink()
+    (kept / "crates.txt").unlink()
+    away.rename(program)
+
+
 def held(runs: Runs) -> None:
     with open(runs.folder / "six", "rb") as file:
         fcntl.flock(file, fcntl.LOCK_EX)
@@ -249,6 +282,7 @@ def main() -> int:
         said(runs)
         held(runs)
         signals(runs)
+        builds(runs)
         terminals(runs)
         answers(runs)
         without_toolchain(runs)
