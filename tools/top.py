@@ -91,7 +91,7 @@ class Runs:
 
     def __init__(self, folder: Path) -> None:
         self.folder, self.runs, self.wrong = folder, 0, 0
-        subprocess.run([TOP / "install", f"--prefix={folder}"], check=True, stdout=subprocess.DEVNULL)
+        subprocess.run([TOP / "install", f"--prefix={folder}"], check=True, stdout=subprocess.DEVNULL, umask=0o077)
         self.environment = {**os.environ, "PATH": f"{folder}/bin:{os.environ['PATH']}"}
         os.symlink("/none/x", folder / "nowhere")
         (folder / "short").write_bytes(b"\xff" * 65536)
@@ -261,6 +261,8 @@ def answers(runs: Runs) -> None:
         runs.expect(shown.startswith(f"{name} ") and "(no commit)" not in shown, f"{name} --version: {shown}")
     for path in ("share/man/man1/apei.1", "share/man/man1/apei-look.1", "share/bash-completion/completions/apei", "share/bash-completion/completions/apei-look"):
         runs.expect((runs.folder / path).exists(), f"{path} is not installed")
+    kept = [path for part in ("bin", "lib", "share") for path in (runs.folder / part).rglob("*") if "__pycache__" not in path.parts]
+    runs.expect(all(path.stat().st_mode & 0o044 == 0o044 for path in kept), "other users can't read what is installed")
     wrong = subprocess.run([TOP / "install"], capture_output=True, check=False)
     runs.expect(wrong.returncode == 1, "./install without a folder")
 
