@@ -28,7 +28,7 @@ import tempfile
 import uuid
 from itertools import chain
 
-import slots as slot_images
+from apei import slot_images
 from look_model import LINUX, PER_SLOT, SECTOR, SIZE, Shown, medium_header, seeming
 from model import Model, line, record
 
@@ -154,8 +154,8 @@ def some_images(count, chance):
             image = file.read()
         if len(image) % SIZE == 0 and len(image) >= 2 * SIZE:
             yield image
-    for by_hand, _, _ in slot_images.BY_HAND:
-        yield b"".join(by_hand)
+    for known in slot_images.BY_HAND:
+        yield known.image
     for _ in range(count):
         yield b"".join(slot_images.likely(chance) if chance.random() < 0.5 else [slot_images.some_slot(chance) for _ in range(5)])
     yield chance.randbytes(SIZE * 70)

@@ -22,7 +22,7 @@ from typing import Optional
 
 from look_model import medium_header
 from model import record
-from options import IN_FORM, OUT_OF_FORM
+from gate.options import IN_FORM, OUT_OF_FORM
 from words import read
 
 TOP = Path(__file__).resolve().parent.parent
