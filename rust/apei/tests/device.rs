@@ -222,7 +222,7 @@ fn what_is_no_saved_device_is_refused() {
         bytes[at] ^= 0x40;
         load(&bytes)
     };
-    assert!(matches!(load(&saved), None));
+    assert!(load(&saved).is_none());
     assert!(matches!(
         load(&saved[..79]),
         Some(Failure::Refused(Error::Unsaved))
@@ -231,10 +231,7 @@ fn what_is_no_saved_device_is_refused() {
         load(&saved[..saved.len() - 1]),
         Some(Failure::Refused(Error::Unsaved))
     ));
-    assert!(matches!(
-        changed(0),
-        Some(Failure::Refused(Error::Unsaved))
-    ));
+    assert!(matches!(changed(0), Some(Failure::Refused(Error::Unsaved))));
     assert!(matches!(
         changed(8),
         Some(Failure::Refused(Error::SavedVersion))
