@@ -1,9 +1,9 @@
 -- What two ports that are alike do.
-use Rattle.std.proofs.Common.{◌≡◌, ◌≢◌, ℕ, ◌+◌, ◌-◌, ◌*◌, ◌/◌, ◌%◌, ◌^◌, inl, inr, false, List, length, Option, Some, None, Result, Ok, Err, refl, sym, ap, subst, ◌∙◌, arith}
+use Rattle.std.proofs.Common.{◌≡◌, ◌≢◌, ℕ, ◌+◌, ◌-◌, ◌*◌, ◌/◌, ◌%◌, ◌^◌, inl, inr, false, List, length, Option, Some, None, Result, Ok, Err, refl, sym, ap, subst, ◌∙◌, arith, ◌++◌, length-append}
 use Rattle.base_model.specs.Bytes.{spelled, part, number_at, put_at}
 use Rattle.apei_gas.specs.declared.widths.Width.{Width}
 use Rattle.apei_gas.specs.Access.{bits}
-use Rattle.flash_words.specs.Layout.{Layout}
+use Rattle.flash_words.specs.Layout.{Layout, room_of, reach_of}
 use Rattle.record_model.specs.Records.{Stored}
 use Rattle.record_model.specs.RecordMap.{IsNextAbove}
 use Rattle.record_store.specs.Store.{StoreView, Pending, Idle, stored, doubted}
@@ -24,11 +24,37 @@ use Rattle.erst_port.specs.declared.windows.Spot.{Spot}
 use Rattle.erst_port.specs.declared.windows.Spot.TheVariants.{Action, Value, LowHalf, HighHalf, Bytes, Nowhere}
 use Rattle.erst_port.specs.PortState.{PortState, IsMade}
 use Rattle.erst_port.specs.Accesses.{number_read, Tells, Address, Round, Number, Acted, ActsOn, ActionWritten, NumberWritten, with_value, with_bytes, bytes_read, bytes_stored, ResetsOn, reset_answer, Resets}
-use Rattle.erst_port.specs.Saved.{IsSaved}
-use Rattle.erst_port.specs.Loaded.{GoesOn}
+use Rattle.erst_port.specs.Saved.{signature, head_size, saved_head, IsSaved}
+use Rattle.erst_port.specs.Loaded.{AreOfDevice, AreOfLayout, GoesOn}
+use Rattle.erst_port.proofs.SavedLemmas.{length-saved_head, HasNumbers, has_numbers}
 use Rattle.erst_port.proofs.LookLemmas.{Looked, looked as looked_by, IsBehind, behind, IsSecond, second}
 use Rattle.port_twins.specs.Alike.{bare, AlikePorts, FailedNothing}
 use Rattle.port_twins.proofs.Bare.{became_alike}
+
+-- The bytes of a saved port
+
+head_is : (layout : Layout) (addresses : Addresses) (device : DeviceState) (range : List ℕ)
+    → (number_at (saved_head layout addresses device ++ range) 0 8 ≡ signature) × (number_at (saved_head layout addresses device ++ range) 8 4 ≡ 1)
+unfolding number_at part saved_head spelled
+head_is layout addresses device range = (refl, refl)
+
+pub is_taken : (port : PortState) (saved : List ℕ) → IsSaved port saved
+    → AreOfDevice saved × AreOfLayout saved port.device.store.layout × (length saved ≡ head_size + reach_of (room_of port.device.store.layout))
+is_taken port saved is =
+    let layout = port.device.store.layout in
+    let head : List ℕ = saved_head layout port.addresses port.device in
+    let numbers : HasNumbers layout port.addresses port.device saved = subst (HasNumbers layout port.addresses port.device) (sym is.form) (has_numbers layout port.addresses port.device port.range is.small) in
+    let start = head_is layout port.addresses port.device port.range in
+    let size : length saved ≡ head_size + length port.range =
+    ap (λ (xs : List ℕ). length xs) is.form ∙ length-append head port.range ∙ ap (λ (n : ℕ). n + length port.range) (length-saved_head layout port.addresses port.device) in (
+      record {
+        signed = record { long = omega (arith, size); signed = ap (λ (xs : List ℕ). number_at xs 0 8) is.form ∙ start.0 };
+        version = ap (λ (xs : List ℕ). number_at xs 8 4) is.form ∙ start.1;
+        names = ((port.device.operation, sym numbers.operation), (port.device.status, sym numbers.status));
+      },
+      record { sector = numbers.sector; per_slot = numbers.per_slot; slots = numbers.slots },
+      size ∙ ap (λ (n : ℕ). head_size + n) is.whole.range,
+    )
 
 -- A port that goes on
 

@@ -1,13 +1,20 @@
 // Laws on two ports that are alike: the functions do nothing, and their clauses are the laws.
-ghost use Rattle.std.specs.Prelude.{◌≡◌, ℕ, List, Result};
+ghost use Rattle.std.specs.Prelude.{◌≡◌, ℕ, ◌+◌, List, length, Result};
 ghost use Rattle.apei_gas.specs.declared.widths.Width.{Width};
 ghost use Rattle.erst_port.specs.declared.errors.PortError.{PortError};
 ghost use Rattle.erst_port.specs.declared.windows.Spot.{Spot};
 ghost use Rattle.erst_port.specs.PortState.{PortState, IsMade};
 ghost use Rattle.erst_port.specs.Accesses.{number_read, NumberWritten, bytes_read, bytes_stored, Resets};
-ghost use Rattle.erst_port.specs.Saved.{IsSaved};
-ghost use Rattle.erst_port.specs.Loaded.{GoesOn};
+ghost use Rattle.flash_words.specs.Layout.{room_of, reach_of};
+ghost use Rattle.erst_port.specs.Saved.{head_size, IsSaved};
+ghost use Rattle.erst_port.specs.Loaded.{AreOfDevice, AreOfLayout, GoesOn};
 ghost use Rattle.port_twins.specs.Alike.{AlikePorts, FailedNothing};
+
+/// The bytes as which a port was saved are taken over every flash that is divided as its own.
+pub fn a_saved_port_is_taken()
+    ensures { (port : PortState) (saved : List ℕ) → IsSaved port saved
+        → AreOfDevice saved × AreOfLayout saved port.device.store.layout × (length saved ≡ head_size + reach_of (room_of port.device.store.layout)) }
+{}
 
 /// A port that goes on as one that was saved is alike to that one.
 pub fn a_loaded_port_is_alike()

@@ -4,6 +4,6 @@
 mod laws;
 
 pub use laws::{
-    a_loaded_port_is_alike, alike_ports_read_alike, alike_ports_reset_alike,
+    a_loaded_port_is_alike, a_saved_port_is_taken, alike_ports_read_alike, alike_ports_reset_alike,
     alike_ports_write_alike,
 };
