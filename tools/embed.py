@@ -159,7 +159,7 @@ def rust(library: pathlib.Path, tally: Tally) -> None:
     environment = {**os.environ, "APEI_LIB_DIR": str(library), "CARGO_TARGET_DIR": str(library / "target")}
     for words in (("test", "--offline", "--quiet"), ("run", "--offline", "--quiet", "--example", "vmm")):
         done = call("cargo", *words, cwd=TOP / "rust" / "apei", env=environment)
-        is_right = done.returncode == 0 and (words[0] == "test" or "as written: true" in done.stdout)
+        is_right = done.returncode == 0 and (words[0] == "test" or done.stdout.count("as written: true") == 2)
         tally.check(is_right, f"cargo {' '.join(words)}: {done.stdout}{done.stderr}")
 
 
