@@ -147,7 +147,7 @@ def some_images(count, chance):
     yield from cut_images()
     longer = ["write " + record(5, 900).hex(), "write " + record(5, 1300).hex(), "write " + record(7, 200).hex(), "clear 5"]
     yield from played(9, *longer)[::3]
-    for path in sorted(glob.glob(os.path.join(TOP, "tests/scripts/*.image"))):
+    for path in sorted(glob.glob(os.path.join(TOP, "tests/scripts/*/image"))):
         with open(path, "rb") as file:
             image = file.read()
         if len(image) % SIZE == 0 and len(image) >= 2 * SIZE:

@@ -110,7 +110,7 @@ def nearly():
 
 
 def replies():
-    for path in sorted(glob.glob(os.path.join(TOP, "examples/*.replies")) + glob.glob(os.path.join(TOP, "tests/scripts/*.replies"))):
+    for path in sorted(glob.glob(os.path.join(TOP, "examples/*.replies")) + glob.glob(os.path.join(TOP, "tests/scripts/*/replies"))):
         with open(path, "rb") as file:
             yield file.read()
 
