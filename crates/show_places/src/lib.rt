@@ -7,7 +7,7 @@ mod items;
 mod sections;
 mod sources;
 
-pub use bytes::seen_at;
+pub use bytes::{seen_at, seen_u8, seen_u16, seen_u32, seen_u64};
 pub use entries::{DataEntry, data_entry_at, instruction_at};
 pub use items::{Item, item_len};
 pub use sections::{Section, section_at};
