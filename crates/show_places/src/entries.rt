@@ -1,5 +1,5 @@
 // The data entries of an error status block, and the instruction entries of an Error Record Serialization Table.
-ghost use Rattle.std.specs.Prelude.{◌≡◌, ◌+◌, ◌*◌, ◌≤◌, length, MatchOption, option_map};
+ghost use Rattle.std.specs.Prelude.{◌≡◌, ◌+◌, ◌*◌, ◌<◌, ◌≤◌, length, IfSome, MatchOption};
 ghost use Rattle.ghes_block.specs.Reading.{head_size as size_of_head};
 ghost use Rattle.base_model.specs.Bytes.{part};
 ghost use Rattle.show_places.specs.Places.{HasDataEntry, IsDataEntry, HasInstruction, data_part};
@@ -33,7 +33,9 @@ pub struct DataEntry<'a> {
 
 /// The data entry that begins at a place of a block. There is none where too few bytes of the block's data are left for its head.
 pub fn data_entry_at(block: &[u8], at: usize) -> Option<DataEntry<'_>>
-    ensures { MatchOption result (¬ HasDataEntry block.now at) (λ entry. HasDataEntry block.now at × IsDataEntry block.now at entry.head.now entry.body_at entry.body.now entry.next) }
+    ensures entry { MatchOption result (¬ HasDataEntry block.now at) (λ entry. HasDataEntry block.now at × IsDataEntry block.now at entry.head.now entry.body_at entry.body.now entry.next) }
+    // The next one stands further on.
+    ensures places { IfSome result (λ entry. (at < entry.next) × (at < length block.now) × (entry.body_at < length block.now + 100)) }
 {
     let content = data_part(block);
     if at > content.len() || content.len() - at < HEAD {

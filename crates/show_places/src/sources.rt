@@ -19,7 +19,9 @@ pub struct Source<'a> {
 
 /// The structure that begins at a place of a table. There is none where no type is left, and where its length isn't known.
 pub fn source_at(table: &[u8], at: usize) -> Option<Source<'_>>
-    ensures { MatchOption result (IsNoSource table.now at) (λ source. IsSource table.now at source.kind source.bytes.now source.next) }
+    ensures source { MatchOption result (IsNoSource table.now at) (λ source. IsSource table.now at source.kind source.bytes.now source.next) }
+    // The next one stands further on.
+    ensures places { IfSome result (λ source. (at < source.next) × (source.next < length table.now + 8000)) }
 {
     if at > table.len() || table.len() - at < 2 {
         return None;
@@ -37,7 +39,7 @@ pub fn source_at(table: &[u8], at: usize) -> Option<Source<'_>>
 // The length of a structure by its type (ACPI 6.4, section 18.3.2).
 fn length_by_type(kind: u16, bytes: &[u8]) -> Option<usize>
     ensures value { MatchOption result (NoLength kind bytes.now) (λ size. IsLength kind bytes.now size) }
-    ensures low { IfSome result (λ size. size < 8000) }
+    ensures low { IfSome result (λ size. (0 < size) × (size < 8000)) }
 {
     match kind {
         0 => length_with_banks(bytes, 40, 32),
@@ -54,9 +56,9 @@ fn length_by_type(kind: u16, bytes: &[u8]) -> Option<usize>
 
 // The length of a structure with machine check banks, whose number stands at a place.
 fn length_with_banks(bytes: &[u8], fixed: usize, place: usize) -> Option<usize>
-    requires { fixed < 100 }
+    requires fixed { (0 < fixed) × (fixed < 100) }
     ensures value { MatchOption result (length bytes.now ≤ place) (λ size. (place < length bytes.now) × (size ≡ fixed + 28 * number_at bytes.now place 1)) }
-    ensures low { IfSome result (λ size. size < 8000) }
+    ensures low { IfSome result (λ size. (0 < size) × (size < 8000)) }
 {
     if bytes.len() <= place {
         return None;

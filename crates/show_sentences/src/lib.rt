@@ -10,6 +10,6 @@ mod times;
 
 pub use bodies::{add_dmesg, add_machine_check};
 pub use faults::{Fault, fault_of};
-pub use records::{add_block, add_record};
+pub use records::{add_block, add_record, is_of_linux};
 pub use subjects::{add_guid, section_title};
 pub use tables::add_table;

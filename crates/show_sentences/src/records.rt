@@ -26,7 +26,7 @@ const ENTRY_HAS_TIME: u8 = 1 << 2;
 const LINUX: &[u8; 36] = b"75a574e3-5052-4b29-8a8e-be2c6490b89d";
 
 /// Whether Linux made a record.
-pub(crate) fn is_of_linux(record: &[u8]) -> bool {
+pub fn is_of_linux(record: &[u8]) -> bool {
     if record.len() < RECORD {
         return false;
     }
