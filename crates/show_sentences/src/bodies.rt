@@ -27,29 +27,32 @@ fn has(valid: u64, bit: u32) -> bool
 
 fn add_memory(out: &mut String, body: &[u8]) -> Result<(), AllocError> {
     let valid = seen_u64(body, 0);
-    if has(valid, 3) || has(valid, 4) || has(valid, 5) {
-        out.push(',')?;
+    if body.len() >= 38 {
+        add_module(out, valid, body)?;
     }
-    add_part(out, valid, 3, "node", seen_u16(body, 32))?;
-    add_part(out, valid, 4, "card", seen_u16(body, 34))?;
-    add_part(out, valid, 5, "module", seen_u16(body, 36))?;
-    if has(valid, 1) {
+    if body.len() >= 24 && has(valid, 1) {
         let address = seen_u64(body, 16);
         write!(out, ", physical {address:#x}")?;
     }
     Ok(())
 }
 
+fn add_module(out: &mut String, valid: u64, body: &[u8]) -> Result<(), AllocError> {
+    if has(valid, 3) || has(valid, 4) || has(valid, 5) {
+        out.push(',')?;
+    }
+    add_part(out, has(valid, 3), "node", seen_u16(body, 32))?;
+    add_part(out, has(valid, 4), "card", seen_u16(body, 34))?;
+    add_part(out, has(valid, 5), "module", seen_u16(body, 36))
+}
+
 fn add_part(
     out: &mut String,
-    valid: u64,
-    bit: u32,
+    is_valid: bool,
     name: &str,
     number: u16,
-) -> Result<(), AllocError>
-    requires { bit < 64 }
-{
-    if has(valid, bit) {
+) -> Result<(), AllocError> {
+    if is_valid {
         write!(out, " {name} {number}")?;
     }
     Ok(())
@@ -57,11 +60,11 @@ fn add_part(
 
 fn add_processor(out: &mut String, body: &[u8]) -> Result<(), AllocError> {
     let valid = seen_u64(body, 0);
-    if has(valid, 8) {
+    if body.len() >= 160 && has(valid, 8) {
         let id = seen_u64(body, 152);
         write!(out, ", processor {id:#x}")?;
     }
-    if has(valid, 9) {
+    if body.len() >= 168 && has(valid, 9) {
         let address = seen_u64(body, 160);
         write!(out, ", address {address:#x}")?;
     }
@@ -69,7 +72,7 @@ fn add_processor(out: &mut String, body: &[u8]) -> Result<(), AllocError> {
 }
 
 fn add_x86(out: &mut String, body: &[u8]) -> Result<(), AllocError> {
-    if has(seen_u64(body, 0), 0) {
+    if body.len() >= 16 && has(seen_u64(body, 0), 0) {
         let id = seen_u64(body, 8);
         write!(out, ", APIC {id}")?;
     }
@@ -77,7 +80,7 @@ fn add_x86(out: &mut String, body: &[u8]) -> Result<(), AllocError> {
 }
 
 fn add_arm(out: &mut String, body: &[u8]) -> Result<(), AllocError> {
-    if has(u64::from(seen_u32(body, 0)), 0) {
+    if body.len() >= 24 && has(u64::from(seen_u32(body, 0)), 0) {
         let affinity = seen_u64(body, 16);
         write!(out, ", MPIDR {affinity:#x}")?;
     }
@@ -85,21 +88,21 @@ fn add_arm(out: &mut String, body: &[u8]) -> Result<(), AllocError> {
 }
 
 fn add_pci_express(out: &mut String, body: &[u8]) -> Result<(), AllocError> {
-    if has(seen_u64(body, 0), 3) {
+    if body.len() >= 40 && has(seen_u64(body, 0), 3) {
         let segment = seen_u16(body, 33);
         let bus = seen_u8(body, 35);
         let device = seen_u8(body, 32);
         let function = seen_u8(body, 31);
-        write!(
-            out,
-            ", device {segment:04x}:{bus:02x}:{device:02x}.{function:x}"
-        )?;
+        write!(out, ", device {segment:04x}:{bus:02x}:{device:02x}.{function:x}")?;
     }
     Ok(())
 }
 
 // The processor and the bank of a machine check, and its address where the bank has one, as Linux 6.12 keeps them.
 fn add_bank(out: &mut String, body: &[u8]) -> Result<(), AllocError> {
+    if body.len() < 72 {
+        return Ok(());
+    }
     let processor = seen_u32(body, 68);
     let bank = seen_u8(body, 65);
     write!(out, ", processor {processor} bank {bank}")?;
