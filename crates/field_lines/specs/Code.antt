@@ -1,5 +1,5 @@
 -- What the code's tables say.
-use Rattle.std.specs.Prelude.{ℕ, List, map}
+use Rattle.std.specs.Prelude.{ℕ, ◌+◌, List, [], ◌∷◌, None, map}
 use Rattle.field_lines.specs.Rows.{Shown, Row, row, decimal_number, hexadecimal, guid, text, one_of, flags, bits, stamp, seconds, register, digits_of_bytes, all_bytes, all_lines}
 use Rattle.field_lines.specs.Layouts.{Group, Measure, fixed, told, rest, Sign, number_sign, guid_sign, Inside, Structure, Heading, part_heading, inside_heading, end_heading, end_of_parts}
 use Rattle.field_lines.specs.declared.field.Field.{Field}
@@ -12,6 +12,9 @@ use Rattle.field_lines.specs.declared.layout.Size.TheVariants.{Fixed, Told, Rest
 use Rattle.field_lines.specs.declared.layout.Key.{Key}
 use Rattle.field_lines.specs.declared.layout.Key.TheVariants.{Number as NumberKey, Guid as GuidKey}
 use Rattle.field_lines.specs.declared.layout.Inner.{Inner}
+use Rattle.field_lines.specs.declared.layout.Register.{Register as RegisterName}
+use Rattle.field_lines.specs.declared.layout.Content.{Content}
+use Rattle.field_lines.specs.declared.layout.Content.TheVariants.{Fields, Registers}
 use Rattle.field_lines.specs.declared.layout.Parts.{Parts}
 use Rattle.field_lines.specs.declared.layout.Layout.{Layout}
 use Rattle.field_lines.specs.declared.style.Mark.{Mark}
@@ -47,8 +50,20 @@ abbrev pub sign_of : Key → Sign
 sign_of (NumberKey at width number) = number_sign at width number
 sign_of (GuidKey at name) = guid_sign at name.now
 
+-- registers of so many bytes each, one behind another
+abbrev pub register_rows : (width at : ℕ) → List (List ℕ) → List Row
+register_rows width at [] = []
+register_rows width at (name ∷ names) = row at width None name hexadecimal ∷ register_rows width (at + width) names
+
+abbrev pub register_name : RegisterName → List ℕ
+register_name named = named.name.now
+
+abbrev pub content_rows : Content → List Row
+content_rows (Fields fields) = map row_of fields.now
+content_rows (Registers width registers) = register_rows width 0 (map register_name registers.now)
+
 abbrev pub inside_of : Inner → Inside
-inside_of inner = record { name = inner.name.now; bit = inner.bit; sign = sign_of inner.key; at = inner.at; rows = map row_of inner.fields.now }
+inside_of inner = record { name = inner.name.now; bit = inner.bit; sign = sign_of inner.key; at = inner.at; rows = content_rows inner.content }
 
 abbrev pub group_of : Parts → Group
 group_of parts = record {

@@ -1,5 +1,5 @@
 -- A row of a standard's table: a field of a structure.
-use Rattle.std.specs.Prelude.{ℕ, ◌==◌, ◌&&◌, nat_lt, Bool, true, List, [], ◌∷◌, Option}
+use Rattle.std.specs.Prelude.{ℕ, ◌+◌, ◌==◌, ◌&&◌, nat_lt, Bool, true, List, [], ◌∷◌, Option}
 
 -- how what stands in a field is shown
 pub data Shown : Type 0 where
@@ -28,7 +28,7 @@ pub record Row : Type 0 where
 abbrev pub row : ℕ → ℕ → Option ℕ → List ℕ → Shown → Row
 row at width bit name shown = record { at = at; width = width; bit = bit; name = name; shown = shown }
 
--- a number has at most 8 bytes, and a GUID 16
+-- a number has at most 8 bytes, a time 8, a GUID 16 and a register 12
 abbrev pub fits : Shown → ℕ → Bool
 fits decimal_number width = nat_lt width 9
 fits hexadecimal width = true
@@ -45,7 +45,7 @@ fits all_bytes width = true
 fits all_lines width = true
 
 abbrev pub is_sound : Row → Bool
-is_sound row = fits row.shown row.width
+is_sound row = fits row.shown row.width && nat_lt (row.at + row.width) 65536
 
 abbrev pub are_sound : List Row → Bool
 are_sound [] = true

@@ -27,6 +27,23 @@ pub enum Key {
     Guid { at: u16, text: &'static [u8; 36] },
 }
 
+/// A register, which has a name.
+#[derive(Clone, Copy)]
+pub struct Register {
+    pub name: &'static str,
+}
+
+/// The fields of what stands inside a part.
+#[derive(Clone, Copy)]
+pub enum Content {
+    Fields(&'static [Field]),
+    /// Registers one behind another, each of so many bytes.
+    Registers {
+        width: u16,
+        registers: &'static [Register],
+    },
+}
+
 /// What stands inside a part, from a place on, where a validation bit of the part and its key say so. Its own validation bits are its first bytes.
 #[derive(Clone, Copy)]
 pub struct Inner {
@@ -34,7 +51,7 @@ pub struct Inner {
     pub bit: Option<u8>,
     pub key: Key,
     pub at: u16,
-    pub fields: &'static [Field],
+    pub content: Content,
 }
 
 /// Parts that stand one behind another.

@@ -3,9 +3,10 @@ ghost use Rattle.std.specs.Prelude.{◌≡◌, ◌<◌, ◌+◌, ◌^◌, ◌++�
 ghost use Rattle.field_lines.specs.Numbers.{validation, is_valid};
 ghost use Rattle.field_lines.specs.Rows.{are_sound};
 ghost use Rattle.field_lines.specs.Walks.{is_shown, fields_text};
-ghost use Rattle.field_lines.specs.Code.{row_of};
+ghost use Rattle.field_lines.specs.Code.{row_of, register_rows, register_name};
 
-use crate::field::Field;
+use crate::field::{Field, Shape};
+use crate::layout::Register;
 use crate::number::{has_bit, number_of};
 use crate::style::{Spot, Style};
 use std::alloc::AllocError;
@@ -30,6 +31,37 @@ pub fn add_fields<S: Style>(
             style.add(spot, field, body, out)?;
         }
         fields = rest;
+    }
+    Ok(())
+}
+
+/// Appends each register that lies within the body, where they stand one behind another from a place on.
+pub(crate) fn add_registers<S: Style>(
+    style: &S,
+    spot: Spot,
+    width: u16,
+    mut registers: &[Register],
+    body: &[u8],
+    out: &mut Vec<u8>,
+) -> Result<(), AllocError>
+    requires sound { IsTrue (are_sound (register_rows width 0 (map register_name registers.now))) }
+    requires place { spot.base + length body.now < 2 ^ 64 }
+    ensures { OnOk result (out.new.items ≡ out.old.items ++ fields_text (S.text style.now spot.depth spot.base) 0 (register_rows width 0 (map register_name registers.entry.now)) body.now) }
+{
+    let mut at = 0;
+    while let [register, rest @ ..] = registers {
+        let field = Field {
+            at,
+            width,
+            bit: None,
+            name: register.name,
+            shape: Shape::Hexadecimal,
+        };
+        if is_shown(&field, 0, body.len()) {
+            style.add(spot, &field, body, out)?;
+        }
+        at += width;
+        registers = rest;
     }
     Ok(())
 }

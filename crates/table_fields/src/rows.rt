@@ -1,5 +1,5 @@
 // Rows of tables.
-use field_lines::{Inner, Name, Parts};
+use field_lines::{Inner, Parts};
 
 macro_rules! field {
     ($at:expr, $width:expr, $bit:expr, $name:expr, $shape:expr) => {
@@ -13,22 +13,6 @@ macro_rules! field {
     };
 }
 
-macro_rules! bits {
-    ($at:expr, $width:expr, $bit:expr, $name:expr, $low:expr, $count:expr, $names:expr) => {
-        Field {
-            at: $at,
-            width: $width,
-            bit: $bit,
-            name: $name,
-            shape: Shape::Bits {
-                low: $low,
-                count: $count,
-                names: $names,
-            },
-        }
-    };
-}
-
 macro_rules! name {
     ($number:expr, $name:expr) => {
         Name {
@@ -38,11 +22,8 @@ macro_rules! name {
     };
 }
 
-pub(crate) use bits;
 pub(crate) use field;
 pub(crate) use name;
-
-pub(crate) const NO_NAMES: [Name; 0] = [];
 
 pub(crate) const NO_PARTS: [Parts; 0] = [];
 
