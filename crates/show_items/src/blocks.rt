@@ -51,11 +51,7 @@ fn add_head(sheet: &mut Sheet<'_>, bytes: &[u8]) -> Result<(), AllocError> {
     sheet.add_group(&group, &layout, seen_at(bytes, 0, HEADER))
 }
 
-fn add_entries<P: Pages>(
-    sheet: &mut Sheet<'_>,
-    pages: &mut P,
-    bytes: &[u8],
-) -> Result<(), Stop> {
+fn add_entries<P: Pages>(sheet: &mut Sheet<'_>, pages: &mut P, bytes: &[u8]) -> Result<(), Stop> {
     let mut at = HEADER;
     let mut index: u64 = 0;
     while let Some(entry) = data_entry_at(bytes, at) {

@@ -2,8 +2,8 @@
 use crate::dumps::show_dump;
 use crate::images::{show_image, show_medium, show_qemu};
 use crate::pages::{Pages, Stop};
-use crate::sheet::Sheet;
 use crate::sequences::show_sequence;
+use crate::sheet::Sheet;
 use crate::singles::{show_dmesg, show_empty, show_machine_check, show_packed};
 use show_kinds::{FileKind, kind_of};
 

@@ -58,7 +58,10 @@ fn add_division(out: &mut String, geometry: &Geometry) -> Result<(), AllocError>
     let slots = geometry.slots();
     let per_slot = geometry.per_slot();
     let sector = geometry.sector();
-    write!(out, "flash of a record store, {slots} slots of {per_slot} sectors of {sector} bytes")
+    write!(
+        out,
+        "flash of a record store, {slots} slots of {per_slot} sectors of {sector} bytes"
+    )
 }
 
 fn show_records<P: Pages>(
@@ -91,7 +94,15 @@ pub(crate) fn show_medium<P: Pages>(
 ) -> Result<(), Stop> {
     match geometry_of(bytes) {
         Ok(geometry) => {
-            show_header(sheet, "medium", "medium of a record store", &medium_header(), bytes, MEDIUM, &None)?;
+            show_header(
+                sheet,
+                "medium",
+                "medium of a record store",
+                &medium_header(),
+                bytes,
+                MEDIUM,
+                &None,
+            )?;
             let sector = geometry.sector() as usize;
             if sector > bytes.len() {
                 return Ok(());
@@ -100,7 +111,15 @@ pub(crate) fn show_medium<P: Pages>(
         }
         Err(error) => {
             let fault = medium_fault(sheet, error)?;
-            show_header(sheet, "medium", "medium of a record store, which can't be read", &medium_header(), bytes, MEDIUM, &Some(fault))?;
+            show_header(
+                sheet,
+                "medium",
+                "medium of a record store, which can't be read",
+                &medium_header(),
+                bytes,
+                MEDIUM,
+                &Some(fault),
+            )?;
             Ok(())
         }
     }
@@ -110,7 +129,9 @@ fn medium_fault(sheet: &Sheet<'_>, error: MediumError) -> Result<Fault, AllocErr
     let mut says = String::new(sheet.alloc());
     let at = match error {
         MediumError::Foreign => {
-            says.push_str("no format made this header: its checksum, its marks or its numbers are others")?;
+            says.push_str(
+                "no format made this header: its checksum, its marks or its numbers are others",
+            )?;
             0
         }
         MediumError::Version { found } => {
@@ -118,7 +139,10 @@ fn medium_fault(sheet: &Sheet<'_>, error: MediumError) -> Result<Fault, AllocErr
             8
         }
         MediumError::Size { found, wanted } => {
-            write!(says, "{found} bytes are there, and a medium of this geometry has {wanted}")?;
+            write!(
+                says,
+                "{found} bytes are there, and a medium of this geometry has {wanted}"
+            )?;
             32
         }
     };
@@ -165,8 +189,19 @@ pub(crate) fn show_qemu<P: Pages>(
     let records = seen_u32(bytes, 20);
     let size = seen_u32(bytes, 8);
     let mut sentence = String::new(sheet.alloc());
-    write!(sentence, "storage of QEMU's device acpi-erst, {records} records")?;
-    show_header(sheet, "qemu", sentence.as_str(), &qemu_header(), bytes, QEMU, &None)?;
+    write!(
+        sentence,
+        "storage of QEMU's device acpi-erst, {records} records"
+    )?;
+    show_header(
+        sheet,
+        "qemu",
+        sentence.as_str(),
+        &qemu_header(),
+        bytes,
+        QEMU,
+        &None,
+    )?;
     if size == 0 {
         return Ok(());
     }

@@ -8,7 +8,7 @@ use apei_bytes::Guid;
 use apei_fields::guid_at;
 use item_parts::Item as Decoded;
 use section_fields::{record_header, section_descriptor, section_layout};
-use show_places::{Section, seen_at, seen_u16, section_at};
+use show_places::{Section, section_at, seen_at, seen_u16};
 use show_sentences::{add_record, fault_of, is_of_linux};
 use std::alloc::AllocError;
 
@@ -53,11 +53,7 @@ fn add_header(sheet: &mut Sheet<'_>, bytes: &[u8]) -> Result<(), AllocError> {
     sheet.add_group(&group, &layout, seen_at(bytes, 0, HEADER))
 }
 
-fn add_sections<P: Pages>(
-    sheet: &mut Sheet<'_>,
-    pages: &mut P,
-    bytes: &[u8],
-) -> Result<(), Stop> {
+fn add_sections<P: Pages>(sheet: &mut Sheet<'_>, pages: &mut P, bytes: &[u8]) -> Result<(), Stop> {
     let mut left = bytes.len().saturating_mul(TIMES);
     for index in 0..seen_u16(bytes, 10) {
         let Some(section) = section_at(bytes, index) else {

@@ -23,7 +23,13 @@ const FIRST: usize = 16;
 pub(crate) fn show_machine_check(sheet: &mut Sheet<'_>, bytes: &[u8]) -> Result<(), AllocError> {
     let mut sentence = String::new(sheet.alloc());
     add_machine_check(&mut sentence, bytes)?;
-    show_body(sheet, "machine-check", MACHINE_CHECK, sentence.as_str(), bytes)
+    show_body(
+        sheet,
+        "machine-check",
+        MACHINE_CHECK,
+        sentence.as_str(),
+        bytes,
+    )
 }
 
 /// Shows a kernel's log that Linux stored.
@@ -56,16 +62,15 @@ pub(crate) fn show_empty(sheet: &mut Sheet<'_>) -> Result<(), AllocError> {
 }
 
 /// Shows bytes that hold nothing.
-pub(crate) fn show_blank(
-    sheet: &mut Sheet<'_>,
-    at: u64,
-    bytes: &[u8],
-) -> Result<(), AllocError> {
+pub(crate) fn show_blank(sheet: &mut Sheet<'_>, at: u64, bytes: &[u8]) -> Result<(), AllocError> {
     let len = bytes.len();
     let mut sentence = String::new(sheet.alloc());
     match bytes {
         [0, ..] => write!(sentence, "{len} zeros: no error is stored here")?,
-        _ => write!(sentence, "{len} bytes of an erased flash: no error is stored here")?,
+        _ => write!(
+            sentence,
+            "{len} bytes of an erased flash: no error is stored here"
+        )?,
     }
     show_sentence(sheet, "blank", Some(at), bytes, sentence.as_str())
 }
@@ -94,11 +99,7 @@ fn show_sentence(
 }
 
 /// Says that bytes are none of what is known, and what was looked for.
-pub(crate) fn show_unknown(
-    sheet: &mut Sheet<'_>,
-    at: u64,
-    bytes: &[u8],
-) -> Result<(), AllocError> {
+pub(crate) fn show_unknown(sheet: &mut Sheet<'_>, at: u64, bytes: &[u8]) -> Result<(), AllocError> {
     let item = Item {
         kind: "none",
         at: Some(at),

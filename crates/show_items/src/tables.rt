@@ -8,12 +8,12 @@ use crate::pages::{Pages, Stop};
 use crate::sheet::{Form, Item, Sheet};
 use field_lines::Layout;
 use item_parts::Item as Decoded;
-use table_fields::{
-    bert_fields, erst_entry, erst_header, hest_header, source_layout, table_header,
-};
 use show_places::{Source, instruction_at, seen_at, seen_u32, source_at};
 use show_sentences::{Fault, add_table, fault_of};
 use std::alloc::AllocError;
+use table_fields::{
+    bert_fields, erst_entry, erst_header, hest_header, source_layout, table_header,
+};
 
 // The bytes of a header, and of the fixed parts of an ERST, a HEST and a BERT.
 const HEADER: usize = 36;
@@ -60,11 +60,7 @@ fn table_fault(sheet: &Sheet<'_>, bytes: &[u8]) -> Result<Option<Fault>, AllocEr
     fault_of(sheet.alloc(), decoded, bytes)
 }
 
-fn add_groups<P: Pages>(
-    sheet: &mut Sheet<'_>,
-    pages: &mut P,
-    bytes: &[u8],
-) -> Result<(), Stop> {
+fn add_groups<P: Pages>(sheet: &mut Sheet<'_>, pages: &mut P, bytes: &[u8]) -> Result<(), Stop> {
     add_fixed(sheet, "header", &table_header(), seen_at(bytes, 0, HEADER))?;
     if bytes.starts_with(b"ERST") {
         add_fixed(sheet, "table", &erst_header(), seen_at(bytes, 0, ERST))?;
@@ -121,11 +117,7 @@ fn add_instructions<P: Pages>(
 }
 
 // The error sources, as many as the table counts.
-fn add_sources<P: Pages>(
-    sheet: &mut Sheet<'_>,
-    pages: &mut P,
-    bytes: &[u8],
-) -> Result<(), Stop> {
+fn add_sources<P: Pages>(sheet: &mut Sheet<'_>, pages: &mut P, bytes: &[u8]) -> Result<(), Stop> {
     let mut at = HEST;
     for index in 0..seen_u32(bytes, 36) {
         let Some(source) = source_at(bytes, at) else {

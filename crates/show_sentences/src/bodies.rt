@@ -46,12 +46,7 @@ fn add_module(out: &mut String, valid: u64, body: &[u8]) -> Result<(), AllocErro
     add_part(out, has(valid, 5), "module", seen_u16(body, 36))
 }
 
-fn add_part(
-    out: &mut String,
-    is_valid: bool,
-    name: &str,
-    number: u16,
-) -> Result<(), AllocError> {
+fn add_part(out: &mut String, is_valid: bool, name: &str, number: u16) -> Result<(), AllocError> {
     if is_valid {
         write!(out, " {name} {number}")?;
     }
@@ -93,7 +88,10 @@ fn add_pci_express(out: &mut String, body: &[u8]) -> Result<(), AllocError> {
         let bus = seen_u8(body, 35);
         let device = seen_u8(body, 32);
         let function = seen_u8(body, 31);
-        write!(out, ", device {segment:04x}:{bus:02x}:{device:02x}.{function:x}")?;
+        write!(
+            out,
+            ", device {segment:04x}:{bus:02x}:{device:02x}.{function:x}"
+        )?;
     }
     Ok(())
 }
