@@ -3,10 +3,11 @@ ghost use Rattle.std.specs.Prelude.{◌<◌, IfSome};
 
 use crate::pages::{Pages, Stop};
 use crate::sheet::Sheet;
+use crate::singles::show_unknown;
 use crate::tables::show_table;
 use std::alloc::AllocError;
 
-/// Shows the tables whose bytes stand in a text of acpidump.
+/// Shows the tables whose bytes stand in a text of acpidump. A text without such bytes holds none of what is known.
 pub(crate) fn show_dump<P: Pages>(
     sheet: &mut Sheet<'_>,
     pages: &mut P,
@@ -25,7 +26,11 @@ pub(crate) fn show_dump<P: Pages>(
         }
         at = at.saturating_add(line.len() as u64).saturating_add(1);
     }
-    show_whole(sheet, pages, begin, &table)
+    show_whole(sheet, pages, begin, &table)?;
+    if !sheet.has_items() {
+        show_unknown(sheet, 0, text)?;
+    }
+    Ok(())
 }
 
 fn show_whole<P: Pages>(

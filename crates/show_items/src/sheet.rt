@@ -75,6 +75,11 @@ impl<'a> Sheet<'a> {
         self.has_bad
     }
 
+    /// Whether an item was shown so far.
+    pub(crate) fn has_items(&self) -> bool {
+        self.items > 0
+    }
+
     pub(crate) fn alloc(&self) -> Global {
         self.alloc
     }

@@ -27,11 +27,14 @@ const KERNEL_LOG: &[u8; 36] = b"c197e04e-d545-4a70-9c17-a554941912eb";
 
 const PACKED_LOG: &[u8; 36] = b"4f118707-04dd-4055-b5dd-956d34ddfac6";
 
+// A type of UEFI 2.8 for which there is no name among those of records (N.2.12).
+const CCIX: &[u8; 36] = b"91335ef6-ebfb-4478-a6a6-88b728cf75d7";
+
 /// What a section of a type is about.
 pub(crate) fn subject_of(kind: &Guid) -> Subject {
     match section_name(kind) {
         Some(name) => named_subject(name),
-        None => linux_subject(kind),
+        None => other_subject(kind),
     }
 }
 
@@ -46,7 +49,7 @@ fn named_subject(name: &'static str) -> Subject {
     }
 }
 
-fn linux_subject(kind: &Guid) -> Subject {
+fn other_subject(kind: &Guid) -> Subject {
     let mut text = [0; 36];
     kind.text(&mut text);
     if text == *MACHINE_CHECK {
@@ -55,6 +58,8 @@ fn linux_subject(kind: &Guid) -> Subject {
         Subject::KernelLog
     } else if text == *PACKED_LOG {
         Subject::PackedLog
+    } else if text == *CCIX {
+        Subject::Named("CCIX PER Log")
     } else {
         Subject::Unknown
     }
@@ -62,10 +67,11 @@ fn linux_subject(kind: &Guid) -> Subject {
 
 /// The name of a section of a type; none where nobody known named it.
 pub fn section_title(kind: &Guid) -> Option<&'static str> {
-    match linux_subject(kind) {
+    match other_subject(kind) {
         Subject::MachineCheck => Some("Linux machine check"),
         Subject::KernelLog => Some("Linux kernel log"),
         Subject::PackedLog => Some("Linux kernel log, packed"),
+        Subject::Named(name) => Some(name),
         _ => section_name(kind),
     }
 }
