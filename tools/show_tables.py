@@ -401,8 +401,8 @@ IA32_CONTEXTS = {
     + tuple(Field(128 + it.at, 2, None, it.name) for it in registers(2, SEGMENTS))
     + tuple(Field(144 + it.at, 8, None, it.name) for it in registers(8, "RFLAGS EIP CR0 CR1 CR2 CR3 CR4 CR8"))
     + fields("""
-    208 16 - GDTR: bytes16
-    224 16 - IDTR: bytes16
+    208 16 - GDTR
+    224 16 - IDTR
     240 2 - LDTR
     242 2 - TR
     """),
@@ -660,9 +660,9 @@ VTD = Layout(
     24 4 - global command register
     28 4 - global status register
     32 4 - fault status register
-    48 16 - fault record: bytes16
-    64 16 - root entry: bytes16
-    80 16 - context entry: bytes16
+    48 16 - fault record
+    64 16 - root entry
+    80 16 - context entry
     96 8 - level 6 page table entry
     104 8 - level 5 page table entry
     112 8 - level 4 page table entry
@@ -676,8 +676,8 @@ IOMMU = Layout(
     0 1 - revision
     8 8 - control register
     16 8 - status register
-    32 16 - event log entry: bytes16
-    64 32 - device table entry: bytes32
+    32 16 - event log entry
+    64 32 - device table entry
     96 8 - level 6 page table entry
     104 8 - level 5 page table entry
     112 8 - level 4 page table entry

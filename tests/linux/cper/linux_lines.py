@@ -313,7 +313,8 @@ OUTER_RULES: list[Rule] = [
     (r"Error 0, type: (.*)", by_name(ENTRY, "error severity", SEVERITIES)),
     (r"fru_id: ([0-9a-f-]{36})", lambda text: [(ENTRY, "FRU ID", text)]),
     (r"fru_text: (.*)", lambda text: [(ENTRY, "FRU text", text)]),
-    (r"(?:im)?precise tstamp: (.*)", lambda text: [(ENTRY, "timestamp", text)]),
+    (r"imprecise tstamp: (.*)", lambda text: [(ENTRY, "timestamp", text)]),
+    (r"precise tstamp: (.*)", lambda text: [(ENTRY, "timestamp", f"{text} precise")]),
     (r"section_type: .*", words),
 ]
 
