@@ -43,7 +43,7 @@ def explain(program: str, words: list[str], status: int, said: str, text_of: Tex
 
 
 def command_line(program: str, words: list[str]) -> list[str]:
-    what = "which jobs and options there are" if program == "apei" else "which options there are"
+    what = {"apei": "which jobs and options there are", "apei-show": "which words there are"}.get(program, "which options there are")
     fault = read(program, words).fault if program in GRAMMARS else None
     if program == "apei" and "--force" in words:
         fault = "--force stands before the job"
