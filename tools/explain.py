@@ -39,6 +39,8 @@ def explain(program: str, words: list[str], status: int, said: str, text_of: Tex
         return list(of_apei(line, status, first, text_of))
     if program == "apei-look":
         return list(of_look(line, status, first))
+    if program == "apei-show" and status == 3:
+        return []  # What is bad stands in the output.
     return list(of_streams(status))
 
 
