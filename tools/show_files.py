@@ -170,13 +170,11 @@ def records_of(image: bytes) -> list[bytes]:
     return [body for _, _, body, _ in Shown(image).records.values()]
 
 
-def qemu_storage(records: list[bytes], size: int = 0x2000, room: int = 32) -> bytes:
-    """The storage file of QEMU's device acpi-erst (hw/acpi/erst.c): a header with a map of identifiers, and a slot for each record."""
-    offset = -(-(32 + 8 * room) // size) * size
-    identifiers = [model.number(it, 96, 8) for it in records] + [0] * (room - len(records))
-    head = b"ERSTSTOR" + little(size, 4) + little(offset, 4) + little(0x100, 2) + bytes(2) + little(len(records), 4)
-    head += b"".join(little(it, 8) for it in identifiers)
-    return head.ljust(offset, b"\0") + b"".join(it.ljust(size, b"\xff") for it in records).ljust(size * room, b"\0")
+def qemu_storage(records: list[bytes], size: int = 0x2000, slots: int = 32) -> bytes:
+    """The storage file of QEMU's device acpi-erst (hw/acpi/erst.c): a header with a map of identifiers by slots, which is in the first of them, and records."""
+    head = b"ERSTSTOR" + little(size, 4) + little(size, 4) + little(0x100, 2) + bytes(2) + little(len(records), 4) + bytes(8)
+    head += b"".join(it[96:104] for it in records)
+    return b"".join([head.ljust(size, b"\0"), *(it.ljust(size, b"\xff") for it in records)]).ljust(size * slots, b"\0")
 
 
 def of_stores(chance: Chance) -> Iterator[Wanted]:

@@ -133,7 +133,7 @@ def group(name: str, layout: Layout, data: bytes, base: int, index: Optional[int
 
 def raw(name: str, data: bytes, base: int, index: Optional[int] = None, kind: Optional[str] = None) -> Group:
     """A group that has no fields but its bytes."""
-    return {"offset": base, "group": name, "index": index, "guid": kind, **({"bytes": Cell(base, data.hex())} if data else {})}
+    return {"offset": base, "group": name, "index": index, "guid": kind, "bytes": Cell(base, data.hex())}
 
 
 def section(index: int, kind: str, body: bytes, base: int) -> Group:
@@ -172,7 +172,7 @@ def table_groups(data: bytes) -> list[Group]:
     found = [group("header", tables.TABLE_HEADER, data[:36], 0)]
     own = {b"ERST": tables.ERST_HEADER, b"HEST": tables.HEST_HEADER, b"BERT": tables.BERT}.get(data[:4])
     if own:
-        found.append({**group("table", own, data, 0), "offset": 36})
+        found.append(group("table", own, data, 0))
     if data[:4] == b"ERST":
         found += [group("entry", tables.ERST_ENTRY, data[at : at + 32], at, index) for index, at in enumerate(entries(data))]
     return found + sources(data) if data[:4] == b"HEST" else found

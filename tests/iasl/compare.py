@@ -112,8 +112,6 @@ def fields(text: str) -> Iterator[Found]:
         if not found or "Reserved" in found[3]:
             continue
         at, width, name, value = int(found[1]), int(found[2]), found[3], found[4]
-        if at == 36:
-            begin = 36
         if name in BEGINS:
             begin = at
         if name in LAYOUTS:
@@ -133,8 +131,10 @@ def plain(value: Any) -> Any:
 
 
 def places(groups: list[dict[str, Any]]) -> dict[int, dict[str, Any]]:
-    """apei-show's groups and banks by where their fields begin."""
-    found = {group["offset"]: group for group in groups}
+    """apei-show's groups and banks by where their fields begin; those of the header and behind it are both counted from the table's start."""
+    found: dict[int, dict[str, Any]] = {}
+    for group in groups:
+        found[group["offset"]] = {**found.get(group["offset"], {}), **group}
     for group in groups:
         for bank in group.get("bank", []):
             found[bank["offset"]] = bank
