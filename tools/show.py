@@ -19,19 +19,18 @@ import resource
 import subprocess
 import sys
 import tempfile
-from typing import Any, Iterator, Optional
+from typing import Any
 
 import show_bodies as bodies
 import show_faults
 import show_files as files
 import show_tables as tables
-from show_bodies import Chance
-from show_model import Cell, Group, group
+from show_bodies import Chance, little
+from show_compare import ITEM, differences, is_plain, wrong_of, wrong_text
+from show_model import Group, group
 
 TOP = os.path.dirname(os.path.dirname(os.path.abspath(__file__)))
 KINDS = {"record", "table", "block", "machine-check", "dmesg", "image", "medium", "qemu", "packed", "blank", "empty", "none"}
-OWN = ("offset", "group", "index", "guid")
-ITEM = ["file", "item", "at", "bytes", "kind", "summary", "groups", "bad"]
 # The memory that a run has, and how many files it is given.
 MEMORY, BATCH = 64 << 20, 100
 
@@ -57,117 +56,6 @@ def items_of(program: str, *paths: str) -> list[Group]:
     if ran.returncode or ran.stderr:
         raise ValueError(f"status {ran.returncode}, {ran.stderr.decode('latin-1')[:300]!r}")
     return [json.loads(line, object_pairs_hook=once) for line in ran.stdout.decode().splitlines()]
-
-
-def plain(value: Any) -> Any:
-    """A number, a text or a register, without the names of numbers."""
-    if isinstance(value, dict):
-        if "address" in value:
-            return {name: plain(it) for name, it in value.items()}
-        return plain(value.get("value", value.get("seconds")))
-    if isinstance(value, str) and re.fullmatch(r"0x[0-9a-f]+", value):
-        return int(value, 16)
-    return value
-
-
-def differences(where: str, wanted: Group, found: Group) -> Iterator[str]:
-    """Where the fields of a group, a part or what is inside one are others: each once, in their order, with their values."""
-    names = [it for it in found if it not in OWN]
-    if [it for it in wanted if it not in OWN] != names:
-        yield f"{where}: fields {names}, wanted {[it for it in wanted if it not in OWN]}"
-        return
-    for name, value in wanted.items():
-        if isinstance(value, list):
-            if len(value) != len(found[name]):
-                yield f"{where}: {len(found[name])} of {name}, wanted {len(value)}"
-                continue
-            for index, (part, its) in enumerate(zip(value, found[name])):
-                yield from differences(f"{where} {name} {index}", part, its)
-        elif isinstance(value, dict):
-            yield from differences(f"{where} {name}", value, found[name])
-        elif isinstance(value, Cell):
-            if plain(found[name]) != value.value:
-                yield f"{where}: {name} {found[name]!r}, wanted {value.value!r}"
-        elif found[name] != value:
-            yield f"{where}: {name} {found[name]!r}, wanted {value!r}"
-
-
-def wrong_of(wanted: Group, found: Group) -> Iterator[str]:
-    """What is wrong of a well-formed item."""
-    if list(found) != ITEM:
-        yield f"keys {list(found)}"
-        return
-    for name in ("item", "at", "bytes", "kind"):
-        if found[name] != wanted[name]:
-            yield f"{name} {found[name]}, wanted {wanted[name]}"
-    if found["bad"] is not None or not found["summary"]:
-        yield f"summary {found['summary']!r}, bad {found['bad']}"
-    if len(wanted["groups"]) != len(found["groups"]):
-        yield f"groups {[it['group'] for it in found['groups']]}, wanted {[it['group'] for it in wanted['groups']]}"
-    for group, its in zip(wanted["groups"], found["groups"]):
-        yield from differences(f"{group['group']} {'' if group['index'] is None else group['index']}", group, its)
-
-
-def as_text(value: Any) -> str:
-    """A value of the JSON as the text has it."""
-    if not isinstance(value, dict):
-        return str(value)
-    if "address" in value:
-        return register_text(value)
-    if "seconds" in value:
-        return str(value["seconds"]) + (f" ({value['time']})" if "time" in value else "")
-    if "names" in value:
-        return " ".join([str(value["value"]), *value["names"]])
-    return str(value["value"]) + (f" ({value['name']})" if "name" in value else "")
-
-
-SPACES = {0: "memory", 1: "I/O", 2: "PCI configuration", 3: "embedded controller"}
-
-
-def register_text(value: dict[str, Any]) -> str:
-    space = SPACES.get(value["space"], f"space {value['space']}")
-    bit = f" from bit {value['offset']}" if value["offset"] else ""
-    access = f" access {value['access']}" if value["access"] else ""
-    return f"{space} {value['width']} bits{bit}{access} at {value['address']}"
-
-
-def lines_of(depth: int, wanted: Group, found: Group) -> Iterator[tuple[int, int, str]]:
-    """The lines of a group's fields, as text: how deep each stands, its place in the item, and what it says."""
-    for name, value in wanted.items():
-        if isinstance(value, list):
-            for index, (part, its) in enumerate(zip(value, found[name])):
-                yield depth, part["offset"], f"{name} {index}"
-                yield from lines_of(depth + 2, part, its)
-        elif isinstance(value, dict):
-            yield depth, value["offset"], name
-            yield from lines_of(depth + 2, value, found[name])
-        elif isinstance(value, Cell):
-            yield depth, value.at, f"{name}: {as_text(found[name])}"
-
-
-def is_plain(found: Group) -> bool:
-    """Whether all of an item's values stand in the text as they do in the JSON: no text has a byte that can't be printed, and none has lines."""
-    return re.search(r"\\u00|\\n", json.dumps(found["groups"])) is None
-
-
-def wrong_text(text: list[str], wanted: Group, found: Group) -> Iterator[str]:
-    """Where the text of an item, with places, is another than its JSON."""
-    rest = text[1:]
-    if not text or text[0] != found["summary"]:
-        yield f"the first line is {text[:1]}, the summary {found['summary']!r}"
-        return
-    for group, its in zip(wanted["groups"], found["groups"]):
-        if not rest or not re.match(r"  \S", rest[0]):
-            yield f"{rest[:1]} in the place of a heading of {group['group']}"
-            return
-        fields = [f"{' ' * depth}[{at}] {says}" for depth, at, says in lines_of(4, group, its)]
-        if rest[1 : 1 + len(fields)] != fields:
-            other = next((pair for pair in zip(rest[1:], fields) if pair[0] != pair[1]), None)
-            yield f"{group['group']}: as text {other}"
-            return
-        rest = rest[1 + len(fields) :]
-    if rest and rest != [""]:
-        yield f"behind its last group {rest[:2]}"
 
 
 def text_items(program: str, path: str) -> list[list[str]]:
@@ -337,6 +225,24 @@ def command_lines(check: Check, chance: Chance) -> None:
         check.fails("the lines of --brief are others than the summaries")
 
 
+def greedy(check: Check) -> None:
+    """Files of few bytes that say of themselves that they are very long, and a record whose sections all are the whole record: memory does not grow."""
+    count = 600
+    length = 128 + 72 * count
+    descriptor = little(128 + 72 * count, 4) + little(20_000, 4) + bytes(64)
+    head = b"CPER" + little(0x101, 2) + b"\xff" * 4 + little(count, 2) + bytes(8) + little(length + 20_000, 4) + bytes(104)
+    told = [head + descriptor * count + bytes(20_000), b"CPER" + little(0x101, 2) + b"\xff" * 16 + bytes(108), b"HEST" + b"\xff" * 40, b"ERST" + b"\xff" * 60]
+    told += [little(0x12, 4) + b"\xff" * 12 + little(2, 4) + bytes(80), b"ERSTSTOR" + b"\xff" * 4096, b"APEIERST" + b"\xff" * 4096]
+    for data in told:
+        check.files += 1
+        path = check.file("greedy", data)
+        for words in ([], ["--json"], ["--brief"], ["--bytes"]):
+            command = [check.program, *words, path]
+            ran = subprocess.run(command, stdout=subprocess.DEVNULL, stderr=subprocess.PIPE, timeout=60, preexec_fn=small, check=False)
+            if ran.returncode or ran.stderr:
+                check.fails(f"{data[:12]!r} of {len(data)} bytes, {words}: status {ran.returncode}, {ran.stderr!r}")
+
+
 def any_files(check: Check, chance: Chance, count: int, whole: list[bytes]) -> None:
     forms = [["--json"], ["--json", "--strict"], [], ["--bytes"], ["--brief"]]
     for index in range(0, count, BATCH):
@@ -359,6 +265,7 @@ def main(words: list[str]) -> int:
         bad_items(check, chance)
         other_files(check, chance)
         command_lines(check, chance)
+        greedy(check)
         any_files(check, chance, count, whole)
     print(f"{check.items} items and {check.files} files, {len(check.wrong)} wrong")
     return 1 if check.wrong else 0

@@ -70,22 +70,26 @@ class Chance:
         return letters.ljust(width, b"\0")
 
 
+def numbers(chance: Chance, count: int, width: int) -> bytes:
+    return b"".join(chance.number(width) for _ in range(count))
+
+
 def processor(chance: Chance) -> bytes:
     few = [chance.few(it, 1) for it in (4, 6, 9, 5, 16, 8)]
-    return chance.bits(13, 8) + b"".join(few) + bytes(2) + chance.number(8) + chance.text(128) + b"".join(chance.number(8) for _ in range(5))
+    return chance.bits(13, 8) + b"".join(few) + bytes(2) + chance.number(8) + chance.text(128) + numbers(chance, 5, 8)
 
 
 def memory(chance: Chance) -> bytes:
     status = bytes(1) + chance.few(27, 1) + chance.number(6)
-    body = chance.bits(22, 8) + status + b"".join(chance.number(8) for _ in range(2)) + b"".join(chance.number(2) for _ in range(8))
-    return body + b"".join(chance.number(8) for _ in range(3)) + chance.few(17, 1) + chance.number(1) + b"".join(chance.number(2) for _ in range(3))
+    body = chance.bits(22, 8) + status + numbers(chance, 2, 8) + numbers(chance, 8, 2)
+    return body + numbers(chance, 3, 8) + chance.few(17, 1) + chance.number(1) + numbers(chance, 3, 2)
 
 
 def memory_2(chance: Chance) -> bytes:
     status = bytes(1) + chance.few(27, 1) + chance.number(6)
-    body = chance.bits(22, 8) + status + b"".join(chance.number(8) for _ in range(2)) + b"".join(chance.number(2) for _ in range(4))
-    body += b"".join(chance.number(4) for _ in range(5)) + chance.number(1) + chance.few(17, 1) + chance.few(2, 1) + bytes(1)
-    return body + b"".join(chance.number(8) for _ in range(3)) + b"".join(chance.number(4) for _ in range(2))
+    body = chance.bits(22, 8) + status + numbers(chance, 2, 8) + numbers(chance, 4, 2)
+    body += numbers(chance, 5, 4) + chance.number(1) + chance.few(17, 1) + chance.few(2, 1) + bytes(1)
+    return body + numbers(chance, 3, 8) + numbers(chance, 2, 4)
 
 
 def pcie(chance: Chance) -> bytes:
@@ -95,7 +99,7 @@ def pcie(chance: Chance) -> bytes:
 
 def pci_bus(chance: Chance) -> bytes:
     body = chance.bits(9, 8) + chance.number(8) + chance.few(9, 2) + chance.number(2) + bytes(4)
-    return body + b"".join(chance.number(8) for _ in range(6))
+    return body + numbers(chance, 6, 8)
 
 
 def pci_component(chance: Chance) -> bytes:
@@ -138,7 +142,7 @@ def ia32(chance: Chance) -> bytes:
     for _ in range(infos):
         kind = chance.below(5)
         name = guid(CHECKS[kind]) if kind < 4 else chance.of.randbytes(16)
-        out += name + chance.bits(5, 8) + check(chance, kind) + b"".join(chance.number(8) for _ in range(4))
+        out += name + chance.bits(5, 8) + check(chance, kind) + numbers(chance, 4, 8)
     for _ in range(contexts):
         kind = chance.below(9)
         size = {2: 92, 3: 244, 4: 512, 5: 32, 6: 64}.get(kind, 8 * chance.below(5))
@@ -169,10 +173,9 @@ def arm(chance: Chance) -> bytes:
 
 def machine_check(chance: Chance) -> bytes:
     time = little(chance.of.choice([0, 1764195334, 4102444799, 253402300799]) if chance.below(3) else chance.below(1 << 33), 8)
-    body = b"".join(chance.number(8) for _ in range(6)) + time + chance.few(12, 1) + chance.number(1) + chance.few(8, 1) + bytes(1) + chance.number(4)
-    return body + b"".join(chance.number(1) for _ in range(4)) + b"".join(chance.number(4) for _ in range(3)) + b"".join(
-        chance.number(8) for _ in range(4)
-    ) + chance.number(4) + bytes(4) + chance.number(8)
+    body = numbers(chance, 6, 8) + time + chance.few(12, 1) + chance.number(1) + chance.few(8, 1) + bytes(1) + chance.number(4)
+    body += numbers(chance, 4, 1) + numbers(chance, 3, 4) + numbers(chance, 4, 8)
+    return body + chance.number(4) + bytes(4) + chance.number(8)
 
 
 def dmesg(chance: Chance) -> bytes:
@@ -280,11 +283,11 @@ def erst(chance: Chance) -> bytes:
 
 
 def notification(chance: Chance) -> bytes:
-    return chance.few(13, 1) + little(28, 1) + chance.few(64, 2) + b"".join(chance.number(4) for _ in range(6))
+    return chance.few(13, 1) + little(28, 1) + chance.few(64, 2) + numbers(chance, 6, 4)
 
 
 def bank(chance: Chance) -> bytes:
-    return chance.number(1) + chance.few(2, 1) + chance.few(4, 1) + bytes(1) + chance.number(4) + chance.number(8) + b"".join(chance.number(4) for _ in range(3))
+    return chance.number(1) + chance.few(2, 1) + chance.few(4, 1) + bytes(1) + chance.number(4) + chance.number(8) + numbers(chance, 3, 4)
 
 
 def source(chance: Chance, kind: int) -> bytes:
@@ -298,11 +301,11 @@ def source(chance: Chance, kind: int) -> bytes:
             return head + bytes(2) + enabled + chance.number(8) + chance.number(8) + count + bytes(7) + banks
         return head + bytes(2) + enabled + notification(chance) + count + bytes(3) + banks
     if kind == 2:
-        return head + bytes(4) + b"".join(chance.number(4) for _ in range(3))
+        return head + bytes(4) + numbers(chance, 3, 4)
     if kind in (6, 7, 8):
         common = head + bytes(2) + enabled + chance.number(4) + chance.number(2) + chance.number(2) + chance.number(2) + bytes(2)
-        return common + b"".join(chance.number(4) for _ in range({6: 5, 7: 4, 8: 7}[kind]))
-    generic = head + chance.number(2) + bytes(1) + chance.few(2, 1) + b"".join(chance.number(4) for _ in range(3)) + register(chance)
+        return common + numbers(chance, {6: 5, 7: 4, 8: 7}[kind], 4)
+    generic = head + chance.number(2) + bytes(1) + chance.few(2, 1) + numbers(chance, 3, 4) + register(chance)
     generic += notification(chance) + chance.number(4)
     return generic if kind == 9 else generic + register(chance) + chance.number(8) + chance.number(8)
 

@@ -55,7 +55,7 @@ def read(fields: tuple[Field, ...], body: bytes, base: int, valid_at: int, valid
     valid = number(body, valid_at, valid_width)
     found: Group = {}
     for it in fields:
-        width = it.width or len(body) - it.at
+        width = it.width or max(len(body) - it.at, 1)
         if it.at + width > len(body) or not (it.bit is None or valid >> it.bit & 1):
             continue
         data = body[it.at : it.at + width]

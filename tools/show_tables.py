@@ -2,7 +2,7 @@
 
 Each line of a table is a field: its offset, its width in bytes, the validation bit that says whether it is there (`-` where none does), its name, and
 behind a colon how it is read where it isn't a number: a GUID, text, a time, a register (the generic address structure), bytes up to the end, or some bits
-of a number (`bits LOW COUNT`). A question mark in front of a name: it may be left out. UEFI 2.8, Appendix N; ACPI 6.4, chapter 18.
+of a number (`bits LOW COUNT`). UEFI 2.8, Appendix N; ACPI 6.4, chapter 18.
 """
 
 from dataclasses import dataclass
@@ -18,7 +18,6 @@ class Field:
     kind: str = "number"
     low: int = 0
     count: int = 0
-    may_miss: bool = False
 
 
 @dataclass(frozen=True)
@@ -51,7 +50,7 @@ def field(line: str) -> Field:
     name, _, how = rest.partition(":")
     kind, *numbers = how.split() or ["number"]
     low, count = (int(it) for it in numbers) if numbers else (0, 0)
-    return Field(int(at), int(width), None if bit == "-" else int(bit), name.strip().lstrip("?"), kind, low, count, name.strip().startswith("?"))
+    return Field(int(at), int(width), None if bit == "-" else int(bit), name.strip(), kind, low, count)
 
 
 def fields(text: str) -> tuple[Field, ...]:
@@ -74,7 +73,6 @@ TABLE_HEADER = Layout(
 ERST_HEADER = Layout(
     fields("""
     36 4 - serialization header size
-    40 4 - ?reserved
     44 4 - instruction entry count
     """)
 )
@@ -83,7 +81,6 @@ ERST_ENTRY = Layout(
     0 1 - serialization action
     1 1 - instruction
     2 1 - flags
-    3 1 - ?reserved
     4 12 - register region: register
     16 8 - value
     24 8 - mask
@@ -101,7 +98,6 @@ BANK = fields("""
     0 1 - bank number
     1 1 - clear status on initialization
     2 1 - status data format
-    3 1 - ?reserved
     4 4 - control register MSR address
     8 8 - control init data
     16 4 - status register MSR address
@@ -131,14 +127,12 @@ SOURCE = fields("""
     2 2 - source ID
     """)
 MACHINE_CHECK = fields("""
-    4 2 - ?reserved
     6 1 - flags
     7 1 - enabled
     8 4 - number of records to pre-allocate
     12 4 - max sections per record
     """)
 PCI = fields("""
-    4 2 - ?reserved
     6 1 - flags
     7 1 - enabled
     8 4 - number of records to pre-allocate
@@ -147,7 +141,6 @@ PCI = fields("""
     20 2 - device
     22 2 - function
     24 2 - device control
-    26 2 - ?reserved
     28 4 - uncorrectable error mask
     32 4 - uncorrectable error severity
     36 4 - correctable error mask
@@ -166,10 +159,6 @@ GENERIC = (
     + notification(32)
     + fields("60 4 - error status block length")
 )
-
-
-def banks(at: int, parts_at: int) -> dict[str, object]:
-    return {"parts": (Part("bank", Field(at, 1, None, ""), BANK, size=28),), "parts_at": parts_at}
 
 
 # By type, ACPI 6.4, 18.3.2.1 and on; the length of each without its banks.
@@ -193,7 +182,6 @@ SOURCES: dict[int, tuple[int, Layout]] = {
         Layout(
             SOURCE
             + fields("""
-    4 4 - ?reserved
     8 4 - number of records to pre-allocate
     12 4 - max sections per record
     16 4 - max raw data length
@@ -277,6 +265,7 @@ DESCRIPTOR = Layout(
 BLOCK_STATUS = Layout(
     fields("""
     0 4 - block status
+    0 4 - error data entry count: bits 4 10
     4 4 - raw data offset
     8 4 - raw data length
     12 4 - data length
@@ -494,6 +483,7 @@ ARM = Layout(
 MEMORY = Layout(
     fields("""
     8 8 0 error status
+    8 8 0 error status type: bits 8 8
     16 8 1 physical address
     24 8 2 physical address mask
     32 2 3 node
@@ -520,6 +510,7 @@ MEMORY = Layout(
 MEMORY_2 = Layout(
     fields("""
     8 8 0 error status
+    8 8 0 error status type: bits 8 8
     16 8 1 physical address
     24 8 2 physical address mask
     32 2 3 node
@@ -606,6 +597,7 @@ PCIE = Layout(
 PCI_BUS = Layout(
     fields("""
     8 8 0 error status
+    8 8 0 error status type: bits 8 8
     16 2 1 error type
     18 1 2 bus number
     19 1 2 segment number
@@ -617,9 +609,14 @@ PCI_BUS = Layout(
     64 8 8 target ID
     """)
 )
+PAIR = fields("""
+    0 8 - address
+    8 8 - value
+    """)
 PCI_COMPONENT = Layout(
     fields("""
     8 8 0 error status
+    8 8 0 error status type: bits 8 8
     16 2 1 vendor ID
     18 2 1 device ID
     20 3 1 class code
@@ -629,7 +626,9 @@ PCI_COMPONENT = Layout(
     26 1 1 segment number
     32 4 2 memory number
     36 4 3 IO number
-    """)
+    """),
+    parts=(Part("memory register", Field(32, 4, None, ""), PAIR, size=16), Part("IO register", Field(36, 4, None, ""), PAIR, size=16)),
+    parts_at=40,
 )
 FIRMWARE = Layout(
     fields("""
@@ -691,6 +690,7 @@ CCIX = Layout(
     0 4 - length
     12 1 0 CCIX source ID
     13 1 1 CCIX port ID
+    16 0 2 CCIX PER log: bytes
     """),
     valid_at=4,
 )

@@ -10,7 +10,6 @@ exit status is 0 where none is.
 """
 
 import json
-import os
 import random
 import re
 import struct
@@ -29,7 +28,6 @@ BY_VALUE = {
     "memory access attributes", "access mode", "record identifier", "record identifier GUID extension", "error structure type", "row", "extended row",
     "MSR address", "MM register address",
 }  # fmt: skip
-# Linux's words for the time and the text of an entry begin with them also where they are empty.
 Item = dict[str, Any]
 
 

@@ -82,10 +82,6 @@ def by_name(place: Place, name: str, names: list[str]) -> Callable[..., list[Val
     return value
 
 
-def a_bit(place: Place, name: str, is_set: int) -> Callable[..., list[Value]]:
-    return lambda *_: [(place, name, is_set)]
-
-
 def words(*_: str) -> list[Value]:
     """A line that says in words what another one says in numbers."""
     return []
