@@ -206,7 +206,7 @@ def terminals(runs: Runs) -> None:
 
 def answers(runs: Runs) -> None:
     """What is answered without the program, and what ./install put where."""
-    for name in ("apei", "apei-look", "apei-names", "apei-show"):
+    for name in ("apei", "apei-look", "apei-show"):
         helped = runs.run(f"{name} --help")
         runs.expect(helped.returncode == 0 and helped.stdout == (TOP / "tools" / f"help{name[4:]}.txt").read_bytes(), f"{name} --help")
         shown = runs.run(f"{name} --version").stdout.decode()
