@@ -5,6 +5,7 @@ import re
 from typing import Any, Iterator
 
 from show_model import Cell, Group
+from show_sentences import sentence
 
 OWN = ("offset", "group", "index", "guid")
 ITEM = ["file", "item", "at", "bytes", "kind", "summary", "groups", "bad"]
@@ -51,8 +52,11 @@ def wrong_of(wanted: Group, found: Group) -> Iterator[str]:
     for name in ("item", "at", "bytes", "kind"):
         if found[name] != wanted[name]:
             yield f"{name} {found[name]}, wanted {wanted[name]}"
-    if found["bad"] is not None or not found["summary"]:
-        yield f"summary {found['summary']!r}, bad {found['bad']}"
+    if found["bad"] is not None:
+        yield f"bad {found['bad']}"
+    said = sentence(wanted["kind"], wanted["data"])
+    if found["summary"] != said:
+        yield f"summary {found['summary']!r}, wanted {said!r}"
     if len(wanted["groups"]) != len(found["groups"]):
         yield f"groups {[it['group'] for it in found['groups']]}, wanted {[it['group'] for it in wanted['groups']]}"
     for group, its in zip(wanted["groups"], found["groups"]):
