@@ -45,24 +45,26 @@ def when_of_linux(seconds: int) -> str:
 
 def place(kind: str, body: bytes) -> str:
     """Where an error was, as far as its section says it."""
-    read = body.ljust(256, b"\0")
+
+    def seen(at: int, width: int) -> int:
+        return number(body, at, width) if at + width <= len(body) else 0
 
     def valid(bit: int) -> bool:
-        return read[bit // 8] >> bit % 8 & 1 == 1
+        return seen(0, 4 if kind == bodies.ARM else 8) >> bit & 1 == 1
 
     if kind in (bodies.MEMORY, bodies.MEMORY_2):
-        named = [f" {name} {number(read, at, 2)}" for name, bit, at in (("node", 3, 32), ("card", 4, 34), ("module", 5, 36)) if valid(bit)]
-        return ("," + "".join(named) if named else "") + (f", physical {number(read, 16, 8):#x}" if valid(1) else "")
+        named = [f" {name} {seen(at, 2)}" for name, bit, at in (("node", 3, 32), ("card", 4, 34), ("module", 5, 36)) if valid(bit)]
+        return ("," + "".join(named) if named else "") + (f", physical {seen(16, 8):#x}" if valid(1) else "")
     if kind == bodies.PROCESSOR:
-        return (f", processor {number(read, 152, 8):#x}" if valid(8) else "") + (f", address {number(read, 160, 8):#x}" if valid(9) else "")
+        return (f", processor {seen(152, 8):#x}" if valid(8) else "") + (f", address {seen(160, 8):#x}" if valid(9) else "")
     if kind == bodies.IA32:
-        return f", APIC {number(read, 8, 8)}" if valid(0) else ""
+        return f", APIC {seen(8, 8)}" if valid(0) else ""
     if kind == bodies.ARM:
-        return f", MPIDR {number(read, 16, 8):#x}" if valid(0) else ""
+        return f", MPIDR {seen(16, 8):#x}" if valid(0) else ""
     if kind == bodies.PCIE:
-        return f", device {number(read, 33, 2):04x}:{read[35]:02x}:{read[32]:02x}.{read[31]:x}" if valid(3) else ""
+        return f", device {seen(33, 2):04x}:{seen(35, 1):02x}:{seen(32, 1):02x}.{seen(31, 1):x}" if valid(3) else ""
     if kind == bodies.MACHINE_CHECK:
-        return f", processor {number(read, 68, 4)} bank {read[65]}" + (f", address {number(read, 16, 8):#x}" if valid(58) else "")
+        return f", processor {seen(68, 4)} bank {seen(65, 1)}" + (f", address {seen(16, 8):#x}" if valid(58) else "")
     return ""
 
 
