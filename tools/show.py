@@ -116,7 +116,8 @@ class Check:
         self.files += len(some)
         try:
             ran = run(self.program, *words, *paths)
-            if ran.returncode not in ((0, 3) if "--strict" in words else (0,)) or ran.stderr:
+            said = ran.stderr.replace(b"apei-show: an item is bad\n", b"") if "--strict" in words else ran.stderr
+            if ran.returncode not in ((0, 3) if "--strict" in words else (0,)) or said:
                 raise ValueError(f"status {ran.returncode}, {ran.stderr.decode('latin-1')[-300:]!r}")
             if "--json" in words:
                 self.items += check_lines(ran.stdout, paths)
@@ -182,7 +183,7 @@ def other_files(check: Check, chance: Chance) -> None:
     if by_input.returncode or json.loads(by_input.stdout)["kind"] != "table":
         check.fails(f"standard input: {by_input}")
     several = run(check.program, plain_file, os.path.join(check.folder, "not-there"), check.folder, plain_file)
-    if several.returncode != 5 or several.stdout.count(b"BERT") < 2 or several.stderr.count(b"\n") != 2 or b"No such file" not in several.stderr:
+    if several.returncode != 5 or several.stdout.count(b"Boot Error Record Table") != 2 or several.stderr.count(b"\n") != 3 or b"No such file" not in several.stderr:
         check.fails(f"files of which two can't be read: {several}")
 
 
