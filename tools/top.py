@@ -61,7 +61,7 @@ SAID: list[tuple[str, bytes, int, list[str]]] = [
     ("apei-look --jason six", b"", 1, ["apei-look: bad words", "apei-look: --jason is no option; the nearest is --json", LOOK_BAD]),
     ("apei-show", b"", 1, ["apei-show: bad words", "apei-show: there is no file to show", SHOW_BAD]),
     ("apei-show --json --brief six", b"", 1, ["apei-show: bad words", "apei-show: --json and --brief are one too many", SHOW_BAD]),
-    ("apei-show none", b"", 5, ["apei-show: none: No such file or directory"]),
+    ("apei-show none", b"", 5, ["apei-show: none: No such file or directory (os error 2)", "apei-show: a file can't be read"]),
     ("apei-look none", b"", 5, ["apei-look: there is no such image", "apei-look: none: No such file or directory"]),
     ("apei play --image=six --per-slot=4 --slots=16", b"count\n", 6, ["apei: six has another geometry: heads stand where slots of 2 sectors of 4096 begin. "
      "--sector=4096 --per-slot=2 --slots=32 would fit; --force before the job plays on it as it is."]),
