@@ -145,7 +145,7 @@ def ia32(chance: Chance) -> bytes:
         out += name + chance.bits(5, 8) + check(chance, kind) + numbers(chance, 4, 8)
     for _ in range(contexts):
         kind = chance.below(9)
-        size = {2: 92, 3: 236, 4: 512, 5: 32, 6: 64}.get(kind, 8 * chance.below(5))
+        size = {2: 92, 3: 244, 4: 512, 5: 32, 6: 64}.get(kind, 8 * chance.below(5))
         out += little(kind, 2) + little(size, 2) + chance.number(4) + chance.number(8) + chance.of.randbytes(size)
     valid = chance.below(4) | infos << 2 | contexts << 8
     return little(valid, 8) + chance.number(8) + chance.of.randbytes(48) + out

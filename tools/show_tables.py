@@ -388,12 +388,12 @@ IA32_CONTEXTS = {
     """),
     3: registers(8, "RAX RBX RCX RDX RSI RDI RBP RSP R8 R9 R10 R11 R12 R13 R14 R15")
     + tuple(Field(128 + it.at, 2, None, it.name) for it in registers(2, SEGMENTS))
-    + tuple(Field(144 + it.at, 8, None, it.name) for it in registers(8, "RFLAGS EIP CR0 CR1 CR2 CR3 CR4"))
+    + tuple(Field(144 + it.at, 8, None, it.name) for it in registers(8, "RFLAGS EIP CR0 CR1 CR2 CR3 CR4 CR8"))
     + fields("""
-    200 16 - GDTR
-    216 16 - IDTR
-    232 2 - LDTR
-    234 2 - TR
+    208 16 - GDTR
+    224 16 - IDTR
+    240 2 - LDTR
+    242 2 - TR
     """),
 }
 # The contexts of EL1 and EL2 in AArch32 are shown by their bytes.
