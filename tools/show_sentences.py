@@ -44,27 +44,28 @@ def when_of_linux(seconds: int) -> str:
 
 
 def place(kind: str, body: bytes) -> str:
-    """Where an error was, as far as its section says it."""
+    """Where an error was, as far as its section says it and is there."""
 
     def seen(at: int, width: int) -> int:
-        return number(body, at, width) if at + width <= len(body) else 0
+        return number(body, at, width)
 
-    def valid(bit: int) -> bool:
-        return seen(0, 4 if kind == bodies.ARM else 8) >> bit & 1 == 1
+    def has(bit: int, end: int) -> bool:
+        valid = seen(0, 4 if kind == bodies.ARM else 8)
+        return end <= len(body) and valid >> bit & 1 == 1
 
     if kind in (bodies.MEMORY, bodies.MEMORY_2):
-        named = [f" {name} {seen(at, 2)}" for name, bit, at in (("node", 3, 32), ("card", 4, 34), ("module", 5, 36)) if valid(bit)]
-        return ("," + "".join(named) if named else "") + (f", physical {seen(16, 8):#x}" if valid(1) else "")
+        named = [f" {name} {seen(at, 2)}" for name, bit, at in (("node", 3, 32), ("card", 4, 34), ("module", 5, 36)) if has(bit, at + 2)]
+        return ("," + "".join(named) if named else "") + (f", physical {seen(16, 8):#x}" if has(1, 24) else "")
     if kind == bodies.PROCESSOR:
-        return (f", processor {seen(152, 8):#x}" if valid(8) else "") + (f", address {seen(160, 8):#x}" if valid(9) else "")
+        return (f", processor {seen(152, 8):#x}" if has(8, 160) else "") + (f", address {seen(160, 8):#x}" if has(9, 168) else "")
     if kind == bodies.IA32:
-        return f", APIC {seen(8, 8)}" if valid(0) else ""
+        return f", APIC {seen(8, 8)}" if has(0, 16) else ""
     if kind == bodies.ARM:
-        return f", MPIDR {seen(16, 8):#x}" if valid(0) else ""
+        return f", MPIDR {seen(16, 8):#x}" if has(0, 24) else ""
     if kind == bodies.PCIE:
-        return f", device {seen(33, 2):04x}:{seen(35, 1):02x}:{seen(32, 1):02x}.{seen(31, 1):x}" if valid(3) else ""
-    if kind == bodies.MACHINE_CHECK:
-        return f", processor {seen(68, 4)} bank {seen(65, 1)}" + (f", address {seen(16, 8):#x}" if valid(58) else "")
+        return f", device {seen(33, 2):04x}:{seen(35, 1):02x}:{seen(32, 1):02x}.{seen(31, 1):x}" if has(3, 40) else ""
+    if kind == bodies.MACHINE_CHECK and len(body) >= 72:
+        return f", processor {seen(68, 4)} bank {seen(65, 1)}" + (f", address {seen(16, 8):#x}" if has(58, 24) else "")
     return ""
 
 
