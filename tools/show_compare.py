@@ -76,7 +76,21 @@ def as_text(value: Any) -> str:
     return str(value["value"]) + (f" ({value['name']})" if "name" in value else "")
 
 
-SPACES = {0: "memory", 1: "I/O", 2: "PCI configuration", 3: "embedded controller"}
+# ACPI 6.4, 5.2.3.2.
+SPACES = {
+    0: "memory",
+    1: "I/O",
+    2: "PCI configuration",
+    3: "embedded controller",
+    4: "SMBus",
+    5: "CMOS",
+    6: "PCI BAR target",
+    7: "IPMI",
+    8: "general purpose I/O",
+    9: "generic serial bus",
+    10: "platform communications channel",
+    127: "fixed hardware",
+}
 
 
 def register_text(value: dict[str, Any]) -> str:
