@@ -116,7 +116,8 @@ class Check:
         self.files += len(some)
         try:
             ran = run(self.program, *words, *paths)
-            if ran.returncode not in ((0, 3) if "--strict" in words else (0,)) or ran.stderr:
+            said = ran.stderr.replace(b"apei-show: an item is bad\n", b"") if "--strict" in words else ran.stderr
+            if ran.returncode not in ((0, 3) if "--strict" in words else (0,)) or said:
                 raise ValueError(f"status {ran.returncode}, {ran.stderr.decode('latin-1')[-300:]!r}")
             if "--json" in words:
                 self.items += check_lines(ran.stdout, paths)
@@ -182,7 +183,8 @@ def other_files(check: Check, chance: Chance) -> None:
     if by_input.returncode or json.loads(by_input.stdout)["kind"] != "table":
         check.fails(f"standard input: {by_input}")
     several = run(check.program, plain_file, os.path.join(check.folder, "not-there"), check.folder, plain_file)
-    if several.returncode != 5 or several.stdout.count(b"BERT") < 2 or several.stderr.count(b"\n") != 2 or b"No such file" not in several.stderr:
+    shown, said = several.stdout.count(b"Boot Error Record Table"), several.stderr.count(b"\n")
+    if (several.returncode, shown, said) != (5, 2, 3) or b"No such file" not in several.stderr:
         check.fails(f"files of which two can't be read: {several}")
 
 
@@ -199,7 +201,8 @@ def one_of(check: Check, name: str, data: bytes, kind: str) -> None:
 def command_lines(check: Check, chance: Chance) -> None:
     """Words that are no command line, and outputs that take nothing."""
     path = check.file("table", bodies.erst(chance))
-    bad: list[list[str]] = [[], ["--json"], ["--json", "--brief", path], ["--json", "--json", path], ["--color=red", path], ["--none", path], ["--json=1", path]]
+    bad: list[list[str]] = [[], ["--json"], ["--json", "--brief", path], ["--json", "--json", path]]
+    bad += [["--color=red", path], ["--none", path], ["--json=1", path]]
     for words in bad:
         ran = run(check.program, *words)
         if (ran.returncode, ran.stdout) != (1, b"") or not ran.stderr:

@@ -5,6 +5,7 @@ import re
 from typing import Any, Iterator
 
 from show_model import Cell, Group
+from show_sentences import sentence
 
 OWN = ("offset", "group", "index", "guid")
 ITEM = ["file", "item", "at", "bytes", "kind", "summary", "groups", "bad"]
@@ -51,8 +52,11 @@ def wrong_of(wanted: Group, found: Group) -> Iterator[str]:
     for name in ("item", "at", "bytes", "kind"):
         if found[name] != wanted[name]:
             yield f"{name} {found[name]}, wanted {wanted[name]}"
-    if found["bad"] is not None or not found["summary"]:
-        yield f"summary {found['summary']!r}, bad {found['bad']}"
+    if found["bad"] is not None:
+        yield f"bad {found['bad']}"
+    said = sentence(wanted["kind"], wanted["data"])
+    if found["summary"] != said:
+        yield f"summary {found['summary']!r}, wanted {said!r}"
     if len(wanted["groups"]) != len(found["groups"]):
         yield f"groups {[it['group'] for it in found['groups']]}, wanted {[it['group'] for it in wanted['groups']]}"
     for group, its in zip(wanted["groups"], found["groups"]):
@@ -72,7 +76,21 @@ def as_text(value: Any) -> str:
     return str(value["value"]) + (f" ({value['name']})" if "name" in value else "")
 
 
-SPACES = {0: "memory", 1: "I/O", 2: "PCI configuration", 3: "embedded controller"}
+# ACPI 6.4, 5.2.3.2.
+SPACES = {
+    0: "memory",
+    1: "I/O",
+    2: "PCI configuration",
+    3: "embedded controller",
+    4: "SMBus",
+    5: "CMOS",
+    6: "PCI BAR target",
+    7: "IPMI",
+    8: "general purpose I/O",
+    9: "generic serial bus",
+    10: "platform communications channel",
+    127: "fixed hardware",
+}
 
 
 def register_text(value: dict[str, Any]) -> str:

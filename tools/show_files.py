@@ -181,17 +181,11 @@ def of_stores(chance: Chance) -> Iterator[Wanted]:
     """Flash images and QEMU's storage: an item that says what they are, and the records in them."""
     for image in store_images(chance):
         records = records_of(image)
-        yield Wanted("image", image, [model.item("record", it, index + 1, at_of(image, it)) for index, it in enumerate(records)], "image")
+        yield Wanted("image", image, [model.item("record", it, index + 1, None) for index, it in enumerate(records)], "image")
     records = [bodies.record(chance, (kind, make(chance)), identifier=9 + index) for index, (kind, make) in enumerate(bodies.BODIES.items())]
     storage = qemu_storage(records)
     items = [model.item("record", it, index + 1, storage.find(it)) for index, it in enumerate(records)]
     yield Wanted("storage", storage, items, "qemu")
-
-
-def at_of(image: bytes, record: bytes) -> Optional[int]:
-    """Where a record begins in an image, if it stands in one piece."""
-    at = image.find(record)
-    return at if at >= 0 else None
 
 
 def well_formed(chance: Chance, count: int) -> Iterator[Wanted]:

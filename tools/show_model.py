@@ -209,7 +209,7 @@ READERS = {"record": (record_length, record_groups), "block": (block_length, blo
 
 
 def item(kind: str, data: bytes, index: int = 0, at: Optional[int] = 0) -> Group:
-    return {"item": index, "at": at, "bytes": len(data), "kind": kind, "groups": READERS[kind][1](data)}
+    return {"item": index, "at": at, "bytes": len(data), "kind": kind, "data": data, "groups": READERS[kind][1](data)}
 
 
 def items(kind: str, data: bytes) -> list[Group]:

@@ -63,7 +63,7 @@ SAID: list[tuple[str, bytes, int, list[str]]] = [
     ("apei-look --jason six", b"", 1, ["apei-look: bad words", "apei-look: --jason is no option; the nearest is --json", LOOK_BAD]),
     ("apei-show", b"", 1, ["apei-show: bad words", "apei-show: there is no file to show", SHOW_BAD]),
     ("apei-show --json --brief six", b"", 1, ["apei-show: bad words", "apei-show: --json and --brief are one too many", SHOW_BAD]),
-    ("apei-show none", b"", 5, ["apei-show: none: No such file or directory"]),
+    ("apei-show none", b"", 5, ["apei-show: none: No such file or directory (os error 2)", "apei-show: a file can't be read"]),
     ("apei-look none", b"", 5, ["apei-look: there is no such image", "apei-look: none: No such file or directory"]),
     ("apei play --image=six --per-slot=4 --slots=16", b"count\n", 6, ["apei: six has another geometry: heads stand where slots of 2 sectors of 4096 begin. "
      "--sector=4096 --per-slot=2 --slots=32 would fit; --force before the job plays on it as it is."]),
@@ -207,13 +207,13 @@ for turn in $(seq 200); do sleep 0.05; done
 def builds(runs: Runs) -> None:
     """A script that is told to end while its program is being built ends when the build has."""
     kept = runs.folder / "lib/apei"
-    program, away = kept / "crates/apei_names/out/apei_names", runs.folder / "away"
+    program, away = kept / "crates/apei_look/out/apei_look", runs.folder / "away"
     program.rename(away)
     (kept / "crates.txt").write_text("")
     (kept / "tools/build").write_text(BUILD)
     (kept / "tools/build").chmod(0o755)
     for number in ENDING:
-        started = subprocess.Popen(["apei-names"], cwd=runs.folder, env=runs.environment, stdin=subprocess.DEVNULL, preexec_fn=let_signals_end_it)
+        started = subprocess.Popen(["apei-look", "six"], cwd=runs.folder, env=runs.environment, stdin=subprocess.DEVNULL, preexec_fn=let_signals_end_it)
         begun, ended = runs.folder / "begun", runs.folder / "ended"
         for _ in range(200):
             if begun.exists():
