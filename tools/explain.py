@@ -39,11 +39,13 @@ def explain(program: str, words: list[str], status: int, said: str, text_of: Tex
         return list(of_apei(line, status, first, text_of))
     if program == "apei-look":
         return list(of_look(line, status, first))
+    if program == "apei-show" and status == 3:
+        return []  # What is bad stands in the output.
     return list(of_streams(status))
 
 
 def command_line(program: str, words: list[str]) -> list[str]:
-    what = "which jobs and options there are" if program == "apei" else "which options there are"
+    what = {"apei": "which jobs and options there are", "apei-show": "which words there are"}.get(program, "which options there are")
     fault = read(program, words).fault if program in GRAMMARS else None
     if program == "apei" and "--force" in words:
         fault = "--force stands before the job"

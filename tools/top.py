@@ -29,6 +29,7 @@ TOP = Path(__file__).resolve().parent.parent
 BAD = "apei: ./apei --help says which jobs and options there are"
 LOOK_BAD = "apei-look: ./apei-look --help says which options there are"
 MEDIUM = "play would write over its first sector. No options would fit; --force before the job writes over it."
+SHOW_BAD = "apei-show: ./apei-show --help says which words there are"
 # The signals that end a run.
 ENDING = signal.SIGTERM, signal.SIGINT, signal.SIGHUP
 # Words and input, the status, and the lines on standard error.
@@ -60,6 +61,9 @@ SAID: list[tuple[str, bytes, int, list[str]]] = [
     ("apei sim", (b"#" * 131071 + b"\n") * 128 + b"count\n", 7, ["apei: line 129 too long",
      "apei: line 129 has 5 bytes, which are few enough, but it ends past the first 16777216 bytes (16 MiB) of the input"]),
     ("apei-look --jason six", b"", 1, ["apei-look: bad words", "apei-look: --jason is no option; the nearest is --json", LOOK_BAD]),
+    ("apei-show", b"", 1, ["apei-show: bad words", "apei-show: there is no file to show", SHOW_BAD]),
+    ("apei-show --json --brief six", b"", 1, ["apei-show: bad words", "apei-show: --json and --brief are one too many", SHOW_BAD]),
+    ("apei-show none", b"", 5, ["apei-show: none: No such file or directory (os error 2)", "apei-show: a file can't be read"]),
     ("apei-look none", b"", 5, ["apei-look: there is no such image", "apei-look: none: No such file or directory"]),
     ("apei play --image=six --per-slot=4 --slots=16", b"count\n", 6, ["apei: six has another geometry: heads stand where slots of 2 sectors of 4096 begin. "
      "--sector=4096 --per-slot=2 --slots=32 would fit; --force before the job plays on it as it is."]),
@@ -203,13 +207,13 @@ for turn in $(seq 200); do sleep 0.05; done
 def builds(runs: Runs) -> None:
     """A script that is told to end while its program is being built ends when the build has."""
     kept = runs.folder / "lib/apei"
-    program, away = kept / "crates/apei_names/out/apei_names", runs.folder / "away"
+    program, away = kept / "crates/apei_look/out/apei_look", runs.folder / "away"
     program.rename(away)
     (kept / "crates.txt").write_text("")
     (kept / "tools/build").write_text(BUILD)
     (kept / "tools/build").chmod(0o755)
     for number in ENDING:
-        started = subprocess.Popen(["apei-names"], cwd=runs.folder, env=runs.environment, stdin=subprocess.DEVNULL, preexec_fn=let_signals_end_it)
+        started = subprocess.Popen(["apei-look", "six"], cwd=runs.folder, env=runs.environment, stdin=subprocess.DEVNULL, preexec_fn=let_signals_end_it)
         begun, ended = runs.folder / "begun", runs.folder / "ended"
         for _ in range(200):
             if begun.exists():
@@ -255,13 +259,13 @@ def terminals(runs: Runs) -> None:
 def answers(runs: Runs) -> None:
     """What is answered without the program, and what ./install put where."""
     is_checkout = (TOP / ".git").exists()
-    for name in ("apei", "apei-look", "apei-names"):
+    for name in ("apei", "apei-look", "apei-show"):
         helped = runs.run(f"{name} --help")
         runs.expect(helped.returncode == 0 and helped.stdout == (TOP / "tools" / f"help{name[4:]}.txt").read_bytes(), f"{name} --help")
         shown = runs.run(f"{name} --version").stdout.decode()
         runs.expect(shown.startswith(f"{name} ") and ("(no commit)" not in shown or not is_checkout), f"{name} --version: {shown}")
-    for path in ("share/man/man1/apei.1", "share/man/man1/apei-look.1", "share/bash-completion/completions/apei", "share/bash-completion/completions/apei-look"):
-        runs.expect((runs.folder / path).exists(), f"{path} is not installed")
+        for path in (f"share/man/man1/{name}.1", f"share/bash-completion/completions/{name}"):
+            runs.expect((runs.folder / path).exists(), f"{path} is not installed")
     kept = [path for part in ("bin", "lib", "share") for path in (runs.folder / part).rglob("*") if "__pycache__" not in path.parts]
     runs.expect(all(path.stat().st_mode & 0o044 == 0o044 for path in kept), "other users can't read what is installed")
     wrong = subprocess.run([TOP / "install"], capture_output=True, check=False)
