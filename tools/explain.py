@@ -11,7 +11,7 @@ import re
 import resource
 import stat
 from difflib import get_close_matches
-from typing import Callable, Iterator, Optional
+from typing import Any, Callable, Iterator, Optional
 
 from words import GRAMMARS, Line, listed, read
 
@@ -255,7 +255,7 @@ def what_fits(image: Optional[str], sector: int, per_slot: int, size: int) -> st
     return "no number of slots of this size would fit"
 
 
-def seen_heads(image: str) -> Optional[dict]:
+def seen_heads(image: str) -> Optional[dict[str, Any]]:
     """The geometry that a file seems to have, by apei-look where that is built."""
     import json
     import subprocess

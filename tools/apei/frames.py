@@ -40,12 +40,14 @@ class Header:
     partition: bytes = bytes(16)
     creator: bytes = bytes(16)
     notification: bytes = bytes(16)
+    flags: int = 0
+    persistence: bytes = bytes(8)
 
     def of(self, sections: int, length: int) -> bytes:
         """The header of a record of so many sections and so many bytes in all."""
         start = b"CPER\1\1" + b"\xff" * 4 + joined((sections, 2), (self.severity, 4), (self.valid, 4), (length, 4))
         names = self.platform + self.partition + self.creator + self.notification
-        return start + self.time + names + spell(self.identifier, 8) + bytes(24)
+        return start + self.time + names + joined((self.identifier, 8), (self.flags, 4)) + self.persistence + bytes(12)
 
 
 def record_of(header: Header, *sections: Section) -> bytes:
@@ -81,11 +83,16 @@ class Entry:
     revision: int = 0x0201
     # The validation bits and the flags.
     bits: bytes = bytes(2)
+    # The identifier and the text of the field replaceable unit.
+    unit: bytes = bytes(16)
+    text: bytes = bytes(20)
+    time: bytes = bytes(8)
 
     @property
-    def bytes(self) -> bytes:
-        head = self.kind + joined((self.severity, 4), (self.revision, 2)) + self.bits + spell(len(self.body), 4) + bytes(36)
-        return head + (bytes(8) if self.revision >= 0x0300 else b"") + self.body
+    def data(self) -> bytes:
+        """The entry's bytes: its head, of which older revisions have no time, and its body."""
+        head = self.kind + joined((self.severity, 4), (self.revision, 2)) + self.bits + spell(len(self.body), 4) + self.unit + self.text
+        return head + (self.time if self.revision >= 0x0300 else b"") + self.body
 
 
 def block_of(status: int, severity: int, entries: bytes, raw: bytes = b"", raw_offset: int = 0, gap: bytes = b"") -> bytes:
@@ -96,7 +103,7 @@ def block_of(status: int, severity: int, entries: bytes, raw: bytes = b"", raw_o
 
 def block(severity: int, data: bytes) -> bytes:
     """A block with one entry."""
-    return block_of(0x12, severity, Entry(data, severity=severity % 4).bytes)
+    return block_of(0x12, severity, Entry(data, severity=severity % 4).data)
 
 
 def severity_of(data: bytes) -> int:

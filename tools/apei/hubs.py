@@ -26,7 +26,7 @@ class Source:
     preserve: int = 2**64 - 2
 
     @property
-    def bytes(self) -> bytes:
+    def data(self) -> bytes:
         body = joined((self.kind, 2), (1, 2)) + b"\xff\xff\0\1" + joined((1, 4), (4, 4), (4096, 4)) + self.status
         body += bytes.fromhex("001c0000e8030000") + bytes(20) + spell(self.length, 4)
         return body + (self.ack + joined((self.preserve, 8), (self.write, 8)) if self.kind == ACKNOWLEDGED else b"")
@@ -38,7 +38,7 @@ def acknowledged() -> Source:
 
 def hest(sources: Sequence[Source], others: int = 0) -> bytes:
     """A table of these sources, behind some structures of type 6."""
-    return tables.hest((b"\6\0" + bytes(46)) * others + b"".join(source.bytes for source in sources), others + len(sources))
+    return tables.hest((b"\6\0" + bytes(46)) * others + b"".join(source.data for source in sources), others + len(sources))
 
 
 def raw_block(severity: int, size: int) -> bytes:

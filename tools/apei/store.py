@@ -1,7 +1,7 @@
 """A plain model of the record store on its slots.
 
-It keeps the whole image of the flash, looks at every slot for every command, and keeps no list: docs/FORMATS.md has the slots and the order of
-changes, docs/SCRIPT.md the lines and the words of replies.
+It keeps the whole image of the flash, looks at every slot for every command, and keeps no list: docs/FORMATS.md has the slots and the
+order of changes, docs/SCRIPT.md the lines and the words of replies.
 """
 
 from collections.abc import Iterable

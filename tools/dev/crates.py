@@ -1,16 +1,16 @@
-#!/usr/bin/env python3
-"""Writes the map of the crates into docs/ARCHITECTURE.md, between its two marks: `tools/dev/crates.py [--check]`.
+"""Writes the map of the crates into docs/ARCHITECTURE.md, between its two marks.
 
-The shelves, their crates and what each stands on are those of crates.txt, a crate's words the first sentence of its own documentation. With --check
-nothing is written; the exit status is 1 where the page says something else.
+    tools/run crates [--check]
+
+The shelves, their crates and what each stands on are those of crates.txt, a crate's words the first sentence of its own documentation.
+With --check nothing is written; the exit status is 1 where the page says something else.
 """
 
-import sys
 from dataclasses import dataclass
 from functools import cache
-from pathlib import Path
 
-TOP = Path(__file__).resolve().parent.parent.parent
+from apei.harness import TOP
+
 PAGE = TOP / "docs" / "ARCHITECTURE.md"
 BEGIN, END = "<!-- begin: tools/dev/crates.py -->\n", "<!-- end: tools/dev/crates.py -->\n"
 WIDTH = 140
@@ -78,17 +78,13 @@ def page() -> str:
     return "\n".join(lines)
 
 
-def main() -> int:
+def main(words: list[str]) -> int:
     before, _, rest = PAGE.read_text().partition(BEGIN)
     said, _, after = rest.partition(END)
     if said == page():
         return 0
-    if "--check" in sys.argv:
+    if "--check" in words:
         print("docs/ARCHITECTURE.md has another map than tools/dev/crates.py writes")
         return 1
     PAGE.write_text(before + BEGIN + page() + END + after)
     return 0
-
-
-if __name__ == "__main__":
-    sys.exit(main())

@@ -3,9 +3,9 @@
     tools/run check [PROGRAM] [ITEMS] [SEED]
     tools/run check --lines FLAGS < SCRIPT
 
-PROGRAM is the built program, by default crates/apei/out/apei. ITEMS (by default 3200) items are made and checked with each choice of --show, and
-so is each beginning of a whole one of each kind. An item is wrong where a line on it differs by some choice. In the second form it only writes the
-lines that a script of good lines wants.
+PROGRAM is the built program, by default crates/apei/out/apei. ITEMS (by default 3200) items are made and checked with each choice of
+--show, and so is each beginning of a whole one of each kind. An item is wrong where a line on it differs by some choice. In the second
+form it only writes the lines that a script of good lines wants.
 """
 
 import random
@@ -71,7 +71,7 @@ def some_entry(chance: random.Random) -> Entry:
 
 
 def some_block(chance: random.Random) -> bytes:
-    entries = b"".join(some_entry(chance).bytes for _ in range(chance.randrange(4)))
+    entries = b"".join(some_entry(chance).data for _ in range(chance.randrange(4)))
     raw = chance.choice([b"", chance.randbytes(7)])
     gap = bytes(chance.choice([0, 0, 9])) if raw else b""
     offset = 20 + len(entries) + len(gap) if raw else chance.choice([0, 3])

@@ -2,9 +2,9 @@
 
     tools/run device [PROGRAM] [SCRIPTS] [SEED]
 
-PROGRAM is the built program, by default crates/apei/out/apei. A table is used whose program of each action writes the register VALUE, writes
-the action's number to the register ACTION, and reads VALUE: so an `action` line is one access of the device. After each of some beginnings
-each code is tried and then the same ones again, and SCRIPTS more are drawn at random, 150 where it is not said.
+PROGRAM is the built program, by default crates/apei/out/apei. A table is used whose program of each action writes the register VALUE,
+writes the action's number to the register ACTION, and reads VALUE: so an `action` line is one access of the device. After each of some
+beginnings each code is tried and then the same ones again, and SCRIPTS more are drawn at random, 150 where it is not said.
 """
 
 import random

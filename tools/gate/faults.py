@@ -2,10 +2,11 @@
 
     tools/run faults [PROGRAM]
 
-PROGRAM is the built program, by default crates/apei/out/apei. The script stores a record of two sections, counts, walks, reads and clears. Each
-reply is compared with what the record map allows: a command that the flash failed is in or out, and every other one is answered by the records
-that are there. A second script replaces and clears records over several slots; power is lost at each of its changes too. It is lost as well in
-each of the fourteen changes of a write, a replacement and a clear, and comes back at once; then the command is given again.
+PROGRAM is the built program, by default crates/apei/out/apei. The script stores a record of two sections, counts, walks, reads and clears.
+Each reply is compared with what the record map allows: a command that the flash failed is in or out, and every other one is answered by
+the records that are there. A second script replaces and clears records over several slots; power is lost at each of its changes too. It is
+lost as well in each of the fourteen changes of a write, a replacement and a clear, and comes back at once; then the command is given
+again.
 """
 
 from collections.abc import Iterator

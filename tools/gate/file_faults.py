@@ -2,13 +2,13 @@
 
     tools/run file_faults [PROGRAM]
 
-PROGRAM is the built program, by default crates/apei/out/apei. `play` writes, replaces and clears records over several slots; the write or sync
-of each of its flash changes fails with EIO, and with ENOSPC. Afterwards the file is opened again: the records are those that the replies
-acknowledged, a command that was refused as `hardware` being in or out. So it is where the first write of that opening fails as well. Right
-behind such a fault the run reads the range of its change back, writes these bytes once more and syncs them. A file that is made is synced, and
-then its folder; it meets the same faults, and those of its two names; then it is there, whole and erased, or it is not, and the next run makes
-it. A file in a folder that is missing is refused. `sim` ends at the read and at the write that fails, with the replies before it. Where there is no
-strace, or none that may trace, that is said, and the exit status is 0.
+PROGRAM is the built program, by default crates/apei/out/apei. `play` writes, replaces and clears records over several slots; the write or
+sync of each of its flash changes fails with EIO, and with ENOSPC. Afterwards the file is opened again: the records are those that the
+replies acknowledged, a command that was refused as `hardware` being in or out. So it is where the first write of that opening fails as
+well. Right behind such a fault the run reads the range of its change back, writes these bytes once more and syncs them. A file that is
+made is synced, and then its folder; it meets the same faults, and those of its two names; then it is there, whole and erased, or it is
+not, and the next run makes it. A file in a folder that is missing is refused. `sim` ends at the read and at the write that fails, with the
+replies before it. Where there is no strace, or none that may trace, that is said, and the exit status is 0.
 """
 
 import os

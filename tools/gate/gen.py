@@ -3,8 +3,8 @@
     tools/run gen [PROGRAM]
     tools/run gen --line COUNT SEED [SECTOR PER_SLOT SLOTS]
 
-PROGRAM is the built program, by default crates/apei/out/apei. The generator is that of docs/SCRIPT.md. In the second form it only writes the line
-of one run.
+PROGRAM is the built program, by default crates/apei/out/apei. The generator is that of docs/SCRIPT.md. In the second form it only writes
+the line of one run.
 """
 
 from collections.abc import Iterator

@@ -2,10 +2,10 @@
 
     tools/run hub [PROGRAM] [MORE] [SEED]
 
-PROGRAM is the built program, by default crates/apei/out/apei. Each order of twelve turns of the two sides is played on one source, then on the
-other, and on both in turn, with the source of type 9 first and last, and in the job `sim` on the machine's own, begun anew by a reset before
-each; and MORE (by default 2000) lists of turns, tables and lines that SEED makes. The plain model is one handover a source, by docs/HANDOVER.md,
-and for a table the refusals of docs/SCRIPT.md.
+PROGRAM is the built program, by default crates/apei/out/apei. Each order of twelve turns of the two sides is played on one source, then on
+the other, and on both in turn, with the source of type 9 first and last, and in the job `sim` on the machine's own, begun anew by a reset
+before each; and MORE (by default 2000) lists of turns, tables and lines that SEED makes. The plain model is one handover a source, by
+docs/HANDOVER.md, and for a table the refusals of docs/SCRIPT.md.
 """
 
 import itertools

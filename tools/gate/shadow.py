@@ -3,10 +3,10 @@
     tools/run shadow [PROGRAM] [SCRIPTS] [SEED]
     tools/run shadow --say SCRIPT [OPTION..]
 
-PROGRAM is the built program, by default crates/apei/out/apei. Lines of both tables are given each number of steps from 0 until all are carried
-out, and what a stop left in memory is shown; power is lost in each change of a replacement, and each change fails, with each tear, and what is
-read afterwards is the older record or the new one; and SCRIPTS scripts, 300 where it is not said, are drawn at random. In the second form the
-model's replies to a script are written, and nothing is run.
+PROGRAM is the built program, by default crates/apei/out/apei. Lines of both tables are given each number of steps from 0 until all are
+carried out, and what a stop left in memory is shown; power is lost in each change of a replacement, and each change fails, with each tear,
+and what is read afterwards is the older record or the new one; and SCRIPTS scripts, 300 where it is not said, are drawn at random. In the
+second form the model's replies to a script are written, and nothing is run.
 """
 
 import random

@@ -1,27 +1,27 @@
-"""The first line that apei-show writes of a well-formed item: what happened, how severe, where, when. tools/show.py compares the program with it."""
+"""The first line that apei-show writes of a well-formed item: what happened, how severe, where, when."""
 
 import datetime
 
-import show_bodies as bodies
-from show_model import LINUX, guid, number
+from apei import names
+from apei.bytes import guid, number
+from apei.names import LINUX, SEVERITIES
 
-SEVERITIES = ["recoverable", "fatal", "corrected", "informational"]
 SUBJECTS = {
-    bodies.PROCESSOR: "processor error",
-    bodies.IA32: "processor error",
-    bodies.ARM: "processor error",
-    bodies.MEMORY: "memory error",
-    bodies.MEMORY_2: "memory error",
-    bodies.PCIE: "PCI Express error",
-    bodies.PCI_BUS: "error, PCI/PCI-X Bus",
-    bodies.PCI_COMPONENT: "error, PCI Component",
-    bodies.FIRMWARE: "error, Firmware Error Record Reference",
-    bodies.DMAR: "error, DMAr Generic",
-    bodies.VTD: "error, Intel VT for Directed I/O",
-    bodies.IOMMU: "error, IOMMU",
-    bodies.CCIX: "error, CCIX PER Log",
-    bodies.MACHINE_CHECK: "machine check",
-    bodies.DMESG: "error, the kernel's log of it",
+    names.PROCESSOR: "processor error",
+    names.IA32: "processor error",
+    names.ARM: "processor error",
+    names.MEMORY: "memory error",
+    names.MEMORY_2: "memory error",
+    names.PCIE: "PCI Express error",
+    names.PCI_BUS: "error, PCI/PCI-X Bus",
+    names.PCI_COMPONENT: "error, PCI Component",
+    names.FIRMWARE: "error, Firmware Error Record Reference",
+    names.DMAR: "error, DMAr Generic",
+    names.VTD: "error, Intel VT for Directed I/O",
+    names.IOMMU: "error, IOMMU",
+    names.CCIX: "error, CCIX PER Log",
+    names.MACHINE_CHECK: "machine check",
+    names.DMESG: "error, the kernel's log of it",
 }
 
 
@@ -50,21 +50,21 @@ def place(kind: str, body: bytes) -> str:
         return number(body, at, width)
 
     def has(bit: int, end: int) -> bool:
-        valid = seen(0, 4 if kind == bodies.ARM else 8)
+        valid = seen(0, 4 if kind == names.ARM else 8)
         return end <= len(body) and valid >> bit & 1 == 1
 
-    if kind in (bodies.MEMORY, bodies.MEMORY_2):
+    if kind in (names.MEMORY, names.MEMORY_2):
         named = [f" {name} {seen(at, 2)}" for name, bit, at in (("node", 3, 32), ("card", 4, 34), ("module", 5, 36)) if has(bit, at + 2)]
         return ("," + "".join(named) if named else "") + (f", physical {seen(16, 8):#x}" if has(1, 24) else "")
-    if kind == bodies.PROCESSOR:
+    if kind == names.PROCESSOR:
         return (f", processor {seen(152, 8):#x}" if has(8, 160) else "") + (f", address {seen(160, 8):#x}" if has(9, 168) else "")
-    if kind == bodies.IA32:
+    if kind == names.IA32:
         return f", APIC {seen(8, 8)}" if has(0, 16) else ""
-    if kind == bodies.ARM:
+    if kind == names.ARM:
         return f", MPIDR {seen(16, 8):#x}" if has(0, 24) else ""
-    if kind == bodies.PCIE:
+    if kind == names.PCIE:
         return f", device {seen(33, 2):04x}:{seen(35, 1):02x}:{seen(32, 1):02x}.{seen(31, 1):x}" if has(3, 40) else ""
-    if kind == bodies.MACHINE_CHECK and len(body) >= 72:
+    if kind == names.MACHINE_CHECK and len(body) >= 72:
         return f", processor {seen(68, 4)} bank {seen(65, 1)}" + (f", address {seen(16, 8):#x}" if has(58, 24) else "")
     return ""
 

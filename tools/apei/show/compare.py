@@ -1,11 +1,12 @@
-"""Compares what apei-show says of an item, in JSON and as text, with what tools/show_model.py reads of it."""
+"""Compares what apei-show says of an item, in JSON and as text, with what is read of it plainly."""
 
 import json
 import re
-from typing import Any, Iterator
+from collections.abc import Iterator
+from typing import Any
 
-from show_model import Cell, Group
-from show_sentences import sentence
+from apei.show.reading import Cell, Group
+from apei.show.sentences import sentence
 
 OWN = ("offset", "group", "index", "guid")
 ITEM = ["file", "item", "at", "bytes", "kind", "summary", "groups", "bad"]

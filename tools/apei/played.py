@@ -1,7 +1,7 @@
 """A script that is played, and each flash change that it makes: what tools/cut, tools/sweep and tools/explore have in common.
 
-The changes are those of `play` on an erased file, as strace, a Debian package, sees them written: so any script of a user's has them, whatever
-lines are in it, and no model stands in between.
+The changes are those of `play` on an erased file, as strace, a Debian package, sees them written: so any script of a user's has them,
+whatever lines are in it, and no model stands in between.
 """
 
 import argparse
@@ -9,33 +9,13 @@ import re
 import shutil
 import subprocess
 import sys
-import tempfile
 from dataclasses import dataclass
 from pathlib import Path
-from typing import Optional
 
-TOP = Path(__file__).resolve().parent.parent
-TEARS = ["what was there", "what was to be written", "bytes 0x00", "bytes 0xA5"]
+from apei.flash import Geometry, torn
+from apei.harness import TOP, Ended, Program, image_file, scratch
+
 PWRITE = re.compile(r'pwrite64\(\d+, "((?:\\x[0-9a-f]{2})*)"(\.\.\.)?, (\d+), (\d+)\) += (-?\d+)')
-
-
-@dataclass(frozen=True)
-class Geometry:
-    sector: int = 4096
-    per_slot: int = 2
-    slots: int = 32
-
-    @property
-    def size(self) -> int:
-        return self.sector * self.per_slot * self.slots
-
-    @property
-    def slot_size(self) -> int:
-        return self.sector * self.per_slot
-
-    @property
-    def words(self) -> list[str]:
-        return [f"--sector={self.sector}", f"--per-slot={self.per_slot}", f"--slots={self.slots}"]
 
 
 @dataclass(frozen=True)
@@ -53,38 +33,34 @@ class Change:
 
     def torn(self, image: bytes, tear: int) -> bytes:
         """What is left where power is lost within the change, or it fails, by the number of --torn."""
-        data = self.data
-        left = [image[self.at : self.at + len(data)], data, bytes(len(data)), b"\xa5" * len(data)][tear]
-        return image[: self.at] + left + image[self.at + len(data) :]
+        end = self.at + len(self.data)
+        return image[: self.at] + torn(image[self.at : end], self.data, tear) + image[end:]
 
 
 @dataclass(frozen=True)
 class Job:
     """The program, a script, and the options that it is played by."""
 
-    program: Path
+    program: Program
     script: bytes
     geometry: Geometry
-    steps: Optional[int] = None
+    steps: int | None = None
 
     @property
     def words(self) -> list[str]:
         return self.geometry.words + ([] if self.steps is None else [f"--steps={self.steps}"])
 
-    def sim(self, *words: str, behind: bytes = b"") -> subprocess.CompletedProcess[bytes]:
+    def sim(self, *words: str, behind: bytes = b"") -> Ended:
         script = self.script if not behind else self.script.rstrip(b"\n") + b"\n" + behind
-        return subprocess.run([self.program, "sim", *self.words, *words], input=script, capture_output=True, check=False)
+        return self.program.run("sim", *self.words, *words, given=script)
 
     def play(self, image: bytes, script: bytes) -> tuple[str, bytes]:
         """The replies to a script over an image, and the image that is left."""
-        with tempfile.TemporaryDirectory() as folder:
-            path = Path(folder) / "image"
-            path.write_bytes(image)
-            words = [self.program, "play", f"--image={path}", *self.words]
-            done = subprocess.run(words, input=script, capture_output=True, check=False)
-            if done.returncode:
-                raise SystemExit(f"{done.stderr.decode().strip()}, status {done.returncode}")
-            return done.stdout.decode(), path.read_bytes()
+        with image_file(image) as path:
+            done = self.program.run("play", f"--image={path}", *self.words, given=script)
+            if done.status:
+                raise SystemExit(f"{done.said.strip()}, status {done.status}")
+            return done.text, path.read_bytes()
 
 
 def options(parser: argparse.ArgumentParser) -> None:
@@ -97,39 +73,34 @@ def options(parser: argparse.ArgumentParser) -> None:
     parser.add_argument("--program", type=Path, help="the built program (crates/apei/out/apei)")
 
 
-def built(name: str) -> Path:
+def built(name: str) -> Program:
     """A program of this repository, which is built where it has to be."""
-    crate = name.replace("-", "_")
     if subprocess.run([TOP / "tools" / "launch", "--build", name], check=False).returncode:
         raise SystemExit(70)
-    return TOP / "crates" / crate / "out" / crate
+    return Program.of(name.replace("-", "_"))
 
 
 def job_of(given: argparse.Namespace) -> Job:
     script = sys.stdin.buffer.read() if given.script == "-" else Path(given.script).read_bytes()
     geometry = Geometry(given.sector, given.per_slot, given.slots)
-    return Job(given.program.resolve() if given.program else built("apei"), script, geometry, given.steps)
+    return Job(Program(given.program.resolve()) if given.program else built("apei"), script, geometry, given.steps)
 
 
 def changes(job: Job) -> tuple[str, list[Change]]:
     """The replies of `play` over an erased flash, and each change that it makes."""
     if not shutil.which("strace"):
         raise SystemExit("the changes of a script are seen by strace, which is not here: apt-get install strace")
-    with tempfile.TemporaryDirectory() as folder:
-        image, log = Path(folder) / "image", Path(folder) / "log"
-        image.write_bytes(b"\xff" * job.geometry.size)
+    with scratch() as folder:
+        image, log = folder / "image", folder / "log"
+        image.write_bytes(job.geometry.erased)
         trace = ["strace", "-f", "-qq", "-xx", "-s", "100000", "-o", str(log), "-e", "trace=pwrite64"]
-        done = subprocess.run([*trace, job.program, "play", f"--image={image}", *job.words], input=job.script, capture_output=True, check=False)
-        if done.returncode:
-            raise SystemExit(f"{done.stderr.decode().strip()}: the script is not played to its end, status {done.returncode}")
+        done = job.program.run("play", f"--image={image}", *job.words, given=job.script, before=trace)
+        if done.status:
+            raise SystemExit(f"{done.said.strip()}: the script is not played to its end, status {done.status}")
         made = [change_of(line) for line in log.read_text().splitlines() if "pwrite64" in line]
-        replies = done.stdout.decode()
-        left = b"\xff" * job.geometry.size
-        for change in made:
-            left = change.made(left)
-        if left != image.read_bytes():
+        if images(job.geometry, made)[-1] != image.read_bytes():
             raise SystemExit("strace has not seen all changes")
-    return replies, made
+    return done.text, made
 
 
 def change_of(line: str) -> Change:
@@ -141,7 +112,7 @@ def change_of(line: str) -> Change:
 
 def images(geometry: Geometry, made: list[Change]) -> list[bytes]:
     """The image before each change, and the one behind the last."""
-    image, out = b"\xff" * geometry.size, []
+    image, out = geometry.erased, []
     for change in made:
         out.append(image)
         image = change.made(image)

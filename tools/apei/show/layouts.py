@@ -1,19 +1,18 @@
-"""The fields of tables, error records, status blocks and section bodies, read from the standards: tools/show.py compares apei-show with them.
+"""The fields of tables, error records, status blocks and section bodies, read from the standards: apei-show is compared with them.
 
-Each line of a table is a field: its offset, its width in bytes, the validation bit that says whether it is there (`-` where none does), its name, and
-behind a colon how it is read where it isn't a number: a GUID, text, a time, a register (the generic address structure), bytes up to the end, or some bits
-of a number (`bits LOW COUNT`). UEFI 2.8, Appendix N; ACPI 6.4, chapter 18.
+Each line of a table is a field: its offset, its width in bytes, the validation bit that says whether it is there (`-` where none does),
+its name, and behind a colon how it is read where it isn't a number: a GUID, text, a time, a register (the generic address structure),
+bytes up to the end, or some bits of a number (`bits LOW COUNT`). UEFI 2.8, Appendix N; ACPI 6.4, chapter 18.
 """
 
 from dataclasses import dataclass
-from typing import Optional
 
 
 @dataclass(frozen=True)
 class Field:
     at: int
     width: int
-    bit: Optional[int]
+    bit: int | None
     name: str
     kind: str = "number"
     low: int = 0
@@ -31,7 +30,7 @@ class Part:
     valid_width: int = 8
     size: int = 0
     # Where the part says how many bytes stand behind its first `more`.
-    told: Optional[Field] = None
+    told: Field | None = None
     more: int = 0
 
 

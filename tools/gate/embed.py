@@ -1,29 +1,26 @@
-#!/usr/bin/env python3
 """Has programs embed the library, and loses power in each change that they make.
 
-    tools/embed.py ARCHIVE [ARCHIVE ..]
+    tools/run embed ARCHIVE [ARCHIVE ..]
 
-ARCHIVE is what the crate apei_c is built to, by one compiler each, as `tools/archives` builds them. With each the example firmware of examples/embed is linked
-and formats a medium. Then power is lost in each change of its formatting and of its run, from the first to the last, and
-leaves four things in the range of that change: nothing, all of it, zeros, and 0xA5 in each byte. Each medium that is left is
-opened again: one whose formatting was cut is refused, or is empty; any other has the records from before the command that was
-cut or those after it, and each record that was told as stored. All archives leave the same medium. The names that an archive
-wants of its program are those that docs/EMBED.md lists. Then the Rust crate's tests and its example run, where cargo is there.
-
-The last line is 'N cases, M wrong'; the exit status is 0 where none is. Where there is no C compiler one line says so.
+ARCHIVE is what the crate apei_c is built to, by one compiler each, as the tool `archives` builds them. With each the example firmware of
+examples/embed is linked and formats a medium. Then power is lost in each change of its formatting and of its run, from the first to the
+last, and leaves four things in the range of that change: nothing, all of it, zeros, and 0xA5 in each byte. Each medium that is left is
+opened again: one whose formatting was cut is refused, or is empty; any other has the records from before the command that was cut or those
+after it, and each record that was told as stored. All archives leave the same medium. The names that an archive wants of its program are
+those that docs/EMBED.md lists. Then the Rust crate's tests and its example run, where cargo is there. Where there is no C compiler one
+line says so.
 """
 
-import concurrent.futures
 import os
-import pathlib
 import shutil
 import subprocess
 import sys
-import tempfile
 from collections.abc import Iterator
-from dataclasses import dataclass, field
+from pathlib import Path
+from typing import Any
 
-TOP = pathlib.Path(__file__).resolve().parent.parent
+from apei.harness import TOP, Tally, scratch, side_by_side
+
 TEARS = ("nothing", "whole", "zeros", "marks")
 WANTED = {"memcpy", "memmove", "memset", "memcmp", "rattle_alloc", "rattle_realloc", "rattle_dealloc"}
 WARNINGS = ("-std=c11", "-O2", "-Wall", "-Wextra", "-Wpedantic", "-Werror")
@@ -33,33 +30,20 @@ CUT = 9
 Records = dict[str, str]
 
 
-@dataclass
-class Tally:
-    """The cases so far, and what was wrong in some of them."""
-
-    cases: int = 0
-    wrong: list[str] = field(default_factory=list)
-
-    def check(self, holds: bool, what: str) -> None:
-        self.cases += 1
-        if not holds:
-            self.wrong.append(what)
-
-
-def call(*words: str | os.PathLike[str], **options) -> subprocess.CompletedProcess[str]:
+def call(*words: str | os.PathLike[str], **options: Any) -> subprocess.CompletedProcess[str]:
     return subprocess.run(words, capture_output=True, text=True, check=False, **options)
 
 
-def built(archive: pathlib.Path, folder: pathlib.Path) -> pathlib.Path:
+def built(archive: Path, folder: Path) -> Path:
     """The library as ./libapei lays it out, and the example firmware over it."""
     folder.mkdir()
     heap, library, program = folder / "heap.o", folder / "libapei.a", folder / "firmware"
     shutil.copy(archive, library)
-    steps = (
-        ("cc", *WARNINGS, "-fPIC", "-c", TOP / "glue" / "heap_malloc.c", "-o", heap),
-        ("ar", "r", library, heap),
-        ("cc", *WARNINGS, f"-I{TOP / 'include'}", TOP / "examples" / "embed" / "firmware.c", library, "-o", program),
-    )
+    steps: list[list[str | Path]] = [
+        ["cc", *WARNINGS, "-fPIC", "-c", TOP / "glue" / "heap_malloc.c", "-o", heap],
+        ["ar", "r", library, heap],
+        ["cc", *WARNINGS, f"-I{TOP / 'include'}", TOP / "examples" / "embed" / "firmware.c", library, "-o", program],
+    ]
     for step in steps:
         done = call(*step)
         if done.returncode:
@@ -67,7 +51,7 @@ def built(archive: pathlib.Path, folder: pathlib.Path) -> pathlib.Path:
     return program
 
 
-def unknown_names(archive: pathlib.Path) -> set[str]:
+def unknown_names(archive: Path) -> set[str]:
     """The names that the archive wants of its program, but for those that it may."""
     lines = call("nm", "--undefined-only", "--format=posix", archive).stdout.splitlines()
     return {line.split()[0] for line in lines if " U" in line} - WANTED
@@ -93,7 +77,7 @@ def told(records: Records) -> list[str]:
 class Firmware:
     """The example over one archive, with a formatted medium."""
 
-    def __init__(self, program: pathlib.Path, folder: pathlib.Path) -> None:
+    def __init__(self, program: Path, folder: Path) -> None:
         self.program = program
         self.folder = folder
         self.medium = folder / "medium"
@@ -104,7 +88,7 @@ class Firmware:
         self.states = list(states(self.lines))
         self.left = whole.read_bytes()
 
-    def run(self, medium: pathlib.Path, *words: str) -> subprocess.CompletedProcess[str]:
+    def run(self, medium: Path, *words: str) -> subprocess.CompletedProcess[str]:
         return call(self.program, medium, *words)
 
     def is_cut(self, words: tuple[str, ...], step: int, tear: str) -> str | None:
@@ -146,12 +130,11 @@ class Firmware:
             for step in range(self.changes(job))
             for tear in TEARS
         ]
-        with concurrent.futures.ThreadPoolExecutor(os.cpu_count()) as pool:
-            for wrong in pool.map(lambda case: self.is_cut(*case), cases):
-                tally.check(wrong is None, wrong or "")
+        for wrong in side_by_side(lambda case: self.is_cut(*case), cases):
+            tally.expect(wrong is None, wrong or "")
 
 
-def rust(library: pathlib.Path, tally: Tally) -> None:
+def rust(library: Path, tally: Tally) -> None:
     """The tests and the example of the Rust crate, over the library of a folder."""
     if shutil.which("cargo") is None:
         print("embed: there is no cargo, so the Rust crate was not tried")
@@ -160,32 +143,25 @@ def rust(library: pathlib.Path, tally: Tally) -> None:
     for words in (("test", "--offline", "--quiet"), ("run", "--offline", "--quiet", "--example", "vmm")):
         done = call("cargo", *words, cwd=TOP / "rust" / "apei", env=environment)
         is_right = done.returncode == 0 and (words[0] == "test" or done.stdout.count("as written: true") == 2)
-        tally.check(is_right, f"cargo {' '.join(words)}: {done.stdout}{done.stderr}")
+        tally.expect(is_right, f"cargo {' '.join(words)}: {done.stdout}{done.stderr}")
 
 
 def main(archives: list[str]) -> int:
+    if not archives:
+        sys.exit(__doc__)
     if shutil.which("cc") is None or shutil.which("ar") is None:
         print("there is no C compiler, so the library was not tried")
         return 0
-    tally = Tally()
-    with tempfile.TemporaryDirectory() as scratch:
+    tally = Tally("cases")
+    with scratch() as room:
         firmwares = []
         for number, archive in enumerate(archives):
-            folder = pathlib.Path(scratch) / str(number)
-            firmwares.append(Firmware(built(pathlib.Path(archive), folder), folder))
-            tally.check(not unknown_names(pathlib.Path(archive)), f"{archive} wants {unknown_names(pathlib.Path(archive))}")
+            folder = room / str(number)
+            firmwares.append(Firmware(built(Path(archive), folder), folder))
+            tally.expect(not unknown_names(Path(archive)), f"{archive} wants {unknown_names(Path(archive))}")
         for firmware in firmwares:
-            tally.check(firmware.left == firmwares[0].left, "two archives leave two mediums")
-            tally.check(len(firmware.lines) == 6, f"the run is not whole: {firmware.lines}")
+            tally.expect(firmware.left == firmwares[0].left, "two archives leave two mediums")
+            tally.expect(len(firmware.lines) == 6, f"the run is not whole: {firmware.lines}")
             firmware.cut_everywhere(tally)
         rust(firmwares[0].folder, tally)
-    for what in tally.wrong[:20]:
-        print(f"embed: {what}", file=sys.stderr)
-    print(f"{tally.cases} cases, {len(tally.wrong)} wrong")
-    return 1 if tally.wrong else 0
-
-
-if __name__ == "__main__":
-    if len(sys.argv) < 2:
-        sys.exit(__doc__)
-    sys.exit(main(sys.argv[1:]))
+    return tally.end()

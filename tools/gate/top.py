@@ -1,11 +1,10 @@
-#!/usr/bin/env python3
-"""Runs the scripts at the top as their user would, from where ./install puts them, and compares what they add to the programs; the gate runs it.
+"""Runs the scripts at the top as their user would, from where ./install puts them, and compares what they add to the programs.
 
-    tools/top.py
+    tools/run top
 
-What a script writes on standard output, its status, and the first line on standard error are the program's own; the lines behind that are compared
-with those wanted here. A file of another geometry, one that is none of ours and a library's medium are left as they are, a signal ends the program too, and a program
-that is older than its sources runs where there is no toolchain. The last line is 'N runs, M wrong'; the exit status is 0 where none is.
+What a script writes on standard output, its status, and the first line on standard error are the program's own; the lines behind that are
+compared with those wanted here. A file of another geometry, one that is none of ours and a library's medium are left as they are, a signal
+ends the program too, and a program that is older than its sources runs where there is no toolchain.
 """
 
 import fcntl
@@ -14,18 +13,18 @@ import pty
 import shutil
 import signal
 import subprocess
-import sys
 import tempfile
 import time
 from pathlib import Path
-from typing import Optional
+from typing import Any
 
-from look_model import medium_header
-from model import record
-from gate.options import IN_FORM, OUT_OF_FORM
+from apei.flash import Geometry
+from apei.harness import TOP, Ended, Program, Tally, scratch, script
+from apei.looks import medium_header
+from apei.scripts import write
+from gate.options import IN_FORM, OUT_OF_FORM, split
 from words import read
 
-TOP = Path(__file__).resolve().parent.parent
 BAD = "apei: ./apei --help says which jobs and options there are"
 LOOK_BAD = "apei-look: ./apei-look --help says which options there are"
 MEDIUM = "play would write over its first sector. No options would fit; --force before the job writes over it."
@@ -38,22 +37,30 @@ SAID: list[tuple[str, bytes, int, list[str]]] = [
     ("apei sim --slot=3", b"", 1, ["apei: bad words", "apei: --slot is no option; the nearest is --slots", BAD]),
     ("apei play --force --image=x", b"", 1, ["apei: bad words", "apei: --force stands before the job", BAD]),
     ("apei check --show=HEAD,parts", b"", 1, ["apei: bad words", "apei: --show=HEAD|parts: did you mean PARTS?", BAD]),
-    ("apei sim", b"count\r\n", 2, ["apei: line 1 column 6", "apei: there is a carriage return at the end of the line; lines end in a newline alone"]),
-    ("apei sim", b"\xef\xbb\xbfcount\n", 2, ["apei: line 1 column 1", "apei: a byte order mark stands at the front of the line; a script has none"]),
+    ("apei sim", b"count\r\n", 2,
+     ["apei: line 1 column 6", "apei: there is a carriage return at the end of the line; lines end in a newline alone"]),
+    ("apei sim", b"\xef\xbb\xbfcount\n", 2,
+     ["apei: line 1 column 1", "apei: a byte order mark stands at the front of the line; a script has none"]),
     ("apei sim", b"\n#\nCOUNT\n", 2, ["apei: line 3 column 1", "apei: upper case: did you mean count?"]),
     ("apei sim", b"cuont\n", 2, ["apei: line 1 column 2", "apei: no line begins with 'cuont'; the nearest that does is count"]),
     ("apei sim", b"erst 00\n", 2, ["apei: line 1 column 3", "apei: erst is a line of the job check, and not of this one"]),
     ("apei sim", b"read 01\n", 2, ["apei: line 1 column 7", "apei: 01 has a zero before its other digits; the line has the form read NUM"]),
     ("apei sim", b"count \n", 2, ["apei: line 1 column 6", "apei: a blank stands at the end of the line"]),
     ("apei sim", b"read  7\n", 2, ["apei: line 1 column 6", "apei: a blank too many: one space stands between the parts of a line"]),
-    ("apei check", b"erst 4F4\n", 2, ["apei: line 1 column 9", "apei: the line ends too early: hexadecimal digits come in pairs, and it has the form erst HEX"]),
-    ("apei hub", b"turns 0FX\n", 2, ["apei: line 1 column 9", "apei: 'X' is no letter of a turn; the line has the form turns PAIRS (a source from 0 to f, and F or R)"]),
-    ("apei play --image=none/x", b"", 5, ["apei: flash failed", "apei: none: No such file or directory: the folder of the image has to be there"]),
+    ("apei check", b"erst 4F4\n", 2,
+     ["apei: line 1 column 9", "apei: the line ends too early: hexadecimal digits come in pairs, and it has the form erst HEX"]),
+    ("apei hub", b"turns 0FX\n", 2,
+     ["apei: line 1 column 9", "apei: 'X' is no letter of a turn; the line has the form turns PAIRS (a source from 0 to f, and F or R)"]),
+    ("apei play --image=none/x", b"", 5,
+     ["apei: flash failed", "apei: none: No such file or directory: the folder of the image has to be there"]),
     ("apei play --image=.", b"", 5, ["apei: flash failed", "apei: .: Is a directory"]),
-    ("apei play --image=nowhere", b"", 5, ["apei: flash failed", f"apei: nowhere is a link that leads nowhere: there is no {os.path.realpath('/none/x')}"]),
-    ("apei sim --fail-read=0", b"", 5, ["apei: flash failed", "apei: --fail-read=0 made the flash fail as the machine was booted, reset or given power"]),
+    ("apei play --image=nowhere", b"", 5,
+     ["apei: flash failed", f"apei: nowhere is a link that leads nowhere: there is no {os.path.realpath('/none/x')}"]),
+    ("apei sim --fail-read=0", b"", 5,
+     ["apei: flash failed", "apei: --fail-read=0 made the flash fail as the machine was booted, reset or given power"]),
     ("apei sim --slots=1", b"", 6, ["apei: bad geometry 4096 2 1 0", "apei: --slots=1: there are 2 to 1024 slots"]),
-    ("apei play --image=short", b"", 6, ["apei: bad geometry 4096 2 32 65536", "apei: the file has 65536 bytes, and this geometry 262144: --slots=8 would fit"]),
+    ("apei play --image=short", b"", 6,
+     ["apei: bad geometry 4096 2 32 65536", "apei: the file has 65536 bytes, and this geometry 262144: --slots=8 would fit"]),
     ("apei play --image=six --slots=16", b"", 6, ["apei: bad geometry 4096 2 16 262144",
      "apei: the file has 262144 bytes, and this geometry 131072: heads stand where slots of 2 sectors of 4096 begin, and "
      "--sector=4096 --per-slot=2 --slots=32 would fit"]),
@@ -65,12 +72,16 @@ SAID: list[tuple[str, bytes, int, list[str]]] = [
     ("apei-show --json --brief six", b"", 1, ["apei-show: bad words", "apei-show: --json and --brief are one too many", SHOW_BAD]),
     ("apei-show none", b"", 5, ["apei-show: none: No such file or directory (os error 2)", "apei-show: a file can't be read"]),
     ("apei-look none", b"", 5, ["apei-look: there is no such image", "apei-look: none: No such file or directory"]),
-    ("apei play --image=six --per-slot=4 --slots=16", b"count\n", 6, ["apei: six has another geometry: heads stand where slots of 2 sectors of 4096 begin. "
+    ("apei play --image=six --per-slot=4 --slots=16", b"count\n", 6,
+     ["apei: six has another geometry: heads stand where slots of 2 sectors of 4096 begin. "
      "--sector=4096 --per-slot=2 --slots=32 would fit; --force before the job plays on it as it is."]),
-    ("apei play --image=random", b"count\n", 6, ["apei: random is none of ours: 32 of its 32 slots hold what apei never writes, and none holds a record. "
+    ("apei play --image=random", b"count\n", 6,
+     ["apei: random is none of ours: 32 of its 32 slots hold what apei never writes, and none holds a record. "
      "No options would fit; --force before the job writes over it."]),
-    ("apei play --image=medium --sector=256 --slots=8", b"count\n", 6, ["apei: medium is a medium of the library, of version 1: " + MEDIUM]),
-    ("apei play --image=medium2 --sector=256 --slots=8", b"count\n", 6, ["apei: medium2 is a medium of the library, of version 2: " + MEDIUM]),
+    ("apei play --image=medium --sector=256 --slots=8", b"count\n", 6,
+     ["apei: medium is a medium of the library, of version 1: " + MEDIUM]),
+    ("apei play --image=medium2 --sector=256 --slots=8", b"count\n", 6,
+     ["apei: medium2 is a medium of the library, of version 2: " + MEDIUM]),
     ("apei play --image=damaged --sector=256 --slots=8", b"count\n", 6,
      ["apei: damaged is a medium of the library, whose first sector is damaged: " + MEDIUM]),
     ("apei-look medium2", b"", 6, ["apei-look: a medium of the library, version 2: version 1 is the only one that is shown"]),
@@ -90,66 +101,71 @@ ANSWERED: list[tuple[str, bytes, str]] = [
 ]
 
 
-class Runs:
+class Runs(Tally):
     """The programs as they were installed, in a folder with files to try them on."""
 
     def __init__(self, folder: Path) -> None:
-        self.folder, self.runs, self.wrong = folder, 0, 0
+        super().__init__()
+        self.folder = folder
         subprocess.run([TOP / "install", f"--prefix={folder}"], check=True, stdout=subprocess.DEVNULL, umask=0o077)
         self.environment = {**os.environ, "PATH": f"{folder}/bin:{os.environ['PATH']}"}
         os.symlink("/none/x", folder / "nowhere")
         (folder / "short").write_bytes(b"\xff" * 65536)
-        (folder / "random").write_bytes(bytes((at * 7 + at // 251) % 255 for at in range(262144)))
+        (folder / "random").write_bytes(bytes((at * 7 + at // 251) % 255 for at in range(Geometry().size)))
         # A first write whose first erase was torn.
-        (folder / "torn").write_bytes(bytes(4096) + b"\xff" * (262144 - 4096))
-        # A library's medium, as long as a flash of 8 slots of two sectors of 256; one of another version, one whose first sector is damaged, and one
-        # that is cut off.
+        (folder / "torn").write_bytes(bytes(4096) + Geometry().erased[4096:])
+        self.write_mediums()
+        self.run("apei play --image=six", script(write(it, 300) for it in range(1, 7)))
+
+    def write_mediums(self) -> None:
+        """A library's medium, as long as a flash of 8 slots of two sectors of 256; one of another version, one whose first sector is damaged, and one
+        that is cut off."""
         medium = medium_header(256, 3, 5).ljust(4096, b"\xff")
-        (folder / "medium").write_bytes(medium)
-        (folder / "forced").write_bytes(medium)
-        (folder / "medium2").write_bytes(medium_header(256, 3, 5, 2).ljust(4096, b"\xff"))
-        (folder / "damaged").write_bytes(medium[:20] + b"\x04" + medium[21:])
-        (folder / "cut").write_bytes(medium[:1000])
-        script = "".join(f"write {record(it, 300).hex()}\n" for it in range(1, 7))
-        self.run("apei play --image=six", script.encode())
+        (self.folder / "medium").write_bytes(medium)
+        (self.folder / "forced").write_bytes(medium)
+        (self.folder / "medium2").write_bytes(medium_header(256, 3, 5, 2).ljust(4096, b"\xff"))
+        (self.folder / "damaged").write_bytes(medium[:20] + b"\x04" + medium[21:])
+        (self.folder / "cut").write_bytes(medium[:1000])
 
-    def run(self, words: str, given: bytes = b"") -> "subprocess.CompletedProcess[bytes]":
-        return subprocess.run(words.split(" "), cwd=self.folder, env=self.environment, input=given, capture_output=True, check=False)
-
-    def expect(self, right: bool, what: str) -> None:
-        self.runs += 1
-        if not right:
-            self.wrong += 1
-            print(what[:800], file=sys.stderr)
+    def run(self, words: str, given: bytes = b"", **options: Any) -> Ended:
+        name, *rest = words.split(" ")
+        program = Program(self.folder / "bin" / name)
+        settings: dict[str, Any] = {"cwd": self.folder, "env": self.environment, **options}
+        return program.run(*rest, given=given, **settings)
 
     def files(self) -> dict[str, bytes]:
         return {name: (self.folder / name).read_bytes() for name in ("six", "random", "short", "medium", "medium2", "damaged", "cut")}
+
+
+    def start(self, words: str, **options: Any) -> "subprocess.Popen[bytes]":
+        """A run that may be told to end."""
+        return subprocess.Popen(words.split(" "), cwd=self.folder, env=self.environment, preexec_fn=let_signals_end_it, **options)
 
 
 def said(runs: Runs) -> None:
     before = runs.files()
     for words, given, status, lines in SAID:
         done = runs.run(words, given)
-        found = done.stderr.decode().splitlines()
-        runs.expect((done.returncode, found) == (status, lines), f"{words}: wanted {status} {lines}, found {done.returncode} {found}")
+        found = done.said.splitlines()
+        runs.expect((done.status, found) == (status, lines), f"{words}: wanted {status} {lines}, found {done.status} {found}")
         # The same from a file in place of a pipe.
         with tempfile.TemporaryFile() as file:
             file.write(given)
             file.seek(0)
-            again = subprocess.run(words.split(" "), cwd=runs.folder, env=runs.environment, stdin=file, capture_output=True, check=False)
-        runs.expect((again.stderr, again.stdout) == (done.stderr, done.stdout), f"{words}: from a file it says {again.stderr!r}")
+            again = runs.run(words, stdin=file)
+        runs.expect((again.said, again.written) == (done.said, done.written), f"{words}: from a file it says {again.said!r}")
     runs.expect(runs.files() == before, "a file that was refused is another")
     for words, given, replies in ANSWERED:
         done = runs.run(words, given)
-        runs.expect((done.returncode, done.stdout.decode(), done.stderr) == (0, replies, b""), f"{words}: {done}")
+        runs.expect((done.status, done.text, done.said) == (0, replies, ""), f"{words}: {done}")
 
 
 def faults(runs: Runs) -> None:
-    """The command lines that tools/options.py tries have a fault where the program refuses them."""
+    """The command lines that the tool `options` tries have a fault where the program refuses them."""
     for words in IN_FORM:
-        runs.expect(read("apei", words.split(" ")).fault is None, f"{words}: a fault is found")
+        runs.expect(read("apei", split(words)).fault is None, f"{words}: a fault is found")
     for words in OUT_OF_FORM:
-        runs.expect(read("apei", words.split(" ") if words else []).fault is not None, f"{words}: no fault is found")
+        runs.expect(read("apei", split(words)).fault is not None, f"{words}: no fault is found")
 
 
 def is_alive(pid: int) -> bool:
@@ -158,7 +174,7 @@ def is_alive(pid: int) -> bool:
     return Path(f"/proc/{pid}/stat").read_text().rpartition(")")[2].split()[0] != "Z"
 
 
-def child_of(pid: int) -> Optional[int]:
+def child_of(pid: int) -> int | None:
     """The process that the script started, once it is there."""
     for _ in range(200):
         for found in Path(f"/proc/{pid}/task/{pid}/children").read_text().split():
@@ -180,14 +196,7 @@ def let_signals_end_it() -> None:
 def signals(runs: Runs) -> None:
     """A script that is told to end ends when its program has, and the lock is free then."""
     for number in ENDING:
-        started = subprocess.Popen(
-            ["apei", "play", "--image=six"],
-            cwd=runs.folder,
-            env=runs.environment,
-            stdin=subprocess.PIPE,
-            stdout=subprocess.DEVNULL,
-            preexec_fn=let_signals_end_it,
-        )
+        started = runs.start("apei play --image=six", stdin=subprocess.PIPE, stdout=subprocess.DEVNULL)
         child = child_of(started.pid)
         started.send_signal(number)
         status = started.wait(20)
@@ -213,7 +222,7 @@ def builds(runs: Runs) -> None:
     (kept / "tools/build").write_text(BUILD)
     (kept / "tools/build").chmod(0o755)
     for number in ENDING:
-        started = subprocess.Popen(["apei-look", "six"], cwd=runs.folder, env=runs.environment, stdin=subprocess.DEVNULL, preexec_fn=let_signals_end_it)
+        started = runs.start("apei-look six", stdin=subprocess.DEVNULL)
         begun, ended = runs.folder / "begun", runs.folder / "ended"
         for _ in range(200):
             if begun.exists():
@@ -233,27 +242,27 @@ def held(runs: Runs) -> None:
     with open(runs.folder / "six", "rb") as file:
         fcntl.flock(file, fcntl.LOCK_EX)
         done = runs.run("apei play --image=six")
-    runs.expect((done.returncode, done.stderr) == (5, b"apei: flash failed\napei: another run holds six\n"), f"a file that is held: {done}")
+    runs.expect((done.status, done.said) == (5, "apei: flash failed\napei: another run holds six\n"), f"a file that is held: {done}")
 
 
 def on_terminal(runs: Runs, words: str) -> tuple[int, bytes]:
     """Status and output of a run whose standard output is a terminal."""
     ours, theirs = pty.openpty()
-    done = subprocess.run(words.split(" "), cwd=runs.folder, env=runs.environment, stdin=subprocess.DEVNULL, stdout=theirs, stderr=subprocess.DEVNULL, check=False)
+    done = runs.run(words, stdin=subprocess.DEVNULL, stdout=theirs)
     os.close(theirs)
     try:
         shown = os.read(ours, 1 << 16)
     except OSError:
         shown = b""
     os.close(ours)
-    return done.returncode, shown
+    return done.status, shown
 
 
 def terminals(runs: Runs) -> None:
     runs.expect(on_terminal(runs, "apei-look --record=1 six") == (4, b""), "the bytes of a record are written to a terminal")
     status, shown = on_terminal(runs, "apei-look --force --record=1 six")
     runs.expect(status == 0 and shown.startswith(b"CPER"), "--force does not write to a terminal")
-    runs.expect(runs.run("apei-look --record=1 six").stdout[:4] == b"CPER", "the bytes of a record are not written to a pipe")
+    runs.expect(runs.run("apei-look --record=1 six").written[:4] == b"CPER", "the bytes of a record are not written to a pipe")
 
 
 def answers(runs: Runs) -> None:
@@ -261,8 +270,8 @@ def answers(runs: Runs) -> None:
     is_checkout = (TOP / ".git").exists()
     for name in ("apei", "apei-look", "apei-show"):
         helped = runs.run(f"{name} --help")
-        runs.expect(helped.returncode == 0 and helped.stdout == (TOP / "tools" / f"help{name[4:]}.txt").read_bytes(), f"{name} --help")
-        shown = runs.run(f"{name} --version").stdout.decode()
+        runs.expect(helped.status == 0 and helped.written == (TOP / "tools" / f"help{name[4:]}.txt").read_bytes(), f"{name} --help")
+        shown = runs.run(f"{name} --version").text
         runs.expect(shown.startswith(f"{name} ") and ("(no commit)" not in shown or not is_checkout), f"{name} --version: {shown}")
         for path in (f"share/man/man1/{name}.1", f"share/bash-completion/completions/{name}"):
             runs.expect((runs.folder / path).exists(), f"{path} is not installed")
@@ -276,15 +285,15 @@ def without_toolchain(runs: Runs) -> None:
     """A program that is older than its sources is run, and said to be, where there is no toolchain to build it."""
     kept = runs.folder / "lib/apei"
     (kept / "crates.txt").write_text("")
-    done = subprocess.run(["apei", "sim"], cwd=runs.folder, env={"PATH": f"{runs.folder}/bin:/usr/bin:/bin"}, input=b"count\n", capture_output=True, check=False)
-    said_so = b"the sources are newer than the program" in done.stderr
-    runs.expect((done.returncode, done.stdout, said_so) == (0, b"count 0 @0\n", not shutil.which("rt", path="/usr/bin:/bin")), f"without the toolchain: {done}")
+    done = runs.run("apei sim", b"count\n", env={"PATH": f"{runs.folder}/bin:/usr/bin:/bin"})
+    said_so, wanted = "the sources are newer than the program" in done.said, shutil.which("rt", path="/usr/bin:/bin") is None
+    runs.expect((done.status, done.text, said_so) == (0, "count 0 @0\n", wanted), f"without the toolchain: {done}")
     (kept / "crates.txt").unlink()
 
 
-def main() -> int:
-    with tempfile.TemporaryDirectory() as folder:
-        runs = Runs(Path(folder))
+def main(_words: list[str]) -> int:
+    with scratch() as folder:
+        runs = Runs(folder)
         faults(runs)
         said(runs)
         held(runs)
@@ -293,9 +302,4 @@ def main() -> int:
         terminals(runs)
         answers(runs)
         without_toolchain(runs)
-    print(f"{runs.runs} runs, {runs.wrong} wrong")
-    return 1 if runs.wrong else 0
-
-
-if __name__ == "__main__":
-    sys.exit(main())
+        return runs.end()

@@ -1,70 +1,75 @@
-#!/usr/bin/env python3
 """Writes docs/FIGURES.md: what fits on a flash, what a write takes, and how the erases spread; and the picture of these.
 
-    tools/figures.py [--check] [--erases WRITES]
+    tools/run figures [--check] [--erases WRITES]
 
-The tables are worked out by the plain model of tools/model.py, which the gate compares with the program. With --check nothing is written, and the exit
-status is 1 where the page is another. With --erases the picture docs/pictures/erases.svg is made anew, of so many writes (100,000, which takes minutes).
+The tables are worked out by the plain model of the store, which the gate compares with the program. With --check nothing is written, and
+the exit status is 1 where the page is another. With --erases the picture docs/pictures/erases.svg is made anew, of so many writes
+(100,000, which takes minutes).
 """
 
 import argparse
 import random
-import sys
-from pathlib import Path
-from typing import Iterator
+from collections.abc import Iterator
 
-from model import LEAST, PIECE, Model, record
+from apei.flash import Geometry
+from apei.frames import record
+from apei.harness import TOP
+from apei.scripts import write
+from apei.store import LEAST, PIECE, Store
 
-TOP = Path(__file__).resolve().parent.parent
 PAGE, PICTURE = TOP / "docs/FIGURES.md", TOP / "docs/pictures/erases.svg"
-# Sector, sectors a slot, slots.
-GEOMETRIES = [(256, 2, 1024), (512, 2, 512), (4096, 2, 32), (4096, 2, 128), (4096, 16, 32), (32768, 2, 32), (32768, 2, 1024)]
+GEOMETRIES = [
+    Geometry(256, 2, 1024), Geometry(512, 2, 512), Geometry(4096, 2, 32), Geometry(4096, 2, 128), Geometry(4096, 16, 32), Geometry(32768, 2, 32),
+    Geometry(32768, 2, 1024),
+]
 LENGTHS = [128, 512, 2048, 8128, 16384, 65536]
 # Microseconds of an erase of 4,096 bytes and of a program of 256, of a common SPI flash; of a sector of another size in proportion.
 ERASE, PROGRAM, MARK = 45_000, 400, 30
-IDENTIFIERS, SLOTS, SECTOR = 20, 32, 256
+IDENTIFIERS, SLOTS = 20, 32
 # The bytes that the store's lists have for each slot.
 LISTED = 8 + 20 + 4 + 40
 
 
-def parts(model: Model, length: int) -> int:
-    return -(-length // model.room)
-
-
-def fits(model: Model, length: int) -> int:
+def fits(store: Store, length: int) -> int:
     """How many records of a length a store takes: the last of them needs one slot beside its own."""
-    return max((len(model.slots) - 1) // parts(model, length), 0) if length <= model.reach else 0
+    return max((store.geometry.slots - 1) // store.geometry.parts(length), 0) if length <= store.reach else 0
 
 
-class Counted(Model):
-    """A model that counts its erases, by sectors, and its other changes, by the bytes that they program."""
+class Counted(Store):
+    """A store that counts its erases, by sectors, and its other changes, by the bytes that they program."""
 
-    def __init__(self, per_slot: int, slots: int, sector: int) -> None:
-        super().__init__(per_slot, slots, sector=sector)
-        self.erases = [0] * (slots * per_slot)
+    def __init__(self, geometry: Geometry) -> None:
+        super().__init__(geometry)
+        self.forget()
+
+    def forget(self) -> None:
+        self.erases = [0] * (self.geometry.slots * self.geometry.per_slot)
         self.programs: list[int] = []
+        self.steps = 0
 
     def change(self, slot: int, at: int, data: bytes) -> None:
-        if len(data) == self.sector and data.count(0xFF) == len(data):
-            self.erases[slot * self.per_slot + at // self.sector] += 1
+        sector = self.geometry.sector
+        if len(data) == sector and data.count(0xFF) == len(data):
+            self.erases[slot * self.geometry.per_slot + at // sector] += 1
         else:
             self.programs.append(len(data))
         super().change(slot, at, data)
 
 
-def of_write(sector: int, per_slot: int, length: int, replaces: bool) -> Counted:
+def of_write(geometry: Geometry, length: int, replaces: bool) -> Counted:
     """The changes of one write, with an older record in the way or not."""
-    model = Counted(per_slot, 16, sector)
+    store = Counted(geometry)
     if replaces:
-        model.play("write " + record(1, length).hex())
-        model.erases, model.programs, model.steps = [0] * len(model.erases), [], 0
-    model.play("write " + record(1, length).hex())
-    return model
+        store.play(write(1, length))
+        store.forget()
+    store.play(write(1, length))
+    return store
 
 
-def milliseconds(model: Counted) -> float:
-    erase = ERASE * model.sector / 4096
-    return (sum(model.erases) * erase + sum(MARK if size == 1 else PROGRAM * max(size, 64) / PIECE for size in model.programs)) / 1000
+def milliseconds(store: Counted) -> float:
+    erase = ERASE * store.geometry.sector / 4096
+    programs = sum(MARK if size == 1 else PROGRAM * max(size, 64) / PIECE for size in store.programs)
+    return (sum(store.erases) * erase + programs) / 1000
 
 
 def row(*cells: object) -> str:
@@ -75,41 +80,42 @@ def head(*names: str) -> str:
     return row(*names) + "|" + "---|" * len(names) + "\n"
 
 
-def named(sector: int, per_slot: int, slots: int) -> str:
-    return f"{slots:,} slots of {per_slot} sectors of {sector:,}"
+def named(geometry: Geometry) -> str:
+    return f"{geometry.slots:,} slots of {geometry.per_slot} sectors of {geometry.sector:,}"
 
 
 def fitting() -> Iterator[str]:
     yield head("geometry", "flash", "longest record", *(f"records of {length:,}" for length in LENGTHS))
-    for sector, per_slot, slots in GEOMETRIES:
-        model = Model(per_slot, slots, sector=sector)
-        size = sector * per_slot * slots
+    for geometry in GEOMETRIES:
+        store, size = Store(geometry), geometry.size
         flash = f"{size >> 20} MiB" if size >= 1 << 20 else f"{size >> 10} KiB"
-        yield row(named(sector, per_slot, slots), flash, f"{model.reach:,}", *(fits(model, length) or "none" for length in LENGTHS))
+        yield row(named(geometry), flash, f"{store.reach:,}", *(fits(store, length) or "none" for length in LENGTHS))
 
 
 def writing() -> Iterator[str]:
-    yield head("sectors of a slot", "record", "parts", "erases", "programs", "changes of a new record", "of a replacement", "milliseconds by the times below")
-    for sector, per_slot in ((256, 2), (4096, 2), (4096, 4), (32768, 2)):
+    names = "sectors of a slot", "record", "parts", "erases", "programs", "changes of a new record", "of a replacement"
+    yield head(*names, "milliseconds by the times below")
+    for geometry in (Geometry(256, 2, 16), Geometry(4096, 2, 16), Geometry(4096, 4, 16), Geometry(32768, 2, 16)):
         for length in LENGTHS:
-            model = of_write(sector, per_slot, length, False)
-            if length <= model.reach:
-                again = of_write(sector, per_slot, length, True)
-                changes = model.steps, again.steps
-                yield row(f"{per_slot} of {sector:,}", f"{length:,}", parts(model, length), sum(model.erases), len(model.programs), *changes, f"{milliseconds(again):,.1f}")
+            store = of_write(geometry, length, False)
+            if length <= store.reach:
+                again = of_write(geometry, length, True)
+                slot = f"{geometry.per_slot} of {geometry.sector:,}"
+                counts = geometry.parts(length), sum(store.erases), len(store.programs), store.steps, again.steps
+                yield row(slot, f"{length:,}", *counts, f"{milliseconds(again):,.1f}")
 
 
 def taking() -> Iterator[str]:
     yield head("geometry", "buffer", "lists", "in all")
-    for sector, per_slot, slots in GEOMETRIES:
-        model = Model(per_slot, slots, sector=sector)
-        yield row(named(sector, per_slot, slots), f"{model.reach:,}", f"{LISTED * slots:,}", f"{model.reach + LISTED * slots:,} bytes")
+    for geometry in GEOMETRIES:
+        reach, listed = Store(geometry).reach, LISTED * geometry.slots
+        yield row(named(geometry), f"{reach:,}", f"{listed:,}", f"{reach + listed:,} bytes")
 
 
 def page() -> str:
     return f"""# Figures for the one who chooses
 
-Made by `tools/figures.py` from the plain model with which the gate compares the program.
+Made by `tools/run figures` from the plain model with which the gate compares the program.
 
 ## What fits
 
@@ -166,11 +172,11 @@ It goes by the machine and the compiler. As LLVM builds them for x86-64, `size` 
 def erases(writes: int) -> list[int]:
     """The erases of each sector over so many writes of records of 128 to 448 bytes under a few identifiers."""
     chance = random.Random(1)
-    model = Counted(2, SLOTS, SECTOR)
-    lines = [record(it, length).hex() for it in range(1, IDENTIFIERS + 1) for length in (LEAST, 300, model.room)]
+    store = Counted(Geometry(256, 2, SLOTS))
+    records = [record(it, length).hex() for it in range(1, IDENTIFIERS + 1) for length in (LEAST, 300, store.room)]
     for _ in range(writes):
-        model.play("write " + chance.choice(lines))
-    return model.erases
+        store.write(chance.choice(records))
+    return store.erases
 
 
 def picture(counts: list[int], writes: int) -> str:
@@ -191,11 +197,11 @@ def picture(counts: list[int], writes: int) -> str:
 """
 
 
-def main() -> int:
-    parser = argparse.ArgumentParser(prog="tools/figures.py")
+def main(words: list[str]) -> int:
+    parser = argparse.ArgumentParser(prog="tools/run figures")
     parser.add_argument("--check", action="store_true")
     parser.add_argument("--erases", type=int, metavar="WRITES")
-    given = parser.parse_args()
+    given = parser.parse_args(words)
     if given.erases:
         PICTURE.parent.mkdir(exist_ok=True)
         PICTURE.write_text(picture(erases(given.erases), given.erases))
@@ -203,7 +209,3 @@ def main() -> int:
         return 0 if PAGE.read_text() == page() else 1
     PAGE.write_text(page())
     return 0
-
-
-if __name__ == "__main__":
-    sys.exit(main())

@@ -1,18 +1,17 @@
-"""Files for apei-show: well-formed ones, each with the items that it holds, and such as no program makes. tools/show.py has them shown."""
+"""Files for apei-show: well-formed ones, each with the items that it holds, and such as no program makes."""
 
-import glob
-import os
 import re
+from collections.abc import Iterator
 from dataclasses import dataclass
-from typing import Iterator, Optional
 
-import show_bodies as bodies
-import show_model as model
-from look_model import PER_SLOT, SECTOR, Shown, seeming
-from model import Model
-from show_bodies import Chance, little
-
-TOP = os.path.dirname(os.path.dirname(os.path.abspath(__file__)))
+from apei import names
+from apei.bytes import number, spell
+from apei.flash import Geometry
+from apei.harness import TOP
+from apei.looks import PER_SLOT, SECTOR, Shown, seeming
+from apei.show import bodies, layouts, reading
+from apei.show.bodies import Chance
+from apei.store import Store
 
 
 @dataclass(frozen=True)
@@ -21,12 +20,12 @@ class Wanted:
 
     name: str
     data: bytes
-    items: list[model.Group]
-    own: Optional[str] = None
+    items: list[reading.Group]
+    own: str | None = None
 
 
 def of_kind(kind: str, data: bytes, name: str = "file") -> Wanted:
-    return Wanted(name, data, model.items(kind, data))
+    return Wanted(name, data, reading.items(kind, data))
 
 
 def of_sections(chance: Chance, count: int) -> Iterator[Wanted]:
@@ -56,9 +55,9 @@ def of_tables(chance: Chance, count: int) -> Iterator[Wanted]:
 
 def of_dump(tables: list[bytes]) -> Wanted:
     """Tables as acpidump writes them."""
-    text, items = b"", []
+    text, items = b"", list[reading.Group]()
     for table in tables:
-        items.append(model.item("table", table, len(items), len(text)))
+        items.append(reading.item("table", table, len(items), len(text)))
         text += dump(table)
     return Wanted("acpi.txt", text, items)
 
@@ -74,9 +73,8 @@ def dump(table: bytes) -> bytes:
 
 def checked_items() -> Iterator[tuple[str, bytes]]:
     """The items that scripts of checks have: examples/ and tests/scripts."""
-    for path in sorted(glob.glob(os.path.join(TOP, "examples/*.script")) + glob.glob(os.path.join(TOP, "tests/scripts/*.script"))):
-        with open(path, "rb") as file:
-            text = file.read().decode("latin-1")
+    for path in sorted([*TOP.glob("examples/*.script"), *TOP.glob("tests/scripts/*/script")]):
+        text = path.read_bytes().decode("latin-1")
         for found in re.finditer(r"^(erst|hest|bert|record|block|write|table) ((?:[0-9a-fA-F]{2})+)$", text, re.MULTILINE):
             yield found[1], bytes.fromhex(found[2])
 
@@ -99,46 +97,46 @@ def is_well(kind: str, data: bytes) -> bool:
 
 
 def is_well_table(data: bytes) -> bool:
-    if len(data) < 40 or model.table_length(data) != len(data) or sum(data) % 256:
+    if len(data) < 40 or reading.table_length(data) != len(data) or sum(data) % 256:
         return False
     if data[:4] == b"ERST":
-        return len(data) >= 48 and len(data) == 48 + 32 * model.number(data, 44, 4) and model.number(data, 36, 4) == 48 and bodies_are_known(data)
+        return len(data) >= 48 and len(data) == 48 + 32 * number(data, 44, 4) and number(data, 36, 4) == 48 and bodies_are_known(data)
     if data[:4] == b"BERT":
         return len(data) == 48
     return data[:4] == b"HEST" and sources_end(data) == len(data)
 
 
 def bodies_are_known(data: bytes) -> bool:
-    return all(data[at] < 17 and data[at + 1] < 19 for at in model.entries(data))
+    return all(data[at] < 17 and data[at + 1] < 19 for at in reading.entries(data))
 
 
 def sources_end(data: bytes) -> int:
     at = 40
-    for _ in range(model.number(data, 36, 4)):
-        kind = model.number(data, at, 2)
-        if kind not in model.tables.SOURCES or at >= len(data):
+    for _ in range(number(data, 36, 4)):
+        kind = number(data, at, 2)
+        if kind not in layouts.SOURCES or at >= len(data):
             return -1
-        size, layout = model.tables.SOURCES[kind]
-        at += size + sum(part.size * model.count_of(part.count, data[at:]) for part in layout.parts)
+        size, layout = layouts.SOURCES[kind]
+        at += size + sum(part.size * reading.count_of(part.count, data[at:]) for part in layout.parts)
     return at
 
 
 def is_well_record(data: bytes) -> bool:
-    if len(data) < 128 or data[:4] != b"CPER" or data[6:10] != b"\xff" * 4 or model.record_length(data) != len(data) or model.number(data, 12, 4) > 3:
+    if len(data) < 128 or data[:4] != b"CPER" or data[6:10] != b"\xff" * 4 or reading.record_length(data) != len(data) or number(data, 12, 4) > 3:
         return False
-    at = 128 + 72 * model.number(data, 10, 2)
+    at = 128 + 72 * number(data, 10, 2)
     if at > len(data):
         return False
-    ends = [(model.number(data, it, 4), model.number(data, it + 4, 4)) for it in range(128, at, 72)]
+    ends = [(number(data, it, 4), number(data, it + 4, 4)) for it in range(128, at, 72)]
     return all(at <= begin and begin + length <= len(data) for begin, length in ends)
 
 
 def is_well_block(data: bytes) -> bool:
-    if len(data) < 20 or model.number(data, 0, 4) == 0 or model.block_length(data) != len(data) or model.number(data, 16, 4) > 3:
+    if len(data) < 20 or number(data, 0, 4) == 0 or reading.block_length(data) != len(data) or number(data, 16, 4) > 3:
         return False
-    at, end = 20, 20 + model.number(data, 12, 4)
+    at, end = 20, 20 + number(data, 12, 4)
     while at < end:
-        at += (72 if model.number(data, at + 20, 2) >= 0x300 else 64) + model.number(data, at + 24, 4)
+        at += (72 if number(data, at + 20, 2) >= 0x300 else 64) + number(data, at + 24, 4)
     return at == end
 
 
@@ -147,32 +145,31 @@ def of_pstore(chance: Chance) -> Iterator[tuple[str, bytes]]:
     yield "dmesg-erst-6310243155473383425", bodies.dmesg(chance)
     yield "mce-erst-6310243155473383426", bodies.machine_check(chance)
     yield "dmesg-erst-6310243155473383427.enc.z", chance.of.randbytes(200)
-    yield "dmesg-erst-6310243155473383428", bodies.record(chance, (bodies.DMESG, bodies.dmesg(chance)), linux=True)
+    yield "dmesg-erst-6310243155473383428", bodies.record(chance, (names.DMESG, bodies.dmesg(chance)), linux=True)
 
 
 def store_images(chance: Chance) -> Iterator[bytes]:
     """Flash images of records whose sections have fields."""
     for slots in (5, 9):
-        played = Model(PER_SLOT, slots, sector=SECTOR)
+        played = Store(Geometry(SECTOR, PER_SLOT, slots))
         for identifier in range(1, slots - 1):
-            kind = chance.of.choice([bodies.MEMORY, bodies.PCIE, bodies.PROCESSOR])
+            kind = chance.of.choice([names.MEMORY, names.PCIE, names.PROCESSOR])
             played.play("write " + bodies.record(chance, (kind, bodies.BODIES[kind](chance)), identifier=identifier).hex())
-        yield b"".join(bytes(it) for it in played.slots)
-    for path in sorted(glob.glob(os.path.join(TOP, "tests/scripts/*.image"))):
-        with open(path, "rb") as file:
-            image = file.read()
+        yield played.image
+    for path in sorted(TOP.glob("tests/scripts/*/image")):
+        image = path.read_bytes()
         if seeming(image)[1:] == (SECTOR, PER_SLOT):
             yield image
 
 
 def records_of(image: bytes) -> list[bytes]:
     """The records that a boot finds on an image."""
-    return [body for _, _, body, _ in Shown(image).records.values()]
+    return [record.body for record in Shown(image).records]
 
 
 def qemu_storage(records: list[bytes], size: int = 0x2000, slots: int = 32) -> bytes:
     """The storage file of QEMU's device acpi-erst (hw/acpi/erst.c): a header with a map of identifiers by slots, which is in the first of them, and records."""
-    head = b"ERSTSTOR" + little(size, 4) + little(size, 4) + little(0x100, 2) + bytes(2) + little(len(records), 4) + bytes(8)
+    head = b"ERSTSTOR" + spell(size, 4) + spell(size, 4) + spell(0x100, 2) + bytes(2) + spell(len(records), 4) + bytes(8)
     head += b"".join(it[96:104] for it in records)
     return b"".join([head.ljust(size, b"\0"), *(it.ljust(size, b"\xff") for it in records)]).ljust(size * slots, b"\0")
 
@@ -181,10 +178,10 @@ def of_stores(chance: Chance) -> Iterator[Wanted]:
     """Flash images and QEMU's storage: an item that says what they are, and the records in them."""
     for image in store_images(chance):
         records = records_of(image)
-        yield Wanted("image", image, [model.item("record", it, index + 1, None) for index, it in enumerate(records)], "image")
+        yield Wanted("image", image, [reading.item("record", it, index + 1, None) for index, it in enumerate(records)], "image")
     records = [bodies.record(chance, (kind, make(chance)), identifier=9 + index) for index, (kind, make) in enumerate(bodies.BODIES.items())]
     storage = qemu_storage(records)
-    items = [model.item("record", it, index + 1, storage.find(it)) for index, it in enumerate(records)]
+    items = [reading.item("record", it, index + 1, storage.find(it)) for index, it in enumerate(records)]
     yield Wanted("storage", storage, items, "qemu")
 
 
@@ -215,7 +212,7 @@ def mutated(chance: Chance, data: bytes) -> bytes:
         elif kind == 5:
             del out[at : at + chance.below(40)]
         elif kind == 6:
-            out[at : at + 4] = little(chance.of.choice([0, 1, 2**31, 2**32 - 1, len(out), len(out) + 1, 128]), 4)
+            out[at : at + 4] = spell(chance.of.choice([0, 1, 2**31, 2**32 - 1, len(out), len(out) + 1, 128]), 4)
         else:
             out += out[: chance.below(100)]
     return bytes(out[:70_000])

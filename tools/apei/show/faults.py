@@ -1,10 +1,12 @@
-"""Items with one fault each, and where it stands: tools/show.py wants apei-show to show what comes before it, and to say that the item is bad."""
+"""Items with one fault each, and where it stands: apei-show has to show what comes before it, and to say that the item is bad."""
 
+from collections.abc import Iterator
 from dataclasses import dataclass
-from typing import Iterator
 
-import show_bodies as bodies
-from show_bodies import Chance, little
+from apei import names
+from apei.bytes import spell
+from apei.show import bodies
+from apei.show.bodies import Chance
 
 
 @dataclass(frozen=True)
@@ -18,11 +20,11 @@ class Fault:
 
 
 def put(data: bytes, at: int, value: int, width: int) -> bytes:
-    return data[:at] + little(value, width) + data[at + width :]
+    return data[:at] + spell(value, width) + data[at + width :]
 
 
 def of_records(chance: Chance) -> Iterator[Fault]:
-    record = bodies.record(chance, (bodies.MEMORY, bodies.memory(chance)), (bodies.PCIE, bodies.pcie(chance)))
+    record = bodies.record(chance, (names.MEMORY, bodies.memory(chance)), (names.PCIE, bodies.pcie(chance)))
     yield Fault("a record whose signature does not end", put(record, 6, 0, 4), 6)
     yield Fault("a record that is cut off", record[:-10], len(record) - 10, "missing")
     yield Fault("a record of which its header alone is there", record[:128], 128)
@@ -33,7 +35,7 @@ def of_records(chance: Chance) -> Iterator[Fault]:
 
 
 def of_blocks(chance: Chance) -> Iterator[Fault]:
-    block = bodies.block(chance, (bodies.MEMORY, bodies.memory(chance)), (bodies.PCIE, bodies.pcie(chance)))
+    block = bodies.block(chance, (names.MEMORY, bodies.memory(chance)), (names.PCIE, bodies.pcie(chance)))
     yield Fault("a block that is cut off", block[:-10], len(block) - 10)
     yield Fault("a block whose entry is longer than its data", put(block, 20 + 24, 2**32 - 1, 4), 20)
     yield Fault("a block whose data are longer than its entries", put(block + bytes(30), 12, len(block) + 10, 4), 12)
@@ -42,7 +44,7 @@ def of_blocks(chance: Chance) -> Iterator[Fault]:
 
 def of_tables(chance: Chance) -> Iterator[Fault]:
     erst, hest, bert = bodies.erst(chance), bodies.hest(chance, [9, 10]), bodies.bert(chance)
-    yield Fault("a table whose checksum is another", put(erst, 9, erst[9] + 1, 1), 9, "modulo 256")
+    yield Fault("a table whose checksum is another", put(erst, 9, (erst[9] + 1) % 256, 1), 9, "modulo 256")
     yield Fault("a table that is cut off", hest[:-5], 4)
     yield Fault("a table that is shorter than its header", put(bert, 4, 20, 4), 4)
     yield Fault("a table of one source more than it says", sealed(put(hest, 36, 1, 4)), 36, "coreboot")
