@@ -35,7 +35,7 @@ impl Plain {
     }
 }
 
-const SPACES: [u8; 768] = [b' '; 768];
+static SPACES: [u8; 768] = [b' '; 768];
 
 fn add_spaces(count: usize, out: &mut Vec<u8>) -> Result<(), AllocError>
     requires { count ≤ 768 }
