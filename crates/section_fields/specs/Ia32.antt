@@ -195,10 +195,11 @@ x64_registers_rows =
     ∷ row 176 8 None (codes "CR2") hexadecimal
     ∷ row 184 8 None (codes "CR3") hexadecimal
     ∷ row 192 8 None (codes "CR4") hexadecimal
-    ∷ row 200 16 None (codes "GDTR") hexadecimal
-    ∷ row 216 16 None (codes "IDTR") hexadecimal
-    ∷ row 232 2 None (codes "LDTR") hexadecimal
-    ∷ row 234 2 None (codes "TR") hexadecimal
+    ∷ row 200 8 None (codes "CR8") hexadecimal
+    ∷ row 208 16 None (codes "GDTR") hexadecimal
+    ∷ row 224 16 None (codes "IDTR") hexadecimal
+    ∷ row 240 2 None (codes "LDTR") hexadecimal
+    ∷ row 242 2 None (codes "TR") hexadecimal
     ∷ []
 
 abbrev pub ia32_error_inside : List Inside

@@ -156,7 +156,7 @@ const IA32_REGISTERS_ROWS: [Field; 25] = [
 ];
 
 // What stands inside: the registers of an x64 context.
-const X64_REGISTERS_ROWS: [Field; 33] = [
+const X64_REGISTERS_ROWS: [Field; 34] = [
     field!(0, 8, None, "RAX", Hexadecimal),
     field!(8, 8, None, "RBX", Hexadecimal),
     field!(16, 8, None, "RCX", Hexadecimal),
@@ -186,10 +186,11 @@ const X64_REGISTERS_ROWS: [Field; 33] = [
     field!(176, 8, None, "CR2", Hexadecimal),
     field!(184, 8, None, "CR3", Hexadecimal),
     field!(192, 8, None, "CR4", Hexadecimal),
-    field!(200, 16, None, "GDTR", Hexadecimal),
-    field!(216, 16, None, "IDTR", Hexadecimal),
-    field!(232, 2, None, "LDTR", Hexadecimal),
-    field!(234, 2, None, "TR", Hexadecimal),
+    field!(200, 8, None, "CR8", Hexadecimal),
+    field!(208, 16, None, "GDTR", Hexadecimal),
+    field!(224, 16, None, "IDTR", Hexadecimal),
+    field!(240, 2, None, "LDTR", Hexadecimal),
+    field!(242, 2, None, "TR", Hexadecimal),
 ];
 
 const IA32_ERROR_INSIDE: [Inner; 4] = [
