@@ -26,8 +26,9 @@ class Grammar:
     jobs: tuple[str, ...]
     options: dict[str, Option]
     wanted: dict[str, str] = field(default_factory=dict)
-    # Whether one word without a `-` is the image's path.
+    # Whether one word without a `-` is the image's path, and whether there may be many, which are files.
     takes_path: bool = False
+    takes_files: bool = False
 
 
 @dataclass
@@ -69,6 +70,10 @@ def show_fault(value: str) -> Optional[str]:
     return None
 
 
+def color_fault(value: str) -> Optional[str]:
+    return None if value in ("auto", "always", "never") else "auto, always and never are what it takes"
+
+
 GEOMETRY = ("play", "sim", "gen")
 NUMBER = number_fault(LAST)
 APEI = Grammar(
@@ -102,7 +107,18 @@ LOOK = Grammar(
     },
     takes_path=True,
 )
-GRAMMARS = {"apei": APEI, "apei-look": LOOK, "apei-names": Grammar((), {})}
+SHOW = Grammar(
+    (),
+    {
+        "--json": Option((), path_fault, is_flag=True),
+        "--brief": Option((), path_fault, is_flag=True),
+        "--bytes": Option((), path_fault, is_flag=True),
+        "--strict": Option((), path_fault, is_flag=True),
+        "--color": Option((), color_fault),
+    },
+    takes_files=True,
+)
+GRAMMARS = {"apei": APEI, "apei-look": LOOK, "apei-show": SHOW}
 
 
 def nearest(word: str, known: list[str]) -> str:
@@ -174,7 +190,9 @@ class Reader:
         return None
 
     def plain(self, word: str) -> None:
-        if not self.grammar.jobs:
+        if self.grammar.takes_files:
+            self.line.path = word
+        elif not self.grammar.jobs:
             if not self.grammar.takes_path:
                 self.fault(f"{word!r} is one word too many")
             elif self.line.path is not None:
@@ -204,8 +222,11 @@ class Reader:
             self.fault(f"{line.job} wants {wanted}=")
         if grammar.takes_path and ("--image" in line.options) == (line.path is not None):
             self.fault("the image's path is missing" if line.path is None else "the image's path is given twice")
-        if "--json" in line.options and "--record" in line.options:
-            self.fault("--json and --record are one too many")
+        if grammar.takes_files and line.path is None:
+            self.fault("there is no file to show")
+        for other in ("--record", "--brief"):
+            if "--json" in line.options and other in line.options:
+                self.fault(f"--json and {other} are one too many")
 
 
 def read(program: str, words: list[str]) -> Line:
