@@ -4,9 +4,9 @@
  *     ./libapei --out=lib && cc -O2 -Ilib bench/embed.c -Llib -lapei -o embed && ./embed
  *
  * It writes nanoseconds, the least of 21 runs of each: a read of VALUE, a write of it, a write of 8 bytes of the log range, an
- * action that makes no change, and a record of 400 bytes that is put into the log range by numbers of 8 bytes and written, its
- * changes made on a medium in memory. The plain table takes the same record by the same accesses, and copies it into a slot of
- * its identifier.
+ * action that makes no change, and a record of 400 bytes that is put into the log range and written, its changes made on a
+ * medium in memory: by numbers of 8 bytes, as a guest does, and by one call, as a firmware can. The plain table takes the same
+ * record by the same accesses, and copies it into a slot of its identifier.
  */
 #define _POSIX_C_SOURCE 199309L
 
@@ -89,13 +89,23 @@ static void actions(void)
         apei_erst_write(&erst, APEI_REGISTERS, 0, 4, 0x7);
 }
 
-static void device_records(void)
+static void put_by_numbers(void)
+{
+    for (int at = 0; at < LENGTH; at += 8)
+        apei_erst_write(&erst, APEI_RANGE, (uint64_t)at, 8, record[at / 8]);
+}
+
+static void put_at_once(void)
+{
+    apei_erst_put(&erst, 0, (const uint8_t *)record, LENGTH);
+}
+
+static inline void device_records(void (*put)(void))
 {
     for (int i = 0; i < RECORDS; i++) {
         record[12] = 1 + (uint64_t)(i % IDENTIFIERS);
         act(0x0);
-        for (int at = 0; at < LENGTH; at += 8)
-            apei_erst_write(&erst, APEI_RANGE, (uint64_t)at, 8, record[at / 8]);
+        put();
         act(0x5);
         while (act(0x6) == 1)
             ;
@@ -103,6 +113,16 @@ static void device_records(void)
             exit(1);
         act(0x3);
     }
+}
+
+static void records_by_numbers(void)
+{
+    device_records(put_by_numbers);
+}
+
+static void records_at_once(void)
+{
+    device_records(put_at_once);
 }
 
 /* The plain device: registers, a log range, and a slot for each identifier. */
@@ -153,19 +173,39 @@ static uint64_t plain_act(uint32_t action)
     return plain_read();
 }
 
-static void plain_records(void)
+static void plain_put_by_numbers(void)
+{
+    for (int at = 0; at < LENGTH; at += 8)
+        plain_write(1, (uint64_t)at, record[at / 8]);
+}
+
+static void plain_put_at_once(void)
+{
+    memcpy(plain.range, record, LENGTH);
+}
+
+static inline void plain_records(void (*put)(void))
 {
     for (int i = 0; i < RECORDS; i++) {
         record[12] = 1 + (uint64_t)(i % IDENTIFIERS);
         plain_act(0x0);
-        for (int at = 0; at < LENGTH; at += 8)
-            plain_write(1, (uint64_t)at, record[at / 8]);
+        put();
         plain_act(0x5);
         while (plain_act(0x6) == 1)
             ;
         plain_act(0x7);
         plain_act(0x3);
     }
+}
+
+static void plain_by_numbers(void)
+{
+    plain_records(plain_put_by_numbers);
+}
+
+static void plain_at_once(void)
+{
+    plain_records(plain_put_at_once);
 }
 
 static void show(const char *what, void (*job)(void), int count)
@@ -201,8 +241,10 @@ int main(void)
     show("a write of VALUE", writes, ACCESSES);
     show("a write of 8 bytes of the log range", range_writes, ACCESSES);
     show("an action that makes no change", actions, ACCESSES);
-    show("a record of 400 bytes, made on the medium", device_records, RECORDS);
-    show("the same in a plain table of records", plain_records, RECORDS);
+    show("a record of 400 bytes, by numbers of 8 bytes", records_by_numbers, RECORDS);
+    show("the same in a plain table of records", plain_by_numbers, RECORDS);
+    show("a record of 400 bytes, put by one call", records_at_once, RECORDS);
+    show("the same in a plain table of records", plain_at_once, RECORDS);
     apei_erst_close(&erst);
     free(medium);
     return 0;

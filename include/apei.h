@@ -5,7 +5,7 @@
  * A device keeps error records in flash. Your program owns the flash's medium (a chip, a file, a block device), and the
  * device holds a copy of its bytes in memory. So there are three duties, and nothing else is asked of you:
  *
- *   1. After each call that may act (apei_erst_open, _open_raw, _write, _reset): while apei_erst_change tells a
+ *   1. After each call that may act (apei_erst_open, _open_raw, _load, _load_raw, _write, _reset): while apei_erst_change tells a
  *      change, make it on the medium, wait until it is durable, and say so by apei_erst_done. The changes come one after
  *      another, and none may be skipped or overtaken. Until the last one is done the device takes no action (APEI_DUE).
  *   2. A change that the medium fails ends the device: close it, read the medium again, and open it anew. The same after
@@ -17,8 +17,8 @@
  * once, with identical bytes.
  *
  * Units: offsets, sizes and lengths are bytes; addresses are guest-physical (or physical) bytes; numbers are little-endian
- * in memory and plain numbers in calls. All memory is taken by apei_erst_open and _open_raw; no other call takes any, but
- * the checks of a Hardware Error Source Table. None waits. Each call answers a status; where it is not APEI_OK,
+ * in memory and plain numbers in calls. All memory is taken by apei_erst_open, _open_raw, _load and _load_raw; no other call
+ * takes any, but the checks of a Hardware Error Source Table. None waits. Each call answers a status; where it is not APEI_OK,
  * nothing has changed, and no out-parameter is written, unless its comment says otherwise.
  */
 #ifndef APEI_H
@@ -41,6 +41,7 @@ enum apei_status {
     APEI_DUE = 6,        /* a change is due on the medium */
     APEI_NONE = 7,       /* no change is due; there is no part or change of this number */
     APEI_SHORT = 8,      /* the buffer is too small */
+    APEI_BUSY = 9,       /* an execution runs */
     APEI_FLASH = 10,     /* the flash failed: no further change can be counted */
     APEI_MEMORY = 11,    /* there was no memory */
     APEI_GEOMETRY = 12,  /* sectors, sectors a slot or slots are outside their limits */
@@ -48,7 +49,10 @@ enum apei_status {
     APEI_VERSION = 14,   /* it does, with a version that this library does not know */
     APEI_SIZE = 15,      /* it does, for another size; an image of another size than its geometry */
     APEI_ADDRESSES = 16, /* a window does not end below 2^64, or the two overlap */
-    APEI_BAD = 17        /* a check found a fault: struct apei_fault says which and where */
+    APEI_BAD = 17,       /* a check found a fault: struct apei_fault says which and where */
+    APEI_UNSAVED = 18,   /* the bytes are not those of a saved device, or not all of them */
+    APEI_SAVED_VERSION = 19, /* they are of a version that this library does not know */
+    APEI_SAVED_FLASH = 20    /* the flash of the saved device was divided otherwise */
 };
 
 /* The status in words, for a log. */
@@ -163,6 +167,27 @@ static inline enum apei_status apei_erst_range_size(apei_erst *erst, uint64_t *s
  * APEI_CLOSED, APEI_ACCESS. */
 static inline enum apei_status apei_erst_image(apei_erst *erst, uint64_t offset, uint8_t *bytes, size_t size);
 
+/* ---- Migration ----------------------------------------------------------------------------------------------------- */
+
+/* What a device is beside its medium, as bytes: the addresses of its windows, its registers and its log range. apei_erst_load
+ * makes a device of them over the same medium, and that one answers every access as this one. The device stays open, and
+ * may go on. `size` tells how many bytes they are, APEI_SAVED_HEAD and the size of the log range, also where the answer is
+ * APEI_SHORT. APEI_CLOSED; APEI_BUSY: let the guest end its execution, by its accesses or by apei_erst_reset; APEI_DUE;
+ * APEI_SHORT. */
+#define APEI_SAVED_HEAD 80
+static inline enum apei_status apei_erst_save(apei_erst *erst, uint8_t *bytes, size_t room, size_t *size);
+
+/* Opens the device of a medium, as apei_erst_open does, and goes on where a saved one stopped: its addresses, registers and
+ * log range are those of `saved`. The medium has to hold what the saved one's held. APEI_OPEN, APEI_UNSAVED,
+ * APEI_SAVED_VERSION, APEI_SAVED_FLASH, APEI_FOREIGN, APEI_VERSION, APEI_SIZE, APEI_ADDRESSES, APEI_MEMORY, APEI_FLASH. */
+static inline enum apei_status apei_erst_load(apei_erst *erst, const uint8_t *medium, size_t size, const uint8_t *saved,
+                                              size_t saved_size);
+
+/* The same over a flash that has no sector to spare. APEI_OPEN, APEI_UNSAVED, APEI_SAVED_VERSION, APEI_SAVED_FLASH,
+ * APEI_GEOMETRY, APEI_SIZE, APEI_ADDRESSES, APEI_MEMORY, APEI_FLASH. */
+static inline enum apei_status apei_erst_load_raw(apei_erst *erst, const uint8_t *flash, size_t size,
+                                                  const apei_geometry *geometry, const uint8_t *saved, size_t saved_size);
+
 /* ---- Checks -------------------------------------------------------------------------------------------------------- */
 
 /* What is checked. */
@@ -256,6 +281,10 @@ uint32_t apei_c_erst_move(apei_erst *erst, const apei_addresses *addresses);
 uint32_t apei_c_erst_table(apei_erst *erst, uint8_t *table, size_t room, uint64_t *size);
 uint32_t apei_c_erst_range_size(apei_erst *erst, uint64_t *size);
 uint32_t apei_c_erst_image(apei_erst *erst, uint64_t offset, uint8_t *bytes, size_t size);
+uint32_t apei_c_erst_save(apei_erst *erst, uint8_t *bytes, size_t room, uint64_t *size);
+uint32_t apei_c_erst_load(apei_erst *erst, const uint8_t *medium, size_t size, const uint8_t *saved, size_t saved_size);
+uint32_t apei_c_erst_load_raw(apei_erst *erst, const uint8_t *flash, size_t size, const apei_geometry *geometry,
+                              const uint8_t *saved, size_t saved_size);
 uint32_t apei_c_check(uint32_t item, const uint8_t *bytes, size_t size, uint32_t *parts, apei_fault *fault);
 uint32_t apei_c_part_at(uint32_t item, const uint8_t *bytes, size_t size, uint32_t index, apei_part *part);
 
@@ -282,6 +311,7 @@ static inline const char *apei_status_text(enum apei_status status)
     case APEI_DUE: return "a change is due on the medium";
     case APEI_NONE: return "there is none";
     case APEI_SHORT: return "the buffer is too small";
+    case APEI_BUSY: return "an execution runs";
     case APEI_FLASH: return "the flash failed";
     case APEI_MEMORY: return "out of memory";
     case APEI_GEOMETRY: return "sectors or slots are outside their limits";
@@ -290,6 +320,9 @@ static inline const char *apei_status_text(enum apei_status status)
     case APEI_SIZE: return "the bytes are not as many as the geometry has";
     case APEI_ADDRESSES: return "the windows overlap or do not end below 2^64";
     case APEI_BAD: return "the item is not well formed";
+    case APEI_UNSAVED: return "the bytes are not those of a saved device";
+    case APEI_SAVED_VERSION: return "the device was saved in a version that is not known";
+    case APEI_SAVED_FLASH: return "the device was saved over a flash that is divided otherwise";
     }
     return "no status";
 }
@@ -412,6 +445,36 @@ static inline enum apei_status apei_erst_image(apei_erst *erst, uint64_t offset,
     if (!APEI_IS(erst, apei_erst) || !APEI_ARE(bytes, size))
         return APEI_POINTER;
     return (enum apei_status)apei_c_erst_image(erst, offset, APEI_ROOM(bytes, &nothing), size);
+}
+
+static inline enum apei_status apei_erst_save(apei_erst *erst, uint8_t *bytes, size_t room, size_t *size)
+{
+    uint8_t nothing = 0;
+    uint64_t found = 0;
+    enum apei_status status;
+    if (!APEI_IS(erst, apei_erst) || !APEI_ARE(bytes, room) || !APEI_IS(size, size_t))
+        return APEI_POINTER;
+    status = (enum apei_status)apei_c_erst_save(erst, APEI_ROOM(bytes, &nothing), room, &found);
+    if (status == APEI_OK || status == APEI_SHORT)
+        *size = (size_t)found;
+    return status;
+}
+
+static inline enum apei_status apei_erst_load(apei_erst *erst, const uint8_t *medium, size_t size, const uint8_t *saved,
+                                              size_t saved_size)
+{
+    if (!APEI_IS(erst, apei_erst) || !APEI_ARE(medium, size) || !APEI_ARE(saved, saved_size))
+        return APEI_POINTER;
+    return (enum apei_status)apei_c_erst_load(erst, APEI_BYTES(medium), size, APEI_BYTES(saved), saved_size);
+}
+
+static inline enum apei_status apei_erst_load_raw(apei_erst *erst, const uint8_t *flash, size_t size,
+                                                  const apei_geometry *geometry, const uint8_t *saved, size_t saved_size)
+{
+    if (!APEI_IS(erst, apei_erst) || !APEI_ARE(flash, size) || !APEI_IS(geometry, apei_geometry)
+        || !APEI_ARE(saved, saved_size))
+        return APEI_POINTER;
+    return (enum apei_status)apei_c_erst_load_raw(erst, APEI_BYTES(flash), size, geometry, APEI_BYTES(saved), saved_size);
 }
 
 static inline enum apei_status apei_check(enum apei_item item, const uint8_t *bytes, size_t size, uint32_t *parts,

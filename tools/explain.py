@@ -269,6 +269,15 @@ def seen_heads(image: str) -> Optional[dict]:
     return json.loads(done.stdout)["seems"] if done.stdout else None
 
 
+def is_medium(image: Optional[str]) -> bool:
+    """Whether a file begins as a library's medium does."""
+    try:
+        with open(image or "", "rb") as file:
+            return file.read(8) == b"APEIERST"
+    except OSError:
+        return False
+
+
 # Streams and memory.
 
 
@@ -314,7 +323,8 @@ def of_look(line: Line, status: int, first: str) -> Iterator[str]:
         if why:
             yield why
     elif status == 6:
-        yield from look_geometry(line, image, re.findall(r"\d+", first))
+        if not first.startswith("apei-look: a medium"):
+            yield from look_geometry(line, image, re.findall(r"\d+", first))
     else:
         yield from of_streams(status)
 
@@ -333,5 +343,7 @@ def look_geometry(line: Line, image: Optional[str], numbers: list[str]) -> Itera
     given = [int(line.options.get(name) or default) for name, default in (("--sector", 4096), ("--per-slot", 2), ("--slots", 32))]
     if len(numbers) < 2:
         yield which_bound(*given)
+    elif is_medium(image):
+        yield f"its first sector says that it is a medium of {numbers[1]} bytes: it was cut off, or more stands behind it"
     else:
         yield what_fits(image, given[0], given[1], int(numbers[0]))

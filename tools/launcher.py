@@ -4,7 +4,8 @@
 - Where the program has not been built since the last change of the sources, it is proved and built first. Where it is built and there is no
   toolchain, it is run as it is.
 - `apei`: --show takes a comma for the | that a shell wants in quotes. `play` looks at its file first, by apei-look: a file that seems to be none
-  of the geometry, or none of ours, ends the run with status 6 before anything is touched, but behind the word --force before the job.
+  of the geometry, none of ours, or a library's medium ends the run with status 6 before anything is touched, but behind the word --force before
+  the job.
 - `apei-look`: the bytes of a record are not written to a terminal, but behind the word --force.
 - Signals are passed on, and the script ends when the program has.
 - Where the status is not 0, lines in plain words come behind what the program said (tools/explain.py).
@@ -115,11 +116,32 @@ def build(program: Program) -> tuple[int, bool]:
         return 0, True
     # Where `apei` is built so is what looks at a file before `play` does, which takes little beside it.
     crates = [program.crate, "apei_look"] if program.name == "apei" else [program.crate]
-    status = subprocess.run([os.path.join(TOP, "tools", "build"), *crates], stdin=subprocess.DEVNULL, check=False).returncode
+    status = build_all(crates)
     if status == 0:
         for crate in crates:
             os.utime(Program(crate.replace("_", "-")).path)
     return (status if status >= 0 else 128 - status), False
+
+
+def build_all(crates: list[str]) -> int:
+    """Proves and builds crates. A signal that would end this script ends the build, and this script once that has ended."""
+    taken: list[int] = []
+    child: list[subprocess.Popen[bytes]] = []
+
+    def end(number: int, _frame: object) -> None:
+        taken.append(number)
+        if child:
+            child[0].terminate()
+
+    ending = (signal.SIGINT, signal.SIGTERM, signal.SIGHUP)
+    kept = {number: signal.signal(number, end) for number in ending if signal.getsignal(number) != signal.SIG_IGN}
+    child.append(subprocess.Popen([os.path.join(TOP, "tools", "build"), *crates], stdin=subprocess.DEVNULL))
+    if taken:
+        child[0].terminate()
+    status = child[0].wait()
+    for number, before in kept.items():
+        signal.signal(number, before)
+    return end_as(-taken[0]) if taken else status
 
 
 class Input:
@@ -243,8 +265,13 @@ def seen_by_look(image: str, words: list[str]) -> Optional[dict]:
 
 def looks_foreign(image: str, shown: dict) -> Optional[str]:
     """Two sentences on a file that `play` would not find its records in: what was found, and which options would fit."""
-    seems = shown["seems"]
+    if shown["file"] in ("medium", "other-version", "damaged-medium"):
+        version = shown["medium"]["version"]
+        what = "whose first sector is damaged" if version is None else f"of version {version}"
+        return f"{image} is a medium of the library, {what}: play would write over its first sector. " \
+            "No options would fit; --force before the job writes over it."
     if shown["file"] == "other-geometry":
+        seems = shown["seems"]
         found = f"heads stand where slots of {seems['per_slot']} sectors of {seems['sector']} begin"
         fits = f"--sector={seems['sector']} --per-slot={seems['per_slot']} --slots={seems['slots']} would fit"
         return f"{image} has another geometry: {found}. {fits}; --force before the job plays on it as it is."

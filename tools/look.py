@@ -9,9 +9,11 @@ one that power lost in it left, on the images of tests/scripts and of tools/slot
 where it is not said, of slots and of bytes that are drawn at random. It is also run on the images that PLAYER leaves: behind each line of a script
 of writes, replacements, clears and losses of power, behind scripts that are drawn at random, and behind those of examples/. The kinds of the slots,
 the totals, the records and the kind of file are those of the model, the bytes of each record are its own, and the file is as before, with its times
-but that of access. Images that are cut off are shown as far as they go, and the geometry of others is guessed. Then what is no image of the geometry is refused: a file of another length, a folder, a pipe, a file that is not there, one that another
-run holds and one without the right to read it; a file without the right to write is shown. The last line is 'N images, M wrong'; the exit status
-is 0 where none is.
+but that of access. Images that are cut off are shown as far as they go, and the geometry of others is guessed. The same images behind the first
+sector of a library's medium are shown without any options, wherever such a medium ends; one of another version and one whose first sector is
+damaged are said to be so. Then what is no image of the geometry is refused: a file of another length, a folder, a pipe, a file that is not there,
+one that another run holds and one without the right to read it; a file without the right to write is shown. The last line is 'N images, M wrong';
+the exit status is 0 where none is.
 """
 
 import fcntl
@@ -27,7 +29,7 @@ import uuid
 from itertools import chain
 
 import slots as slot_images
-from look_model import LINUX, PER_SLOT, SECTOR, SIZE, Shown, seeming
+from look_model import LINUX, PER_SLOT, SECTOR, SIZE, Shown, medium_header, seeming
 from model import Model, line, record
 
 TOP = os.path.dirname(os.path.dirname(os.path.abspath(__file__)))
@@ -147,7 +149,7 @@ def some_images(count, chance):
     yield from cut_images()
     longer = ["write " + record(5, 900).hex(), "write " + record(5, 1300).hex(), "write " + record(7, 200).hex(), "clear 5"]
     yield from played(9, *longer)[::3]
-    for path in sorted(glob.glob(os.path.join(TOP, "tests/scripts/*.image"))):
+    for path in sorted(glob.glob(os.path.join(TOP, "tests/scripts/*/image"))):
         with open(path, "rb") as file:
             image = file.read()
         if len(image) % SIZE == 0 and len(image) >= 2 * SIZE:
@@ -278,6 +280,76 @@ def shown_otherwise(program, folder):
     return wrong
 
 
+def run_alone(program, path, *words):
+    """A run by the path alone, without a geometry."""
+    return subprocess.run([program, path, *words], capture_output=True, timeout=60)
+
+
+def mediums(program, folder, chance):
+    """Images behind the first sector of a library's medium."""
+    wrong = []
+    path = os.path.join(folder, "medium")
+
+    def shown(what, data, wanted, status=0, *words):
+        with open(path, "wb") as file:
+            file.write(data)
+        text, facts = run_alone(program, path, *words), run_alone(program, path, "--json", *words)
+        if (text.returncode, text.stdout.decode()) != (status, wanted.text()) or bool(status) != bool(text.stderr):
+            wrong.append(f"{what}: {text}, wanted {wanted.text()}")
+        if facts.returncode != status or json.loads(facts.stdout) != wanted.json():
+            wrong.append(f"{what}: {facts.stdout.decode()}, wanted {wanted.json()}")
+        for identifier, _, body, _ in wanted.records.values():
+            record = run_alone(program, path, f"--record={identifier}")
+            if (record.returncode, record.stdout) != (status, body):
+                wrong.append(f"{what}: record {identifier}: {record}")
+
+    images = [b"\xff" * (SIZE * 6), *played(6, *REPLACEMENT)[::4], *named_images(), chance.randbytes(SIZE * 5)]
+    for number, image in enumerate(images):
+        medium = medium_header(SECTOR, PER_SLOT, len(image) // SIZE) + image
+        shown(f"medium {number}", medium, Shown(image, is_medium=True))
+        # Options on the geometry don't count where the first sector tells it.
+        shown(f"medium {number}, with options", medium, Shown(image, is_medium=True), 0, "--slots=9", "--guess")
+        for held in (64, 255, SECTOR, SECTOR + 1, SECTOR + SIZE + 300, len(medium) - 1):
+            left = medium[:held][SECTOR:].ljust(len(image), b"\xff")
+            shown(f"medium {number}, {held} bytes", medium[:held], Shown(left, held, is_medium=True), 6)
+        shown(f"medium {number} with bytes behind it", medium + bytes(100), Shown(image, len(medium) + 100, is_medium=True), 6)
+
+    def unread(what, data, word, version, said):
+        with open(path, "wb") as file:
+            file.write(data)
+        text, facts, record = run_alone(program, path), run_alone(program, path, "--json", "--guess"), run_alone(program, path, "--record=1")
+        if (text.returncode, text.stderr.decode()) != (6, "apei-look: " + text.stdout.decode()) or not text.stdout.decode().startswith(said):
+            wrong.append(f"{what}: {text}")
+        wanted = {"held": len(data), "file": word, "medium": {"version": version}}
+        if facts.returncode != 6 or json.loads(facts.stdout) != wanted:
+            wrong.append(f"{what}: {facts}, wanted {wanted}")
+        if (record.returncode, record.stdout, record.stderr) != (6, b"", text.stderr):
+            wrong.append(f"{what}: {record}")
+
+    image = images[1]
+    for version in (0, 2, 2**32 - 1):
+        header = medium_header(SECTOR, PER_SLOT, 6, version)
+        unread(f"version {version}", header + image, "other-version", version, f"a medium of the library, version {version}: ")
+    header = medium_header(SECTOR, PER_SLOT, 6)
+    changed = {at: bytes([header[at] ^ 1]) for at in (*range(8, 50), 40)}
+    damaged = {f"byte {at}": header[:at] + byte + header[at + 1 :] for at, byte in changed.items()}
+    # The checksum is right, and the geometry is none: a slot of one sector.
+    damaged["no geometry"] = medium_header(SECTOR, 1, 12)
+    for what, first in damaged.items():
+        unread(f"{what} is another", first + image, "damaged-medium", None, "a medium of the library whose first sector is damaged")
+    for held in (8, 40, 63):
+        unread(f"{held} bytes of a medium", header[:held], "damaged-medium", None, "a medium of the library whose first sector is damaged")
+    # One byte of the signature is another: a file like others. So is one of seven bytes.
+    plain = bytes([header[0] ^ 1]) + header[1:] + image[: SIZE * 5 + SECTOR]
+    for data in (plain, header[:7]):
+        with open(path, "wb") as file:
+            file.write(data)
+        facts = run(program, path, 6, "--json")
+        if json.loads(facts.stdout)["medium"] is not None:
+            wrong.append(f"a file without the signature: {facts}")
+    return wrong
+
+
 def main(words):
     program = os.path.abspath(words[0] if words else os.path.join(TOP, "crates/apei_look/out/apei_look"))
     count = int(words[1]) if len(words) > 1 else 60
@@ -293,7 +365,7 @@ def main(words):
             wrong += bool(found)
             for what in found:
                 print(f"image {images - 1}: {what}"[:2000], file=sys.stderr)
-        for what in shown_otherwise(program, folder) + refusals(program, folder):
+        for what in shown_otherwise(program, folder) + mediums(program, folder, chance) + refusals(program, folder):
             wrong += 1
             print(what, file=sys.stderr)
     print(f"{images} images, {wrong} wrong")

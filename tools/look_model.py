@@ -76,12 +76,25 @@ def kind_of(model, firsts, taken, slot):
     return "filling" if data[0] == GATE_CLOSED else "unknown"
 
 
-class Shown:
-    """The kinds of an image's slots, its records by their first slots, its totals, and what kind of file it is, of which so many bytes are there."""
+def medium_header(sector, per_slot, slots, version=1):
+    """The first sector of a library's medium (docs/EMBED.md, "The medium")."""
+    size = sector * (1 + per_slot * slots)
+    numbers = [version, 64, sector, per_slot, slots, 0]
+    head = b"APEIERST" + b"".join(it.to_bytes(4, "little") for it in numbers) + size.to_bytes(8, "little") + bytes(8)
+    total = sum(number(head[at : at + 4]) for at in range(0, 48, 4))
+    head = head[:40] + (-total % 2**32).to_bytes(4, "little") + head[44:]
+    return (head + b"\x3c").ljust(sector, b"\xff")
 
-    def __init__(self, image, held=None):
+
+class Shown:
+    """The kinds of an image's slots, its records by their first slots, its totals, and what kind of file it is, of which so many bytes are there: a
+    flash alone, or a library's medium."""
+
+    def __init__(self, image, held=None, is_medium=False):
         model = model_of(image)
-        self.held, self.size = len(image) if held is None else held, len(image)
+        self.is_medium, self.flash_at = is_medium, SECTOR if is_medium else 0
+        self.size = len(image)
+        self.held = self.flash_at + self.size if held is None else held
         found = {slot: (identifier, generation, bytes(body), further) for identifier, (slot, generation, body, further) in model.records().items()}
         self.records = dict(sorted(found.items()))
         taken = set(found) | {slot for _, _, _, further in found.values() for slot in further}
@@ -92,12 +105,18 @@ class Shown:
         self.bytes = sum(len(body) for _, _, body, _ in found.values())
         self.heads = heads_in(image, SECTOR, PER_SLOT)
         self.most, *self.form = seeming(image)
-        self.file = file_kind(self.heads, self.most, self.kinds.count("unknown"))
+        self.file = "medium" if is_medium else file_kind(self.heads, self.most, self.kinds.count("unknown"))
 
     def file_text(self):
-        out = ""
-        if self.held < self.size:
-            out += f"the image ends at byte {self.held}, in slot {self.held // SIZE}; what is behind it is shown as erased\n"
+        out, whole = "", self.flash_at + self.size
+        if self.is_medium:
+            slots = f"{len(self.slots)} slots of {PER_SLOT} sectors of {SECTOR}"
+            out += f"a medium of the library, version 1: {slots}, from byte {self.flash_at} on\n"
+        if self.held < whole:
+            place = f"slot {(self.held - self.flash_at) // SIZE}" if self.held >= self.flash_at else "its first sector"
+            out += f"the image ends at byte {self.held}, in {place}; what is behind it is shown as erased\n"
+        if self.held > whole:
+            out += f"the file has {self.held} bytes; those from byte {whole} on are not shown\n"
         if self.file == "other-geometry":
             sector, per_slot = self.form
             slots = self.size // (sector * per_slot)
@@ -111,7 +130,8 @@ class Shown:
             return {"sector": sector, "per_slot": per_slot, "slots": self.size // (sector * per_slot)}
 
         seems = geometry(*self.form) if self.most else None
-        return {"geometry": geometry(SECTOR, PER_SLOT), "held": self.held, "file": self.file, "heads": self.heads, "seems": seems}
+        medium = {"version": 1, "flash_at": self.flash_at} if self.is_medium else None
+        return {"geometry": geometry(SECTOR, PER_SLOT), "held": self.held, "file": self.file, "medium": medium, "heads": self.heads, "seems": seems}
 
     def text(self):
         out = f"slots {len(self.slots)} free {self.free} records {len(self.records)} second copies {self.copies} bytes {self.bytes}\n" + self.file_text()
@@ -140,7 +160,10 @@ class Shown:
         return numbers + (" further " + " ".join(map(str, further)) if further else "")
 
     def json(self):
-        slots = [{"kind": kind, **(head_of(data) if kind != "erased" else {})} for kind, data in zip(self.kinds, self.slots)]
+        slots = [
+            {"kind": kind, "at": self.flash_at + slot * SIZE, **(head_of(data) if kind != "erased" else {})}
+            for slot, (kind, data) in enumerate(zip(self.kinds, self.slots))
+        ]
         stored = [
             {"id": str(identifier), "generation": generation, "bytes": len(body), "slots": [slot, *further], "frame": frame_of(body)}
             for slot, (identifier, generation, body, further) in self.records.items()

@@ -4,7 +4,7 @@
     tools/top.py
 
 What a script writes on standard output, its status, and the first line on standard error are the program's own; the lines behind that are compared
-with those wanted here. A file of another geometry and one that is none of ours are left as they are, a signal ends the program too, and a program
+with those wanted here. A file of another geometry, one that is none of ours and a library's medium are left as they are, a signal ends the program too, and a program
 that is older than its sources runs where there is no toolchain. The last line is 'N runs, M wrong'; the exit status is 0 where none is.
 """
 
@@ -20,6 +20,7 @@ import time
 from pathlib import Path
 from typing import Optional
 
+from look_model import medium_header
 from model import record
 from options import IN_FORM, OUT_OF_FORM
 from words import read
@@ -27,6 +28,7 @@ from words import read
 TOP = Path(__file__).resolve().parent.parent
 BAD = "apei: ./apei --help says which jobs and options there are"
 LOOK_BAD = "apei-look: ./apei-look --help says which options there are"
+MEDIUM = "play would write over its first sector. No options would fit; --force before the job writes over it."
 SHOW_BAD = "apei-show: ./apei-show --help says which words there are"
 # The signals that end a run.
 ENDING = signal.SIGTERM, signal.SIGINT, signal.SIGHUP
@@ -67,6 +69,14 @@ SAID: list[tuple[str, bytes, int, list[str]]] = [
      "--sector=4096 --per-slot=2 --slots=32 would fit; --force before the job plays on it as it is."]),
     ("apei play --image=random", b"count\n", 6, ["apei: random is none of ours: 32 of its 32 slots hold what apei never writes, and none holds a record. "
      "No options would fit; --force before the job writes over it."]),
+    ("apei play --image=medium --sector=256 --slots=8", b"count\n", 6, ["apei: medium is a medium of the library, of version 1: " + MEDIUM]),
+    ("apei play --image=medium2 --sector=256 --slots=8", b"count\n", 6, ["apei: medium2 is a medium of the library, of version 2: " + MEDIUM]),
+    ("apei play --image=damaged --sector=256 --slots=8", b"count\n", 6,
+     ["apei: damaged is a medium of the library, whose first sector is damaged: " + MEDIUM]),
+    ("apei-look medium2", b"", 6, ["apei-look: a medium of the library, version 2: version 1 is the only one that is shown"]),
+    ("apei-look damaged", b"", 6, ["apei-look: a medium of the library whose first sector is damaged: its geometry is not known"]),
+    ("apei-look cut", b"", 6, ["apei-look: the image has 1000 bytes, and the geometry 4096",
+     "apei-look: its first sector says that it is a medium of 4096 bytes: it was cut off, or more stands behind it"]),
 ]
 # Words and input that are answered, and the replies.
 ANSWERED: list[tuple[str, bytes, str]] = [
@@ -76,6 +86,7 @@ ANSWERED: list[tuple[str, bytes, str]] = [
     ("apei play --image=six", b"count\n", "count 6 @0\n"),
     ("apei play --image=torn", b"count\n", "count 0 @0\n"),
     ("apei --force play --image=random", b"count\n", "count 0 @0\n"),
+    ("apei --force play --image=forced --sector=256 --slots=8", b"count\n", "count 0 @0\n"),
 ]
 
 
@@ -84,13 +95,21 @@ class Runs:
 
     def __init__(self, folder: Path) -> None:
         self.folder, self.runs, self.wrong = folder, 0, 0
-        subprocess.run([TOP / "install", f"--prefix={folder}"], check=True, stdout=subprocess.DEVNULL)
+        subprocess.run([TOP / "install", f"--prefix={folder}"], check=True, stdout=subprocess.DEVNULL, umask=0o077)
         self.environment = {**os.environ, "PATH": f"{folder}/bin:{os.environ['PATH']}"}
         os.symlink("/none/x", folder / "nowhere")
         (folder / "short").write_bytes(b"\xff" * 65536)
         (folder / "random").write_bytes(bytes((at * 7 + at // 251) % 255 for at in range(262144)))
         # A first write whose first erase was torn.
         (folder / "torn").write_bytes(bytes(4096) + b"\xff" * (262144 - 4096))
+        # A library's medium, as long as a flash of 8 slots of two sectors of 256; one of another version, one whose first sector is damaged, and one
+        # that is cut off.
+        medium = medium_header(256, 3, 5).ljust(4096, b"\xff")
+        (folder / "medium").write_bytes(medium)
+        (folder / "forced").write_bytes(medium)
+        (folder / "medium2").write_bytes(medium_header(256, 3, 5, 2).ljust(4096, b"\xff"))
+        (folder / "damaged").write_bytes(medium[:20] + b"\x04" + medium[21:])
+        (folder / "cut").write_bytes(medium[:1000])
         script = "".join(f"write {record(it, 300).hex()}\n" for it in range(1, 7))
         self.run("apei play --image=six", script.encode())
 
@@ -104,7 +123,7 @@ class Runs:
             print(what[:800], file=sys.stderr)
 
     def files(self) -> dict[str, bytes]:
-        return {name: (self.folder / name).read_bytes() for name in ("six", "random", "short")}
+        return {name: (self.folder / name).read_bytes() for name in ("six", "random", "short", "medium", "medium2", "damaged", "cut")}
 
 
 def said(runs: Runs) -> None:
@@ -177,6 +196,39 @@ def signals(runs: Runs) -> None:
             fcntl.flock(file, fcntl.LOCK_EX | fcntl.LOCK_NB)
 
 
+# A build that says when it begins and when it is ended.
+BUILD = """#!/bin/sh
+trap 'echo > ended; exit 130' INT TERM HUP
+echo > begun
+for turn in $(seq 200); do sleep 0.05; done
+"""
+
+
+def builds(runs: Runs) -> None:
+    """A script that is told to end while its program is being built ends when the build has."""
+    kept = runs.folder / "lib/apei"
+    program, away = kept / "crates/apei_look/out/apei_look", runs.folder / "away"
+    program.rename(away)
+    (kept / "crates.txt").write_text("")
+    (kept / "tools/build").write_text(BUILD)
+    (kept / "tools/build").chmod(0o755)
+    for number in ENDING:
+        started = subprocess.Popen(["apei-look", "six"], cwd=runs.folder, env=runs.environment, stdin=subprocess.DEVNULL, preexec_fn=let_signals_end_it)
+        begun, ended = runs.folder / "begun", runs.folder / "ended"
+        for _ in range(200):
+            if begun.exists():
+                break
+            time.sleep(0.02)
+        started.send_signal(number)
+        status = started.wait(20)
+        runs.expect(begun.exists() and ended.exists() and status == -number, f"{number} while it is built: status {status}")
+        begun.unlink(missing_ok=True)
+        ended.unlink(missing_ok=True)
+    (kept / "tools/build").unlink()
+    (kept / "crates.txt").unlink()
+    away.rename(program)
+
+
 def held(runs: Runs) -> None:
     with open(runs.folder / "six", "rb") as file:
         fcntl.flock(file, fcntl.LOCK_EX)
@@ -206,14 +258,16 @@ def terminals(runs: Runs) -> None:
 
 def answers(runs: Runs) -> None:
     """What is answered without the program, and what ./install put where."""
-    for name in ("apei", "apei-look", "apei-names", "apei-show"):
+    is_checkout = (TOP / ".git").exists()
+    for name in ("apei", "apei-look", "apei-show"):
         helped = runs.run(f"{name} --help")
         runs.expect(helped.returncode == 0 and helped.stdout == (TOP / "tools" / f"help{name[4:]}.txt").read_bytes(), f"{name} --help")
         shown = runs.run(f"{name} --version").stdout.decode()
-        runs.expect(shown.startswith(f"{name} ") and "(no commit)" not in shown, f"{name} --version: {shown}")
-    for name in ("apei", "apei-look", "apei-show"):
+        runs.expect(shown.startswith(f"{name} ") and ("(no commit)" not in shown or not is_checkout), f"{name} --version: {shown}")
         for path in (f"share/man/man1/{name}.1", f"share/bash-completion/completions/{name}"):
             runs.expect((runs.folder / path).exists(), f"{path} is not installed")
+    kept = [path for part in ("bin", "lib", "share") for path in (runs.folder / part).rglob("*") if "__pycache__" not in path.parts]
+    runs.expect(all(path.stat().st_mode & 0o044 == 0o044 for path in kept), "other users can't read what is installed")
     wrong = subprocess.run([TOP / "install"], capture_output=True, check=False)
     runs.expect(wrong.returncode == 1, "./install without a folder")
 
@@ -235,6 +289,7 @@ def main() -> int:
         said(runs)
         held(runs)
         signals(runs)
+        builds(runs)
         terminals(runs)
         answers(runs)
         without_toolchain(runs)

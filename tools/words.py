@@ -118,7 +118,7 @@ SHOW = Grammar(
     },
     takes_files=True,
 )
-GRAMMARS = {"apei": APEI, "apei-look": LOOK, "apei-names": Grammar((), {}), "apei-show": SHOW}
+GRAMMARS = {"apei": APEI, "apei-look": LOOK, "apei-show": SHOW}
 
 
 def nearest(word: str, known: list[str]) -> str:

@@ -1,6 +1,6 @@
 //! A hypervisor with an error record device on two windows of its guest's memory. The guest finds the device by its table
 //! alone: it runs the table's instruction entries, as an operating system does, writes a record, and finds it again once the
-//! hypervisor has been started anew.
+//! hypervisor has been started anew. Then the guest moves to another hypervisor in the middle of its work, and goes on there.
 //!
 //!     cargo run --example vmm
 
@@ -27,13 +27,12 @@ where
     M: Medium,
     M::Error: Error + 'static,
 {
-    fn new(medium: M) -> Result<Self, Box<dyn Error>> {
-        let mut device = Device::open(medium, ADDRESSES)?;
+    fn new(mut device: Device<M>) -> Self {
         let log_range_size = device.log_range_size();
-        Ok(Bus {
+        Bus {
             device,
             log_range_size,
-        })
+        }
     }
 
     /// The window in which an address lies, and the offset there.
@@ -146,11 +145,17 @@ where
         Ok(status)
     }
 
-    fn write(&mut self, record: &[u8]) -> Result<u64, Box<dyn Error>> {
+    /// Begins a write: the record stands in the log range then.
+    fn begin_write(&mut self, record: &[u8]) -> Result<(), Box<dyn Error>> {
         self.run(0x0, 0)?;
         let range = self.run(0xD, 0)?;
         self.bus.write(range, record)?;
         self.run(0x4, 0)?;
+        Ok(())
+    }
+
+    fn write(&mut self, record: &[u8]) -> Result<u64, Box<dyn Error>> {
+        self.begin_write(record)?;
         self.execute()
     }
 
@@ -199,11 +204,11 @@ fn main() -> Result<(), Box<dyn Error>> {
 
     let written = record(0x1234_5678, 400);
     {
-        let mut bus = Bus::new(open_file(&path)?)?;
+        let mut bus = Bus::new(Device::open(open_file(&path)?, ADDRESSES)?);
         let status = Guest::new(&mut bus)?.write(&written)?;
         println!("wrote 12345678, status {status}");
     }
-    let mut bus = Bus::new(open_file(&path)?)?;
+    let mut bus = Bus::new(Device::open(open_file(&path)?, ADDRESSES)?);
     let mut guest = Guest::new(&mut bus)?;
     println!("records {}", guest.run(0xA, 0)?);
     let identifier = guest.run(0x8, 0)?;
@@ -212,6 +217,24 @@ fn main() -> Result<(), Box<dyn Error>> {
         "read {identifier:x}, {} bytes, as written: {}",
         found.len(),
         found == written
+    );
+
+    let moved = record(0x9ABC_DEF0, 600);
+    guest.begin_write(&moved)?;
+    let saved = bus.device.save()?;
+    drop(bus);
+    let mut bus = Bus::new(Device::load(open_file(&path)?, &saved)?);
+    let mut guest = Guest::new(&mut bus)?;
+    let status = guest.execute()?;
+    println!(
+        "moved by {} bytes, wrote 9abcdef0, status {status}",
+        saved.len()
+    );
+    let found = guest.read(0x9ABC_DEF0)?;
+    println!(
+        "read 9abcdef0, {} bytes, as written: {}",
+        found.len(),
+        found == moved
     );
     std::fs::remove_file(&path)?;
     Ok(())

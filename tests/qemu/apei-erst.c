@@ -7,7 +7,8 @@
  *
  *   -device acpi-erst,medium=PATH[,stop=N]
  *
- * With `stop` QEMU ends in the middle of change N of the file, counted from 0 at the start of QEMU: half of it is made.
+ * With `stop` QEMU ends in the middle of change N of the file, counted from 0 behind the opening: half of it is made. Where
+ * QEMU ends by itself it says how many changes there were.
  */
 #include "qemu/osdep.h"
 #include "qapi/error.h"
@@ -20,6 +21,7 @@
 #include "hw/qdev-properties.h"
 #include "migration/vmstate.h"
 #include "qom/object.h"
+#include "sysemu/sysemu.h"
 #include "apei.h"
 
 OBJECT_DECLARE_SIMPLE_TYPE(ApeiErst, ACPI_ERST)
@@ -35,6 +37,7 @@ struct ApeiErst {
     int file;
     int32_t stop;
     int32_t changes;
+    Notifier exit;
 };
 
 /* ---- The medium --------------------------------------------------------------------------------------------------- */
@@ -216,15 +219,22 @@ void build_erst(GArray *tables, BIOSLinker *linker, Object *device, const char *
 
 /* ---- The device --------------------------------------------------------------------------------------------------- */
 
+static void tell_changes(Notifier *exit, void *data)
+{
+    info_report("acpi-erst: %d changes of the medium", container_of(exit, ApeiErst, exit)->changes);
+}
+
 static void realize(PCIDevice *device, Error **errp)
 {
     ApeiErst *s = ACPI_ERST(device);
+    int32_t stop = s->stop;
     bool is_new;
 
     if (!s->path) {
         error_setg(errp, "acpi-erst: medium=PATH is missing");
         return;
     }
+    s->stop = NO_STOP;
     is_new = access(s->path, F_OK) != 0;
     s->file = open(s->path, O_RDWR | O_CREAT, 0600);
     if (s->file < 0 || (is_new && !format(s))) {
@@ -235,10 +245,14 @@ static void realize(PCIDevice *device, Error **errp)
     if (!open_device(s, errp)) {
         return;
     }
+    s->changes = 0;
+    s->stop = stop;
     memory_region_init_io(&s->registers, OBJECT(s), &register_ops, s, "acpi-erst.registers", APEI_REGISTERS_SIZE);
     memory_region_init_io(&s->range, OBJECT(s), &range_ops, s, "acpi-erst.range", RANGE_WINDOW);
     pci_register_bar(device, 0, PCI_BASE_ADDRESS_SPACE_MEMORY, &s->registers);
     pci_register_bar(device, 1, PCI_BASE_ADDRESS_SPACE_MEMORY, &s->range);
+    s->exit.notify = tell_changes;
+    qemu_add_exit_notifier(&s->exit);
 }
 
 static void unrealize(PCIDevice *device)

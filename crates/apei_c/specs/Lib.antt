@@ -7,3 +7,4 @@ pub mod Devices
 pub mod Openings
 pub mod Formats
 pub mod Checks
+pub mod Saving

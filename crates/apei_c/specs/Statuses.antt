@@ -5,7 +5,7 @@ use Rattle.erst_port.specs.declared.errors.PortError.TheVariants.{BadAccess, Due
 use Rattle.erst_port.specs.declared.errors.OpenError.{OpenError}
 use Rattle.erst_port.specs.declared.errors.OpenError.TheVariants.{Foreign as IsForeign, Version as OtherVersion, Size as OtherSize, Addresses as BadAddresses, Memory as NoMemory, Flash as FlashFailed}
 use Rattle.apei_c.specs.declared.status.Status.{Status}
-use Rattle.apei_c.specs.declared.status.Status.TheVariants.{Done, Closed, Open, Window, Access, Due, Nothing, Short, Flash, Memory, Geometry, Foreign, Version, Size, Addresses, Bad}
+use Rattle.apei_c.specs.declared.status.Status.TheVariants.{Done, Closed, Open, Window, Access, Due, Nothing, Short, Busy, Flash, Memory, Geometry, Foreign, Version, Size, Addresses, Bad, Unsaved, SavedVersion, SavedFlash}
 
 abbrev pub number_of : Status → ℕ
 number_of Done = 0
@@ -16,6 +16,7 @@ number_of Access = 5
 number_of Due = 6
 number_of Nothing = 7
 number_of Short = 8
+number_of Busy = 9
 number_of Flash = 10
 number_of Memory = 11
 number_of Geometry = 12
@@ -24,6 +25,9 @@ number_of Version = 14
 number_of Size = 15
 number_of Addresses = 16
 number_of Bad = 17
+number_of Unsaved = 18
+number_of SavedVersion = 19
+number_of SavedFlash = 20
 
 abbrev pub status_of_error : PortError → Status
 status_of_error BadAccess = Access

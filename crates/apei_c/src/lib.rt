@@ -11,6 +11,7 @@ mod handle;
 mod numbers;
 mod openings;
 mod owners;
+mod saving;
 mod status;
 mod structs;
 

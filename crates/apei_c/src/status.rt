@@ -15,6 +15,7 @@ pub enum Status {
     Due = 6,
     Nothing = 7,
     Short = 8,
+    Busy = 9,
     Flash = 10,
     Memory = 11,
     Geometry = 12,
@@ -23,6 +24,9 @@ pub enum Status {
     Size = 15,
     Addresses = 16,
     Bad = 17,
+    Unsaved = 18,
+    SavedVersion = 19,
+    SavedFlash = 20,
 }
 
 impl Status {

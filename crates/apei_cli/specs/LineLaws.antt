@@ -1,12 +1,12 @@
 -- What is true of lines that were played, one after another, on one machine.
-use Rattle.std.specs.Prelude.{◌≡◌, ◌≤◌, ℕ, Bool, List}
+use Rattle.std.specs.Prelude.{◌≡◌, ◌≤◌, ℕ, Bool, List, None}
 use Rattle.flash_words.specs.Flash.{CrashImage, IsLater}
 use Rattle.record_model.specs.Records.{Stored}
 use Rattle.erst_machine.specs.MachineState.{IsMachine, told_of}
 use Rattle.erst_machine.specs.Shown.{changes_of, shown_by}
 use Rattle.erst_commands.specs.Attached.{own_client}
 use Rattle.apei_script.specs.Spares.{KeepsAll}
-use Rattle.apei_script.specs.Orders.{IsInStep, AlwaysInStep}
+use Rattle.apei_script.specs.Orders.{HasNoBridge, IsInStep, AlwaysInStep, AllGiveStoredBack}
 use Rattle.apei_script.specs.KeptCauses.{AllHaveCauses}
 use Rattle.apei_script.specs.Players.{PlayerState, GivenNoOther}
 use Rattle.apei_script.specs.Plays.{HasHappened}
@@ -42,6 +42,11 @@ abbrev pub KeepsAllInStep : Type 0 → Type 0
 KeepsAllInStep tells = (wants : List (ℕ → Bool)) (counts : List ℕ) (first : PlayerState) (played : List Played) (last : PlayerState)
     → IsMachine first.machine → Follows tells wants counts first played last → IsInStep first → AlwaysInStep first played
 
+-- each block that the reader clears or acknowledges under a bridge is the one that was stored last
+abbrev pub GivesAllStoredBack : Type 0 → Type 0
+GivesAllStoredBack tells = (wants : List (ℕ → Bool)) (counts : List ℕ) (first : PlayerState) (played : List Played) (last : PlayerState)
+    → IsMachine first.machine → Follows tells wants counts first played last → HasNoBridge first → AllGiveStoredBack None first played
+
 -- a turn that keeps its block for a failure of the flash has its cause
 abbrev pub GivesAllCauses : Type 0 → Type 0
 GivesAllCauses tells = (wants : List (ℕ → Bool)) (counts : List ℕ) (first : PlayerState) (played : List Played) (last : PlayerState)
@@ -53,4 +58,5 @@ pub record HaveLaws (tells : Type 0) : Type 0 where
   pub crash : ShowsCrashes tells
   pub kept : KeepsAllBlocks tells
   pub in_step : KeepsAllInStep tells
+  pub given_back : GivesAllStoredBack tells
   pub causes : GivesAllCauses tells

@@ -1,6 +1,6 @@
 // The file of an image, opened for reading alone.
-ghost use Rattle.std.specs.Prelude.{◌≡◌, ◌≤◌, ◌^◌, length, IfOk, IfErr};
-ghost use Rattle.apei_look.specs.Refusals.{IsFileRefusal, length_checked};
+ghost use Rattle.std.specs.Prelude.{◌≡◌, ◌≤◌, ◌^◌, length, min, IfOk, IfErr};
+ghost use Rattle.apei_look.specs.Refusals.{IsFileRefusal, IsReadRefusal, length_checked};
 
 use crate::status::Status;
 use std::alloc::Global;
@@ -30,30 +30,69 @@ pub enum FileFault {
     Held,
 }
 
-/// The bytes of the regular file at `path`, which has at most so many. A file that another run holds for its changes is refused; while
-/// it is read no run can hold it so.
-pub fn read_file(rt: &HostRuntime, alloc: Global, path: &str, most: u64) -> Result<Vec<u8>, Status>
-    requires { most ≤ 2 ^ 26 }
-    ensures whole { IfOk result (λ image. length image.items ≤ most) }
-    ensures refused { IfErr result (IsFileRefusal most) }
-{
-    let file = open(rt, path).map_err(Status::File)?;
-    let found = match file.metadata() {
-        Ok(metadata) => metadata.len(),
-        Err(_) => return Err(Status::File(FileFault::Unreadable)),
-    };
-    check_length(found, most)?;
-    let Ok(mut image) = vec![in alloc; ERASED; found as usize] else {
-        return Err(Status::Memory);
-    };
-    match file.read_exact_at(&mut image, 0) {
-        Ok(()) => Ok(image),
-        Err(_) => Err(Status::File(FileFault::Unreadable)),
+/// A regular file that is open for reading alone. No run can hold it for its changes meanwhile.
+#[derive(Drop)]
+pub struct ImageFile {
+    file: File,
+    size: u64,
+}
+
+impl ImageFile {
+    /// Opens the file at `path`. One that another run holds for its changes is refused.
+    pub fn open(rt: &HostRuntime, path: &str) -> Result<ImageFile, Status> {
+        let file = open(rt, path).map_err(Status::File)?;
+        match file.metadata() {
+            Ok(metadata) => Ok(ImageFile {
+                size: metadata.len(),
+                file,
+            }),
+            Err(_) => Err(Status::File(FileFault::Unreadable)),
+        }
+    }
+
+    /// How many bytes it has.
+    pub fn size(&self) -> u64
+        ensures { result ≡ self.now.size }
+    {
+        self.size
+    }
+
+    /// Its first bytes: so many, or all where it has fewer.
+    pub fn beginning(&self, alloc: Global, most: u64) -> Result<Vec<u8>, Status>
+        requires { most ≤ 2 ^ 27 }
+        ensures { IfOk result (λ bytes. length bytes.items ≡ min self.now.size most) }
+    {
+        self.read(alloc, self.size.min(most))
+    }
+
+    /// All its bytes, which are at most so many.
+    pub fn bytes(&self, alloc: Global, most: u64) -> Result<Vec<u8>, Status>
+        requires { most ≤ 2 ^ 27 }
+        ensures whole { IfOk result (λ bytes. (length bytes.items ≡ self.now.size) × (self.now.size ≤ most)) }
+        ensures refused { IfErr result (IsFileRefusal most) }
+    {
+        check_length(self.size, most)?;
+        self.read(alloc, self.size)
+    }
+
+    // So many bytes from the first on.
+    fn read(&self, alloc: Global, len: u64) -> Result<Vec<u8>, Status>
+        requires { len ≤ 2 ^ 27 }
+        ensures whole { IfOk result (λ bytes. length bytes.items ≡ len) }
+        ensures refused { IfErr result IsReadRefusal }
+    {
+        let Ok(mut bytes) = vec![in alloc; ERASED; len as usize] else {
+            return Err(Status::Memory);
+        };
+        match self.file.read_exact_at(&mut bytes, 0) {
+            Ok(()) => Ok(bytes),
+            Err(_) => Err(Status::File(FileFault::Unreadable)),
+        }
     }
 }
 
-// A file that is longer is refused.
-fn check_length(found: u64, most: u64) -> Result<(), Status>
+/// A file that is longer is refused.
+pub fn check_length(found: u64, most: u64) -> Result<(), Status>
     ensures { result ≡ length_checked found most }
 {
     if found <= most {

@@ -6,23 +6,27 @@ ghost use Rattle.std.specs.Prelude.{◌≡◌, ◌*◌, ◌^◌, ◌≤◌, leng
 ghost use Rattle.std.specs.Option.{option_map_or};
 ghost use Rattle.image_survey.specs.Heads.{IsGuess};
 ghost use Rattle.image_survey.specs.declared.heads.Guess.{Guess};
-ghost use Rattle.apei_look.specs.Refusals.{ended_as};
+ghost use Rattle.apei_look.specs.Refusals.{ended_as, most_of, named_as};
 
 mod image_file;
 mod status;
 
-use crate::image_file::read_file;
+use crate::image_file::{ImageFile, check_length};
 use crate::status::Status;
 use clap_words::{WordsError, end, words};
+use erst_medium::{FirstSector, first_sector};
 use flash_model::Geometry;
 use image_survey::{best_guess, find, record_at, survey_slots};
-use look_text::{Image, json_of, text_of};
+use look_text::{Image, Unread, file_size, flash_of, json_of, text_of, unread_json, unread_text};
 use look_words::{Options, Show, options_of};
 use std::io::Write;
 use std::process::ExitCode;
 
 // The most bytes that a store's flash has.
 const MAX_IMAGE: u64 = 1 << 26;
+
+// The bytes that tell whether a file is a medium.
+const HEADER: u64 = 64;
 
 // What is behind the end of a file that is cut off.
 const ERASED: u8 = 0xFF;
@@ -43,21 +47,49 @@ fn look(rt: &HostRuntime, options: &Options) -> Status {
     let Ok(given) = Geometry::new(options.sector, options.per_slot, options.slots) else {
         return Status::BadGeometry;
     };
-    let path = options.image.as_str();
-    let image = match read_file(rt, rt.alloc(), path, most_of(options.guess, &given)) {
-        Ok(image) => image,
-        Err(status) => return status,
-    };
-    if options.guess {
-        let geometry = seeming(&image, given);
-        return look_by(rt, image, &geometry, options.show);
+    match look_at_file(rt, options, given) {
+        Ok(status) => status,
+        Err(status) => status,
     }
-    look_by(rt, image, &given, options.show)
+}
+
+// Looks at the file: where its first sector says that it is a medium, by what stands there.
+fn look_at_file(rt: &HostRuntime, options: &Options, given: Geometry) -> Result<Status, Status> {
+    let file = ImageFile::open(rt, options.image.as_str())?;
+    let beginning = file.beginning(rt.alloc(), HEADER)?;
+    let unread = match first_sector(&beginning) {
+        FirstSector::Unsigned => return look_at_flash(rt, options, given, &file),
+        FirstSector::Medium(geometry) => {
+            let bytes = file.beginning(rt.alloc(), file_size(&geometry, true))?;
+            return Ok(look_by(rt, bytes, &file, &geometry, true, options.show));
+        }
+        FirstSector::Version { found } => Unread::Version(found),
+        FirstSector::Damaged => Unread::Damaged,
+    };
+    Ok(name_unread(rt, &file, unread, options.show))
+}
+
+// Looks at a file that is a flash alone.
+fn look_at_flash(
+    rt: &HostRuntime,
+    options: &Options,
+    given: Geometry,
+    file: &ImageFile,
+) -> Result<Status, Status> {
+    let image = file.bytes(rt.alloc(), most_of(options.guess, &given))?;
+    let geometry = if options.guess {
+        seeming(&image, given)
+    } else {
+        given
+    };
+    check_length(file.size(), geometry.size())?;
+    Ok(look_by(rt, image, file, &geometry, false, options.show))
 }
 
 // The most bytes that are looked at: where the geometry is guessed those of any.
 fn most_of(is_guessed: bool, given: &Geometry) -> u64
-    ensures { result ≤ 2 ^ 26 }
+    ensures most { result ≡ most_of is_guessed given.now }
+    ensures within { result ≤ 2 ^ 26 }
 {
     if is_guessed { MAX_IMAGE } else { given.size() }
 }
@@ -72,23 +104,25 @@ fn seeming(image: &[u8], given: Geometry) -> Geometry
     }
 }
 
-// Looks at an image by a geometry. One that is longer is refused, and one that is cut off is shown as far as it goes.
-fn look_by(rt: &HostRuntime, mut image: Vec<u8>, geometry: &Geometry, show: Show) -> Status {
-    let held = image.len() as u64;
-    let size = geometry.size();
-    if held > size {
-        return Status::Length {
-            found: held,
-            wanted: size,
-        };
-    }
-    if image.resize(size as usize, ERASED).is_err() {
+// Looks at a file by a geometry. One that is cut off is shown as far as it goes.
+fn look_by(
+    rt: &HostRuntime,
+    mut bytes: Vec<u8>,
+    file: &ImageFile,
+    geometry: &Geometry,
+    is_medium: bool,
+    show: Show,
+) -> Status {
+    let size = file_size(geometry, is_medium);
+    if bytes.resize(size as usize, ERASED).is_err() {
         return Status::Memory;
     }
-    ended_as(show_image(rt, &image, held, geometry, show), held, size)
+    let flash = flash_of(&bytes, geometry, is_medium);
+    let shown = show_flash(rt, flash, geometry, is_medium, file.size(), show);
+    ended_as(shown, file.size(), size)
 }
 
-// How a run ends that showed an image of so many bytes: one that is cut off is said to be.
+// How a run ends that showed a file of so many bytes: one of another length is said to be.
 #[tactic(auto, using(std::proofs::lemmas::Bool::Decides::nat_tests))]
 fn ended_as(shown: Status, found: u64, wanted: u64) -> Status
     ensures { result ≡ ended_as shown found wanted }
@@ -99,8 +133,15 @@ fn ended_as(shown: Status, found: u64, wanted: u64) -> Status
     }
 }
 
-// Shows the image, of which the file has so many bytes.
-fn show_image(rt: &HostRuntime, bytes: &[u8], held: u64, geometry: &Geometry, show: Show) -> Status
+// Shows the flash of a file that has so many bytes.
+fn show_flash(
+    rt: &HostRuntime,
+    bytes: &[u8],
+    geometry: &Geometry,
+    is_medium: bool,
+    held: u64,
+    show: Show,
+) -> Status
     requires { length bytes.now ≡ geometry.now.slot_size * geometry.now.slots }
 {
     let Ok(views) = survey_slots(rt.alloc(), bytes, geometry) else {
@@ -110,6 +151,7 @@ fn show_image(rt: &HostRuntime, bytes: &[u8], held: u64, geometry: &Geometry, sh
         bytes,
         geometry,
         views: &views,
+        is_medium,
         held,
     };
     let shown = match show {
@@ -120,6 +162,29 @@ fn show_image(rt: &HostRuntime, bytes: &[u8], held: u64, geometry: &Geometry, sh
     match shown {
         Ok(shown) => write(rt, shown.as_bytes()),
         Err(_) => Status::Memory,
+    }
+}
+
+// Says of a medium that is not shown why that is so. No record of it is written.
+fn name_unread(rt: &HostRuntime, file: &ImageFile, unread: Unread, show: Show) -> Status {
+    let said = match show {
+        Show::Text => unread_text(rt.alloc(), unread),
+        Show::Json => unread_json(rt.alloc(), unread, file.size()),
+        Show::Record(_) => return Status::Unread(unread),
+    };
+    match said {
+        Ok(said) => named_as(write(rt, said.as_bytes()), unread),
+        Err(_) => Status::Memory,
+    }
+}
+
+// How a run ends that said so.
+fn named_as(said: Status, unread: Unread) -> Status
+    ensures { result ≡ named_as said unread }
+{
+    match said {
+        Status::Done => Status::Unread(unread),
+        other => other,
     }
 }
 

@@ -4,6 +4,7 @@ ghost use Rattle.apei_look.specs.Numbers.{number_of};
 
 use crate::image_file::FileFault;
 use clap_words::WordsError;
+use look_text::Unread;
 use thiserror::Error;
 
 /// How a run ended, and what is said of it.
@@ -27,6 +28,9 @@ pub enum Status {
     /// The file has another length than the geometry.
     #[error("apei-look: the image has {found} bytes, and the geometry {wanted}")]
     Length { found: u64, wanted: u64 },
+    /// The file is a medium whose slots are not shown.
+    #[error("apei-look: {0}")]
+    Unread(Unread),
     /// There was no memory.
     #[error("apei-look: out of memory")]
     Memory,
@@ -45,7 +49,7 @@ impl Status {
             Status::Words(WordsError::BadWords) => 1,
             Status::SinkFault => 4,
             Status::File(_) => 5,
-            Status::BadGeometry | Status::Length { .. } => 6,
+            Status::BadGeometry | Status::Length { .. } | Status::Unread(_) => 6,
             Status::Words(WordsError::Memory) | Status::Memory => 8,
             Status::NoRecord { .. } => 10,
         }

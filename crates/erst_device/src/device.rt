@@ -9,7 +9,7 @@ ghost use Rattle.erst_entries.specs.Actions.{action_of};
 ghost use Rattle.erst_device.specs.DeviceState.{at_first, KnowsCopies};
 ghost use Rattle.erst_device.specs.Actions.{Acts, gives_up};
 ghost use Rattle.erst_device.specs.Effects.{Effect};
-ghost use Rattle.erst_device.specs.Registers.{seen};
+ghost use Rattle.erst_device.specs.Registers.{seen, Runs};
 
 use crate::registers::{Registers, Running};
 use erst_entries::Action;
@@ -61,7 +61,8 @@ impl<F: Flash> Device<F> {
 
     /// All that the device keeps beside its store.
     pub fn registers(&self) -> Registers
-        ensures { self.now ≡ seen result self.now.store }
+        ensures state { self.now ≡ seen result self.now.store }
+        ensures runs { Runs F.tells result.running result.offset self.now.store }
     {
         self.registers
     }

@@ -4,6 +4,8 @@ use Rattle.base_model.specs.Bytes.{part, number_at, little, spelled, joined}
 use Rattle.flash_model.specs.declared.geometry.Geometry.{Geometry}
 use Rattle.erst_medium.specs.declared.header.MediumError.{MediumError}
 use Rattle.erst_medium.specs.declared.header.MediumError.TheVariants.{Foreign, Version, Size}
+use Rattle.erst_medium.specs.declared.header.FirstSector.{FirstSector}
+use Rattle.erst_medium.specs.declared.header.FirstSector.TheVariants as first
 use Rattle.erst_medium.specs.Checksums.{word_sum}
 
 -- "APEIERST" as a number
@@ -45,6 +47,11 @@ header_checksum geometry = (2 ^ 32 - word_sum 12 (header_with geometry 0) % 2 ^ 
 abbrev pub header_of : Geometry → List ℕ
 header_of geometry = header_with geometry (header_checksum geometry)
 
+-- bytes begin with the signature
+pub record IsSigned (medium : List ℕ) : Type 0 where
+  pub long : 8 ≤ length medium
+  pub signed : number_at medium 0 8 ≡ signature
+
 -- bytes begin with a whole header, of whatever version
 pub record IsWhole (medium : List ℕ) : Type 0 where
   pub long : 64 ≤ length medium
@@ -69,6 +76,13 @@ pub record IsMedium (geometry : Geometry) (medium : List ℕ) : Type 0 where
 -- no header is whole, or it is of version 1 and no geometry's
 abbrev pub IsForeign : List ℕ → Type 0
 IsForeign medium = (IsWhole medium → ⊥) ⊎ ((version_of medium ≡ 1) × ((geometry : Geometry) → HasHeader geometry medium → ⊥))
+
+-- what the first sector of a file says: exactly one of these holds
+abbrev pub IsFirstSector : List ℕ → FirstSector → Type 0
+IsFirstSector file first.Unsigned = IsSigned file → ⊥
+IsFirstSector file (first.Medium geometry) = HasHeader geometry file
+IsFirstSector file (first.Version found) = IsWhole file × (found ≡ version_of file) × (found ≢ 1)
+IsFirstSector file first.Damaged = IsSigned file × IsForeign file
 
 -- why bytes are no medium: exactly one reason applies
 abbrev pub RefusesMedium : List ℕ → MediumError → Type 0

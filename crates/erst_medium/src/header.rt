@@ -2,7 +2,7 @@
 ghost use Rattle.std.specs.Prelude.{◌≡◌, ◌+◌, ◌*◌, ◌↔◌, ◌^◌, ◌<◌, ◌≤◌, length, IsTrue, Option, Some, None, MatchOption};
 ghost use Rattle.base_model.specs.Bytes.{part};
 ghost use Rattle.flash_model.specs.declared.geometry.Geometry.{Geometry};
-ghost use Rattle.erst_medium.specs.Headers.{header_with, header_of, header_checksum, IsWhole, HasHeader, TellsGeometry};
+ghost use Rattle.erst_medium.specs.Headers.{header_with, header_of, header_checksum, IsSigned, IsWhole, HasHeader, IsFirstSector, TellsGeometry};
 ghost use Rattle.erst_medium.specs.Headers.{medium_size as size_of_medium};
 
 use crate::checksum::word_sum;
@@ -16,7 +16,8 @@ pub(crate) const HEADER: usize = 48;
 /// "APEIERST".
 const SIGNATURE: u64 = 0x5453_5245_4945_5041;
 
-const VERSION: u32 = 1;
+/// The version of the headers that are written, and the only one that is read.
+pub const VERSION: u32 = 1;
 
 /// The bytes of the header with its marks.
 const LENGTH: u32 = 64;
@@ -33,6 +34,19 @@ pub(crate) const ENDED_AT: u64 = 49;
 
 /// The same byte of a medium, as an erased flash has it.
 const NOT_ENDED: u8 = 0xFF;
+
+/// What the first sector of a file says of a medium.
+#[derive(Clone, Copy, Debug)]
+pub enum FirstSector {
+    /// It has no signature: the file is no medium.
+    Unsigned,
+    /// The header is whole, and tells the geometry of the flash behind it. The file may have another size than such a medium.
+    Medium(Geometry),
+    /// The header is whole, and of another version.
+    Version { found: u32 },
+    /// The signature stands, and no header that a format made.
+    Damaged,
+}
 
 /// Why bytes are no medium: the first reason that applies.
 #[derive(Clone, Copy, Debug, PartialEq, Eq)]
@@ -56,22 +70,50 @@ pub fn medium_size(geometry: &Geometry) -> u64
 pub fn geometry_of(medium: &[u8]) -> Result<Geometry, MediumError>
     ensures { TellsGeometry medium.now result }
 {
-    if !is_whole(medium) {
-        return Err(MediumError::Foreign);
+    match first_sector(medium) {
+        FirstSector::Medium(geometry) => sized(medium, geometry),
+        FirstSector::Version { found } => Err(MediumError::Version { found }),
+        FirstSector::Unsigned | FirstSector::Damaged => Err(MediumError::Foreign),
     }
-    let version = get_u32(medium, 8);
-    if version != VERSION {
-        return Err(MediumError::Version { found: version });
-    }
-    let Some(geometry) = header_geometry(medium) else {
-        return Err(MediumError::Foreign);
-    };
+}
+
+// The geometry, where the medium has its size.
+fn sized(medium: &[u8], geometry: Geometry) -> Result<Geometry, MediumError>
+    requires { HasHeader geometry medium.now }
+    ensures { TellsGeometry medium.now result }
+{
     let found = medium.len() as u64;
     let wanted = medium_size(&geometry);
     if found != wanted {
         return Err(MediumError::Size { found, wanted });
     }
     Ok(geometry)
+}
+
+/// What the first sector of a file says, by its first 64 bytes.
+pub fn first_sector(file: &[u8]) -> FirstSector
+    ensures { IsFirstSector file.now result }
+{
+    if !is_signed(file) {
+        return FirstSector::Unsigned;
+    }
+    if !is_whole(file) {
+        return FirstSector::Damaged;
+    }
+    let version = get_u32(file, 8);
+    if version != VERSION {
+        return FirstSector::Version { found: version };
+    }
+    match header_geometry(file) {
+        Some(geometry) => FirstSector::Medium(geometry),
+        None => FirstSector::Damaged,
+    }
+}
+
+fn is_signed(file: &[u8]) -> bool
+    ensures { IsTrue result ↔ IsSigned file.now }
+{
+    file.len() >= 8 && get_u64(file, 0) == SIGNATURE
 }
 
 fn is_whole(medium: &[u8]) -> bool

@@ -8,4 +8,4 @@ mod laws;
 
 pub use checksum::word_sum;
 pub use format::{Content, FormatChange, format_change};
-pub use header::{MediumError, geometry_of, medium_size};
+pub use header::{FirstSector, MediumError, VERSION, first_sector, geometry_of, medium_size};

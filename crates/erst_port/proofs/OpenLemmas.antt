@@ -6,7 +6,9 @@ use Rattle.flash_words.specs.Layout.{Layout, room_of, reach_of}
 use Rattle.record_store.specs.Store.{IsOpened}
 use Rattle.flash_mirror.specs.Dues.{IsLogged}
 use Rattle.erst_device.specs.DeviceState.{DeviceState}
+use Rattle.erst_entries.specs.Layout.{spelling}
 use Rattle.erst_port.specs.Places.{are_apart}
+use Rattle.erst_port.specs.PortTables.{port_erst}
 use Rattle.std.specs.Prelude.{IfOk, IfErr}
 use Rattle.flash_model.specs.declared.geometry.Geometry.{Geometry}
 use Rattle.erst_medium.specs.Headers.{IsMedium}
@@ -33,13 +35,14 @@ module _ (medium : List ℕ) (addresses : Addresses) (geometry : Geometry) (is :
 
 -- what was opened is a port
 pub is_port : (geometry : Geometry) (device : DeviceState) (range table : List ℕ) (addresses : Addresses) (origin size reach : ℕ) → IsOpened geometry device.store
-    → size ≡ reach_of (geometry.slot_size - 64) → reach ≡ reach_of (geometry.slot_size - 64) → range ≡ zeros reach → length table ≡ table_size → are_apart size addresses ≡ true → origin ≤ 32768
+    → size ≡ reach_of (geometry.slot_size - 64) → reach ≡ reach_of (geometry.slot_size - 64) → range ≡ zeros reach → length table ≡ table_size → table ≡ spelling (port_erst addresses.registers) → are_apart size addresses ≡ true → origin ≤ 32768
     → (1 < device.store.flash.steps → IsLogged device.store.flash) → IsPort (state_of device range table addresses origin 0)
-is_port geometry device range table addresses origin size reach opened size_is reach_is range_is long apart near known =
+is_port geometry device range table addresses origin size reach opened size_is reach_is range_is long tells apart near known =
     let range_size : length range ≡ reach_of (geometry.slot_size - 64) = ap (λ (xs : List ℕ). length xs) range_is ∙ length-replicate reach 0 ∙ reach_is in
     record {
       range = range_size ∙ ap (λ (layout : Layout). reach_of (room_of layout)) (sym opened.layout);
       table = long;
+      tells = tells;
       apart = subst (λ (n : ℕ). are_apart n addresses ≡ true) (size_is ∙ sym range_size) apart;
       origin = near;
       behind = omega arith;

@@ -5,6 +5,7 @@ use Rattle.base_model.specs.Faults.{Rose}
 use Rattle.apei_gas.specs.declared.widths.Width.{Width}
 use Rattle.apei_gas.specs.Access.{bits}
 use Rattle.record_store.specs.Store.{IsSettled, doubted}
+use Rattle.record_store.specs.Answers.{FailsByFlash}
 use Rattle.record_store.specs.Calls.{OnlyLooks}
 use Rattle.record_store.specs.declared.errors.StoreError.{StoreError}
 use Rattle.erst_entries.specs.Actions.{action_of, code_of}
@@ -94,6 +95,7 @@ bytes_stored Nowhere old bytes = (Err BadAccess, old)
 pub record ResetsOn (old : PortState) (result : Result (Unit {0}) StoreError) (new : PortState) : Type 0 where
   pub registers : new.device ≡ at_first new.device.store
   pub settled : OnOk result (IsSettled new.device.store)
+  pub error : FailsByFlash result
   pub leaves : OnlyLooks (Unit {0}) (doubted old.device.store) new.device.store result
   pub others : new ≡ record old { device = new.device }
 

@@ -6,3 +6,5 @@ pub mod Accesses
 pub mod PortTables
 pub mod Openings
 pub mod Moves
+pub mod Saved
+pub mod Loaded

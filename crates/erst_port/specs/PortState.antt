@@ -3,9 +3,11 @@ use Rattle.std.specs.Prelude.{◌≡◌, ℕ, ◌+◌, ◌<◌, ◌≤◌, true,
 use Rattle.flash_words.specs.Flash.{FlashState}
 use Rattle.flash_words.specs.Layout.{room_of, reach_of}
 use Rattle.flash_mirror.specs.Dues.{IsLogged}
+use Rattle.erst_entries.specs.Layout.{spelling}
 use Rattle.erst_device.specs.DeviceState.{DeviceState}
 use Rattle.erst_port.specs.declared.windows.Addresses.{Addresses}
 use Rattle.erst_port.specs.Places.{are_apart}
+use Rattle.erst_port.specs.PortTables.{port_erst}
 
 -- the device, the bytes of its log range, its table, where its windows stand in memory, how many bytes of the medium stand before the
 -- flash, and how many of the flash's changes the medium has made
@@ -31,11 +33,12 @@ table_size = 880
 abbrev pub IsMade : PortState → Type 0
 IsMade state = state.made ≡ (flash_of state).steps
 
--- the log range takes the longest record, the table has its size, the windows are apart, the medium made no change that the flash did not make, and where it has
+-- the log range takes the longest record, the table has its size and is that of the addresses, the windows are apart, the medium made no change that the flash did not make, and where it has
 -- more than one to make, all changes are known
 pub record IsPort (state : PortState) : Type 0 where
   pub range : length state.range ≡ reach_of (room_of state.device.store.layout)
   pub table : length state.table ≡ table_size
+  pub tells : state.table ≡ spelling (port_erst state.addresses.registers)
   pub apart : are_apart (length state.range) state.addresses ≡ true
   pub origin : state.origin ≤ 32768
   pub behind : state.made ≤ (flash_of state).steps

@@ -2,6 +2,7 @@
 ghost use Rattle.std.specs.Prelude.{◌≡◌, ◌≤◌, length, OnOk};
 ghost use Rattle.flash_words.specs.Layout.{room_of, reach_of};
 ghost use Rattle.record_store.specs.Store.{IsSettled, doubted};
+ghost use Rattle.record_store.specs.Answers.{FailsByFlash};
 ghost use Rattle.record_store.specs.Calls.{OnlyLooks};
 ghost use Rattle.erst_device.specs.DeviceState.{at_first};
 ghost use Rattle.erst_port.specs.Accesses.{Acted};
@@ -52,6 +53,7 @@ pub fn steps(device: &Device<MirrorFlash>) -> u64
 /// Restarts the device.
 pub fn reset(device: &mut Device<MirrorFlash>) -> Result<(), StoreError>
     ensures registers { device.new ≡ at_first device.new.store }
+    ensures error { FailsByFlash result }
     ensures settled { OnOk result (IsSettled device.new.store) }
     ensures leaves { OnlyLooks (Unit {0}) (doubted device.old.store) device.new.store result }
     ensures grows { device.old.store.flash.steps ≤ device.new.store.flash.steps }

@@ -51,3 +51,31 @@ pub struct NotDue;
 /// A window would not end below 2^64, or the windows would overlap.
 #[derive(Clone, Copy, Debug, PartialEq, Eq)]
 pub struct BadAddresses;
+
+/// Why a device is not saved. Nothing has changed then.
+#[derive(Clone, Copy, Debug, PartialEq, Eq)]
+pub enum SaveError {
+    /// An execution runs.
+    Busy,
+    /// The medium has not yet made every change.
+    Due,
+    /// The buffer has fewer than so many bytes.
+    Short { need: usize },
+}
+
+/// Why a device is not loaded: the first reason that applies.
+#[derive(Clone, Copy, Debug, PartialEq, Eq)]
+pub enum LoadError {
+    /// The bytes are not those of a saved device.
+    Foreign,
+    /// They are of another version.
+    Version { found: u32 },
+    /// They hold an operation or a command status that there is not.
+    Registers,
+    /// The medium is not opened.
+    Medium(OpenError),
+    /// The flash of the saved device was divided otherwise.
+    Geometry,
+    /// The bytes are not as many as a device over this flash is saved as.
+    Size { found: u64, wanted: u64 },
+}

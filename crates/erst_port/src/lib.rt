@@ -7,13 +7,15 @@ mod acting;
 mod changes;
 mod entries;
 mod errors;
+mod loading;
 mod memory;
 mod moving;
 mod open;
 mod port;
+mod saving;
 mod table;
 mod windows;
 
-pub use errors::{BadAddresses, NotDue, OpenError, PortError};
+pub use errors::{BadAddresses, LoadError, NotDue, OpenError, PortError, SaveError};
 pub use port::Port;
 pub use windows::{Addresses, Window};

@@ -1,5 +1,5 @@
 -- The turns of each side are the machine's turns.
-use Rattle.std.proofs.Common.{◌≡◌, ◌∙◌, ℕ, suc, ◌+◌, ◌-◌, ◌*◌, ◌<◌, ◌≤◌, inl, inr, ◌^◌, min, List, [], ◌∷◌, ◌++◌, length, map, replicate, get_or, All, Vec, Option, Some, None, option_to_list, refl, sym, ap, subst, arith, length-append}
+use Rattle.std.proofs.Common.{◌≡◌, ◌∙◌, ℕ, suc, ◌+◌, ◌-◌, ◌*◌, ◌<◌, ◌≤◌, inl, inr, ◌^◌, min, List, [], ◌∷◌, ◌++◌, length, map, replicate, All, Vec, Option, Some, None, option_to_list, refl, sym, ap, subst, arith, length-append}
 use Rattle.std.specs.declared.alloc.Global.{Global}
 use Rattle.std.proofs.lemmas.List.{length-replicate}
 use Rattle.std.proofs.lemmas.List.Elements.{All-drop}
@@ -134,9 +134,6 @@ done_as : (side : Side) (events others : List Event) (ends next : Ends) (old new
 done_as side events others ends next old new after ram memory left is_events is_new is_memory done =
     subst (λ (es : List Event). SideDone side es ends next old new ram memory) (sym is_events)
     (subst (λ (n : Blocks). SideDone side others ends next old n ram memory) (sym is_new) (subst (λ (r : RamState). SideDone side others ends next old after ram r) (sym is_memory) done))
-
-pub done_on : (side other : Side) (events : List Event) (ends next : Ends) (old new : Blocks) (ram memory : RamState) → side ≡ other → SideDone other events ends next old new ram memory → SideDone side events ends next old new ram memory
-done_on side other events ends next old new ram memory is done = subst (λ (s : Side). SideDone s events ends next old new ram memory) (sym is) done
 
 -- what turns of the firmware leave
 firmware_map : (h : HandoverState) (ram : RamState) (events : List Event) (new : HandoverState) (memory : RamState) → FirmwareMakes h ram events new memory → new.map ≡ h.map
@@ -302,21 +299,3 @@ able ends b ram all (m, st) = record {
   fits = held_fits b.map.len (situation_of ends.firmware ends.reader b.at_work) b.at_work b.last (map (λ v. v.items) b.waiting.items)
       (subst (All (Fits b.map.len)) (sym st.blocks) (All-drop (Fits b.map.len) m.acknowledged m.blocks st.state.blocks));
 }
-
--- a run of one turn is that turn
-pub turn_of_one : (side : Side) (event : Event) (h after : HandoverState) (ram memory : RamState) (m : Machine) → Runs side (event ∷ []) h ram after memory m → Turns side event h ram after memory m
-turn_of_one side event h after ram memory m run = record {
-  turned = record { event_is = ap (λ (es : List Event). get_or es 0 Idle) run.turned.events_are; stands = run.turned.stands };
-  map = run.map;
-  memory_is = run.memory_is;
-}
-
-pub piece_filled : (ends : Ends) (write : FirmwareEnd) (b new : Blocks) (ram memory : RamState) → ends.firmware ≡ write → IsConsistent ends b → HasRoom 0 new → Stands (handover_of ends b) ram → FirmwareRuns write b ram (Fill ∷ []) write new memory →
-    SideDone Firmware (Fill ∷ []) ends ends b new ram memory
-piece_filled ends write b new ram memory is all room stands runs =
-    firmware_done ends.firmware ends.firmware ends.reader b new ram memory (Fill ∷ []) all room stands (subst (λ (f : FirmwareEnd). FirmwareRuns f b ram (Fill ∷ []) f new memory) (sym is) runs)
-
-pub piece_copied : (ends : Ends) (read : ReaderEnd) (b new : Blocks) (ram memory : RamState) → ends.reader ≡ read → IsConsistent ends b → HasRoom 0 new → Stands (handover_of ends b) ram → ReaderRuns read b ram (Copied ∷ []) read new memory → GoesOn read read new →
-    SideDone Reader (Copied ∷ []) ends ends b new ram memory
-piece_copied ends read b new ram memory is all room stands runs goes =
-    reader_done ends.firmware ends.reader ends.reader b new ram memory (Copied ∷ []) all room stands (subst (λ (r : ReaderEnd). ReaderRuns r b ram (Copied ∷ []) r new memory) (sym is) runs) (subst (λ (r : ReaderEnd). GoesOn r r new) (sym is) goes)

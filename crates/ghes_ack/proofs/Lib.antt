@@ -9,5 +9,6 @@ pub mod TurnLemmas
 pub mod RunLemmas
 pub mod SideLemmas
 pub mod JoinLemmas
+pub mod BothSides
 pub mod ElsewhereLemmas
 pub mod StartLemmas

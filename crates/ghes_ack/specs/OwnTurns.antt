@@ -4,8 +4,11 @@ use Rattle.base_model.specs.Bytes.{spelled}
 use Rattle.ghes_window.specs.Pieces.{read_over as pieces_over}
 use Rattle.apei_space.specs.RamState.{RamState}
 use Rattle.ghes_ack.specs.declared.maps.HandoverMap.{HandoverMap}
+use Rattle.ghes_ack.specs.declared.events.Side.{Side}
+use Rattle.ghes_ack.specs.declared.events.Side.TheVariants.{Firmware, Reader}
 use Rattle.ghes_ack.specs.declared.events.Event.{Event}
 use Rattle.ghes_ack.specs.declared.events.Event.TheVariants.{Idle, Fill, Publish, Free, Wait, Nothing, Found, Copied, Took, Clear, Ack}
+use Rattle.ghes_ack.specs.declared.ends.Ends.{Ends}
 use Rattle.ghes_ack.specs.declared.ends.FirmwareEnd.{FirmwareEnd}
 use Rattle.ghes_ack.specs.declared.ends.FirmwareEnd.TheVariants.{Writes, Waits}
 use Rattle.ghes_ack.specs.declared.ends.ReaderEnd.{ReaderEnd}
@@ -101,3 +104,14 @@ ReaderRuns (Looks look) old ram events end new memory = FindsBlock old ram event
 ReaderRuns (Reads read) old ram events end new memory = ReaderMakes (state_of Reading old) ram events (state_of (reader_at end) new) memory
 ReaderRuns (Acknowledges acknowledge) old ram events end new memory =
     LooksAgain end × (events ≡ Ack ∷ []) × (new ≡ old) × (memory ≡ with_ack old.map ram (acknowledged old.map (ack_read old.map ram))) × (HasAckBits old.map → IsSet old.map memory)
+
+-- a side can make turns: of the other side nothing is known
+abbrev pub SideIsAble : Side → Ends → Blocks → RamState → Type 0
+SideIsAble Firmware ends b ram = IsAble b ram
+SideIsAble Reader ends b ram = IsAble b ram × IsFar ends.reader b
+
+-- turns of a side by its own end, the blocks and the memory. The other side stays where it is
+abbrev pub SideRuns : Side → Ends → Blocks → RamState → List Event → Ends → Blocks → RamState → Type 0
+SideRuns Firmware ends old ram events next new memory = FirmwareRuns ends.firmware old ram events next.firmware new memory × (next.reader ≡ ends.reader)
+SideRuns Reader ends old ram events next new memory =
+    ReaderRuns ends.reader old ram events next.reader new memory × GoesOn ends.reader next.reader new × (next.firmware ≡ ends.firmware)

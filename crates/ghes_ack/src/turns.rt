@@ -1,9 +1,10 @@
 // The turns of both sides.
-ghost use Rattle.std.specs.Prelude.{◌≡◌, ◌<◌, length, take, MatchOption};
+ghost use Rattle.std.specs.Prelude.{◌≡◌, ◌∷◌, [], ◌<◌, length, take, MatchOption};
 ghost use Rattle.ghes_ack.specs.Machine.{Machine};
+ghost use Rattle.ghes_ack.specs.Queues.{HasRoom};
 ghost use Rattle.ghes_ack.specs.Handovers.{StandsFor};
-ghost use Rattle.ghes_ack.specs.Sides.{Stands, Turns, Runs, MakesTurns, IsConsistent, handover_of};
-ghost use Rattle.ghes_ack.specs.OwnTurns.{IsCount};
+ghost use Rattle.ghes_ack.specs.Sides.{Stands, MakesTurns, IsConsistent, handover_of};
+ghost use Rattle.ghes_ack.specs.OwnTurns.{IsCount, SideIsAble, SideRuns};
 
 use crate::blocks::{Blocks, copy_in_place, fill_in_place, firmware_run, reader_run};
 use crate::ends::{Ends, FirmwareEnd, ReaderEnd};
@@ -11,14 +12,14 @@ use crate::events::{Event, Side};
 use apei_space::Ram;
 
 /// A turn of a side that moves one piece and leaves both sides where they are: the firmware fills a piece of the block at work,
-/// or the reader copies one that is not the last. `None` where the turn is another one; nothing is done then.
+/// or the reader copies one that is not the last. `None` where the turn is another one; nothing is done then. A side knows of the
+/// other one what the memory shows.
 pub fn piece_turn(side: Side, ends: &Ends, blocks: &mut Blocks, ram: &mut Ram) -> Option<Event>
-    requires consistent { IsConsistent ends.now blocks.old }
-    requires stands { Stands (handover_of ends.now blocks.old) ram.old }
-    ensures consistent { IsConsistent ends.now blocks.new }
-    ensures turns { MatchOption result
-        ((handover_of ends.now blocks.new ≡ handover_of ends.now blocks.old) × (ram.new ≡ ram.old))
-        (λ event. (m : Machine) → StandsFor (handover_of ends.now blocks.old) ram.old m → Turns side event (handover_of ends.now blocks.old) ram.old (handover_of ends.now blocks.new) ram.new m) }
+    requires { SideIsAble side ends.now blocks.old ram.old }
+    ensures room { HasRoom 0 blocks.new }
+    ensures runs { MatchOption result
+        ((blocks.new ≡ blocks.old) × (ram.new ≡ ram.old))
+        (λ event. SideRuns side ends.now blocks.old ram.old (event ∷ []) ends.now blocks.new ram.new) }
 {
     match (side, &ends.firmware, &ends.reader) {
         (Side::Firmware, FirmwareEnd::Writes(write), _) => {
@@ -62,7 +63,8 @@ pub fn all_turns(
     stand
 }
 
-/// The next turns of a side: all that fill or copy pieces, or else one. It answers how many, and writes their events.
+/// The next turns of a side, which knows of the other one what the memory shows: all that fill or copy pieces, or else one. It
+/// answers how many, and writes their events.
 fn run_of(
     side: Side,
     ends: Ends,
@@ -70,12 +72,11 @@ fn run_of(
     events: &mut [Event],
     ram: &mut Ram,
 ) -> (Ends, usize)
-    requires consistent { IsConsistent ends blocks.old }
-    requires stands { Stands (handover_of ends blocks.old) ram.old }
+    requires able { SideIsAble side ends blocks.old ram.old }
     requires some { 0 < length events.old }
-    ensures consistent { IsConsistent result.0 blocks.new }
+    ensures room { HasRoom 0 blocks.new }
     ensures count { IsCount result.1 (length events.old) }
-    ensures turns { (m : Machine) → StandsFor (handover_of ends blocks.old) ram.old m → Runs side (take result.1 events.new) (handover_of ends blocks.old) ram.old (handover_of result.0 blocks.new) ram.new m }
+    ensures runs { SideRuns side ends blocks.old ram.old (take result.1 events.new) result.0 blocks.new ram.new }
 {
     let Ends { firmware, reader } = ends;
     match side {

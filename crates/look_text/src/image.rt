@@ -7,19 +7,23 @@ ghost use Rattle.image_survey.specs.Kinds.{kind_at};
 ghost use Rattle.image_survey.specs.Reading.{IsRecordOf};
 ghost use Rattle.image_survey.specs.Shown.{AreShown};
 ghost use Rattle.image_survey.specs.declared.kinds.SlotKind.TheVariants.{First};
+ghost use Rattle.look_text.specs.Places.{flash_at, place_of_slot, IsEnd};
 
+use crate::places::flash_at;
 use flash_model::Geometry;
 use image_survey::{SlotView, record_at};
 use record_slots::{Head, parts_of};
 use std::alloc::{AllocError, Global};
 
-/// The bytes of an image, its geometry, and what each of its slots is.
+/// The bytes of a flash, its geometry, what each of its slots is, and the file that it stands in.
 #[derive(Clone, Copy)]
 pub struct Image<'a> {
     pub bytes: &'a [u8],
     pub geometry: &'a Geometry,
     pub views: &'a [SlotView],
-    /// How many of the bytes the file has: those behind them, where it is cut off, stand here as erased.
+    /// Whether the file is a library's medium: then a sector that says so stands before the flash.
+    pub is_medium: bool,
+    /// How many bytes the file has: those behind them, where it is cut off, stand here as erased.
     pub held: u64,
     pub ghost sized: { length bytes.now ≡ geometry.now.slot_size * geometry.now.slots },
     pub ghost all: { length views.now ≡ geometry.now.slots },
@@ -27,6 +31,30 @@ pub struct Image<'a> {
 }
 
 impl<'a> Image<'a> {
+    /// The byte of the file at which the flash begins.
+    pub(crate) fn flash_at(&self) -> u64
+        ensures at { result ≡ flash_at self.now.is_medium self.now.geometry.now }
+        ensures near { result ≤ self.now.geometry.now.sector }
+    {
+        flash_at(self.geometry, self.is_medium)
+    }
+
+    /// The byte of the file at which a slot begins.
+    pub(crate) fn place_of(&self, slot: u32) -> u64
+        requires { slot < self.now.geometry.now.slots }
+        ensures { result ≡ place_of_slot self.now.is_medium self.now.geometry.now slot }
+    {
+        self.flash_at() + u64::from(slot) * self.geometry.slot_size()
+    }
+
+    /// The slot in which the file ends; none where it ends before the flash begins.
+    pub(crate) fn last_slot(&self) -> Option<u64>
+        ensures { IsEnd self.now.is_medium self.now.geometry.now self.now.held result }
+    {
+        let held = self.held.checked_sub(self.flash_at())?;
+        Some(held / self.geometry.slot_size())
+    }
+
     /// The head of the record whose first slot a slot is, and the record's bytes; none where it is no first slot.
     pub(crate) fn record_at(
         &self,

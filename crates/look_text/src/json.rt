@@ -7,6 +7,7 @@ use crate::kind::{file_word, word};
 use crate::records::{add_bytes, add_slot_numbers};
 use crate::time::{RecordTime, time_of};
 use cper_frame::{Record, RecordHead, notification_name, section_name, severity_name};
+use erst_medium::VERSION;
 use flash_model::Geometry;
 use image_survey::{FileView, Look, SlotKind, SlotView, count_slots, view_file};
 use record_slots::Head;
@@ -18,27 +19,35 @@ pub fn json_of(alloc: Global, image: &Image<'_>) -> Result<String, AllocError> {
     let mut out = String::new(alloc);
     add_file(&mut out, image)?;
     add_totals(&mut out, image)?;
-    add_slots(&mut out, image.views)?;
+    add_slots(&mut out, image)?;
     add_records(alloc, &mut out, image)?;
     out.push_str("}\n")?;
     Ok(out)
 }
 
-// The geometry that the image is looked at by, how many bytes of it the file has, and what kind of file it is.
+// The geometry that the image is looked at by, how many bytes the file has, what kind of file it is, and the medium that it is.
 fn add_file(out: &mut String, image: &Image<'_>) -> Result<(), AllocError> {
     let held = image.held;
     let FileView { heads, guess, kind } = view_file(image.bytes, image.geometry, image.views);
-    let kind = file_word(kind);
+    let kind = file_word(image.is_medium, kind);
     out.push_str("{\"geometry\":")?;
     add_geometry(out, image.geometry)?;
-    write!(
-        out,
-        ",\"held\":{held},\"file\":\"{kind}\",\"heads\":{heads},\"seems\":"
-    )?;
+    write!(out, ",\"held\":{held},\"file\":\"{kind}\",\"medium\":")?;
+    add_medium(out, image)?;
+    write!(out, ",\"heads\":{heads},\"seems\":")?;
     match guess {
         Some(guess) => add_geometry(out, &guess.geometry),
         None => out.push_str("null"),
     }
+}
+
+// What the first sector of a medium says, `null` where the file is none.
+fn add_medium(out: &mut String, image: &Image<'_>) -> Result<(), AllocError> {
+    if !image.is_medium {
+        return out.push_str("null");
+    }
+    let at = image.flash_at();
+    write!(out, "{{\"version\":{VERSION},\"flash_at\":{at}}}")
 }
 
 fn add_geometry(out: &mut String, geometry: &Geometry) -> Result<(), AllocError> {
@@ -65,19 +74,19 @@ fn add_totals(out: &mut String, image: &Image<'_>) -> Result<(), AllocError> {
     )
 }
 
-fn add_slots(out: &mut String, views: &[SlotView]) -> Result<(), AllocError> {
+fn add_slots(out: &mut String, image: &Image<'_>) -> Result<(), AllocError> {
     out.push_str(",\"slots\":[")?;
-    for (slot, view) in views.iter().enumerate() {
+    for slot in 0..image.geometry.slots as u32 {
         add_comma(out, slot == 0)?;
-        add_slot(out, view)?;
+        add_slot(out, image.place_of(slot), &image.views[slot as usize])?;
     }
     out.push(']')
 }
 
-// The kind of a slot, and its head and its tail mark where it is not erased.
-fn add_slot(out: &mut String, view: &SlotView) -> Result<(), AllocError> {
+// The kind of a slot and the byte of the file at which it begins, and its head and its tail mark where it is not erased.
+fn add_slot(out: &mut String, at: u64, view: &SlotView) -> Result<(), AllocError> {
     let kind = word(view.kind);
-    write!(out, "{{\"kind\":\"{kind}\"")?;
+    write!(out, "{{\"kind\":\"{kind}\",\"at\":{at}")?;
     if view.kind != SlotKind::Erased {
         add_look(out, &view.look)?;
     }

@@ -1,6 +1,6 @@
 // The letters and the words for what a slot is.
 ghost use Rattle.std.specs.Prelude.{◌≡◌};
-ghost use Rattle.look_text.specs.Words.{file_word_of, letter_of, word_of};
+ghost use Rattle.look_text.specs.Words.{file_word, letter_of, word_of};
 
 use image_survey::{FileKind, SlotKind};
 
@@ -37,10 +37,11 @@ pub fn word<'a>(kind: SlotKind) -> &'a str
 }
 
 /// The word of a kind of file.
-pub fn file_word<'a>(kind: FileKind) -> &'a str
-    ensures { result.now ≡ file_word_of kind }
+pub fn file_word<'a>(is_medium: bool, kind: FileKind) -> &'a str
+    ensures { result.now ≡ file_word is_medium kind }
 {
     match kind {
+        _ if is_medium => "medium",
         FileKind::Store => "store",
         FileKind::Other => "other-geometry",
         FileKind::Foreign => "foreign",

@@ -1,17 +1,14 @@
 // A record's time (UEFI 2.8, N.2.1).
-ghost use Rattle.std.specs.Prelude.{◌≡◌, ◌+◌, ◌*◌, ◌/◌, ◌%◌, ◌<◌, ◌≤◌, IfSome, MatchOption, pos, ◌*ℤ◌, ◌+ℤ◌};
+ghost use Rattle.std.specs.Prelude.{◌≡◌, ◌+◌, ◌*◌, ◌/◌, ◌%◌, ◌<◌, ◌≤◌, MatchOption, pos};
 ghost use Rattle.std.specs.Str.{bytes_eq};
-ghost use Rattle.look_text.specs.Times.{IsDigits, two_digits};
-ghost use Rattle.jiff.specs.Words.{civil_nanos};
+ghost use Rattle.look_text.specs.Times.{IsDigits, two_digits, byte_of, has_time, is_of_error, AreOfCalendar, IsOfDigits, IsTimeOf, nanos_since_1970, linux};
+ghost use Rattle.jiff.specs.Words.{civil_nanos, IsTimestampNanos};
 
 use apei_bytes::Guid;
 use cper_frame::RecordHead;
 use jiff::Timestamp;
 use jiff::civil::DateTime;
 use jiff::tz::Offset;
-
-// The bit of the validation bits that says that there is a time.
-const HAS_TIME: u32 = 1 << 1;
 
 // The creator of the records that Linux writes, 75a574e3-5052-4b29-8a8e-be2c6490b89d.
 const LINUX: [u8; 16] = [
@@ -30,28 +27,49 @@ pub enum RecordTime {
 }
 
 /// The time of a record. Linux counts seconds since 1970; others write digits of four bits.
-pub fn time_of(head: &RecordHead) -> RecordTime {
-    if head.validation & HAS_TIME == 0 {
+pub fn time_of(head: &RecordHead) -> RecordTime
+    ensures { IsTimeOf head.now result }
+{
+    if !has_time(head.validation) {
         return RecordTime::Missing;
     }
     let stamp = head.timestamp;
-    let linux = is_linux(&head.creator);
-    let found = if linux {
-        time_of_seconds(stamp)
+    if is_linux(&head.creator) {
+        match time_of_seconds(stamp) {
+            Some(time) => RecordTime::Calendar {
+                time,
+                is_precise: true,
+            },
+            None => RecordTime::Bytes(stamp),
+        }
     } else {
-        time_of_digits(stamp)
-    };
-    match found {
-        Some(time) => RecordTime::Calendar {
-            time,
-            is_precise: linux || byte_of(stamp, 3) & 1 != 0,
-        },
-        None => RecordTime::Bytes(stamp),
+        match time_of_digits(stamp) {
+            Some(time) => RecordTime::Calendar {
+                time,
+                is_precise: is_of_error(stamp),
+            },
+            None => RecordTime::Bytes(stamp),
+        }
     }
 }
 
+#[tactic(auto, using(std::proofs::lemmas::Bool::Decides::nat_tests))]
+fn has_time(validation: u32) -> bool
+    ensures { result ≡ has_time validation }
+{
+    validation / 2 % 2 == 1
+}
+
+// Whether a time is that of the error.
+#[tactic(auto, using(std::proofs::lemmas::Bool::Decides::nat_tests))]
+fn is_of_error(stamp: u64) -> bool
+    ensures { result ≡ is_of_error stamp }
+{
+    byte_of(stamp, 3) % 2 == 1
+}
+
 fn is_linux(creator: &Guid) -> bool
-    ensures { result ≡ bytes_eq creator.now LINUX }
+    ensures { result ≡ bytes_eq creator.now linux }
 {
     are_equal(&creator.to_bytes(), &LINUX)
 }
@@ -63,14 +81,18 @@ fn are_equal(one: &[u8], other: &[u8]) -> bool
 }
 
 // So many seconds behind the start of 1970, in UTC.
-fn time_of_seconds(seconds: u64) -> Option<DateTime> {
+fn time_of_seconds(seconds: u64) -> Option<DateTime>
+    ensures { MatchOption result (IsTimestampNanos (nanos_since_1970 seconds) → ⊥) (λ time. civil_nanos time ≡ nanos_since_1970 seconds) }
+{
     let seconds = i64::try_from(seconds).ok()?;
     let instant = Timestamp::from_second(seconds).ok()?;
     Some(Offset::UTC.to_datetime(instant))
 }
 
 // The time in digits of four bits: seconds, minutes, hours, a byte of flags, day, month, year and century, from the low byte on.
-fn time_of_digits(stamp: u64) -> Option<DateTime> {
+fn time_of_digits(stamp: u64) -> Option<DateTime>
+    ensures { MatchOption result (AreOfCalendar stamp → ⊥) (IsOfDigits stamp) }
+{
     let century = digits(byte_of(stamp, 7))?;
     let year = digits(byte_of(stamp, 6))?;
     let month = digits(byte_of(stamp, 5))?;
@@ -98,6 +120,7 @@ fn digits(byte: u8) -> Option<i8>
 // One byte of a number, from the low one on.
 fn byte_of(number: u64, at: u32) -> u8
     requires { at < 8 }
+    ensures { result ≡ byte_of number at }
 {
-    (number >> (8 * at) & 0xFF) as u8
+    ((number >> (8 * at)) % 256) as u8
 }

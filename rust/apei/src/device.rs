@@ -91,6 +91,44 @@ impl<M: Medium> Device<M> {
         })
     }
 
+    /// Opens the device of a medium and goes on where a device stopped that [`Device::save`] saved: the addresses, the registers and
+    /// the log range are that one's, so it answers every access as that one. The medium has to hold what that one's held.
+    pub fn load(medium: M, saved: &[u8]) -> Result<Self, Failure<M::Error>> {
+        Self::open_by(medium, |erst, bytes| {
+            // SAFETY: the bytes and the handle live as long as the call.
+            unsafe {
+                raw::apei_c_erst_load(
+                    erst,
+                    bytes.as_ptr(),
+                    bytes.len(),
+                    saved.as_ptr(),
+                    saved.len(),
+                )
+            }
+        })
+    }
+
+    /// The same for a medium that has no sector to spare.
+    pub fn load_raw(
+        medium: M,
+        geometry: Geometry,
+        saved: &[u8],
+    ) -> Result<Self, Failure<M::Error>> {
+        Self::open_by(medium, |erst, bytes| {
+            // SAFETY: as above.
+            unsafe {
+                raw::apei_c_erst_load_raw(
+                    erst,
+                    bytes.as_ptr(),
+                    bytes.len(),
+                    &geometry.as_raw(),
+                    saved.as_ptr(),
+                    saved.len(),
+                )
+            }
+        })
+    }
+
     fn open_by(
         mut medium: M,
         open: impl FnOnce(&mut raw::Erst, &[u8]) -> u32,
@@ -183,6 +221,15 @@ impl<M: Medium> Device<M> {
         // SAFETY: the handle and the size live as long as the call.
         unsafe { raw::apei_c_erst_range_size(&mut self.erst, &mut size) };
         size
+    }
+
+    /// What the device is beside its medium, as bytes: the addresses of its windows, its registers and its log range.
+    /// [`Device::load`] makes a device of them. [`Error::Busy`] while an execution runs.
+    pub fn save(&mut self) -> Result<Vec<u8>, Error> {
+        sized(|bytes, size| {
+            // SAFETY: the bytes and the references live as long as the call.
+            unsafe { raw::apei_c_erst_save(&mut self.erst, bytes.as_mut_ptr(), bytes.len(), size) }
+        })
     }
 
     /// The medium.

@@ -8,6 +8,8 @@ pub enum Error {
     Access,
     /// A change is due on the medium, which failed it: open the medium anew.
     Due,
+    /// An execution runs: let the guest end it, or reset the device.
+    Busy,
     /// The device's own flash failed: no further change can be counted.
     Flash,
     /// There was no memory.
@@ -22,6 +24,12 @@ pub enum Error {
     Size,
     /// A window does not end below 2^64, or the two windows overlap.
     Addresses,
+    /// The bytes are not those of a saved device, or not all of them.
+    Unsaved,
+    /// They are of a version that this library does not know.
+    SavedVersion,
+    /// The flash of the saved device was divided otherwise.
+    SavedFlash,
     /// The archive answered a status that this crate does not know.
     Unknown(u32),
 }
@@ -31,6 +39,7 @@ impl fmt::Display for Error {
         f.write_str(match self {
             Error::Access => "nothing stands there, or not of this size",
             Error::Due => "a change is due on the medium",
+            Error::Busy => "an execution runs",
             Error::Flash => "the flash failed",
             Error::Memory => "out of memory",
             Error::Geometry => "sectors or slots are outside their limits",
@@ -38,6 +47,9 @@ impl fmt::Display for Error {
             Error::Version => "the bytes have a version that is not known",
             Error::Size => "the bytes are not as many as the geometry has",
             Error::Addresses => "the windows overlap or do not end below 2^64",
+            Error::Unsaved => "the bytes are not those of a saved device",
+            Error::SavedVersion => "the device was saved in a version that is not known",
+            Error::SavedFlash => "the device was saved over a flash that is divided otherwise",
             Error::Unknown(status) => return write!(f, "status {status}"),
         })
     }
@@ -87,6 +99,7 @@ pub(crate) fn answer(status: u32) -> Result<(), Error> {
         0 => return Ok(()),
         5 => Error::Access,
         6 => Error::Due,
+        9 => Error::Busy,
         10 => Error::Flash,
         11 => Error::Memory,
         12 => Error::Geometry,
@@ -94,6 +107,9 @@ pub(crate) fn answer(status: u32) -> Result<(), Error> {
         14 => Error::Version,
         15 => Error::Size,
         16 => Error::Addresses,
+        18 => Error::Unsaved,
+        19 => Error::SavedVersion,
+        20 => Error::SavedFlash,
         other => Error::Unknown(other),
     })
 }

@@ -109,6 +109,22 @@ extern "C" {
     pub fn apei_c_erst_reset(erst: &mut Erst) -> u32;
     pub fn apei_c_erst_move(erst: &mut Erst, addresses: &Addresses) -> u32;
     pub fn apei_c_erst_table(erst: &mut Erst, table: *mut u8, room: usize, size: &mut u64) -> u32;
+    pub fn apei_c_erst_save(erst: &mut Erst, bytes: *mut u8, room: usize, size: &mut u64) -> u32;
+    pub fn apei_c_erst_load(
+        erst: &mut Erst,
+        medium: *const u8,
+        size: usize,
+        saved: *const u8,
+        saved_size: usize,
+    ) -> u32;
+    pub fn apei_c_erst_load_raw(
+        erst: &mut Erst,
+        flash: *const u8,
+        size: usize,
+        geometry: &Geometry,
+        saved: *const u8,
+        saved_size: usize,
+    ) -> u32;
     pub fn apei_c_erst_range_size(erst: &mut Erst, size: &mut u64) -> u32;
     pub fn apei_c_check(
         item: u32,

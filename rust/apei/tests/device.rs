@@ -180,6 +180,77 @@ fn what_is_no_medium_is_refused() {
 }
 
 #[test]
+fn a_saved_device_goes_on_elsewhere() {
+    let mut device = Device::open(formatted(), ADDRESSES).unwrap();
+    for identifier in [3, 1, 2] {
+        store(&mut device, &record(identifier, 200)).unwrap();
+    }
+    assert_eq!(act(&mut device, 0x8).unwrap(), 1);
+
+    // A read is begun, and its identifier set: the device that goes on executes it.
+    act(&mut device, 0x1).unwrap();
+    device
+        .write(Window::Registers, 8, &2u64.to_le_bytes())
+        .unwrap();
+    act(&mut device, 0x9).unwrap();
+    let (saved, medium) = (device.save().unwrap(), device.medium().clone());
+    drop(device);
+
+    let mut device = Device::load(medium.clone(), &saved).unwrap();
+    assert_eq!(device.save().unwrap(), saved);
+    assert_eq!(device.medium(), &medium);
+    act(&mut device, 0x5).unwrap();
+    assert_eq!(device.save(), Err(Error::Busy));
+    while act(&mut device, 0x6).unwrap() == 1 {}
+    assert_eq!(act(&mut device, 0x7).unwrap(), 0);
+    let mut found = [0; 200];
+    device.read(Window::LogRange, 0, &mut found).unwrap();
+    assert_eq!(found[..], record(2, 200));
+
+    // The read moved the cursor to its record.
+    assert_eq!(act(&mut device, 0x8).unwrap(), 3);
+}
+
+#[test]
+fn what_is_no_saved_device_is_refused() {
+    let mut device = Device::open(formatted(), ADDRESSES).unwrap();
+    let saved = device.save().unwrap();
+    assert_eq!(saved.len() as u64, 80 + device.log_range_size());
+    let load = |bytes: &[u8]| Device::load(formatted(), bytes).err();
+    let changed = |at: usize| {
+        let mut bytes = saved.clone();
+        bytes[at] ^= 0x40;
+        load(&bytes)
+    };
+    assert!(load(&saved).is_none());
+    assert!(matches!(
+        load(&saved[..79]),
+        Some(Failure::Refused(Error::Unsaved))
+    ));
+    assert!(matches!(
+        load(&saved[..saved.len() - 1]),
+        Some(Failure::Refused(Error::Unsaved))
+    ));
+    assert!(matches!(changed(0), Some(Failure::Refused(Error::Unsaved))));
+    assert!(matches!(
+        changed(8),
+        Some(Failure::Refused(Error::SavedVersion))
+    ));
+    assert!(matches!(
+        changed(20),
+        Some(Failure::Refused(Error::SavedFlash))
+    ));
+    assert!(matches!(
+        changed(24),
+        Some(Failure::Refused(Error::Unsaved))
+    ));
+    assert!(matches!(
+        changed(28),
+        Some(Failure::Refused(Error::Unsaved))
+    ));
+}
+
+#[test]
 fn the_table_is_one() {
     let mut device = Device::open(formatted(), ADDRESSES).unwrap();
     let table = device.table();

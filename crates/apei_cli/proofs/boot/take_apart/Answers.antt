@@ -7,5 +7,6 @@ returns-clause-laws g c = record {
   crash = c.lines_are_shown.ensures.crash;
   kept = c.stored_blocks_stay.ensures.stored;
   in_step = c.lines_keep_in_step.ensures.lines;
+  given_back = c.lines_keep_in_step.ensures.given_back;
   causes = c.kept_blocks_have_causes.ensures;
 }

@@ -11,7 +11,7 @@ are_apart-requires c = let is = c.reach.ensures in omega arith
 pub invariant_of-result : goal.invariant_of-result
 invariant_of-result c =
     is_port c.args.geometry c.in-Ok-device_of.device c.in-Ok-blank.range.items c.in-Ok.table.items c.args.addresses c.args.origin c.reach.result c.reach-2.result
-    c.in-Ok-device_of.ensures.opened c.reach.ensures c.reach-2.ensures c.in-Ok-blank.ensures c.in-Ok.ensures.size
+    c.in-Ok-device_of.ensures.opened c.reach.ensures c.reach-2.ensures c.in-Ok-blank.ensures c.in-Ok.ensures.size c.in-Ok.ensures.bytes
     (let value = c.are_apart.ensures.value in let test = c.if-not-are_apart.false in cc) c.requires c.in-Ok-device_of.ensures.known
 
 pub returns-clause-opened : goal.returns-clause-opened

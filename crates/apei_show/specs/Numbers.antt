@@ -1,0 +1,20 @@
+-- The exit numbers of a run.
+use Rattle.std.specs.Prelude.{ℕ}
+use Rattle.clap_words.specs.declared.error.WordsError.TheVariants as words
+use Rattle.apei_show.specs.declared.status.Status.{Status}
+use Rattle.apei_show.specs.declared.status.Status.TheVariants.{Done, Words, Bad, Output, Unread, Memory, Closed}
+
+abbrev pub number_of : Status → ℕ
+number_of Done = 0
+number_of (Words words.BadWords) = 1
+number_of (Words words.Memory) = 8
+number_of Bad = 3
+number_of Output = 4
+number_of Unread = 5
+number_of Memory = 8
+number_of Closed = 0
+
+-- a file that could not be read is said before an item that was bad
+abbrev pub worse_of : Status → Status → Status
+worse_of Unread other = Unread
+worse_of first other = other

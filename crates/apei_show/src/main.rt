@@ -1,0 +1,99 @@
+//! Shows what files of hardware errors hold: `apei-show FILE..`. It writes to standard output, and what it can't read to standard error.
+#![tactic(auto)]
+
+mod output;
+mod source;
+mod status;
+
+use crate::output::Output;
+use crate::source::{name_of, read_file};
+use crate::status::Status;
+use clap_words::{WordsError, end, words};
+use show_items::{Form as Shown, Manner, Pages, Sheet, Stop, show_file};
+use show_words::{Color, Form, Options, options_of};
+use std::io::IsTerminal;
+use std::process::ExitCode;
+
+fn main(rt: HostRuntime) -> ExitCode {
+    let status = run(&rt).unwrap_or_else(|error| Status::from(error));
+    end(&rt, &status, status.number())
+}
+
+// Does what the words behind the program's name ask for.
+fn run(rt: &HostRuntime) -> Result<Status, WordsError> {
+    let options = options_of(rt.alloc(), &words(rt)?)?;
+    let manner = manner_of(rt, &options);
+    Ok(show_files(rt, &options, manner))
+}
+
+fn manner_of(rt: &HostRuntime, options: &Options) -> Manner {
+    let form = match options.form {
+        Form::Text => Shown::Text,
+        Form::Brief => Shown::Brief,
+        Form::Json => Shown::Json,
+    };
+    let colored = match options.color {
+        Color::Always => true,
+        Color::Never => false,
+        Color::Auto => rt.stdout().is_terminal(),
+    };
+    Manner {
+        form,
+        places: options.bytes,
+        colored,
+        named: options.files.len() > 1,
+    }
+}
+
+// Shows the files, one after another. One that can't be read is named, and the others are shown all the same.
+fn show_files(rt: &HostRuntime, options: &Options, manner: Manner) -> Status {
+    let mut status = Status::Done;
+    let mut is_first = true;
+    for path in options.files.iter() {
+        let path = path.as_str();
+        let found = match read_file(rt, rt.alloc(), path) {
+            Ok(bytes) => show_bytes(rt, path, &bytes, manner, is_first),
+            Err(status) => status,
+        };
+        is_first = false;
+        match found {
+            Status::Done => (),
+            Status::Bad if !options.strict => (),
+            Status::Bad | Status::Unread => status = status.worse(found),
+            other => return other,
+        }
+    }
+    status
+}
+
+// Shows the bytes of a file.
+fn show_bytes(
+    rt: &HostRuntime,
+    path: &str,
+    bytes: &[u8],
+    manner: Manner,
+    is_first: bool,
+) -> Status {
+    let mut output = Output::new(rt.stdout());
+    if manner.named && manner.form == Shown::Text {
+        let head = write_path(&mut output, path, is_first);
+        if let Err(stop) = head {
+            return Status::from(stop);
+        }
+    }
+    let mut sheet = Sheet::new(rt.alloc(), path, manner);
+    match show_file(&mut sheet, &mut output, name_of(path), bytes) {
+        Ok(()) if sheet.has_bad() => Status::Bad,
+        Ok(()) => Status::Done,
+        Err(stop) => Status::from(stop),
+    }
+}
+
+// The line of a file, with an empty line before all but the first.
+fn write_path<P: Pages>(pages: &mut P, path: &str, is_first: bool) -> Result<(), Stop> {
+    if !is_first {
+        pages.write(b"\n")?;
+    }
+    pages.write(path.as_bytes())?;
+    pages.write(b":\n")
+}

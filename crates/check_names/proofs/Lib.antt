@@ -1,5 +1,0 @@
-pub mod CutLemmas
-pub mod GuidLemmas
-pub mod LineLemmas
-pub mod NumberLemmas
-pub mod RunLemmas

@@ -1,5 +1,0 @@
-pub mod Guids
-pub mod Lines
-pub mod Names
-pub mod Parts
-pub mod Values

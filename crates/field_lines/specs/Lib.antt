@@ -1,0 +1,10 @@
+pub mod Numbers
+pub mod Texts
+pub mod Times
+pub mod Rows
+pub mod Names
+pub mod Values
+pub mod Walks
+pub mod Layouts
+pub mod Code
+pub mod Styles

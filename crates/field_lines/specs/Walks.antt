@@ -1,0 +1,13 @@
+-- Fields of a body, as a style writes each.
+use Rattle.std.specs.Prelude.{ℕ, ◌+◌, Bool, false, if◌then◌else◌, nat_lt, List, length, map, filter}
+use Rattle.base_model.specs.Bytes.{joined}
+use Rattle.field_lines.specs.Numbers.{validation, is_valid}
+use Rattle.field_lines.specs.Rows.{Row}
+
+-- a field that is valid, in a body of so many bytes
+abbrev pub is_shown : ℕ → ℕ → Row → Bool
+is_shown valid len row = if nat_lt len (row.at + row.width) then false else is_valid row.bit valid
+
+-- each field that is valid and within the body, once, in their order
+abbrev pub fields_text : (Row → List ℕ → List ℕ) → (valid_at : ℕ) → List Row → (body : List ℕ) → List ℕ
+fields_text text valid_at rows body = joined (map (λ row. text row body) (filter (is_shown (validation valid_at body) (length body)) rows))

@@ -1,0 +1,102 @@
+// Fields as lines of text.
+ghost use Rattle.std.specs.Prelude.{◌≡◌, ◌≤◌, ◌<◌, ◌+◌, ◌*◌, ◌^◌, ◌++◌, length, replicate, OnOk, IsTrue};
+ghost use Rattle.field_lines.specs.Rows.{is_sound, fits};
+ghost use Rattle.field_lines.specs.Values.{field_bytes};
+ghost use Rattle.field_lines.specs.Styles.{margin, plain_line, plain_heading};
+ghost use Rattle.field_lines.specs.Code.{row_of, shown_of, heading_of};
+
+use crate::digits::add_decimal;
+use crate::field::{Field, Shape};
+use crate::style::{Mark, Spot, Style};
+use crate::value::add_value;
+use apei_fields::bytes_at;
+use std::alloc::AllocError;
+
+/// A line for each field: `name: value`.
+#[derive(Clone, Copy)]
+pub struct Plain {
+    /// How many spaces are before the lines of a body; those of a part have two more.
+    pub indent: u8,
+    /// Whether each line begins with the place of its field, as `[128] `.
+    pub places: bool,
+}
+
+impl Plain {
+    fn add_margin(&self, depth: u8, at: u64, out: &mut Vec<u8>) -> Result<(), AllocError>
+        ensures { OnOk result (out.new.items ≡ out.old.items ++ margin self.now depth at) }
+    {
+        add_spaces(self.indent as usize + 2 * depth as usize, out)?;
+        if self.places {
+            out.push(b'[')?;
+            add_decimal(at, out)?;
+            out.extend_from_slice(b"] ")?;
+        }
+        Ok(())
+    }
+}
+
+fn add_spaces(count: usize, out: &mut Vec<u8>) -> Result<(), AllocError>
+    ensures { OnOk result (out.new.items ≡ out.old.items ++ replicate count 32) }
+{
+    let mut left = count;
+    while left > 0 {
+        out.push(b' ')?;
+        left -= 1;
+    }
+    Ok(())
+}
+
+impl Style for Plain {
+    ghost text = { plain_line };
+
+    ghost heading = { plain_heading };
+
+    fn add(
+        &self,
+        spot: Spot,
+        field: &Field,
+        body: &[u8],
+        out: &mut Vec<u8>,
+    ) -> Result<(), AllocError> {
+        self.add_margin(spot.depth, spot.base + field.at as u64, out)?;
+        out.extend_from_slice(field.name.as_bytes())?;
+        out.extend_from_slice(b": ")?;
+        add_value(&field.shape, field_bytes(field, body), out)?;
+        out.push(b'\n')?;
+        Ok(())
+    }
+
+    fn mark(&self, spot: Spot, mark: &Mark, out: &mut Vec<u8>) -> Result<(), AllocError> {
+        match *mark {
+            Mark::Part { name, index } => {
+                self.add_margin(spot.depth, spot.base, out)?;
+                out.extend_from_slice(name.as_bytes())?;
+                out.push(b' ')?;
+                add_decimal(index, out)?;
+                out.push(b'\n')?;
+                Ok(())
+            }
+            Mark::Inner { name } => {
+                self.add_margin(spot.depth, spot.base, out)?;
+                out.extend_from_slice(name.as_bytes())?;
+                out.push(b'\n')?;
+                Ok(())
+            }
+            Mark::End | Mark::EndParts => Ok(()),
+        }
+    }
+}
+
+/// The bytes of a field.
+pub(crate) fn field_bytes<'a>(field: &Field, body: &'a [u8]) -> &'a [u8]
+    requires sound { IsTrue (is_sound (row_of field.now)) }
+    requires within { field.now.at + field.now.width ≤ length body.now }
+    ensures value { result.now ≡ field_bytes (row_of field.now) body.now }
+    ensures fits { IsTrue (fits (shown_of field.now.shape) (length result.now)) }
+{
+    let at = field.at as usize;
+    match field.shape {
+        Shape::Bytes | Shape::Lines => &body[at..],
+        _ => bytes_at(body, at, field.width as usize),
+    }
+}

@@ -1,0 +1,96 @@
+// The fields of a body.
+ghost use Rattle.std.specs.Prelude.{◌≡◌, ◌<◌, ◌+◌, ◌^◌, ◌++◌, length, map, OnOk, IsTrue};
+ghost use Rattle.field_lines.specs.Numbers.{validation, is_valid};
+ghost use Rattle.field_lines.specs.Rows.{are_sound};
+ghost use Rattle.field_lines.specs.Walks.{is_shown, fields_text};
+ghost use Rattle.field_lines.specs.Code.{row_of, register_rows, register_name};
+
+use crate::field::{Field, Shape};
+use crate::layout::Register;
+use crate::number::{has_bit, number_of};
+use crate::style::{Spot, Style};
+use std::alloc::AllocError;
+
+/// Appends each field that is valid and lies within the body, in their order and as a style writes it. The validation bits stand at a place of the
+/// body. Where there is no memory some fields may have been appended.
+pub fn add_fields<S: Style>(
+    style: &S,
+    spot: Spot,
+    valid_at: u16,
+    mut fields: &[Field],
+    body: &[u8],
+    out: &mut Vec<u8>,
+) -> Result<(), AllocError>
+    requires sound { IsTrue (are_sound (map row_of fields.now)) }
+    requires place { spot.base + length body.now < 2 ^ 64 }
+    ensures { OnOk result (out.new.items ≡ out.old.items ++ fields_text (S.text style.now spot.depth spot.base) valid_at (map row_of fields.entry.now) body.now) }
+{
+    let valid = validation(body, valid_at);
+    while let [field, rest @ ..] = fields {
+        if is_shown(field, valid, body.len()) {
+            style.add(spot, field, body, out)?;
+        }
+        fields = rest;
+    }
+    Ok(())
+}
+
+/// Appends each register that lies within the body, where they stand one behind another from a place on.
+pub(crate) fn add_registers<S: Style>(
+    style: &S,
+    spot: Spot,
+    width: u16,
+    mut registers: &[Register],
+    body: &[u8],
+    out: &mut Vec<u8>,
+) -> Result<(), AllocError>
+    requires sound { IsTrue (are_sound (register_rows width 0 (map register_name registers.now))) }
+    requires place { spot.base + length body.now < 2 ^ 64 }
+    ensures { OnOk result (out.new.items ≡ out.old.items ++ fields_text (S.text style.now spot.depth spot.base) 0 (register_rows width 0 (map register_name registers.entry.now)) body.now) }
+{
+    let mut at = 0;
+    while let [register, rest @ ..] = registers {
+        let field = Field {
+            at,
+            width,
+            bit: None,
+            name: register.name,
+            shape: Shape::Hexadecimal,
+        };
+        if is_shown(&field, 0, body.len()) {
+            style.add(spot, &field, body, out)?;
+        }
+        at += width;
+        registers = rest;
+    }
+    Ok(())
+}
+
+/// The validation bits that stand at a place, or as many of them as are within the body.
+#[tactic(auto, using(std::proofs::lemmas::List::drop_min))]
+pub(crate) fn validation(body: &[u8], at: u16) -> u64
+    ensures { result ≡ validation at body.now }
+{
+    let rest = &body[(at as usize).min(body.len())..];
+    number_of(&rest[..rest.len().min(8)])
+}
+
+// Whether a field is valid and lies within a body of so many bytes.
+fn is_shown(field: &Field, valid: u64, len: usize) -> bool
+    ensures { result ≡ is_shown valid len (row_of field.now) }
+{
+    if len < field.at as usize + field.width as usize {
+        return false;
+    }
+    is_valid(field.bit, valid)
+}
+
+/// Whether the validation bits have this one, if it is one.
+pub(crate) fn is_valid(bit: Option<u8>, valid: u64) -> bool
+    ensures { result ≡ is_valid bit valid }
+{
+    match bit {
+        None => true,
+        Some(bit) => has_bit(valid, bit),
+    }
+}

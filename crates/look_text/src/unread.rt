@@ -1,0 +1,50 @@
+// A medium whose slots are not shown.
+ghost use Rattle.std.specs.Prelude.{◌≡◌};
+ghost use Rattle.look_text.specs.Words.{unread_word_of};
+
+use std::alloc::{AllocError, Global};
+use thiserror::Error;
+
+/// Why the slots of a medium are not shown.
+#[derive(Clone, Copy, Debug, PartialEq, Eq, Error)]
+pub enum Unread {
+    /// Its first sector is of another version.
+    #[error("a medium of the library, version {0}: version 1 is the only one that is shown")]
+    Version(u32),
+    /// Its first sector has the signature, and is no header that a format made.
+    #[error("a medium of the library whose first sector is damaged: its geometry is not known")]
+    Damaged,
+}
+
+/// The text of such a medium: one line.
+pub fn unread_text(alloc: Global, unread: Unread) -> Result<String, AllocError> {
+    let mut out = String::new(alloc);
+    writeln!(out, "{unread}")?;
+    Ok(out)
+}
+
+/// The same as one JSON object on one line, with the bytes that the file has.
+pub fn unread_json(alloc: Global, unread: Unread, held: u64) -> Result<String, AllocError> {
+    let mut out = String::new(alloc);
+    let word = unread_word(unread);
+    write!(
+        out,
+        "{{\"held\":{held},\"file\":\"{word}\",\"medium\":{{\"version\":"
+    )?;
+    match unread {
+        Unread::Version(found) => write!(out, "{found}")?,
+        Unread::Damaged => out.push_str("null")?,
+    }
+    out.push_str("}}\n")?;
+    Ok(out)
+}
+
+// The word of its kind of file.
+fn unread_word<'a>(unread: Unread) -> &'a str
+    ensures { result.now ≡ unread_word_of unread }
+{
+    match unread {
+        Unread::Version(_) => "other-version",
+        Unread::Damaged => "damaged-medium",
+    }
+}

@@ -1,0 +1,13 @@
+pub mod CarryLemmas
+pub mod SequenceLemmas
+pub mod PlaceLemmas
+pub mod AccessLemmas
+pub mod ProgramLemmas
+pub mod MachineLemmas
+pub mod CommandLemmas
+pub mod TellLemmas
+pub mod RoundLemmas
+pub mod AttachLemmas
+pub mod ListingLemmas
+pub mod OtherLemmas
+pub mod LawLemmas

@@ -1,0 +1,10 @@
+pub mod Records
+pub mod Blocks
+pub mod Processor
+pub mod Ia32
+pub mod Arm
+pub mod Memory
+pub mod Pci
+pub mod Remapping
+pub mod Linux
+pub mod Sections

@@ -1,0 +1,33 @@
+// A file, item by item.
+use crate::dumps::show_dump;
+use crate::images::{show_image, show_medium, show_qemu};
+use crate::pages::{Pages, Stop};
+use crate::sequences::show_sequence;
+use crate::sheet::Sheet;
+use crate::singles::{show_dmesg, show_empty, show_machine_check, show_packed};
+use show_kinds::{FileKind, kind_of};
+
+/// Shows what a file of this name holds: each item on the sheet, which goes to the pages as it grows.
+pub fn show_file<P: Pages>(
+    sheet: &mut Sheet<'_>,
+    pages: &mut P,
+    name: &[u8],
+    bytes: &[u8],
+) -> Result<(), Stop> {
+    match kind_of(name, bytes) {
+        FileKind::Dump => show_dump(sheet, pages, bytes)?,
+        FileKind::Qemu => show_qemu(sheet, pages, bytes)?,
+        FileKind::Medium => show_medium(sheet, pages, bytes)?,
+        FileKind::Image(geometry) => show_image(sheet, pages, &geometry, bytes)?,
+        FileKind::Packed => show_packed(sheet, bytes)?,
+        FileKind::MachineCheck => show_machine_check(sheet, bytes)?,
+        FileKind::Dmesg => show_dmesg(sheet, bytes)?,
+        FileKind::Empty => show_empty(sheet)?,
+        FileKind::Records
+        | FileKind::Tables
+        | FileKind::Blocks
+        | FileKind::Blank
+        | FileKind::Unknown => show_sequence(sheet, pages, bytes)?,
+    }
+    sheet.finish(pages)
+}

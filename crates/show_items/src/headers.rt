@@ -1,0 +1,68 @@
+// Headers of files, field by field.
+ghost use Rattle.std.specs.Prelude.{IsTrue};
+ghost use Rattle.field_lines.specs.Layouts.{is_sound_structure};
+ghost use Rattle.field_lines.specs.Code.{structure_of};
+
+use field_lines::{Field, Layout, Shape};
+
+macro_rules! field {
+    ($at:expr, $width:expr, $name:expr, $shape:expr) => {
+        Field {
+            at: $at,
+            width: $width,
+            bit: None,
+            name: $name,
+            shape: $shape,
+        }
+    };
+}
+
+// The storage of QEMU's acpi-erst: a map of identifiers stands behind these.
+static QEMU: [Field; 6] = [
+    field!(0, 8, "magic", Shape::Text),
+    field!(8, 4, "record size", Shape::Decimal),
+    field!(12, 4, "storage offset", Shape::Decimal),
+    field!(16, 2, "version", Shape::Hexadecimal),
+    field!(18, 2, "reserved", Shape::Hexadecimal),
+    field!(20, 4, "record count", Shape::Decimal),
+];
+
+// The first sector of a medium.
+static MEDIUM: [Field; 12] = [
+    field!(0, 8, "signature", Shape::Text),
+    field!(8, 4, "version", Shape::Decimal),
+    field!(12, 4, "header length", Shape::Decimal),
+    field!(16, 4, "sector size", Shape::Decimal),
+    field!(20, 4, "sectors per slot", Shape::Decimal),
+    field!(24, 4, "slots", Shape::Decimal),
+    field!(28, 4, "reserved", Shape::Hexadecimal),
+    field!(32, 8, "medium size", Shape::Decimal),
+    field!(40, 4, "checksum", Shape::Hexadecimal),
+    field!(44, 4, "reserved 2", Shape::Hexadecimal),
+    field!(48, 1, "whole mark", Shape::Hexadecimal),
+    field!(49, 1, "format mark", Shape::Hexadecimal),
+];
+
+/// The header of QEMU's storage of acpi-erst, 24 bytes.
+pub(crate) fn qemu_header() -> Layout
+    ensures { IsTrue (is_sound_structure (structure_of result)) }
+{
+    Layout {
+        valid_at: 0,
+        fields: &QEMU,
+        parts_at: 0,
+        parts: &[],
+    }
+}
+
+/// The header of a medium of the library, 50 bytes.
+pub(crate) fn medium_header() -> Layout
+    ensures { IsTrue (is_sound_structure (structure_of result)) }
+{
+    Layout {
+        valid_at: 0,
+        fields: &MEDIUM,
+        parts_at: 0,
+        parts: &[],
+    }
+}
