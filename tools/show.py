@@ -4,8 +4,8 @@
     tools/show.py [PROGRAM] [FILES] [SEED]
 
 PROGRAM is the built program, by default crates/apei_show/out/apei_show. It is given tables, records and blocks with sections of each type, drawn at
-random, those of examples/ and tests/scripts, tables as acpidump writes them, flash images, media, QEMU's storage and files of pstore: each field, by its name and
-its value, is that of tools/show_model.py, in JSON and as text, and the text has each at its place. Items with faults are shown as far as they go, and say
+random, those of examples/ and tests/scripts, tables as acpidump writes them, flash images, media, QEMU's storage and files of pstore: each field, by its
+name and its value, is that of tools/show_model.py, in JSON and as text, and the text has each at its place. Items with faults are shown as far as they go, and say
 that they are bad. Then FILES more, 2,000 where it is not said, are random bytes or well-formed files with faults in them: whatever they are, the program
 ends with status 0 in little memory, and its output is JSON whose objects have no key twice. Files that can't be read, standard input, an output that is
 closed or full, and command lines of all kinds are tried too. The last line is 'N items and M files, K wrong'; the exit status is 0 where none is.
