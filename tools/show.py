@@ -4,8 +4,8 @@
     tools/show.py [PROGRAM] [FILES] [SEED]
 
 PROGRAM is the built program, by default crates/apei_show/out/apei_show. It is given tables, records and blocks with sections of each type, drawn at
-random, those of examples/ and tests/scripts, tables as acpidump writes them, flash images, QEMU's storage and files of pstore: each field, by its name and
-its value, is that of tools/show_model.py, in JSON and as text, and the text has each at its place. Items with faults are shown as far as they go, and say
+random, those of examples/ and tests/scripts, tables as acpidump writes them, flash images, media, QEMU's storage and files of pstore: each field, by its
+name and its value, is that of tools/show_model.py, in JSON and as text, and the text has each at its place. Items with faults are shown as far as they go, and say
 that they are bad. Then FILES more, 2,000 where it is not said, are random bytes or well-formed files with faults in them: whatever they are, the program
 ends with status 0 in little memory, and its output is JSON whose objects have no key twice. Files that can't be read, standard input, an output that is
 closed or full, and command lines of all kinds are tried too. The last line is 'N items and M files, K wrong'; the exit status is 0 where none is.
@@ -91,9 +91,9 @@ class Check:
         except ValueError as error:
             self.fails(f"{wanted.name} {self.files}: {error}")
             return
-        own = found[:1] if wanted.own else []
-        if [it["kind"] for it in own] != ([wanted.own] if wanted.own else []):
-            self.fails(f"file {self.files}: it is told to be {[it['kind'] for it in found[:1]]} and is {wanted.own}")
+        own = found[: len(wanted.own)]
+        if [it["kind"] for it in own] != list(wanted.own):
+            self.fails(f"file {self.files}: it is told to be {[it['kind'] for it in own]} and is {wanted.own}")
         found = found[len(own) :]
         if len(found) != len(wanted.items):
             self.fails(f"file {self.files} ({wanted.name}): {len(found)} items, wanted {len(wanted.items)}: {[it['summary'] for it in found]}"[:600])

@@ -4,7 +4,7 @@ import glob
 import os
 import re
 from dataclasses import dataclass
-from typing import Iterator, Optional
+from typing import Iterator, Sequence
 
 import show_bodies as bodies
 import show_model as model
@@ -17,12 +17,12 @@ TOP = os.path.dirname(os.path.dirname(os.path.abspath(__file__)))
 
 @dataclass(frozen=True)
 class Wanted:
-    """A file by its name, what is in it, and the items that are shown of it; before them one of another kind, where `own` says which."""
+    """A file by its name, what is in it, and the items that are shown of it, behind those of the file itself, of which only the kinds stand here."""
 
     name: str
     data: bytes
     items: list[model.Group]
-    own: Optional[str] = None
+    own: Sequence[str] = ()
 
 
 def of_kind(kind: str, data: bytes, name: str = "file") -> Wanted:
@@ -74,7 +74,7 @@ def dump(table: bytes) -> bytes:
 
 def checked_items() -> Iterator[tuple[str, bytes]]:
     """The items that scripts of checks have: examples/ and tests/scripts."""
-    for path in sorted(glob.glob(os.path.join(TOP, "examples/*.script")) + glob.glob(os.path.join(TOP, "tests/scripts/*.script"))):
+    for path in sorted(glob.glob(os.path.join(TOP, "examples/*.script")) + glob.glob(os.path.join(TOP, "tests/scripts/*/script"))):
         with open(path, "rb") as file:
             text = file.read().decode("latin-1")
         for found in re.finditer(r"^(erst|hest|bert|record|block|write|table) ((?:[0-9a-fA-F]{2})+)$", text, re.MULTILINE):
@@ -158,7 +158,7 @@ def store_images(chance: Chance) -> Iterator[bytes]:
             kind = chance.of.choice([bodies.MEMORY, bodies.PCIE, bodies.PROCESSOR])
             played.play("write " + bodies.record(chance, (kind, bodies.BODIES[kind](chance)), identifier=identifier).hex())
         yield b"".join(bytes(it) for it in played.slots)
-    for path in sorted(glob.glob(os.path.join(TOP, "tests/scripts/*.image"))):
+    for path in sorted(glob.glob(os.path.join(TOP, "tests/scripts/*/image"))):
         with open(path, "rb") as file:
             image = file.read()
         if seeming(image)[1:] == (SECTOR, PER_SLOT):
@@ -177,15 +177,25 @@ def qemu_storage(records: list[bytes], size: int = 0x2000, slots: int = 32) -> b
     return b"".join([head.ljust(size, b"\0"), *(it.ljust(size, b"\xff") for it in records)]).ljust(size * slots, b"\0")
 
 
+def first_sector(slots: int) -> bytes:
+    """The first sector of a medium of the library, in front of a flash of so many slots."""
+    head = b"APEIERST" + b"".join(little(it, 4) for it in (1, 64, SECTOR, PER_SLOT, slots, 0)) + little(SECTOR * (1 + PER_SLOT * slots), 8)
+    total = sum(model.number(head, at, 4) for at in range(0, len(head), 4))
+    return (head + little(-total, 4) + bytes(4) + b"\x3c").ljust(SECTOR, b"\xff")
+
+
 def of_stores(chance: Chance) -> Iterator[Wanted]:
-    """Flash images and QEMU's storage: an item that says what they are, and the records in them."""
+    """Flash images, media of the library and QEMU's storage: an item that says what they are, and the records in them."""
     for image in store_images(chance):
         records = records_of(image)
-        yield Wanted("image", image, [model.item("record", it, index + 1, None) for index, it in enumerate(records)], "image")
+        items = [model.item("record", it, index + 1, None) for index, it in enumerate(records)]
+        yield Wanted("image", image, items, ["image"])
+        medium = first_sector(len(image) // SECTOR // PER_SLOT) + image
+        yield Wanted("medium", medium, [{**it, "item": it["item"] + 1} for it in items], ["medium", "image"])
     records = [bodies.record(chance, (kind, make(chance)), identifier=9 + index) for index, (kind, make) in enumerate(bodies.BODIES.items())]
     storage = qemu_storage(records)
     items = [model.item("record", it, index + 1, storage.find(it)) for index, it in enumerate(records)]
-    yield Wanted("storage", storage, items, "qemu")
+    yield Wanted("storage", storage, items, ["qemu"])
 
 
 def well_formed(chance: Chance, count: int) -> Iterator[Wanted]:
