@@ -91,7 +91,8 @@ def reached(first: list[str], known: dict[str, Definition]) -> list[Definition]:
 
 
 def main(words: list[str]) -> int:
-    parser = argparse.ArgumentParser(prog="tools/run definitions", description=__doc__, formatter_class=argparse.RawDescriptionHelpFormatter)
+    form = argparse.RawDescriptionHelpFormatter
+    parser = argparse.ArgumentParser(prog="tools/run definitions", description=__doc__, formatter_class=form)
     parser.add_argument("--list", action="store_true", help="write the definitions that are reached")
     parser.add_argument("file", nargs="?", default="apei_cli/program.rt")
     parser.add_argument("function", nargs="?", default="run")

@@ -3,7 +3,7 @@
     tools/run show [PROGRAM] [FILES] [SEED]
 
 PROGRAM is the built program, by default crates/apei_show/out/apei_show. It is given tables, records and blocks with sections of each type,
-drawn at random, those of examples/ and tests/scripts, tables as acpidump writes them, flash images, QEMU's storage and files of pstore:
+drawn at random, those of examples/ and tests/scripts, tables as acpidump writes them, flash images, media of the library, QEMU's storage and files of pstore:
 each field, by its name and its value, is that of the plain reading (tools/apei/show), in JSON and as text, and the text has each at its
 place. Items with faults are shown as far as they go, and say that they are bad. Then FILES more, 2,000 where it is not said, are random
 bytes or well-formed files with faults in them: whatever they are, the program ends with status 0 in little memory, and its output is JSON
@@ -83,12 +83,11 @@ class Check(Tally):
         except ValueError as error:
             self.expect(False, f"{wanted.name}: {error}")
             return
-        kinds = [it["kind"] for it in found[:1]] if wanted.own else []
-        own = [wanted.own] if wanted.own else []
-        its = found[len(own) :]
-        said = f"{wanted.name}: it is told to be {kinds} and is {own}, with {len(its)} items, wanted {len(wanted.items)}"
-        self.expect(kinds == own and len(its) == len(wanted.items), said)
-        texts = self.text_items(path)[len(own) :]
+        own = len(wanted.own)
+        kinds, its = [it["kind"] for it in found[:own]], found[own:]
+        said = f"{wanted.name}: it is told to be {kinds} and is {wanted.own}, with {len(its)} items, wanted {len(wanted.items)}"
+        self.expect(kinds == list(wanted.own) and len(its) == len(wanted.items), said)
+        texts = self.text_items(path)[own:]
         for at, (item, shown) in enumerate(zip(wanted.items, its)):
             self.add(f"{wanted.name} ({shown['summary']}): {what}" for what in wrong_item(item, shown, texts[at] if at < len(texts) else []))
 

@@ -42,18 +42,19 @@ pub fn add_high_first(bytes: &[u8], out: &mut Vec<u8>) -> Result<(), AllocError>
 {
     match *bytes {
         [] => Ok(()),
-        [a] => out.extend_from_slice(&[high(a), low(a)]),
-        [a, b] => out.extend_from_slice(&[high(b), low(b), high(a), low(a)]),
-        [a, b, c, d] => out.extend_from_slice(&[
-            high(d),
-            low(d),
-            high(c),
-            low(c),
-            high(b),
-            low(b),
-            high(a),
-            low(a),
-        ]),
+        [a, b, c, d, ref rest @ ..] => {
+            add_high_first(rest, out)?;
+            out.extend_from_slice(&[
+                high(d),
+                low(d),
+                high(c),
+                low(c),
+                high(b),
+                low(b),
+                high(a),
+                low(a),
+            ])
+        }
         [first, ref rest @ ..] => {
             add_high_first(rest, out)?;
             out.extend_from_slice(&[high(first), low(first)])

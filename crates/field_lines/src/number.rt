@@ -1,5 +1,5 @@
 // Numbers of at most 8 bytes, and their bits.
-ghost use Rattle.std.specs.Prelude.{◌≡◌, ◌≤◌, ◌<◌, length};
+ghost use Rattle.std.specs.Prelude.{◌≡◌, ◌≤◌, ◌<◌, ◌+◌, ◌*◌, length};
 ghost use Rattle.base_model.specs.Bytes.{little};
 ghost use Rattle.field_lines.specs.Numbers.{has_bit, bits_of, number_in};
 
@@ -8,6 +8,24 @@ use apei_fields::bytes_at;
 
 /// The number that bytes stand for.
 pub(crate) fn number_of(bytes: &[u8]) -> u64
+    requires { length bytes.now ≤ 8 }
+    ensures { result ≡ little bytes.now }
+{
+    match *bytes {
+        [a] => u64::from(a),
+        [a, b] => two_bytes(a, b),
+        [a, b, c, d] => two_bytes(a, b) + 65_536 * two_bytes(c, d),
+        _ => padded_number(bytes),
+    }
+}
+
+fn two_bytes(low: u8, high: u8) -> u64
+    ensures { result ≡ low + 256 * high }
+{
+    u64::from(low) + 256 * u64::from(high)
+}
+
+fn padded_number(bytes: &[u8]) -> u64
     requires { length bytes.now ≤ 8 }
     ensures { result ≡ little bytes.now }
 {

@@ -35,14 +35,13 @@ impl Plain {
     }
 }
 
+static SPACES: [u8; 768] = [b' '; 768];
+
 fn add_spaces(count: usize, out: &mut Vec<u8>) -> Result<(), AllocError>
+    requires { count ≤ 768 }
     ensures { OnOk result (out.new.items ≡ out.old.items ++ replicate count 32) }
 {
-    let mut left = count;
-    while left > 0 {
-        out.push(b' ')?;
-        left -= 1;
-    }
+    out.extend_from_slice(&SPACES[..count])?;
     Ok(())
 }
 

@@ -1,14 +1,14 @@
 """Files for apei-show: well-formed ones, each with the items that it holds, and such as no program makes."""
 
 import re
-from collections.abc import Iterator
+from collections.abc import Iterator, Sequence
 from dataclasses import dataclass
 
 from apei import names
 from apei.bytes import number, spell
 from apei.flash import Geometry
 from apei.harness import TOP
-from apei.looks import PER_SLOT, SECTOR, Shown, seeming
+from apei.looks import PER_SLOT, SECTOR, Shown, flash_of, medium_header, seeming
 from apei.show import bodies, layouts, reading
 from apei.show.bodies import Chance
 from apei.store import Store
@@ -16,12 +16,12 @@ from apei.store import Store
 
 @dataclass(frozen=True)
 class Wanted:
-    """A file by its name, what is in it, and the items that are shown of it; before them one of another kind, where `own` says which."""
+    """A file by its name, what is in it, and the items that are shown of it, behind those of the file itself, of which only the kinds stand here."""
 
     name: str
     data: bytes
     items: list[reading.Group]
-    own: str | None = None
+    own: Sequence[str] = ()
 
 
 def of_kind(kind: str, data: bytes, name: str = "file") -> Wanted:
@@ -175,14 +175,17 @@ def qemu_storage(records: list[bytes], size: int = 0x2000, slots: int = 32) -> b
 
 
 def of_stores(chance: Chance) -> Iterator[Wanted]:
-    """Flash images and QEMU's storage: an item that says what they are, and the records in them."""
+    """Flash images, media of the library and QEMU's storage: an item that says what they are, and the records in them."""
     for image in store_images(chance):
         records = records_of(image)
-        yield Wanted("image", image, [reading.item("record", it, index + 1, None) for index, it in enumerate(records)], "image")
+        items = [reading.item("record", it, index + 1, None) for index, it in enumerate(records)]
+        yield Wanted("image", image, items, ["image"])
+        medium = medium_header(SECTOR, PER_SLOT, flash_of(image).slots) + image
+        yield Wanted("medium", medium, [{**it, "item": it["item"] + 1} for it in items], ["medium", "image"])
     records = [bodies.record(chance, (kind, make(chance)), identifier=9 + index) for index, (kind, make) in enumerate(bodies.BODIES.items())]
     storage = qemu_storage(records)
     items = [reading.item("record", it, index + 1, storage.find(it)) for index, it in enumerate(records)]
-    yield Wanted("storage", storage, items, "qemu")
+    yield Wanted("storage", storage, items, ["qemu"])
 
 
 def well_formed(chance: Chance, count: int) -> Iterator[Wanted]:

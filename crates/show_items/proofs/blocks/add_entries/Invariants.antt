@@ -1,4 +1,4 @@
-use Rattle.std.proofs.Common.{ℕ, ◌-◌, ◌<◌, ◌+◌, length}
+use Rattle.std.proofs.Common.{◌-◌, length}
 use Rattle.show_items.proofs.blocks.add_entries.Given as goal
 
 abbrev pub decreases-loop-entry : goal.decreases-loop-entry

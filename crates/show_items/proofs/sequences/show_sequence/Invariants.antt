@@ -1,4 +1,4 @@
-use Rattle.std.proofs.Common.{ℕ, length}
+use Rattle.std.proofs.Common.{length}
 use Rattle.show_items.proofs.sequences.show_sequence.Given as goal
 
 abbrev pub decreases-loop-rest : goal.decreases-loop-rest
