@@ -81,8 +81,8 @@ def main() -> None:
         one, other = rounds(folder)
         bridged_ms, apart_ms, ratio = median(one), median(other), statistics.median(a / b for a, b in zip(one, other))
         print(
-            f"{COUNT} blocks under a bridge: {bridged_ms:.1f} ms, {bridged_ms * 1000 / COUNT:.2f} us a block; handed over and written: {apart_ms:.1f} ms, "
-            f"{apart_ms * 1000 / COUNT:.2f} us; {ratio:.2f} times"
+            f"{COUNT} blocks under a bridge: {bridged_ms:.1f} ms, {bridged_ms * 1000 / COUNT:.2f} us a block; "
+            f"handed over and written: {apart_ms:.1f} ms, {apart_ms * 1000 / COUNT:.2f} us; {ratio:.2f} times"
         )
         first, more = requests(1, folder), requests(1001, folder)
         print(f"requests for memory: {first} with one block, {more} with a thousand more")

@@ -37,7 +37,9 @@ def play(player: str, words: list[str], text: bytes) -> float:
 def main() -> None:
     before, after, count = sys.argv[1], sys.argv[2], runs(15, place=3)
     scripts = [
-        (f"{identifiers} identifiers, {slots} slots", Geometry(256, 2, slots).words, lines(identifiers)) for identifiers in (20, 40) for slots in (32, 1024)
+        (f"{identifiers} identifiers, {slots} slots", Geometry(256, 2, slots).words, lines(identifiers))
+        for identifiers in (20, 40)
+        for slots in (32, 1024)
     ]
     scripts.append(("31 records of 8,128 bytes", [], records(31, 8128)))
     scripts.append(("64 MiB opened", Geometry(4096, 16, 1024).words, b""))

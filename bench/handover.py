@@ -21,8 +21,7 @@ ROUNDS = 21
 
 def seconds(bench: Path, job: str, times: int, nowhere: int) -> float:
     """The processor time of a run."""
-    words: list[str | Path] = [bench, job, str(times)]
-    child = os.posix_spawn(bench, words, os.environ, file_actions=[(os.POSIX_SPAWN_DUP2, nowhere, 1)])
+    child = os.posix_spawn(bench, [str(bench), job, str(times)], os.environ, file_actions=[(os.POSIX_SPAWN_DUP2, nowhere, 1)])
     _, status, used = os.wait4(child, 0)
     if status:
         sys.exit(f"{bench} {job} {times}: status {status}")
@@ -56,8 +55,9 @@ def main() -> None:
     for name, whole in [("three calls", rounds["handover"]), ("a call for each turn", rounds["turns"])]:
         turns = [one - submit for one, submit in zip(whole, submits)]
         print(
-            f"all turns by {name}: {median(turns):.0f} ns, {ratio(turns, copies):.2f} times two copies, {ratio(turns, pieces):.1f} times by pieces, "
-            f"{ratio(turns, apart):.1f} times each in a call; with the submission {median(whole):.0f} ns, {ratio(whole, copies):.1f} times two copies"
+            f"all turns by {name}: {median(turns):.0f} ns, {ratio(turns, copies):.2f} times two copies, "
+            f"{ratio(turns, pieces):.1f} times by pieces, {ratio(turns, apart):.1f} times each in a call; "
+            f"with the submission {median(whole):.0f} ns, {ratio(whole, copies):.1f} times two copies"
         )
 
 

@@ -1,6 +1,6 @@
 #!/usr/bin/env python3
-"""Times writes of 3,968 bytes by the table whose programs move the record, beside the same writes by the machine's own table and a copy of their
-bytes twice.
+"""Times writes of 3,968 bytes by the table whose programs move the record, beside the same writes by the machine's own table and a copy of
+their bytes twice.
 
     bench/shadow.py [PROGRAM] [RUNS]
 

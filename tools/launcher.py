@@ -277,8 +277,8 @@ def looks_foreign(image: str, shown: dict[str, Any]) -> Optional[str]:
         return f"{image} has another geometry: {found}. {fits}; --force before the job plays on it as it is."
     if shown["file"] == "foreign":
         unknown = sum(slot["kind"] == "unknown" for slot in shown["slots"])
-        return f"{image} is none of ours: {unknown} of its {len(shown['slots'])} slots hold what apei never writes, and none holds a record. " \
-            "No options would fit; --force before the job writes over it."
+        held = f"{unknown} of its {len(shown['slots'])} slots hold what apei never writes, and none holds a record"
+        return f"{image} is none of ours: {held}. No options would fit; --force before the job writes over it."
     return None
 
 

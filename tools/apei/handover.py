@@ -1,4 +1,4 @@
-"""A plain model of the handover of error status blocks from the firmware to the operating system, in the five situations of docs/HANDOVER.md."""
+"""A plain model of the handover of error status blocks from firmware to operating system, in the five situations of docs/HANDOVER.md."""
 
 PIECE = 64
 WAITING = 64

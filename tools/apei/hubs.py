@@ -1,4 +1,7 @@
-"""A plain model of error sources of types 9 and 10 over one memory, each with its own handover, and of why no hub is opened for some (docs/SCRIPT.md)."""
+"""A plain model of error sources of types 9 and 10 over one memory, each with its own handover.
+
+docs/SCRIPT.md says why no hub is opened for some.
+"""
 
 from collections.abc import Sequence
 from dataclasses import dataclass

@@ -1,4 +1,7 @@
-"""A plain reading of the items of a check: tables, error records and error status blocks (docs/FORMATS.md), and the lines that show them (docs/SCRIPT.md)."""
+"""A plain reading of the items of a check, which are tables, error records and error status blocks.
+
+docs/FORMATS.md has the formats, docs/SCRIPT.md the lines that show them.
+"""
 
 from collections.abc import Callable
 
@@ -13,8 +16,8 @@ BANKED = {0: (40, 32), 1: (48, 44), 11: (48, 44)}
 BANK = 28
 # The fields of an instruction entry: its name, place and size.
 ENTRY = [
-    ("action", 0, 1), ("instruction", 1, 1), ("flags", 2, 1), ("space", 4, 1), ("width", 5, 1), ("offset", 6, 1), ("access", 7, 1), ("address", 8, 8),
-    ("value", 16, 8), ("mask", 24, 8),
+    ("action", 0, 1), ("instruction", 1, 1), ("flags", 2, 1), ("space", 4, 1), ("width", 5, 1), ("offset", 6, 1), ("access", 7, 1),
+    ("address", 8, 8), ("value", 16, 8), ("mask", 24, 8),
 ]
 
 

@@ -109,8 +109,8 @@ class Record:
 
 
 class Shown:
-    """The kinds of an image's slots, its records by their first slots, its totals, and what kind of file it is, of which so many bytes are there: a
-    flash alone, or a library's medium."""
+    """The kinds of an image's slots, its records by their first slots, its totals, and what kind of file it is, of which so many bytes are
+    there: a flash alone, or a library's medium."""
 
     def __init__(self, image: bytes, held: int | None = None, is_medium: bool = False) -> None:
         store = Store(flash_of(image))
@@ -162,7 +162,8 @@ class Shown:
         return {"geometry": geometry, "held": self.held, "file": self.file, "medium": medium, "heads": self.heads, "seems": seems}
 
     def text(self) -> str:
-        out = f"slots {len(self.slots)} free {self.free} records {len(self.records)} second copies {self.copies} bytes {self.bytes}\n" + self.file_text()
+        out = f"slots {len(self.slots)} free {self.free} records {len(self.records)} second copies {self.copies} bytes {self.bytes}\n"
+        out += self.file_text()
         letters = "".join(LETTERS[kind] for kind in self.kinds)
         for at in range(0, len(letters), 64):
             out += f"\n{at:>5} {letters[at : at + 64]}"
@@ -172,7 +173,8 @@ class Shown:
                 out += f"slot {slot} {kind}{self.slot_text(slot, kind)}\n"
         for record in self.records:
             numbers = " ".join(map(str, record.slots))
-            out += f"\nrecord {record.identifier} generation {record.generation} bytes {len(record.body)} slots {numbers}\n" + frame_text(record.body)
+            out += f"\nrecord {record.identifier} generation {record.generation} bytes {len(record.body)} slots {numbers}\n"
+            out += frame_text(record.body)
         return out
 
     def slot_text(self, slot: int, kind: str) -> str:

@@ -1,4 +1,4 @@
-"""What a script's commands on records are answered, and which records there are then: the record map in plain words, with no slot in sight."""
+"""The record map in plain words: what a script's commands on records are answered, and which records there are then."""
 
 from collections.abc import Iterable, Mapping
 from dataclasses import dataclass, replace

@@ -37,7 +37,8 @@ class First:
     def slot(self) -> bytes:
         head = joined((self.gate, 1), (self.kill, 1), (self.form, 2), (self.generation, 4), (self.identifier, 8), (self.length, 4))
         # The bytes behind the record's header are its own, so that it tells from which slots it was read.
-        body = record(self.identifier, max(self.length, 128))[:128].ljust(max(self.length, 128), bytes([16 * self.generation % 256 + self.form]))
+        length, filling = max(self.length, 128), bytes([16 * self.generation % 256 + self.form])
+        body = record(self.identifier, length)[:128].ljust(length, filling)
         return slot(head + joined(*((number, 2) for number in self.named)), body[:ROOM], self.tail)
 
 
@@ -67,7 +68,8 @@ class Part:
 
     @property
     def slot(self) -> bytes:
-        head = joined((self.mark, 1), (ERASED, 1), (self.form, 2), (self.generation, 4), (self.identifier, 8), (self.length, 4), (self.part, 2), (self.first, 2))
+        head = joined((self.mark, 1), (ERASED, 1), (self.form, 2), (self.generation, 4), (self.identifier, 8), (self.length, 4))
+        head += joined((self.part, 2), (self.first, 2))
         return slot(head, bytes([self.part + 1]) * min(self.length, ROOM), self.tail)
 
 
@@ -81,7 +83,8 @@ def torn(identifier: int, generation: int, length: int, number: int, slot_of_fir
 
 @dataclass(frozen=True)
 class Known:
-    """An image of which was worked out which records it holds, by identifier their slots and generations, and how many slots its opening ends."""
+    """An image of which it was worked out which records it holds, by identifier their slots and generations, and how many slots its opening
+    ends."""
 
     slots: list[bytes]
     records: dict[int, tuple[int, int]] = field(default_factory=dict)
@@ -122,15 +125,16 @@ SEVERAL = [
 OF_ONE_VALUE = [Known([bytes([value]) * SIZE] * COUNT) for value in range(256)]
 # One slot with each field of its head at its limits: those that are upright, which a record of one slot then is, and those that are not.
 UPRIGHT = [
-    First(), First(identifier=LAST - 1), First(form=1), First(length=448), First(form=1, length=128, named=(0, 1, 9)), First(form=1, length=448),
-    First(generation=2**32 - 1),
+    First(), First(identifier=LAST - 1), First(form=1), First(length=448), First(form=1, length=128, named=(0, 1, 9)),
+    First(form=1, length=448), First(generation=2**32 - 1),
 ]
 NOT_UPRIGHT = [
-    First(gate=ERASED), First(gate=GATE_FURTHER), First(kill=0), First(tail=ERASED), First(tail=0xA4), First(identifier=0), First(identifier=LAST), First(form=0),
-    First(form=3), First(length=127), First(length=448, named=(1, NO_SLOT, NO_SLOT)), First(named=(NO_SLOT, NO_SLOT, 1)), First(form=1, length=127),
-    First(form=1, length=449, named=(1, NO_SLOT, NO_SLOT)),
+    First(gate=ERASED), First(gate=GATE_FURTHER), First(kill=0), First(tail=ERASED), First(tail=0xA4), First(identifier=0),
+    First(identifier=LAST), First(form=0), First(form=3), First(length=127), First(length=448, named=(1, NO_SLOT, NO_SLOT)),
+    First(named=(NO_SLOT, NO_SLOT, 1)), First(form=1, length=127), First(form=1, length=449, named=(1, NO_SLOT, NO_SLOT)),
 ]
-ALONE = [of(NOTHING, head.slot, records={head.identifier: (1, head.generation)}) for head in UPRIGHT] + [of(NOTHING, head.slot) for head in NOT_UPRIGHT]
+ALONE = [of(NOTHING, head.slot, records={head.identifier: (1, head.generation)}) for head in UPRIGHT]
+ALONE += [of(NOTHING, head.slot) for head in NOT_UPRIGHT]
 # A record over three slots, of which one is another.
 SPREAD_FIRST = first(5, 1, 900, 3, 4)
 SPREAD = [SPREAD_FIRST, NOTHING, NOTHING, part(5, 1, 448, 1, 0), part(5, 1, 4, 2, 0)]

@@ -19,8 +19,8 @@ from apei.store import LEAST, PIECE, Store
 
 PAGE, PICTURE = TOP / "docs/FIGURES.md", TOP / "docs/pictures/erases.svg"
 GEOMETRIES = [
-    Geometry(256, 2, 1024), Geometry(512, 2, 512), Geometry(4096, 2, 32), Geometry(4096, 2, 128), Geometry(4096, 16, 32), Geometry(32768, 2, 32),
-    Geometry(32768, 2, 1024),
+    Geometry(256, 2, 1024), Geometry(512, 2, 512), Geometry(4096, 2, 32), Geometry(4096, 2, 128), Geometry(4096, 16, 32),
+    Geometry(32768, 2, 32), Geometry(32768, 2, 1024),
 ]
 LENGTHS = [128, 512, 2048, 8128, 16384, 65536]
 # Microseconds of an erase of 4,096 bytes and of a program of 256, of a common SPI flash; of a sector of another size in proportion.
@@ -182,17 +182,18 @@ def erases(writes: int) -> list[int]:
 def picture(counts: list[int], writes: int) -> str:
     """Bars, one for each sector."""
     width, height, left, most = 12, 220, 60, max(counts)
-    bars = "".join(
-        f'<rect x="{left + at * width}" y="{20 + height - height * count / most:.1f}" width="{width - 2}" height="{height * count / most:.1f}"><title>sector {at}: {count} erases</title></rect>'
-        for at, count in enumerate(counts)
-    )
+    bars = ""
+    for at, count in enumerate(counts):
+        tall, says = height * count / most, f"<title>sector {at}: {count} erases</title>"
+        bars += f'<rect x="{left + at * width}" y="{20 + height - tall:.1f}" width="{width - 2}" height="{tall:.1f}">{says}</rect>'
     whole = left + len(counts) * width + 20
+    below = f"over {writes:,} writes under {IDENTIFIERS} identifiers on {SLOTS} slots of two sectors: {min(counts):,} to {most:,}"
     return f"""<svg xmlns="http://www.w3.org/2000/svg" viewBox="0 0 {whole} {height + 70}" role="img" font-family="sans-serif" font-size="13">
 <title>Erases of each sector over {writes:,} writes: {min(counts):,} to {most:,}</title>
 <rect width="100%" height="100%" fill="#fdfdfb"/><g fill="#1f5f8b">{bars}</g>
 <text x="{left - 8}" y="28" text-anchor="end">{most:,}</text><text x="{left - 8}" y="{height + 20}" text-anchor="end">0</text>
 <text x="{left}" y="{height + 40}">sector 0</text><text x="{whole - 20}" y="{height + 40}" text-anchor="end">sector {len(counts) - 1}</text>
-<text x="{left}" y="{height + 60}">erases of each sector, over {writes:,} writes under {IDENTIFIERS} identifiers on {SLOTS} slots of two sectors: {min(counts):,} to {most:,}</text>
+<text x="{left}" y="{height + 60}">erases of each sector, {below}</text>
 </svg>
 """
 

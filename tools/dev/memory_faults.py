@@ -72,9 +72,9 @@ def example(name: str) -> list[str]:
 
 TABLE = next(line for line in example("looping-table.script") if line.startswith("table 45"))
 SCRIPT = [
-    "# Every kind of line.", "", write(1, 900), "read 1", "count", "next", "dummy", "action 14 0", write(2, 128), write(1, 500), "clear 2", TABLE,
-    "action 0 0", "table own", "error " + BLOCK, "turns FFFFRRRRRFF", "peek 1048576 64", "fatal " + BLOCK, "bert", "heard", "reset", "read 1",
-    "table shadow", write(3, 300), "read 3", "power", "read 1", "bridge 500", "error " + BLOCK, "turns FFFFRRRRRRRRRR", "count",
+    "# Every kind of line.", "", write(1, 900), "read 1", "count", "next", "dummy", "action 14 0", write(2, 128), write(1, 500), "clear 2",
+    TABLE, "action 0 0", "table own", "error " + BLOCK, "turns FFFFRRRRRFF", "peek 1048576 64", "fatal " + BLOCK, "bert", "heard", "reset",
+    "read 1", "table shadow", write(3, 300), "read 3", "power", "read 1", "bridge 500", "error " + BLOCK, "turns FFFFRRRRRRRRRR", "count",
 ]
 ITEMS = [line for name in ("check.script", "check-parts.script") for line in example(name)]
 IN_ADVANCE = "as where none is refused"

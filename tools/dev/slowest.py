@@ -2,9 +2,10 @@
 
     tools/run slowest [--count=N] [CRATE ..]
 
-A check keeps a file for each function and each file of proofs as soon as it is done with it (`out/incremental`). The time between one file and the
-one before it is about what its proof took: exactly with one job, and less than that with several, which write in turn. So build a crate anew
-with `rt check --jobs 1` where the order matters. A gap of more than ten minutes is a pause between two checks, and is left out.
+A check keeps a file for each function and each file of proofs as soon as it is done with it (`out/incremental`). The time between one
+file and the one before it is about what its proof took: exactly with one job, and less than that with several, which write in turn. So
+build a crate anew with `rt check --jobs 1` where the order matters. A gap of more than ten minutes is a pause between two checks, and is
+left out.
 """
 
 import argparse

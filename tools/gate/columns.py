@@ -3,9 +3,9 @@
     tools/run columns [PROGRAM] [TEXTS] [SEED]
 
 PROGRAM is the built program, by default crates/apei/out/apei. A row of tests/columns/script or check is a column, or 00 for a line, a
-blank and a text, in which \\r, \\t and \\xff stand for bytes. Each text is given to `sim` or `check` as its one line, and so are TEXTS more,
-300 where it is not said, that are cut from lines and changed at random. Their columns are those of the grammar, by the definition of
-docs/SCRIPT.md: one more than the length of the longest beginning with which some line begins.
+blank and a text, in which \\r, \\t and \\xff stand for bytes. Each text is given to `sim` or `check` as its one line, and so are TEXTS
+more, 300 where it is not said, that are cut from lines and changed at random. Their columns are those of the grammar, by the definition
+of docs/SCRIPT.md: one more than the length of the longest beginning with which some line begins.
 """
 
 import random
@@ -45,8 +45,8 @@ def rows(job: str, name: str) -> Iterator[Case]:
 
 
 def by_hand() -> list[Case]:
-    longest = [Case("sim", 0, b"turns " + b"F" * 4096), Case("sim", 4103, b"turns " + b"F" * 4097), Case("sim", 9, b"turns FRx" + b"F" * 5000)]
-    return [*rows("sim", "script"), *rows("check", "check"), *longest]
+    longest = [(0, b"turns " + b"F" * 4096), (4103, b"turns " + b"F" * 4097), (9, b"turns FRx" + b"F" * 5000)]
+    return [*rows("sim", "script"), *rows("check", "check"), *(Case("sim", *row) for row in longest)]
 
 
 def changed(chance: random.Random, lines: list[bytes]) -> bytes:
@@ -77,7 +77,9 @@ def main(words: list[str]) -> int:
     known = by_hand()
     for case, faults in zip(known, side_by_side(lambda case: case.differs(asked.program), known)):
         by_grammar = column(case.job, case.text)
-        tally.add(faults + ([] if by_grammar == case.column else [f"{case.job}: {case.text[:60]!r}: by the grammar of the tool column {by_grammar}"]))
+        if by_grammar != case.column:
+            faults.append(f"{case.job}: {case.text[:60]!r}: by the grammar of the tool column {by_grammar}")
+        tally.add(faults)
     for faults in side_by_side(lambda case: case.differs(asked.program), drawn(asked.chance, asked.more)):
         tally.add(faults)
     return tally.end()

@@ -14,7 +14,8 @@ from typing import NamedTuple
 from apei import tables
 from apei.bytes import LAST
 from apei.device import (
-    BEGIN_CLEAR, BEGIN_DUMMY, BEGIN_READ, BEGIN_WRITE, CHECK_BUSY, END, EXECUTE, GET_COUNT, GET_IDENTIFIER, GET_STATUS, SET_IDENTIFIER, SET_OFFSET, Device,
+    BEGIN_CLEAR, BEGIN_DUMMY, BEGIN_READ, BEGIN_WRITE, CHECK_BUSY, END, EXECUTE, GET_COUNT, GET_IDENTIFIER, GET_STATUS, SET_IDENTIFIER,
+    SET_OFFSET, Device,
 )
 from apei.flash import Fault, Geometry, Options
 from apei.frames import identifier_of, marked

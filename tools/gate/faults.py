@@ -54,8 +54,8 @@ def tears(change: int, is_loss: bool) -> Iterator[list[str]]:
 
 
 def one_record(faults: Faults) -> None:
-    """Power is lost at each change; afterwards the record is there as after the lines that had ended by then, or as the next one leaves it. Then each change
-    fails, and each read."""
+    """Power is lost at each change; afterwards the record is there as after the lines that had ended by then, or as the next one leaves it.
+    Then each change fails, and each read."""
     whole = faults.sim(LINES)
     faults.wants(is_possible(LINES, whole), whole, [])
     states = RecordMap.empty(Geometry()).states(LINES)
@@ -102,8 +102,8 @@ def several_slots(faults: Faults) -> None:
 
 
 def given_again(faults: Faults) -> None:
-    """A write of 6 changes, a replacement of 7 and a clear of 1. Power comes back right behind the command that lost it: the record is then the one from
-    before it or the one after it, and the command can be given again."""
+    """A write of 6 changes, a replacement of 7 and a clear of 1. Power comes back right behind the command that lost it: the record is then
+    the one from before it or the one after it, and the command can be given again."""
     states = RecordMap.empty(FLASH).states(AGAIN)
     wanted = states[0].replies(AGAIN)
     whole = faults.sim(AGAIN, *FLASH.words)

@@ -29,11 +29,15 @@ ERRORS = ["EIO", "ENOSPC"]
 IDENTIFIERS = [1, 2, 3]
 EMPTY = RecordMap.empty(FLASH)
 # One record over three slots, one of one, replacements over two slots and over four, a second record of two, and clears.
-LINES = [write(1, 900), "count", write(2, 128), write(1, 500), "read 1", write(3, 449), write(2, 1345), "read 2", "clear 1", "count", write(1, 128),
-         write(3, 128), "clear 3", "read 3", "count"]
+LINES = [
+    write(1, 900), "count", write(2, 128), write(1, 500), "read 1", write(3, 449), write(2, 1345), "read 2", "clear 1", "count",
+    write(1, 128), write(3, 128), "clear 3", "read 3", "count",
+]
 # Lines that need no record, with their replies; comments behind them take the last line past what one read takes.
-PLAIN = [("count", "count 0"), ("next", "next end"), ("# nothing", ""), ("dummy", "dummy ok"), ("read 7", "refused empty"), ("action 14 0", "result 32512"),
-         ("turns FR", "turns idle nothing"), ("bert", "bert 0"), ("heard", "heard 0 0 0"), ("reset", "reset 0")]
+PLAIN = [
+    ("count", "count 0"), ("next", "next end"), ("# nothing", ""), ("dummy", "dummy ok"), ("read 7", "refused empty"),
+    ("action 14 0", "result 32512"), ("turns FR", "turns idle nothing"), ("bert", "bert 0"), ("heard", "heard 0 0 0"), ("reset", "reset 0"),
+]
 PLAIN += [("#" * 100000, "")] * 6 + [("count", "count 0")]
 CALL = re.compile(r"\d+ +(\w+)\(\d+<([^>]*)>(?:, \"([^\"]*)\", \d+, (\d+))?\) += +(.*)")
 
@@ -171,7 +175,8 @@ def streams_fail(program: Program, folder: Path, tally: Tally) -> None:
         with open(path, "rb") as stream:
             of_file = ["-P", str(path)] if fault.call == "read" else []
             done = program.run("sim", stdin=stream, before=[*fault.traced(), *of_file])
-        tally.expect((done.status, done.replies, done.said) == (status, before, said), f"{fault}: status {done.status}, {done.replies}, {done.said}")
+        found = done.status, done.replies, done.said
+        tally.expect(found == (status, before, said), f"{fault}: {found}")
 
 
 def without_faults(program: Program, folder: Path, tally: Tally) -> tuple[dict[str, int], dict[str, int]]:
@@ -197,7 +202,8 @@ def faults_of(calls: dict[str, int], names: Iterable[str]) -> list[Fault]:
 
 
 def may_trace() -> bool:
-    return subprocess.run(["strace", "-qq", "-o", os.devnull, "-e", "trace=fsync", "true"], capture_output=True, check=False).returncode == 0
+    words = ["strace", "-qq", "-o", os.devnull, "-e", "trace=fsync", "true"]
+    return subprocess.run(words, capture_output=True, check=False).returncode == 0
 
 
 def main(words: list[str]) -> int:

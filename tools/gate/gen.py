@@ -46,11 +46,12 @@ class Run:
         return f"gen {self.count} {kinds} refused {refused} live {len(store.records())} @{store.steps}\n"
 
 
-# On the usual flash, on few slots, on slots so small that records take two, and on so few that a walk meets no record. One run is made twice, which must be
-# the same.
+# On the usual flash, on few slots, on slots so small that records take two, and on so few that a walk meets no record. One run is made
+# twice, which must be the same.
 RUNS = [
-    Run(0, 0), Run(1, 0), Run(1000, 7), Run(5000, 7), Run(5000, 7), Run(1000, 2**64 - 1), Run(300, 12345678901234567890, Geometry(256, 2, 1024)),
-    Run(1000, 1, Geometry(256, 2, 3)), Run(1000, 2, Geometry(4096, 2, 2)), Run(500, 3, Geometry(256, 3, 40)), Run(200, 4, Geometry(4096, 16, 33)),
+    Run(0, 0), Run(1, 0), Run(1000, 7), Run(5000, 7), Run(5000, 7), Run(1000, 2**64 - 1),
+    Run(300, 12345678901234567890, Geometry(256, 2, 1024)), Run(1000, 1, Geometry(256, 2, 3)), Run(1000, 2, Geometry(4096, 2, 2)),
+    Run(500, 3, Geometry(256, 3, 40)), Run(200, 4, Geometry(4096, 16, 33)),
 ]
 
 

@@ -1,4 +1,4 @@
-"""Plays turns of two error sources, one of type 9 and one of type 10, and of the machine's own, by the program and by a plain model, and compares.
+"""Plays turns of error sources, of types 9 and 10 and of the machine's own, by the program and by a plain model, and compares.
 
     tools/run hub [PROGRAM] [MORE] [SEED]
 

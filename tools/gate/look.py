@@ -36,6 +36,9 @@ from apei.store import Store, cut_image, images_of
 
 SIX, NINE = Geometry(SECTOR, PER_SLOT, 6), Geometry(SECTOR, PER_SLOT, 9)
 EXAMPLES = ("two-records", "several-slots", "replaced-and-cleared", "crash-in-a-replacement", "kept-in-a-file")
+FORMS = [
+    Geometry(256, 2, 6), Geometry(512, 2, 8), Geometry(256, 3, 7), Geometry(1024, 4, 5), Geometry(4096, 2, 4), Geometry(256, 16, 3),
+]
 NOBODY = 65534
 Kept = tuple[int, ...]
 
@@ -173,8 +176,7 @@ def cut_off(look: Look, path: Path) -> Iterator[str]:
 
 def guessed(look: Look, path: Path) -> Iterator[str]:
     """What is wrong of images whose geometry is guessed."""
-    forms = [Geometry(256, 2, 6), Geometry(512, 2, 8), Geometry(256, 3, 7), Geometry(1024, 4, 5), Geometry(4096, 2, 4), Geometry(256, 16, 3)]
-    for geometry in forms:
+    for geometry in FORMS:
         store = Store(geometry)
         for line in [*REPLACEMENT, write(7, 300), write(9, 140)][: geometry.slots - 1]:
             store.play(line)
@@ -240,8 +242,8 @@ def unread_mediums(look: Look, path: Path) -> Iterator[str]:
     """Mediums of other versions, and such as are damaged."""
     image, header = images_of(SIX, REPLACEMENT)[0], medium_header(SECTOR, PER_SLOT, 6)
     for version in (0, 2, 2**32 - 1):
-        other = medium_header(SECTOR, PER_SLOT, 6, version) + image
-        yield from wrong_unread(look, path, f"version {version}", other, "other-version", version, f"a medium of the library, version {version}: ")
+        what, other = f"version {version}", medium_header(SECTOR, PER_SLOT, 6, version) + image
+        yield from wrong_unread(look, path, what, other, "other-version", version, f"a medium of the library, {what}: ")
     damaged = {f"byte {at}": header[:at] + bytes([header[at] ^ 1]) + header[at + 1 :] for at in range(8, 50)}
     # The checksum is right, and the geometry is none: a slot of one sector.
     damaged["no geometry"] = medium_header(SECTOR, 1, 12)

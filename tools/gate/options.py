@@ -16,14 +16,16 @@ from apei.harness import Program, Tally, given, scratch
 from apei.scripts import write
 
 IN_FORM = [
-    "sim", "check --show=", "check --show=HEAD|HEAD", "check --show PARTS", "-- sim", "sim --", "--slots 2 sim --sector=256", "--slots 2 gen --count=0 --seed=0",
-    "gen --seed=18446744073709551615 --count 1", "sim --torn=3 --cut=0 --fail=1 --fail-read=99 --steps=4294967295", "sim --steps=0",
+    "sim", "check --show=", "check --show=HEAD|HEAD", "check --show PARTS", "-- sim", "sim --", "--slots 2 sim --sector=256",
+    "--slots 2 gen --count=0 --seed=0", "gen --seed=18446744073709551615 --count 1",
+    "sim --torn=3 --cut=0 --fail=1 --fail-read=99 --steps=4294967295", "sim --steps=0",
 ]
 OUT_OF_FORM = [
-    "", "simulate", "sim sim", "sim check", "--slots=3", "sim --help", "sim -h", "--version", "help", "sim --slots", "sim --slots=", "sim --slots=03",
-    "sim --slots=+3", "sim --slots=-3", "sim --slot=3", "sim --slots=1 --slots 1", "sim --steps=4294967296", "sim --sector=18446744073709551616", "sim --torn=4",
-    "sim --seed=3", "check --sector=4096", "play --image=x --cut=1", "play", "play --image=", "play --image -x", "play --image --slots=3", "gen",
-    "gen --count=100001", "gen --count=1 --show=HEAD", "check --show=HEAD|", "check --show=0x1", "check --show=head", "sim -- --slots=3",
+    "", "simulate", "sim sim", "sim check", "--slots=3", "sim --help", "sim -h", "--version", "help", "sim --slots", "sim --slots=",
+    "sim --slots=03", "sim --slots=+3", "sim --slots=-3", "sim --slot=3", "sim --slots=1 --slots 1", "sim --steps=4294967296",
+    "sim --sector=18446744073709551616", "sim --torn=4", "sim --seed=3", "check --sector=4096", "play --image=x --cut=1", "play",
+    "play --image=", "play --image -x", "play --image --slots=3", "gen", "gen --count=100001", "gen --count=1 --show=HEAD",
+    "check --show=HEAD|", "check --show=0x1", "check --show=head", "sim -- --slots=3",
 ]
 # Job and options, input, replies, status and text.
 SAID = [

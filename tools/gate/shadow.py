@@ -38,9 +38,9 @@ def write_filled(identifier: int, length: int, first: int) -> str:
 
 def lines_with(looks: list[str]) -> list[str]:
     """Lines of both tables, with looks at memory between them."""
-    lines = [write_filled(1, 300, 7), "table shadow", "read 1", *looks, "next", write_filled(2, 1700, 99), *looks, write_filled(1, 900, 33), *looks, "count"]
-    lines += ["clear 2", *looks, "dummy", "action 5 7", *looks, "action 7 7", *looks, *(f"action {code} 5" for code in (13, 14, 15))]
-    return [*lines, "table own", "count", "next", "next", "next"]
+    lines = [write_filled(1, 300, 7), "table shadow", "read 1", *looks, "next", write_filled(2, 1700, 99), *looks]
+    lines += [write_filled(1, 900, 33), *looks, "count", "clear 2", *looks, "dummy", "action 5 7", *looks, "action 7 7", *looks]
+    return [*lines, *(f"action {code} 5" for code in (13, 14, 15)), "table own", "count", "next", "next", "next"]
 
 
 OLDER, NEWER = filled(1, 600, 7), filled(1, 1000, 99)

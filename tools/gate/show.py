@@ -2,13 +2,13 @@
 
     tools/run show [PROGRAM] [FILES] [SEED]
 
-PROGRAM is the built program, by default crates/apei_show/out/apei_show. It is given tables, records and blocks with sections of each type,
-drawn at random, those of examples/ and tests/scripts, tables as acpidump writes them, flash images, media of the library, QEMU's storage and files of pstore:
-each field, by its name and its value, is that of the plain reading (tools/apei/show), in JSON and as text, and the text has each at its
-place. Items with faults are shown as far as they go, and say that they are bad. Then FILES more, 2,000 where it is not said, are random
-bytes or well-formed files with faults in them: whatever they are, the program ends with status 0 in little memory, and its output is JSON
-whose objects have no key twice. Files that can't be read, standard input, an output that is closed or full, and command lines of all kinds
-are tried too. Each item and each file is a case.
+PROGRAM is the built program, by default crates/apei_show/out/apei_show. It is given tables, records and blocks with sections of each
+type, drawn at random, those of examples/ and tests/scripts, tables as acpidump writes them, flash images, media of the library, QEMU's
+storage and files of pstore: each field, by its name and its value, is that of the plain reading (tools/apei/show), in JSON and as text,
+and the text has each at its place. Items with faults are shown as far as they go, and say that they are bad. Then FILES more, 2,000 where
+it is not said, are random bytes or well-formed files with faults in them: whatever they are, the program ends with status 0 in little
+memory, and its output is JSON whose objects have no key twice. Files that can't be read, standard input, an output that is closed or
+full, and command lines of all kinds are tried too. Each item and each file is a case.
 """
 
 import json
@@ -89,7 +89,8 @@ class Check(Tally):
         self.expect(kinds == list(wanted.own) and len(its) == len(wanted.items), said)
         texts = self.text_items(path)[own:]
         for at, (item, shown) in enumerate(zip(wanted.items, its)):
-            self.add(f"{wanted.name} ({shown['summary']}): {what}" for what in wrong_item(item, shown, texts[at] if at < len(texts) else []))
+            wrong = wrong_item(item, shown, texts[at] if at < len(texts) else [])
+            self.add(f"{wanted.name} ({shown['summary']}): {what}" for what in wrong)
 
     def batch(self, some: Named, words: list[str]) -> list[str]:
         """What is wrong of files that may hold anything: each is shown, and nothing ends the program."""
@@ -138,12 +139,15 @@ def check_lines(output: str, paths: list[Path]) -> int:
 
 
 def header_of(data: bytes) -> Group:
-    layout, size = (layouts.RECORD_HEADER, 128) if data[:4] == b"CPER" else (layouts.TABLE_HEADER, 36) if data[:4].isalpha() else (layouts.BLOCK_STATUS, 20)
+    if data[:4] == b"CPER":
+        return group("header", layouts.RECORD_HEADER, data[:128], 0)
+    layout, size = (layouts.TABLE_HEADER, 36) if data[:4].isalpha() else (layouts.BLOCK_STATUS, 20)
     return group("header", layout, data[:size], 0)
 
 
 def wrong_bad(check: Check, fault: faults.Fault) -> Iterator[str]:
-    """What is wrong of an item with a fault: the fields before it are shown, the item says where it is bad, and only --strict has another status."""
+    """What is wrong of an item with a fault: the fields before it are shown, the item says where it is bad, and only --strict has another
+    status."""
     path = check.file("bad", fault.data)
     try:
         first = check.items_of(path)[0]
@@ -170,8 +174,8 @@ def one_of(check: Check, name: str, data: bytes, kind: str) -> None:
 def other_files(check: Check, chance: Chance) -> None:
     """Files of pstore by their names, files that hold none of what is known, standard input, and files that can't be read."""
     for name, data in files.of_pstore(chance):
-        kind = "packed" if name.endswith(".z") else "record" if data[:4] == b"CPER" else "dmesg" if name.startswith("dmesg") else "machine-check"
-        one_of(check, name, data, kind)
+        by_name = "packed" if name.endswith(".z") else "dmesg" if name.startswith("dmesg") else "machine-check"
+        one_of(check, name, data, "record" if data[:4] == b"CPER" else by_name)
     one_of(check, "empty", b"", "empty")
     one_of(check, "blank", bytes(300), "blank")
     one_of(check, "none", b"%PDF-1.4 nothing of this kind", "none")
@@ -215,13 +219,15 @@ def closed_output(check: Check, path: Path) -> None:
 
 
 def greedy(check: Check) -> None:
-    """Files of few bytes that say of themselves that they are very long, and a record whose sections all are the whole record: memory does not grow."""
+    """Files of few bytes that say of themselves that they are very long, and a record whose sections all are the whole record: memory does
+    not grow."""
     count, signature = 600, b"CPER" + spell(0x101, 2)
     length = 128 + 72 * count
     descriptor = spell(length, 4) + spell(20_000, 4) + bytes(64)
     head = signature + b"\xff" * 4 + spell(count, 2) + bytes(8) + spell(length + 20_000, 4) + bytes(104)
-    told = [head + descriptor * count + bytes(20_000), signature + b"\xff" * 16 + bytes(108), b"HEST" + b"\xff" * 40, b"ERST" + b"\xff" * 60]
-    told += [spell(0x12, 4) + b"\xff" * 12 + spell(2, 4) + bytes(80), b"ERSTSTOR" + b"\xff" * 4096, b"APEIERST" + b"\xff" * 4096]
+    told = [head + descriptor * count + bytes(20_000), signature + b"\xff" * 16 + bytes(108), b"HEST" + b"\xff" * 40]
+    told += [b"ERST" + b"\xff" * 60, spell(0x12, 4) + b"\xff" * 12 + spell(2, 4) + bytes(80)]
+    told += [b"ERSTSTOR" + b"\xff" * 4096, b"APEIERST" + b"\xff" * 4096]
     for data in told:
         path, wrong = check.file("greedy", data), []
         for form in FORMS_OF_TEXT:

@@ -118,8 +118,8 @@ class Runs(Tally):
         self.run("apei play --image=six", script(write(it, 300) for it in range(1, 7)))
 
     def write_mediums(self) -> None:
-        """A library's medium, as long as a flash of 8 slots of two sectors of 256; one of another version, one whose first sector is damaged, and one
-        that is cut off."""
+        """A library's medium, as long as a flash of 8 slots of two sectors of 256; one of another version, one whose first sector is
+        damaged, and one that is cut off."""
         medium = medium_header(256, 3, 5).ljust(4096, b"\xff")
         (self.folder / "medium").write_bytes(medium)
         (self.folder / "forced").write_bytes(medium)

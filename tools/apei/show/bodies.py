@@ -26,7 +26,8 @@ class Chance:
     def number(self, width: int) -> bytes:
         """A number: any, a small one, or none or all of its bits."""
         kind = self.below(6)
-        return [self.of.randbytes(width), bytes(width), b"\xff" * width, spell(self.below(16), width)][kind] if kind < 4 else self.of.randbytes(width)
+        few = [bytes(width), b"\xff" * width, spell(self.below(16), width)]
+        return few[kind] if kind < len(few) else self.of.randbytes(width)
 
     def few(self, count: int, width: int) -> bytes:
         """Mostly a number below `count`."""
@@ -68,7 +69,8 @@ def memory_2(chance: Chance) -> bytes:
 
 
 def pcie(chance: Chance) -> bytes:
-    body = chance.bits(8, 8) + chance.few(12, 4) + chance.number(2) + bytes(2) + chance.number(4) + bytes(4) + chance.of.randbytes(15) + bytes(1)
+    body = chance.bits(8, 8) + chance.few(12, 4) + chance.number(2) + bytes(2) + chance.number(4) + bytes(4)
+    body += chance.of.randbytes(15) + bytes(1)
     return body + chance.number(8) + chance.number(4) + chance.of.randbytes(60) + chance.of.randbytes(96)
 
 
@@ -98,7 +100,8 @@ def vtd(chance: Chance) -> bytes:
 
 
 def iommu(chance: Chance) -> bytes:
-    return chance.number(1) + bytes(7) + chance.number(8) + chance.number(8) + bytes(8) + chance.of.randbytes(16) + bytes(16) + chance.of.randbytes(80)
+    body = chance.number(1) + bytes(7) + chance.number(8) + chance.number(8) + bytes(8)
+    return body + chance.of.randbytes(16) + bytes(16) + chance.of.randbytes(80)
 
 
 def ccix(chance: Chance) -> bytes:
@@ -135,7 +138,7 @@ def arm(chance: Chance) -> bytes:
     for _ in range(infos):
         kind = chance.of.choice([2, 4, 8, 16, 6, 0, 1, 32]) if chance.below(6) else chance.below(256)
         error = spell(chance.below(1 << 12) | chance.below(1 << 28) << 16, 8)
-        out += bytes([0, 32]) + chance.bits(5, 2) + bytes([kind]) + chance.few(3, 2) + chance.few(16, 1) + error + chance.number(8) + chance.number(8)
+        out += bytes([0, 32]) + chance.bits(5, 2) + bytes([kind]) + chance.few(3, 2) + chance.few(16, 1) + error + numbers(chance, 2, 8)
     for _ in range(contexts):
         kind = chance.below(9)
         size = ARM_SIZES[kind] if chance.below(4) else 8 * chance.below(5)
@@ -154,7 +157,8 @@ def machine_check(chance: Chance) -> bytes:
 
 
 def dmesg(chance: Chance) -> bytes:
-    lines = [f"<{chance.below(8)}>[{chance.below(10000):5}.{chance.below(10**6):06}] {it}\n" for it in ("Kernel panic", 'a "quoted" \\ line', "end")]
+    said = "Kernel panic", 'a "quoted" \\ line', "end"
+    lines = [f"<{chance.below(8)}>[{chance.below(10000):5}.{chance.below(10**6):06}] {it}\n" for it in said]
     return (f"Panic#{1 + chance.below(9)} Part{1 + chance.below(3)}\n" + "".join(lines[: 1 + chance.below(3)])).encode()
 
 
@@ -204,7 +208,8 @@ def block(chance: Chance, *parts: tuple[str, bytes], raw: bytes = b"") -> bytes:
 
 def section(chance: Chance, kind: str, body: bytes) -> Section:
     bits = chance.bits(2, 1) + bytes(1) + chance.few(256, 4)
-    return Section(body, guid_bytes(kind), chance.below(4), chance.of.choice([0x100, 0x300]), bits, chance.of.randbytes(16), chance.text(20))
+    revision = chance.of.choice([0x100, 0x300])
+    return Section(body, guid_bytes(kind), chance.below(4), revision, bits, chance.of.randbytes(16), chance.text(20))
 
 
 def record(chance: Chance, *parts: tuple[str, bytes], identifier: int = 0, linux: bool = False) -> bytes:
@@ -230,7 +235,8 @@ def sealed(table: bytes) -> bytes:
 
 
 def table_header(chance: Chance, signature: bytes) -> bytes:
-    return signature + bytes(4) + spell(1 + chance.below(2), 1) + bytes(1) + b"APEI  " + b"ORACLES " + chance.number(4) + b"TEST" + chance.number(4)
+    names_of_maker = b"APEI  " + b"ORACLES " + chance.number(4) + b"TEST" + chance.number(4)
+    return signature + bytes(4) + spell(1 + chance.below(2), 1) + bytes(1) + names_of_maker
 
 
 def register(chance: Chance) -> bytes:
@@ -240,9 +246,9 @@ def register(chance: Chance) -> bytes:
 
 def erst(chance: Chance) -> bytes:
     count = chance.below(30)
-    entries = b"".join(
-        chance.few(18, 1) + chance.few(20, 1) + chance.few(2, 1) + bytes(1) + register(chance) + chance.number(8) + chance.number(8) for _ in range(count)
-    )
+    entries = b""
+    for _ in range(count):
+        entries += chance.few(18, 1) + chance.few(20, 1) + chance.few(2, 1) + bytes(1) + register(chance) + numbers(chance, 2, 8)
     return sealed(table_header(chance, b"ERST") + spell(48, 4) + bytes(4) + spell(count, 4) + entries)
 
 

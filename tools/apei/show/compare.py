@@ -116,7 +116,7 @@ def lines_of(depth: int, wanted: Group, found: Group) -> Iterator[tuple[int, int
 
 
 def is_plain(found: Group) -> bool:
-    """Whether all of an item's values stand in the text as they do in the JSON: no text has a byte that can't be printed, and none has lines."""
+    """Whether all of an item's values stand in the text as they do in the JSON: no text has lines, or a byte that can't be printed."""
     return re.search(r"\\u00|\\n", json.dumps(found["groups"])) is None
 
 

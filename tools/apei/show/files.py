@@ -14,9 +14,14 @@ from apei.show.bodies import Chance
 from apei.store import Store
 
 
+# A type of section that the standard does not have.
+UNKNOWN = "00112233-4455-6677-8899-aabbccddeeff"
+
+
 @dataclass(frozen=True)
 class Wanted:
-    """A file by its name, what is in it, and the items that are shown of it, behind those of the file itself, of which only the kinds stand here."""
+    """A file by its name, what is in it, and the items that are shown of it, behind those of the file itself, of which only the kinds stand
+    here."""
 
     name: str
     data: bytes
@@ -35,7 +40,7 @@ def of_sections(chance: Chance, count: int) -> Iterator[Wanted]:
         yield of_kind("block", b"".join(bodies.block(chance, (kind, make(chance))) for _ in range(count)))
     for _ in range(count):
         kinds = [chance.of.choice(list(bodies.BODIES)) for _ in range(chance.below(5))]
-        some = [(kind, bodies.BODIES[kind](chance)) for kind in kinds] + [("00112233-4455-6677-8899-aabbccddeeff", chance.of.randbytes(chance.below(30)))]
+        some = [(kind, bodies.BODIES[kind](chance)) for kind in kinds] + [(UNKNOWN, chance.of.randbytes(chance.below(30)))]
         yield of_kind("record", bodies.record(chance, *some))
         yield of_kind("block", bodies.block(chance, *some, raw=chance.of.randbytes(chance.below(40))) + bytes(100))
         cut = [(kind, body[: chance.below(len(body) + 1)]) for kind, body in some]
@@ -46,7 +51,8 @@ def of_sections(chance: Chance, count: int) -> Iterator[Wanted]:
 def of_tables(chance: Chance, count: int) -> Iterator[Wanted]:
     yield of_kind("table", bodies.hest(chance, bodies.SOURCES))
     for _ in range(count):
-        some = [bodies.erst(chance), bodies.hest(chance, [chance.of.choice(bodies.SOURCES) for _ in range(chance.below(9))]), bodies.bert(chance)]
+        kinds = [chance.of.choice(bodies.SOURCES) for _ in range(chance.below(9))]
+        some = [bodies.erst(chance), bodies.hest(chance, kinds), bodies.bert(chance)]
         some.append(bodies.sealed(bodies.table_header(chance, b"FACP") + chance.of.randbytes(chance.below(99))))
         yield from (of_kind("table", it) for it in some)
         yield of_kind("table", b"".join(some))
@@ -122,7 +128,9 @@ def sources_end(data: bytes) -> int:
 
 
 def is_well_record(data: bytes) -> bool:
-    if len(data) < 128 or data[:4] != b"CPER" or data[6:10] != b"\xff" * 4 or reading.record_length(data) != len(data) or number(data, 12, 4) > 3:
+    if len(data) < 128 or (data[:4], data[6:10]) != (b"CPER", b"\xff" * 4):
+        return False
+    if reading.record_length(data) != len(data) or number(data, 12, 4) > 3:
         return False
     at = 128 + 72 * number(data, 10, 2)
     if at > len(data):
@@ -168,7 +176,8 @@ def records_of(image: bytes) -> list[bytes]:
 
 
 def qemu_storage(records: list[bytes], size: int = 0x2000, slots: int = 32) -> bytes:
-    """The storage file of QEMU's device acpi-erst (hw/acpi/erst.c): a header with a map of identifiers by slots, which is in the first of them, and records."""
+    """The storage file of QEMU's device acpi-erst (hw/acpi/erst.c): a header with a map of identifiers by slots, which is in the first of
+    them, and records."""
     head = b"ERSTSTOR" + spell(size, 4) + spell(size, 4) + spell(0x100, 2) + bytes(2) + spell(len(records), 4) + bytes(8)
     head += b"".join(it[96:104] for it in records)
     return b"".join([head.ljust(size, b"\0"), *(it.ljust(size, b"\xff") for it in records)]).ljust(size * slots, b"\0")
@@ -182,7 +191,8 @@ def of_stores(chance: Chance) -> Iterator[Wanted]:
         yield Wanted("image", image, items, ["image"])
         medium = medium_header(SECTOR, PER_SLOT, flash_of(image).slots) + image
         yield Wanted("medium", medium, [{**it, "item": it["item"] + 1} for it in items], ["medium", "image"])
-    records = [bodies.record(chance, (kind, make(chance)), identifier=9 + index) for index, (kind, make) in enumerate(bodies.BODIES.items())]
+    each = enumerate(bodies.BODIES.items(), 9)
+    records = [bodies.record(chance, (kind, make(chance)), identifier=identifier) for identifier, (kind, make) in each]
     storage = qemu_storage(records)
     items = [reading.item("record", it, index + 1, storage.find(it)) for index, it in enumerate(records)]
     yield Wanted("storage", storage, items, ["qemu"])
@@ -196,7 +206,10 @@ def well_formed(chance: Chance, count: int) -> Iterator[Wanted]:
 
 
 # What files begin with, for those that are drawn at random.
-BEGINNINGS = [b"", b"CPER", b"ERST", b"HEST", b"BERT", b"FACP", b"ERSTSTOR", b"APEIERST", b"ERST @ 0x00000000\n    0000: ", b"\x5a\xff\3\0", bytes(20)]
+BEGINNINGS = [
+    b"", b"CPER", b"ERST", b"HEST", b"BERT", b"FACP", b"ERSTSTOR", b"APEIERST", b"ERST @ 0x00000000\n    0000: ",
+    b"\x5a\xff\3\0", bytes(20),
+]
 
 
 def mutated(chance: Chance, data: bytes) -> bytes:

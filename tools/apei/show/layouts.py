@@ -415,7 +415,8 @@ ARM_CONTEXTS = {
     7: registers(8, "ELR_EL3 ESR_EL3 FAR_EL3 MAIR_EL3 SCTLR_EL3 SP_EL3 SPSR_EL3 TCR_EL3 TPIDR_EL3 TTBR0_EL3"),
 }
 
-# ARM error information by the bits of its type (N.2.4.4.1; the bits as the errata of 2.9 names them: 1 cache, 2 TLB, 3 bus, 4 micro-architectural).
+# ARM error information by the bits of its type (N.2.4.4.1; the bits as the errata of 2.9 names them: 1 cache, 2 TLB, 3 bus,
+# 4 micro-architectural).
 ARM_ERROR = [
     (0, 16, 2, "transaction type"),
     (1, 18, 4, "operation"),
