@@ -12,7 +12,8 @@ from dataclasses import dataclass
 from pathlib import Path
 from typing import Any, TypeVar
 
-TOP = Path(__file__).resolve().parents[2]
+from apei import TOP
+
 Case = TypeVar("Case")
 Answer = TypeVar("Answer")
 

@@ -12,8 +12,9 @@ import sys
 from dataclasses import dataclass
 from pathlib import Path
 
+from apei import TOP
 from apei.flash import Geometry, torn
-from apei.harness import TOP, Ended, Program, image_file, scratch
+from apei.harness import Ended, Program, image_file, scratch
 
 PWRITE = re.compile(r'pwrite64\(\d+, "((?:\\x[0-9a-f]{2})*)"(\.\.\.)?, (\d+), (\d+)\) += (-?\d+)')
 

@@ -15,8 +15,9 @@ import subprocess
 from pathlib import Path
 from typing import Any
 
+from apei import TOP
 from apei.flash import Geometry
-from apei.harness import TOP, Program, Tally, image_file, scratch, script
+from apei.harness import Program, Tally, image_file, scratch, script
 from apei.looks import LETTERS, PER_SLOT, SECTOR
 from apei.played import Change, Job, changes, images
 from apei.scripts import REPLACEMENT

@@ -11,7 +11,7 @@ import re
 from collections.abc import Iterator
 from pathlib import Path
 
-from apei.harness import TOP
+from apei import TOP
 
 QUOTED = re.compile(r"`([^`]+)`")
 LINKED = re.compile(r"\]\(([^)#]+)[^)]*\)")

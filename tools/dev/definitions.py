@@ -15,7 +15,7 @@ from collections.abc import Iterator
 from dataclasses import dataclass, field
 from pathlib import Path
 
-from apei.harness import TOP
+from apei import TOP
 
 HEAD = re.compile(r"^(?:pub )?(?:abbrev|unfoldable|record|data)(?: pub)? (\S+)|^pub (?:record|data) (\S+)", re.MULTILINE)
 USE = re.compile(r"(?:ghost )?use (Rattle[\w.]*)\.\{([^}]*)\}")

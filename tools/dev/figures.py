@@ -11,9 +11,9 @@ import argparse
 import random
 from collections.abc import Iterator
 
+from apei import TOP
 from apei.flash import Geometry
 from apei.frames import record
-from apei.harness import TOP
 from apei.scripts import write
 from apei.store import LEAST, PIECE, Store
 

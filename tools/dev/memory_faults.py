@@ -27,9 +27,10 @@ from collections.abc import Callable, Iterable, Sequence
 from pathlib import Path
 from typing import NamedTuple
 
+from apei import TOP
 from apei.flash import Fault, Geometry
 from apei.frames import block
-from apei.harness import TOP, Program, Tally, given, scratch, side_by_side
+from apei.harness import Program, Tally, given, scratch, side_by_side
 from apei.scripts import write
 
 SHIM = r"""

@@ -6,8 +6,9 @@ PROGRAM is the built program, by default crates/apei_look/out/apei_look. The ima
 compares with the program. With --check nothing is written, and the exit status is 1 where the page is another.
 """
 
+from apei import TOP
 from apei.flash import Fault, Geometry
-from apei.harness import TOP, Program, given, image_file
+from apei.harness import Program, given, image_file
 from apei.looks import PER_SLOT, SECTOR
 from apei.scripts import REPLACEMENT
 from apei.store import booted, cut_image, images_of

@@ -13,7 +13,7 @@ from collections.abc import Iterator
 from dataclasses import dataclass
 from pathlib import Path
 
-from apei.harness import TOP
+from apei import TOP
 
 PAUSE = 600.0
 

@@ -16,27 +16,11 @@ import sys
 from pathlib import Path
 from typing import NoReturn
 
-from apei.harness import TOP, scratch
+from apei import TOP, crates
+from apei.harness import scratch
 
 CRATE = "apei_c"
 COMPILERS = "llvm", "rattle"
-
-
-def depends() -> dict[str, list[str]]:
-    """Each crate of crates.txt, with the crates and the kit's libraries that it names."""
-    rows = [line.split("#")[0].partition(":") for line in (TOP / "crates.txt").read_text().splitlines()]
-    return {name.split()[0]: names.split() for name, colon, names in rows if colon}
-
-
-def below(crate: str, of: dict[str, list[str]]) -> set[str]:
-    """The crates of the repository that a crate stands on."""
-    found: set[str] = set()
-    open_ones = [crate]
-    while open_ones:
-        names = {it for it in of[open_ones.pop()] if it in of} - found
-        found |= names
-        open_ones += names
-    return found
 
 
 def rlib(crate: str) -> Path:
@@ -79,10 +63,9 @@ def words_of(kit: Path, libraries: list[str], names: list[str]) -> list[str | Pa
 
 
 def build(folder: Path) -> None:
-    of = depends()
-    libraries = sorted(below(CRATE, of))
+    libraries = sorted(crates.below(CRATE, crates.depends()) - {CRATE})
     kit = kit_of(libraries)
-    words = words_of(kit, libraries, of[CRATE])
+    words = words_of(kit, libraries, crates.named()[CRATE])
     folder.mkdir(parents=True, exist_ok=True)
     with scratch() as room:
         proved, rattle = room / "proved", kit / "bin" / "rattle"

@@ -12,8 +12,9 @@ import random
 from collections.abc import Iterator
 from typing import NamedTuple
 
+from apei import TOP
 from apei.grammar import column
-from apei.harness import TOP, Program, Tally, given, side_by_side
+from apei.harness import Program, Tally, given, side_by_side
 
 WHOLE = {
     "sim": [b"count", b"next", b"dummy", b"bert", b"heard", b"reset", b"power", b"write 4f4F", b"table aB", b"table own", b"table shadow",

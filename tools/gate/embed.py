@@ -19,7 +19,8 @@ from collections.abc import Iterator
 from pathlib import Path
 from typing import Any
 
-from apei.harness import TOP, Tally, scratch, side_by_side
+from apei import TOP
+from apei.harness import Tally, scratch, side_by_side
 
 TEARS = ("nothing", "whole", "zeros", "marks")
 WANTED = {"memcpy", "memmove", "memset", "memcmp", "rattle_alloc", "rattle_realloc", "rattle_dealloc"}

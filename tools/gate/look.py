@@ -24,11 +24,11 @@ from collections.abc import Iterator
 from pathlib import Path
 from typing import Any
 
-from apei import names, slot_images
+from apei import TOP, names, slot_images
 from apei.bytes import guid_bytes
 from apei.flash import Geometry
 from apei.frames import Header, Section, record_of
-from apei.harness import TOP, Ended, Given, Program, Tally, given, scratch, script
+from apei.harness import Ended, Given, Program, Tally, given, scratch, script
 from apei.looks import PER_SLOT, SECTOR, SIZE, Shown, flash_of, medium_header, seeming
 from apei.names import LINUX
 from apei.scripts import REPLACEMENT, some_line, write

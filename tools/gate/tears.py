@@ -16,8 +16,9 @@ import subprocess
 from pathlib import Path
 from typing import Any
 
+from apei import TOP
 from apei.flash import Geometry
-from apei.harness import TOP, Ended, Program, Tally, scratch, script
+from apei.harness import Ended, Program, Tally, scratch, script
 from apei.looks import PER_SLOT, SECTOR, Shown
 from apei.scripts import REPLACEMENT
 from apei.store import booted, cut_image, images_of

@@ -18,8 +18,9 @@ import time
 from pathlib import Path
 from typing import Any
 
+from apei import TOP
 from apei.flash import Geometry
-from apei.harness import TOP, Ended, Program, Tally, scratch, script
+from apei.harness import Ended, Program, Tally, scratch, script
 from apei.looks import medium_header
 from apei.scripts import write
 from gate.options import IN_FORM, OUT_OF_FORM, split

@@ -4,10 +4,10 @@ import re
 from collections.abc import Iterator, Sequence
 from dataclasses import dataclass
 
-from apei import names
+from apei import TOP, names
 from apei.bytes import number, spell
 from apei.flash import Geometry
-from apei.harness import TOP
+from apei.items import ITEMS, Bad
 from apei.looks import PER_SLOT, SECTOR, Shown, flash_of, medium_header, seeming
 from apei.show import bodies, layouts, reading
 from apei.show.bodies import Chance
@@ -89,63 +89,23 @@ def of_scripts() -> Iterator[Wanted]:
     """The well-formed ones among them."""
     for word, data in checked_items():
         kind = {"record": "record", "write": "record", "block": "block"}.get(word, "table")
-        if is_well(kind, data):
+        if is_well(data[:4].decode("latin-1").lower() if kind == "table" else kind, data):
             yield of_kind(kind, data)
 
 
-def is_well(kind: str, data: bytes) -> bool:
-    """Whether an item is what its standard says: its length, its checksum, its parts one behind another up to its end."""
-    if kind == "table":
-        return is_well_table(data)
-    if kind == "record":
-        return is_well_record(data)
-    return is_well_block(data)
-
-
-def is_well_table(data: bytes) -> bool:
-    if len(data) < 40 or reading.table_length(data) != len(data) or sum(data) % 256:
+def is_well(word: str, data: bytes) -> bool:
+    """Whether an item is what its standard says up to its last byte, and its numbers are some that the standard names."""
+    try:
+        length, _, _ = ITEMS[word](data)
+    except (KeyError, Bad):
         return False
-    if data[:4] == b"ERST":
-        return len(data) >= 48 and len(data) == 48 + 32 * number(data, 44, 4) and number(data, 36, 4) == 48 and bodies_are_known(data)
-    if data[:4] == b"BERT":
-        return len(data) == 48
-    return data[:4] == b"HEST" and sources_end(data) == len(data)
-
-
-def bodies_are_known(data: bytes) -> bool:
-    return all(data[at] < 17 and data[at + 1] < 19 for at in reading.entries(data))
-
-
-def sources_end(data: bytes) -> int:
-    at = 40
-    for _ in range(number(data, 36, 4)):
-        kind = number(data, at, 2)
-        if kind not in layouts.SOURCES or at >= len(data):
-            return -1
-        size, layout = layouts.SOURCES[kind]
-        at += size + sum(part.size * reading.count_of(part.count, data[at:]) for part in layout.parts)
-    return at
-
-
-def is_well_record(data: bytes) -> bool:
-    if len(data) < 128 or (data[:4], data[6:10]) != (b"CPER", b"\xff" * 4):
-        return False
-    if reading.record_length(data) != len(data) or number(data, 12, 4) > 3:
-        return False
-    at = 128 + 72 * number(data, 10, 2)
-    if at > len(data):
-        return False
-    ends = [(number(data, it, 4), number(data, it + 4, 4)) for it in range(128, at, 72)]
-    return all(at <= begin and begin + length <= len(data) for begin, length in ends)
-
-
-def is_well_block(data: bytes) -> bool:
-    if len(data) < 20 or number(data, 0, 4) == 0 or reading.block_length(data) != len(data) or number(data, 16, 4) > 3:
-        return False
-    at, end = 20, 20 + number(data, 12, 4)
-    while at < end:
-        at += (72 if number(data, at + 20, 2) >= 0x300 else 64) + number(data, at + 24, 4)
-    return at == end
+    if word == "erst":
+        has_names = number(data, 36, 4) == 48 and all(data[at] < 17 and data[at + 1] < 19 for at in reading.entries(data))
+    elif word == "bert":
+        has_names = length == 48
+    else:
+        has_names = word == "hest" or number(data, {"record": 12, "block": 16}[word], 4) < len(names.SEVERITIES)
+    return length == len(data) and has_names
 
 
 def of_pstore(chance: Chance) -> Iterator[tuple[str, bytes]]:
