@@ -2,7 +2,8 @@
 
 from apei.bytes import joined, spell
 
-MEMORY, PORTS = 0, 1
+# The address space of memory.
+MEMORY = 0
 
 
 def seal(data: bytes | bytearray) -> bytes:

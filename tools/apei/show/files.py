@@ -9,7 +9,7 @@ from apei.bytes import number, spell
 from apei.flash import Geometry
 from apei.items import ITEMS, Bad
 from apei.looks import PER_SLOT, SECTOR, Shown, flash_of, medium_header, seeming
-from apei.show import bodies, layouts, reading
+from apei.show import bodies, reading
 from apei.show.bodies import Chance
 from apei.store import Store
 
