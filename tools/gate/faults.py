@@ -90,8 +90,8 @@ def several_slots(faults: Faults) -> None:
     states = RecordMap.empty(FLASH).states(SEVERAL)
     wanted = states[0].replies(SEVERAL)
     whole = faults.sim(SEVERAL, *FLASH.words)
-    for reply, want in zip(whole.words, wanted, strict=True):
-        faults.wants(whole.status == 0 and reply == want, whole, FLASH.words)
+    for at, want in enumerate(wanted):
+        faults.wants(whole.status == 0 and whole.words[at : at + 1] == [want], whole, FLASH.words)
     for cut in range(whole.steps[-1]):
         ended = sum(step <= cut for step in whole.steps)
         failed = wanted[:ended] + ["refused hardware"] * (len(SEVERAL) - ended)

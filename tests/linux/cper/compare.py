@@ -18,8 +18,10 @@ import sys
 import tempfile
 from typing import Any, Iterator, Optional
 
-from linux_lines import Place, Value, names, values
+# It says where the package of the tools is.
+from linux_lines import Place, Value, values
 
+from apei import names
 from apei.show import bodies
 
 KINDS = [names.PROCESSOR, names.IA32, names.ARM, names.MEMORY, names.PCIE, names.FIRMWARE, names.MACHINE_CHECK]
