@@ -125,6 +125,35 @@ def steps_of(replies: str) -> list[tuple[str, int]]:
     return [(words, int(step)) for words, _, step in (line.rpartition(" @") for line in replies.splitlines())]
 
 
+@dataclass(frozen=True)
+class Answered:
+    """A line of a script by its number, with its replies, of which the last one is its own, and the changes that were made by then."""
+
+    number: int
+    line: str
+    said: list[str]
+    step: int
+
+    @property
+    def reply(self) -> str:
+        return self.said[-1]
+
+
+def answered(script: bytes, replies: str) -> list[Answered]:
+    """The lines that have replies; those on blocks come before the one that ends a line."""
+    out, given = [], iter(steps_of(replies))
+    for number, line in enumerate(script.decode("latin-1").split("\n")):
+        if not line or line.startswith("#"):
+            continue
+        said: list[str] = []
+        for words, step in given:
+            said.append(words)
+            if not (words.startswith("block ") and line.split()[0] in ("turns", "bert")):
+                out.append(Answered(number, line, said, step))
+                break
+    return out
+
+
 def fail(text: str) -> int:
     print(text, file=sys.stderr)
     return 1
