@@ -1,8 +1,8 @@
 // Fields as lines of text.
-ghost use Rattle.std.specs.Prelude.{◌≡◌, ◌≤◌, ◌<◌, ◌+◌, ◌*◌, ◌^◌, ◌++◌, length, replicate, OnOk, IsTrue};
+ghost use Rattle.std.specs.Prelude.{◌≡◌, ◌≤◌, ◌<◌, ◌+◌, ◌*◌, ◌^◌, ◌++◌, length, replicate, OnOk, IsTrue, true, codes};
 ghost use Rattle.field_lines.specs.Rows.{is_sound, fits};
 ghost use Rattle.field_lines.specs.Values.{field_bytes};
-ghost use Rattle.field_lines.specs.Styles.{margin, plain_line, plain_heading};
+ghost use Rattle.field_lines.specs.Styles.{margin, place_text, plain_line, plain_heading};
 ghost use Rattle.field_lines.specs.Code.{row_of, shown_of, heading_of};
 
 use crate::digits::add_decimal;
@@ -22,22 +22,43 @@ pub struct Plain {
 }
 
 impl Plain {
+    #[inline(always)]
     fn add_margin(&self, depth: u8, at: u64, out: &mut Vec<u8>) -> Result<(), AllocError>
         ensures { OnOk result (out.new.items ≡ out.old.items ++ margin self.now depth at) }
     {
         add_spaces(self.indent as usize + 2 * depth as usize, out)?;
         if self.places {
-            out.push(b'[')?;
-            add_decimal(at, out)?;
-            out.extend_from_slice(b"] ")?;
+            add_place(at, out)
+        } else {
+            Ok(())
         }
-        Ok(())
+    }
+}
+
+fn add_place(at: u64, out: &mut Vec<u8>) -> Result<(), AllocError>
+    ensures { OnOk result (out.new.items ≡ out.old.items ++ place_text true at) }
+{
+    out.push(b'[')?;
+    add_decimal(at, out)?;
+    out.extend_from_slice(b"] ")
+}
+
+// Most lines begin with four spaces, which take one move.
+#[inline(always)]
+fn add_spaces(count: usize, out: &mut Vec<u8>) -> Result<(), AllocError>
+    requires { count ≤ 768 }
+    ensures { OnOk result (out.new.items ≡ out.old.items ++ replicate count 32) }
+{
+    if count == 4 {
+        out.extend_from_slice(b"    ")
+    } else {
+        add_any_spaces(count, out)
     }
 }
 
 static SPACES: [u8; 768] = [b' '; 768];
 
-fn add_spaces(count: usize, out: &mut Vec<u8>) -> Result<(), AllocError>
+fn add_any_spaces(count: usize, out: &mut Vec<u8>) -> Result<(), AllocError>
     requires { count ≤ 768 }
     ensures { OnOk result (out.new.items ≡ out.old.items ++ replicate count 32) }
 {
@@ -61,8 +82,7 @@ impl Style for Plain {
         out.extend_from_slice(field.name.as_bytes())?;
         out.extend_from_slice(b": ")?;
         add_value(&field.shape, field_bytes(field, body), out)?;
-        out.push(b'\n')?;
-        Ok(())
+        end_line(out)
     }
 
     fn mark(&self, spot: Spot, mark: &Mark, out: &mut Vec<u8>) -> Result<(), AllocError> {
@@ -84,6 +104,12 @@ impl Style for Plain {
             Mark::End | Mark::EndParts => Ok(()),
         }
     }
+}
+
+fn end_line(out: &mut Vec<u8>) -> Result<(), AllocError>
+    ensures { OnOk result (out.new.items ≡ out.old.items ++ codes "\n") }
+{
+    out.extend_from_slice(b"\n")
 }
 
 /// The bytes of a field.

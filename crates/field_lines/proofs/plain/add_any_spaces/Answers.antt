@@ -1,6 +1,6 @@
 use Rattle.std.proofs.Common.{◌≡◌, ◌++◌, ℕ, List, take, replicate, ap, ◌∙◌}
 use Rattle.std.proofs.lemmas.List.{take-replicate}
-use Rattle.field_lines.proofs.plain.add_spaces.Goals as goal
+use Rattle.field_lines.proofs.plain.add_any_spaces.Goals as goal
 
 pub returns : goal.returns
 returns c =
