@@ -3,25 +3,25 @@
 
     bench/bridge.py [PROGRAM] [RUNS]
 
-PROGRAM is the built program, by default crates/apei/out/apei; build it by ./apei sim </dev/null. Each of 10,000 blocks is handed over by ten
-turns under the bridge; beside it by the nine turns without it, and a `write` line stores the 292 bytes of its record. A `clear` line behind each
-keeps the store from filling, in both. It prints the median of RUNS runs (default 21) in milliseconds of either, less that of the empty script, what that makes
-for a block, and the median of the ratios of each round. Then `play` stores one block and a thousand more in a file, and a few lines of C that cc compiles
-count the requests for memory of either.
+PROGRAM is the built program, by default crates/apei/out/apei; build it by ./apei sim </dev/null. Each of 10,000 blocks is handed over by
+ten turns under the bridge; beside it by the nine turns without it, and a `write` line stores the 292 bytes of its record. A `clear` line
+behind each keeps the store from filling, in both. It prints the median of RUNS runs (default 21) in milliseconds of either, less that of
+the empty script, what that makes for a block, and the median of the ratios of each round. Then `play` stores one block and a thousand more
+in a file, and a few lines of C that cc compiles count the requests for memory of either.
 """
 
 import os
 import statistics
 import subprocess
-import sys
 import tempfile
-import time
+from pathlib import Path
 
-TOP = os.path.dirname(os.path.dirname(os.path.abspath(__file__)))
-sys.path.insert(0, os.path.join(TOP, "tools"))
-from bridge_model import BLOCKS, bridged  # noqa: E402
+from harness import compiled, median, over_files, program, runs
 
-BLOCK = BLOCKS[0]
+from apei.bridge import BLOCKS, bridged
+from apei.harness import script
+
+BLOCK, COUNT = BLOCKS[0], 10_000
 COUNTER = r"""
 #include <stddef.h>
 #include <stdio.h>
@@ -37,64 +37,56 @@ __attribute__((destructor)) static void end(void) { fprintf(stderr, "%lu\n", ask
 """
 
 
-def under_a_bridge(count):
+def under_a_bridge(count: int) -> bytes:
     lines = ["bridge 1"]
     for identifier in range(1, count + 1):
         lines += [f"error {BLOCK.hex()}", "turns FFFRRRRRRF", f"clear {identifier}"]
-    return "\n".join(lines).encode() + b"\n"
+    return script(lines)
 
 
-def by_write_lines(count):
+def by_write_lines(count: int) -> bytes:
     lines = []
     for identifier in range(1, count + 1):
-        lines += [f"error {BLOCK.hex()}", "turns FFFRRRRRF", f"write {bridged(BLOCK, identifier).hex()}", f"clear {identifier}"]
-    return "\n".join(lines).encode() + b"\n"
+        lines += [f"error {BLOCK.hex()}", "turns FFFRRRRRRF", f"write {bridged(BLOCK, identifier).hex()}", f"clear {identifier}"]
+    return script(lines)
 
 
-def play(program, text, folder):
-    """Milliseconds of one run, and its last reply."""
-    with open(os.path.join(folder, "input"), "wb") as given:
-        given.write(text)
-    with open(os.path.join(folder, "input"), "rb") as given, open(os.path.join(folder, "output"), "w+b") as out:
-        start = time.perf_counter()
-        subprocess.run([program, "sim"], stdin=given, stdout=out, check=True)
-        took = (time.perf_counter() - start) * 1000
-        out.seek(0)
-        return took, out.read().decode().splitlines()[-1:]
-
-
-def requests(program, count, folder):
+def requests(count: int, folder: Path) -> int:
     """How often a run over a file asks for memory."""
-    counter, image = os.path.join(folder, "counter.so"), os.path.join(folder, "image")
-    if not os.path.exists(counter):
-        with open(counter + ".c", "w") as text:
-            text.write(COUNTER)
-        subprocess.run(["cc", "-O2", "-shared", "-fPIC", "-o", counter, counter + ".c"], check=True)
-    if os.path.exists(image):
-        os.remove(image)
-    given = under_a_bridge(count)
-    done = subprocess.run([program, "play", f"--image={image}"], input=given, capture_output=True, env={**os.environ, "LD_PRELOAD": counter})
+    counter, image = folder / "counter.so", folder / "image"
+    if not counter.exists():
+        compiled(COUNTER, counter, "-shared", "-fPIC")
+    image.unlink(missing_ok=True)
+    words: list[str | Path] = [program(), "play", f"--image={image}"]
+    counted = {**os.environ, "LD_PRELOAD": str(counter)}
+    done = subprocess.run(words, input=under_a_bridge(count), capture_output=True, env=counted, check=False)
     assert done.returncode == 0 and done.stdout.count(b"stored ") == count, done
     return int(done.stderr)
 
 
-program = os.path.abspath(sys.argv[1]) if len(sys.argv) > 1 else os.path.join(TOP, "crates/apei/out/apei")
-runs = int(sys.argv[2]) if len(sys.argv) > 2 else 21
-COUNT = 10_000
-with tempfile.TemporaryDirectory() as folder:
-    one, other, ratios = [], [], []
-    for _ in range(runs):
-        rest, _ = play(program, b"", folder)
-        took, last = play(program, under_a_bridge(COUNT), folder)
-        beside, also = play(program, by_write_lines(COUNT), folder)
-        assert last == also == [f"cleared {COUNT} @{8 * COUNT}"], (last, also)
-        one.append(took - rest)
-        other.append(beside - rest)
-        ratios.append(one[-1] / other[-1])
-    bridged_ms, apart_ms = statistics.median(one), statistics.median(other)
-    print(
-        f"{COUNT} blocks under a bridge: {bridged_ms:.1f} ms, {bridged_ms * 1000 / COUNT:.2f} us a block; handed over and written: {apart_ms:.1f} ms, "
-        f"{apart_ms * 1000 / COUNT:.2f} us; {statistics.median(ratios):.2f} times"
-    )
-    first, more = requests(program, 1, folder), requests(program, 1001, folder)
-    print(f"requests for memory: {first} with one block, {more} with a thousand more")
+def rounds(folder: Path) -> tuple[list[float], list[float]]:
+    """The milliseconds of both, round by round, less those of the empty script."""
+    one, other = [], []
+    for _ in range(runs(21)):
+        rest, took, beside = (over_files([program(), "sim"], text, folder) for text in (b"", under_a_bridge(COUNT), by_write_lines(COUNT)))
+        assert took.last == beside.last == f"cleared {COUNT} @{8 * COUNT}", (took.last, beside.last)
+        one.append(took.milliseconds - rest.milliseconds)
+        other.append(beside.milliseconds - rest.milliseconds)
+    return one, other
+
+
+def main() -> None:
+    with tempfile.TemporaryDirectory() as name:
+        folder = Path(name)
+        one, other = rounds(folder)
+        bridged_ms, apart_ms, ratio = median(one), median(other), statistics.median(a / b for a, b in zip(one, other))
+        print(
+            f"{COUNT} blocks under a bridge: {bridged_ms:.1f} ms, {bridged_ms * 1000 / COUNT:.2f} us a block; "
+            f"handed over and written: {apart_ms:.1f} ms, {apart_ms * 1000 / COUNT:.2f} us; {ratio:.2f} times"
+        )
+        first, more = requests(1, folder), requests(1001, folder)
+        print(f"requests for memory: {first} with one block, {more} with a thousand more")
+
+
+if __name__ == "__main__":
+    main()

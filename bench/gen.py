@@ -9,32 +9,46 @@ process's memory, which holds the simulated flash and a journal of all its chang
 """
 
 import os
-import statistics
 import subprocess
-import sys
 import time
+from pathlib import Path
+from typing import NamedTuple
 
-TOP = os.path.dirname(os.path.dirname(os.path.abspath(__file__)))
+from harness import median, program, runs
+
+from apei.flash import Geometry
+
 COUNT = 100_000
 
 
-def play(program, words):
-    """Milliseconds, line, and peak memory in MiB of one run."""
+class Run(NamedTuple):
+    """Milliseconds, line, and peak memory in MiB."""
+
+    took: float
+    line: str
+    peak: float
+
+
+def play(player: Path, words: list[str]) -> Run:
     start = time.perf_counter()
-    child = subprocess.Popen([program, "gen", *words], stdin=subprocess.DEVNULL, stdout=subprocess.PIPE)
+    child = subprocess.Popen([player, "gen", *words], stdin=subprocess.DEVNULL, stdout=subprocess.PIPE)
+    assert child.stdout
     line = child.stdout.read().decode()
     _, status, usage = os.wait4(child.pid, 0)
     took = (time.perf_counter() - start) * 1000
     assert status == 0, status
-    return took, line, usage.ru_maxrss / 1024
+    return Run(took, line, usage.ru_maxrss / 1024)
 
 
-program = sys.argv[1] if len(sys.argv) > 1 else os.path.join(TOP, "crates/apei/out/apei")
-runs = int(sys.argv[2]) if len(sys.argv) > 2 else 5
-for name, geometry in [("the default geometry", []), ("1,024 slots", ["--sector=256", "--per-slot=2", "--slots=1024"])]:
-    rest = statistics.median(play(program, ["--count=0", *geometry])[0] for _ in range(runs))
-    results = [play(program, [f"--count={COUNT}", "--seed=7", *geometry]) for _ in range(runs)]
-    took = statistics.median(result[0] for result in results) - rest
-    changes = int(results[0][1].rsplit("@", 1)[1])
-    peak = max(result[2] for result in results)
-    print(f"{name}: {took:.1f} ms, {took * 1000 / COUNT:.2f} us a command, {changes} flash changes, peak {peak:.1f} MiB")
+def main() -> None:
+    player, count = program(), runs(5)
+    for name, geometry in [("the default geometry", Geometry()), ("1,024 slots", Geometry(256, 2, 1024))]:
+        rest = median(play(player, ["--count=0", *geometry.words]).took for _ in range(count))
+        results = [play(player, [f"--count={COUNT}", "--seed=7", *geometry.words]) for _ in range(count)]
+        took, peak = median(run.took for run in results) - rest, max(run.peak for run in results)
+        changes = int(results[0].line.rsplit("@", 1)[1])
+        print(f"{name}: {took:.1f} ms, {took * 1000 / COUNT:.2f} us a command, {changes} flash changes, peak {peak:.1f} MiB")
+
+
+if __name__ == "__main__":
+    main()

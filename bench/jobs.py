@@ -7,12 +7,10 @@ PROGRAM is the built program, by default crates/apei_bench/out/apei_bench; build
 each job it prints the least time of five runs, and what that makes for one unit of work.
 """
 
-import os
-import subprocess
-import sys
-import time
+from pathlib import Path
 
-TOP = os.path.dirname(os.path.dirname(os.path.abspath(__file__)))
+from harness import milliseconds, program
+
 JOBS = [
     ("goto", 10_000_000, 1, "ns a step of a GOTO loop"),
     ("short", 10_000_000, 1, "ns a step by a table of 4 entries whose two actions alternate"),
@@ -25,17 +23,19 @@ JOBS = [
     ("readings", 100_000, 1, "ns to add the bytes of such a line twice"),
 ]
 
-program = sys.argv[1] if len(sys.argv) > 1 else os.path.join(TOP, "crates/apei_bench/out/apei_bench")
+
+def seconds(bench: Path, job: str, times: int) -> float:
+    """The least of five runs."""
+    return min(milliseconds([bench, job, str(times)])[0] for _ in range(5)) / 1000
 
 
-def seconds(job, times):
-    start = time.perf_counter()
-    subprocess.run([program, job, str(times)], check=True, stdout=subprocess.DEVNULL)
-    return time.perf_counter() - start
+def main() -> None:
+    bench = program("apei_bench")
+    for job, times, size, unit in JOBS:
+        least = max(seconds(bench, job, times) - seconds(bench, job, 0), 1e-9)
+        amount = times * size / least / 1e9 if unit.startswith("GB") else least * 1e9 / (times * size)
+        print(f"{job}: {least * 1000:.1f} ms; {amount:.1f} {unit}")
 
 
-for job, times, size, unit in JOBS:
-    rest = min(seconds(job, 0) for _ in range(5))
-    least = max(min(seconds(job, times) for _ in range(5)) - rest, 1e-9)
-    amount = times * size / least / 1e9 if unit.startswith("GB") else least * 1e9 / (times * size)
-    print(f"{job}: {least * 1000:.1f} ms; {amount:.1f} {unit}")
+if __name__ == "__main__":
+    main()

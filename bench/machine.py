@@ -10,32 +10,32 @@ prints the least time of five runs for each, and the ratios. Boots and openings 
 """
 
 import os
-import subprocess
-import sys
-import time
+from pathlib import Path
 
-TOP = os.path.dirname(os.path.dirname(os.path.abspath(__file__)))
-program = sys.argv[1] if len(sys.argv) > 1 else os.path.join(TOP, "crates/apei_bench/out/apei_bench")
+from harness import milliseconds, program
 
-
-KEPT = dict(os.environ, MALLOC_TRIM_THRESHOLD_="4000000000")
+KEPT = {**os.environ, "MALLOC_TRIM_THRESHOLD_": "4000000000"}
 
 
-def seconds(job, times):
-    start = time.perf_counter()
-    subprocess.run([program, job, str(times)], check=True, stdout=subprocess.DEVNULL, env=KEPT)
-    return time.perf_counter() - start
+def seconds(bench: Path, job: str, times: int) -> float:
+    """The least of five runs."""
+    return min(milliseconds([bench, job, str(times)], env=KEPT)[0] for _ in range(5)) / 1000
 
 
-def each(job, times):
+def each(job: str, times: int) -> float:
     """Seconds for one."""
-    rest = min(seconds(job, 0) for _ in range(5))
-    return max(min(seconds(job, times) for _ in range(5)) - rest, 1e-9) / times
+    bench = program("apei_bench")
+    return max(seconds(bench, job, times) - seconds(bench, job, 0), 1e-9) / times
 
 
-writes, calls = each("writes", 10_000), each("calls", 10_000)
-boots, openings = each("boots", 5_000), each("openings", 5_000)
-access = each("accesses", 10_000_000) / 2
-print(f"a write by programs: {writes * 1e9:.0f} ns, by a call: {calls * 1e9:.0f} ns, ratio {writes / calls:.2f}")
-print(f"an access of plain memory: {access * 1e9:.1f} ns")
-print(f"a boot over 64 MiB: {boots * 1e3:.3f} ms, an opening: {openings * 1e3:.3f} ms, ratio {boots / openings:.2f}")
+def main() -> None:
+    writes, calls = each("writes", 10_000), each("calls", 10_000)
+    boots, openings = each("boots", 5_000), each("openings", 5_000)
+    access = each("accesses", 10_000_000) / 2
+    print(f"a write by programs: {writes * 1e9:.0f} ns, by a call: {calls * 1e9:.0f} ns, ratio {writes / calls:.2f}")
+    print(f"an access of plain memory: {access * 1e9:.1f} ns")
+    print(f"a boot over 64 MiB: {boots * 1e3:.3f} ms, an opening: {openings * 1e3:.3f} ms, ratio {boots / openings:.2f}")
+
+
+if __name__ == "__main__":
+    main()

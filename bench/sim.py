@@ -7,33 +7,18 @@ PROGRAM is the built program, by default crates/apei/out/apei; build it by ./ape
 RUNS runs (default 20) in milliseconds: of that script, of an empty one, and the difference.
 """
 
-import os
-import statistics
-import subprocess
-import sys
-import time
+from harness import median, milliseconds, program, runs
 
-TOP = os.path.dirname(os.path.dirname(os.path.abspath(__file__)))
+from apei.harness import script
+from apei.scripts import write
 
 
-def record(identifier, length):
-    """A record without sections: its header, and zeros."""
-    header = b"CPER\x01\x01" + b"\xff" * 4 + b"\0\0" + (2).to_bytes(4, "little") + bytes(4) + length.to_bytes(4, "little")
-    return header + bytes(72) + identifier.to_bytes(8, "little") + bytes(length - 104)
+def main() -> None:
+    player, count = program(), runs(20)
+    text = script(write(identifier, 8128) for identifier in range(1, 32))
+    full, empty = (median(milliseconds([player, "sim"], given)[0] for _ in range(count)) for given in (text, b""))
+    print(f"31 records of 8,128 bytes: {full:.1f} ms; empty script: {empty:.1f} ms; difference {full - empty:.1f} ms")
 
 
-def median(program, script, runs):
-    times = []
-    for _ in range(runs):
-        start = time.perf_counter()
-        done = subprocess.run([program, "sim"], input=script, capture_output=True)
-        times.append((time.perf_counter() - start) * 1000)
-        assert done.returncode == 0, done.stderr
-    return statistics.median(times)
-
-
-program = sys.argv[1] if len(sys.argv) > 1 else os.path.join(TOP, "crates/apei/out/apei")
-runs = int(sys.argv[2]) if len(sys.argv) > 2 else 20
-full = b"".join(b"write " + record(i, 8128).hex().encode() + b"\n" for i in range(1, 32))
-with_records, empty = median(program, full, runs), median(program, b"", runs)
-print(f"31 records of 8,128 bytes: {with_records:.1f} ms; empty script: {empty:.1f} ms; difference {with_records - empty:.1f} ms")
+if __name__ == "__main__":
+    main()

@@ -11,32 +11,30 @@ with 20 as well.
 """
 
 import os
-import statistics
 import subprocess
-import sys
 import time
+from pathlib import Path
 
-TOP = os.path.dirname(os.path.dirname(os.path.abspath(__file__)))
+from harness import median, program, runs
+
+from apei.flash import Geometry
+from apei.harness import script
+from apei.scripts import write
+
 WRITES = 10_000
 
 
-def record(identifier, length):
-    """A record without sections: its header, and zeros."""
-    header = b"CPER\x01\x01" + b"\xff" * 4 + b"\0\0" + (2).to_bytes(4, "little") + bytes(4) + length.to_bytes(4, "little")
-    return header + bytes(72) + identifier.to_bytes(8, "little") + bytes(length - 104)
+def lines(identifiers: int) -> bytes:
+    writes = (write(1 + at % identifiers, 128 + 16 * (at % 16)) for at in range(WRITES))
+    return script([*writes, *(f"read {1 + at}" for at in range(identifiers))])
 
 
-def script(identifiers):
-    lines = [b"write " + record(1 + k % identifiers, 128 + 16 * (k % 16)).hex().encode() for k in range(WRITES)]
-    lines += [b"read %d" % (1 + k) for k in range(identifiers)]
-    return b"\n".join(lines) + b"\n"
-
-
-def play(program, slots, text):
+def play(player: Path, slots: int, text: bytes) -> tuple[float, float]:
     """Milliseconds and peak memory in MiB of one run."""
-    words = [program, "sim", "--sector=256", "--per-slot=2", f"--slots={slots}"]
+    words: list[str | Path] = [player, "sim", *Geometry(256, 2, slots).words]
     start = time.perf_counter()
     child = subprocess.Popen(words, stdin=subprocess.PIPE, stdout=subprocess.DEVNULL)
+    assert child.stdin
     child.stdin.write(text)
     child.stdin.close()
     _, status, usage = os.wait4(child.pid, 0)
@@ -45,13 +43,15 @@ def play(program, slots, text):
     return took, usage.ru_maxrss / 1024
 
 
-program = sys.argv[1] if len(sys.argv) > 1 else os.path.join(TOP, "crates/apei/out/apei")
-runs = int(sys.argv[2]) if len(sys.argv) > 2 else 7
-for identifiers in (40, 20):
-    text = script(identifiers)
-    for slots in (1024, 32):
-        results = [play(program, slots, text) for _ in range(runs)]
-        took = statistics.median(t for t, _ in results)
-        peak = max(m for _, m in results)
-        each = took * 1000 / (WRITES + identifiers)
-        print(f"{identifiers} identifiers, {slots} slots: {took:.1f} ms, {each:.2f} us a command, peak {peak:.1f} MiB")
+def main() -> None:
+    for identifiers in (40, 20):
+        text = lines(identifiers)
+        for slots in (1024, 32):
+            results = [play(program(), slots, text) for _ in range(runs(7))]
+            took, peak = median(took for took, _ in results), max(peak for _, peak in results)
+            each = took * 1000 / (WRITES + identifiers)
+            print(f"{identifiers} identifiers, {slots} slots: {took:.1f} ms, {each:.2f} us a command, peak {peak:.1f} MiB")
+
+
+if __name__ == "__main__":
+    main()

@@ -1,7 +1,7 @@
 """What a program's status means, in plain words: lines that the scripts at the top add behind what the program itself said.
 
-`explain` is asked only where a status is not 0. It looks at the words, at what was said, at the file that the words name, and at the input as far
-as it is known; it changes nothing and runs nothing but `apei-look`.
+`explain` is asked only where a status is not 0. It looks at the words, at what was said, at the file that the words name, and at the
+input as far as it is known; it changes nothing and runs nothing but `apei-look`.
 """
 
 import errno
@@ -11,7 +11,7 @@ import re
 import resource
 import stat
 from difflib import get_close_matches
-from typing import Callable, Iterator, Optional
+from typing import Any, Callable, Iterator, Optional
 
 from words import GRAMMARS, Line, listed, read
 
@@ -20,8 +20,10 @@ LONGEST_LINE = 140_000
 LONGEST_INPUT = 1 << 24
 # How each line goes on behind its keyword, by the job that takes it.
 SCRIPT = {
-    "write": "HEX", "read": "NUM", "clear": "NUM", "count": "", "next": "", "dummy": "", "action": "CODE NUM", "table": "HEX, own or shadow",
-    "error": "HEX", "turns": "LETTERS (F and R)", "bridge": "NUM", "heard": "", "peek": "NUM LEN", "fatal": "HEX", "bert": "", "reset": "", "power": "",
+    "write": "HEX", "read": "NUM", "clear": "NUM", "count": "", "next": "", "dummy": "", "action": "CODE NUM",
+    "table": "HEX, own or shadow",
+    "error": "HEX", "turns": "LETTERS (F and R)", "bridge": "NUM", "heard": "", "peek": "NUM LEN", "fatal": "HEX", "bert": "",
+    "reset": "", "power": "",
 }
 CHECK = {name: "HEX" for name in ("erst", "hest", "bert", "record", "block")}
 HUB = {"hest": "HEX", "error": "I HEX", "turns": "PAIRS (a source from 0 to f, and F or R)", "heard": "I", "drop": "I AT"}
@@ -151,7 +153,8 @@ def which_limit(number: int, text: Optional[bytes]) -> str:
         length = len(lines[number - 1])
         if length > LONGEST_LINE:
             return f"line {number} has {length} bytes or more, and a line may have {LONGEST_LINE}"
-        return f"line {number} has {length} bytes, which are few enough, but it ends past the first {LONGEST_INPUT} bytes (16 MiB) of the input"
+        where = f"it ends past the first {LONGEST_INPUT} bytes (16 MiB) of the input"
+        return f"line {number} has {length} bytes, which are few enough, but {where}"
     return f"a line may have {LONGEST_LINE} bytes, and has to end within the first {LONGEST_INPUT} bytes (16 MiB) of the input"
 
 
@@ -255,7 +258,7 @@ def what_fits(image: Optional[str], sector: int, per_slot: int, size: int) -> st
     return "no number of slots of this size would fit"
 
 
-def seen_heads(image: str) -> Optional[dict]:
+def seen_heads(image: str) -> Optional[dict[str, Any]]:
     """The geometry that a file seems to have, by apei-look where that is built."""
     import json
     import subprocess

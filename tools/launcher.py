@@ -19,7 +19,7 @@ import stat
 import subprocess
 import sys
 import threading
-from typing import NamedTuple, Optional
+from typing import Any, NamedTuple, Optional
 
 TOP = os.path.dirname(os.path.dirname(os.path.realpath(__file__)))
 # As much of an input as a program reads: 16 MiB and the longest line, and what its reader takes at once.
@@ -210,8 +210,8 @@ def run(words: list[str], given: Input) -> Ended:
         source, sink = 0, -1
     started = subprocess.Popen(words, stdin=source, stderr=subprocess.PIPE)
     child.append(started)
-    for number in early:
-        started.send_signal(number)
+    for early_one in early:
+        started.send_signal(early_one)
     if given.is_pipe:
         os.close(source)
         threading.Thread(target=given.pump, args=(sink,), daemon=True).start()
@@ -255,7 +255,7 @@ def geometry_words(options: dict[str, Optional[str]]) -> list[str]:
     return [f"{name}={options[name]}" for name in ("--sector", "--per-slot", "--slots") if options.get(name)]
 
 
-def seen_by_look(image: str, words: list[str]) -> Optional[dict]:
+def seen_by_look(image: str, words: list[str]) -> Optional[dict[str, Any]]:
     """What apei-look shows of a file, as JSON; None where it shows nothing."""
     import json
 
@@ -263,7 +263,7 @@ def seen_by_look(image: str, words: list[str]) -> Optional[dict]:
     return json.loads(done.stdout) if done.stdout else None
 
 
-def looks_foreign(image: str, shown: dict) -> Optional[str]:
+def looks_foreign(image: str, shown: dict[str, Any]) -> Optional[str]:
     """Two sentences on a file that `play` would not find its records in: what was found, and which options would fit."""
     if shown["file"] in ("medium", "other-version", "damaged-medium"):
         version = shown["medium"]["version"]
@@ -277,8 +277,8 @@ def looks_foreign(image: str, shown: dict) -> Optional[str]:
         return f"{image} has another geometry: {found}. {fits}; --force before the job plays on it as it is."
     if shown["file"] == "foreign":
         unknown = sum(slot["kind"] == "unknown" for slot in shown["slots"])
-        return f"{image} is none of ours: {unknown} of its {len(shown['slots'])} slots hold what apei never writes, and none holds a record. " \
-            "No options would fit; --force before the job writes over it."
+        held = f"{unknown} of its {len(shown['slots'])} slots hold what apei never writes, and none holds a record"
+        return f"{image} is none of ours: {held}. No options would fit; --force before the job writes over it."
     return None
 
 

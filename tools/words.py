@@ -1,6 +1,6 @@
 """The command lines of the programs, and the first thing that is wrong of one, in plain words.
 
-tools/options.py compares this with the program: a fault is found exactly where the program ends with status 1.
+The tool `top` of the gate compares this with the program: a fault is found exactly where the program ends with status 1.
 """
 
 from dataclasses import dataclass, field

@@ -19,7 +19,7 @@ from dataclasses import dataclass
 from typing import Any, Iterator, Optional
 
 sys.path.insert(0, os.path.join(os.path.dirname(os.path.abspath(__file__)), "../../tools"))
-import show_bodies as bodies  # noqa: E402
+from apei.show import bodies  # noqa: E402
 
 LINE = re.compile(r"\[[0-9A-F]+h (\d+) +(\d+)\] +(.*?) : (.*)")
 # The standard's names by those of IASL; what is called reserved is left out.

@@ -1,19 +1,18 @@
-#!/usr/bin/env python3
 """Looks up what docs/CHANGING.md names: each path, and each name in the files that its row or its sentence has it in.
 
-    tools/dev/changing.py [PAGE]
+    tools/run changing [PAGE]
 
-Words between back quotes are read. One with a slash, a dot or a star is a path (a star stands for any part of a name): a file of that path is
-there, or one that ends so. Another is a name: it stands, as a word, in a file of its row where it is in a table, else somewhere in crates, tools,
-tests or docs. Those that are missing are written, one a line; the exit status is 1 where there is one.
+Words between back quotes are read. One with a slash, a dot or a star is a path (a star stands for any part of a name): a file of that path
+is there, or one that ends so. Another is a name: it stands, as a word, in a file of its row where it is in a table, else somewhere in
+crates, tools, tests or docs. Those that are missing are written, one a line; the exit status is 1 where there is one.
 """
 
 import re
-import sys
 from collections.abc import Iterator
 from pathlib import Path
 
-TOP = Path(__file__).resolve().parent.parent.parent
+from apei import TOP
+
 QUOTED = re.compile(r"`([^`]+)`")
 LINKED = re.compile(r"\]\(([^)#]+)[^)]*\)")
 # Paths have one of these; a word of the command line begins with two hyphens.
@@ -69,8 +68,8 @@ def missing_in_prose(line: str, files: list[str], anywhere: list[str]) -> list[s
     return absent + [f"nothing has {name}" for name in names_of(line) if name not in crates and not has_name(name, anywhere)]
 
 
-def main() -> int:
-    page = Path(sys.argv[1]) if len(sys.argv) > 1 else TOP / "docs" / "CHANGING.md"
+def main(words: list[str]) -> int:
+    page = Path(words[0]) if words else TOP / "docs" / "CHANGING.md"
     files = list(files_of(TOP))
     anywhere = [file for file in files if file.split("/")[0] in ("crates", "tools", "tests") and not file.endswith((".image", ".png"))]
     missing = []
@@ -82,7 +81,3 @@ def main() -> int:
         missing += [f"line {number}: {it}" for it in told]
     print("\n".join(missing) if missing else "all there")
     return 1 if missing else 0
-
-
-if __name__ == "__main__":
-    sys.exit(main())

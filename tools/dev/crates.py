@@ -1,16 +1,16 @@
-#!/usr/bin/env python3
-"""Writes the map of the crates into docs/ARCHITECTURE.md, between its two marks: `tools/dev/crates.py [--check]`.
+"""Writes the map of the crates into docs/ARCHITECTURE.md, between its two marks.
 
-The shelves, their crates and what each stands on are those of crates.txt, a crate's words the first sentence of its own documentation. With --check
-nothing is written; the exit status is 1 where the page says something else.
+    tools/run crates [--check]
+
+The shelves, their crates and what each stands on are those of crates.txt, a crate's words the first sentence of its own documentation.
+With --check nothing is written; the exit status is 1 where the page says something else.
 """
 
-import sys
 from dataclasses import dataclass
 from functools import cache
-from pathlib import Path
 
-TOP = Path(__file__).resolve().parent.parent.parent
+from apei import TOP, crates
+
 PAGE = TOP / "docs" / "ARCHITECTURE.md"
 BEGIN, END = "<!-- begin: tools/dev/crates.py -->\n", "<!-- end: tools/dev/crates.py -->\n"
 WIDTH = 140
@@ -24,22 +24,19 @@ class Shelf:
     crates: list[str]
 
 
-def shelves() -> tuple[list[Shelf], dict[str, list[str]]]:
-    """The shelves in their order, and for each crate those of the repository that it stands on."""
+def shelves() -> list[Shelf]:
+    """The shelves in their order."""
     found: list[Shelf] = []
-    named: dict[str, list[str]] = {}
     words = ""
-    for line in [*(TOP / "crates.txt").read_text().splitlines()[1:], ""]:
-        if line.startswith("#"):
-            words = f"{words} {line[1:].strip()}".strip()
-        elif line:
-            if words:
-                found.append(Shelf(words, []))
-                words = ""
-            name, _, below = line.partition(":")
-            found[-1].crates.append(name.split()[0])
-            named[name.split()[0]] = below.split()
-    return found, {name: [it for it in below if it in named] for name, below in named.items()}
+    for crate, text in crates.rows():
+        if not crate:
+            words = f"{words} {text}".strip()
+            continue
+        if words:
+            found.append(Shelf(words, []))
+            words = ""
+        found[-1].crates.append(crate)
+    return found
 
 
 def sentence(crate: str) -> str:
@@ -70,25 +67,20 @@ def rows(below: dict[str, list[str]]) -> list[str]:
 
 
 def page() -> str:
-    kept, below = shelves()
-    lines = ["A crate stands only on crates of the rows below its own:", "", "```", *rows(below), "```", ""]
-    for shelf in kept:
+    lines = ["A crate stands only on crates of the rows below its own:", "", "```", *rows(crates.depends()), "```", ""]
+    for shelf in shelves():
         lines += [f"**{shelf.words.split(':')[0].rstrip('.')}**", "", "| crate | what it has |", "|---|---|"]
         lines += [f"| `{crate}` | {sentence(crate)} |" for crate in shelf.crates] + [""]
     return "\n".join(lines)
 
 
-def main() -> int:
+def main(words: list[str]) -> int:
     before, _, rest = PAGE.read_text().partition(BEGIN)
     said, _, after = rest.partition(END)
     if said == page():
         return 0
-    if "--check" in sys.argv:
+    if "--check" in words:
         print("docs/ARCHITECTURE.md has another map than tools/dev/crates.py writes")
         return 1
     PAGE.write_text(before + BEGIN + page() + END + after)
     return 0
-
-
-if __name__ == "__main__":
-    sys.exit(main())

@@ -1,7 +1,6 @@
-#!/usr/bin/env python3
 """Counts the definitions of the repository, and lists those that a reader of one contract follows.
 
-    tools/dev/definitions.py [--list] [CRATE/FILE] [FUNCTION]
+    tools/run definitions [--list] [CRATE/FILE] [FUNCTION]
 
 A definition is what a file of specs/ names by `abbrev`, `unfoldable`, `record` or `data`. The contract is that of FUNCTION in
 crates/CRATE/src/FILE, by default `run` in apei_cli/program.rt. What it reaches are the definitions that its clauses name, and those
@@ -10,13 +9,14 @@ that these name, and so on. With --list they are written in reading order: each 
 
 import argparse
 import collections
-import pathlib
 import re
 import sys
 from collections.abc import Iterator
 from dataclasses import dataclass, field
+from pathlib import Path
 
-TOP = pathlib.Path(__file__).resolve().parent.parent.parent
+from apei import TOP
+
 HEAD = re.compile(r"^(?:pub )?(?:abbrev|unfoldable|record|data)(?: pub)? (\S+)|^pub (?:record|data) (\S+)", re.MULTILINE)
 USE = re.compile(r"(?:ghost )?use (Rattle[\w.]*)\.\{([^}]*)\}")
 NAME = re.compile(r"[^\s(){}\[\],;.:→λ×∷≡]+")
@@ -50,7 +50,7 @@ def imports(text: str) -> dict[str, str]:
     return found
 
 
-def definitions(crates: pathlib.Path) -> Iterator[Definition]:
+def definitions(crates: Path) -> Iterator[Definition]:
     for path in sorted(crates.glob("*/specs/*.antt")):
         module = f"Rattle.{path.parent.parent.name}.specs.{path.stem}"
         text = path.read_text()
@@ -68,7 +68,7 @@ def named_in(text: str, uses: dict[str, str]) -> list[str]:
     return list(dict.fromkeys(uses[word] for word in NAME.findall(text) if word in uses))
 
 
-def contract(path: pathlib.Path, function: str) -> tuple[str, dict[str, str]]:
+def contract(path: Path, function: str) -> tuple[str, dict[str, str]]:
     """The head of a function, from its name to its body, and what its file takes from elsewhere."""
     text = path.read_text()
     start = re.search(rf"\bfn {function}\b", text)
@@ -90,12 +90,13 @@ def reached(first: list[str], known: dict[str, Definition]) -> list[Definition]:
     return list(found.values())
 
 
-def main() -> None:
-    words = argparse.ArgumentParser(description=__doc__, formatter_class=argparse.RawDescriptionHelpFormatter)
-    words.add_argument("--list", action="store_true", help="write the definitions that are reached")
-    words.add_argument("file", nargs="?", default="apei_cli/program.rt")
-    words.add_argument("function", nargs="?", default="run")
-    asked = words.parse_args()
+def main(words: list[str]) -> int:
+    form = argparse.RawDescriptionHelpFormatter
+    parser = argparse.ArgumentParser(prog="tools/run definitions", description=__doc__, formatter_class=form)
+    parser.add_argument("--list", action="store_true", help="write the definitions that are reached")
+    parser.add_argument("file", nargs="?", default="apei_cli/program.rt")
+    parser.add_argument("function", nargs="?", default="run")
+    asked = parser.parse_args(words)
     crate, _, file = asked.file.partition("/")
     known = {it.key: it for it in definitions(TOP / "crates")}
     head, uses = contract(TOP / "crates" / crate / "src" / file, asked.function)
@@ -106,7 +107,4 @@ def main() -> None:
     named = collections.Counter(key for it in known.values() for key in named_in(it.text, it.uses) if key != it.key)
     print(f"{len(known)} definitions, {sum(1 for it in known if named[it] == 1)} of them named by one other")
     print(f"{asked.function} reaches {len(met)}, of {sum(it.lines for it in met)} lines")
-
-
-if __name__ == "__main__":
-    main()
+    return 0

@@ -18,9 +18,13 @@ import sys
 import tempfile
 from typing import Any, Iterator, Optional
 
-from linux_lines import Place, Value, bodies, values
+# It says where the package of the tools is.
+from linux_lines import Place, Value, values
 
-KINDS = [bodies.PROCESSOR, bodies.IA32, bodies.ARM, bodies.MEMORY, bodies.PCIE, bodies.FIRMWARE, bodies.MACHINE_CHECK]
+from apei import names
+from apei.show import bodies
+
+KINDS = [names.PROCESSOR, names.IA32, names.ARM, names.MEMORY, names.PCIE, names.FIRMWARE, names.MACHINE_CHECK]
 ERRORS = ("cache error", "TLB error", "bus error")
 # What Linux leaves out by its value, or by that of another field: a word that it does not have, a bit that is not set.
 BY_VALUE = {

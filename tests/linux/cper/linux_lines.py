@@ -7,11 +7,11 @@ from typing import Any, Callable, Iterator, Optional
 
 TOP = os.path.abspath(os.path.join(os.path.dirname(__file__), "../../.."))
 sys.path.insert(0, os.path.join(TOP, "tools"))
-import show_bodies as bodies  # noqa: E402
+from apei import names  # noqa: E402
 
 SEVERITIES = ["recoverable", "fatal", "corrected", "info"]
 RECORD_TYPES = ["IPF SAL Error Record", "SOC Firmware Error Record Type1 (Legacy CrashLog Support)", "SOC Firmware Error Record Type2"]
-CHECK_TYPES = {"cache error": bodies.CHECKS[0], "TLB error": bodies.CHECKS[1], "bus error": bodies.CHECKS[2], "micro-architectural error": bodies.CHECKS[3]}
+CHECK_TYPES = {"cache error": names.CHECKS[0], "TLB error": names.CHECKS[1], "bus error": names.CHECKS[2], "micro-architectural error": names.CHECKS[3]}
 TRANSACTIONS = ["instruction", "data access", "generic"]
 OPERATIONS = [
     "generic error (type cannot be determined)",
@@ -316,16 +316,16 @@ OUTER_RULES: list[Rule] = [
 
 
 def rules_of(kind: str) -> list[Rule]:
-    if kind == bodies.IA32:
+    if kind == names.IA32:
         return Ia32().rules()
-    if kind == bodies.ARM:
+    if kind == names.ARM:
         return Arm().rules()
     return {
-        bodies.PROCESSOR: PROCESSOR_RULES,
-        bodies.MEMORY: MEMORY_RULES,
-        bodies.PCIE: PCIE_RULES,
-        bodies.FIRMWARE: FIRMWARE_RULES,
-        bodies.MACHINE_CHECK: MACHINE_CHECK_RULES,
+        names.PROCESSOR: PROCESSOR_RULES,
+        names.MEMORY: MEMORY_RULES,
+        names.PCIE: PCIE_RULES,
+        names.FIRMWARE: FIRMWARE_RULES,
+        names.MACHINE_CHECK: MACHINE_CHECK_RULES,
     }[kind]
 
 

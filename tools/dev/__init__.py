@@ -1,0 +1,1 @@
+"""Tools for engineers, each by `tools/run NAME`, and some that stand alone."""

@@ -1,0 +1,306 @@
+"""Runs the scripts at the top as their user would, from where ./install puts them, and compares what they add to the programs.
+
+    tools/run top
+
+What a script writes on standard output, its status, and the first line on standard error are the program's own; the lines behind that are
+compared with those wanted here. A file of another geometry, one that is none of ours and a library's medium are left as they are, a signal
+ends the program too, and a program that is older than its sources runs where there is no toolchain.
+"""
+
+import fcntl
+import os
+import pty
+import shutil
+import signal
+import subprocess
+import tempfile
+import time
+from pathlib import Path
+from typing import Any
+
+from apei import TOP
+from apei.flash import Geometry
+from apei.harness import Ended, Program, Tally, scratch, script
+from apei.looks import medium_header
+from apei.scripts import write
+from gate.options import IN_FORM, OUT_OF_FORM, split
+from words import read
+
+BAD = "apei: ./apei --help says which jobs and options there are"
+LOOK_BAD = "apei-look: ./apei-look --help says which options there are"
+MEDIUM = "play would write over its first sector. No options would fit; --force before the job writes over it."
+SHOW_BAD = "apei-show: ./apei-show --help says which words there are"
+# The signals that end a run.
+ENDING = signal.SIGTERM, signal.SIGINT, signal.SIGHUP
+# Words and input, the status, and the lines on standard error.
+SAID: list[tuple[str, bytes, int, list[str]]] = [
+    ("apei simulate", b"", 1, ["apei: bad words", "apei: 'simulate' is no job; the nearest is sim", BAD]),
+    ("apei sim --slot=3", b"", 1, ["apei: bad words", "apei: --slot is no option; the nearest is --slots", BAD]),
+    ("apei play --force --image=x", b"", 1, ["apei: bad words", "apei: --force stands before the job", BAD]),
+    ("apei check --show=HEAD,parts", b"", 1, ["apei: bad words", "apei: --show=HEAD|parts: did you mean PARTS?", BAD]),
+    ("apei sim", b"count\r\n", 2,
+     ["apei: line 1 column 6", "apei: there is a carriage return at the end of the line; lines end in a newline alone"]),
+    ("apei sim", b"\xef\xbb\xbfcount\n", 2,
+     ["apei: line 1 column 1", "apei: a byte order mark stands at the front of the line; a script has none"]),
+    ("apei sim", b"\n#\nCOUNT\n", 2, ["apei: line 3 column 1", "apei: upper case: did you mean count?"]),
+    ("apei sim", b"cuont\n", 2, ["apei: line 1 column 2", "apei: no line begins with 'cuont'; the nearest that does is count"]),
+    ("apei sim", b"erst 00\n", 2, ["apei: line 1 column 3", "apei: erst is a line of the job check, and not of this one"]),
+    ("apei sim", b"read 01\n", 2, ["apei: line 1 column 7", "apei: 01 has a zero before its other digits; the line has the form read NUM"]),
+    ("apei sim", b"count \n", 2, ["apei: line 1 column 6", "apei: a blank stands at the end of the line"]),
+    ("apei sim", b"read  7\n", 2, ["apei: line 1 column 6", "apei: a blank too many: one space stands between the parts of a line"]),
+    ("apei check", b"erst 4F4\n", 2,
+     ["apei: line 1 column 9", "apei: the line ends too early: hexadecimal digits come in pairs, and it has the form erst HEX"]),
+    ("apei hub", b"turns 0FX\n", 2,
+     ["apei: line 1 column 9", "apei: 'X' is no letter of a turn; the line has the form turns PAIRS (a source from 0 to f, and F or R)"]),
+    ("apei play --image=none/x", b"", 5,
+     ["apei: flash failed", "apei: none: No such file or directory: the folder of the image has to be there"]),
+    ("apei play --image=.", b"", 5, ["apei: flash failed", "apei: .: Is a directory"]),
+    ("apei play --image=nowhere", b"", 5,
+     ["apei: flash failed", f"apei: nowhere is a link that leads nowhere: there is no {os.path.realpath('/none/x')}"]),
+    ("apei sim --fail-read=0", b"", 5,
+     ["apei: flash failed", "apei: --fail-read=0 made the flash fail as the machine was booted, reset or given power"]),
+    ("apei sim --slots=1", b"", 6, ["apei: bad geometry 4096 2 1 0", "apei: --slots=1: there are 2 to 1024 slots"]),
+    ("apei play --image=short", b"", 6,
+     ["apei: bad geometry 4096 2 32 65536", "apei: the file has 65536 bytes, and this geometry 262144: --slots=8 would fit"]),
+    ("apei play --image=six --slots=16", b"", 6, ["apei: bad geometry 4096 2 16 262144",
+     "apei: the file has 262144 bytes, and this geometry 131072: heads stand where slots of 2 sectors of 4096 begin, and "
+     "--sector=4096 --per-slot=2 --slots=32 would fit"]),
+    ("apei sim", b"#" * 140001 + b"\n", 7, ["apei: line 1 too long", "apei: line 1 has 140001 bytes or more, and a line may have 140000"]),
+    ("apei sim", (b"#" * 131071 + b"\n") * 128 + b"count\n", 7, ["apei: line 129 too long",
+     "apei: line 129 has 5 bytes, which are few enough, but it ends past the first 16777216 bytes (16 MiB) of the input"]),
+    ("apei-look --jason six", b"", 1, ["apei-look: bad words", "apei-look: --jason is no option; the nearest is --json", LOOK_BAD]),
+    ("apei-show", b"", 1, ["apei-show: bad words", "apei-show: there is no file to show", SHOW_BAD]),
+    ("apei-show --json --brief six", b"", 1, ["apei-show: bad words", "apei-show: --json and --brief are one too many", SHOW_BAD]),
+    ("apei-show none", b"", 5, ["apei-show: none: No such file or directory (os error 2)", "apei-show: a file can't be read"]),
+    ("apei-look none", b"", 5, ["apei-look: there is no such image", "apei-look: none: No such file or directory"]),
+    ("apei play --image=six --per-slot=4 --slots=16", b"count\n", 6,
+     ["apei: six has another geometry: heads stand where slots of 2 sectors of 4096 begin. "
+     "--sector=4096 --per-slot=2 --slots=32 would fit; --force before the job plays on it as it is."]),
+    ("apei play --image=random", b"count\n", 6,
+     ["apei: random is none of ours: 32 of its 32 slots hold what apei never writes, and none holds a record. "
+     "No options would fit; --force before the job writes over it."]),
+    ("apei play --image=medium --sector=256 --slots=8", b"count\n", 6,
+     ["apei: medium is a medium of the library, of version 1: " + MEDIUM]),
+    ("apei play --image=medium2 --sector=256 --slots=8", b"count\n", 6,
+     ["apei: medium2 is a medium of the library, of version 2: " + MEDIUM]),
+    ("apei play --image=damaged --sector=256 --slots=8", b"count\n", 6,
+     ["apei: damaged is a medium of the library, whose first sector is damaged: " + MEDIUM]),
+    ("apei-look medium2", b"", 6, ["apei-look: a medium of the library, version 2: version 1 is the only one that is shown"]),
+    ("apei-look damaged", b"", 6, ["apei-look: a medium of the library whose first sector is damaged: its geometry is not known"]),
+    ("apei-look cut", b"", 6, ["apei-look: the image has 1000 bytes, and the geometry 4096",
+     "apei-look: its first sector says that it is a medium of 4096 bytes: it was cut off, or more stands behind it"]),
+]
+# Words and input that are answered, and the replies.
+ANSWERED: list[tuple[str, bytes, str]] = [
+    ("apei sim", b"count\n", "count 0 @0\n"),
+    ("apei check --show=HEAD,PARTS", b"# nothing\n", ""),
+    ("apei check --show HEAD,PARTS", b"# nothing\n", ""),
+    ("apei play --image=six", b"count\n", "count 6 @0\n"),
+    ("apei play --image=torn", b"count\n", "count 0 @0\n"),
+    ("apei --force play --image=random", b"count\n", "count 0 @0\n"),
+    ("apei --force play --image=forced --sector=256 --slots=8", b"count\n", "count 0 @0\n"),
+]
+
+
+class Runs(Tally):
+    """The programs as they were installed, in a folder with files to try them on."""
+
+    def __init__(self, folder: Path) -> None:
+        super().__init__()
+        self.folder = folder
+        subprocess.run([TOP / "install", f"--prefix={folder}"], check=True, stdout=subprocess.DEVNULL, umask=0o077)
+        self.environment = {**os.environ, "PATH": f"{folder}/bin:{os.environ['PATH']}"}
+        os.symlink("/none/x", folder / "nowhere")
+        (folder / "short").write_bytes(b"\xff" * 65536)
+        (folder / "random").write_bytes(bytes((at * 7 + at // 251) % 255 for at in range(Geometry().size)))
+        # A first write whose first erase was torn.
+        (folder / "torn").write_bytes(bytes(4096) + Geometry().erased[4096:])
+        self.write_mediums()
+        self.run("apei play --image=six", script(write(it, 300) for it in range(1, 7)))
+
+    def write_mediums(self) -> None:
+        """A library's medium, as long as a flash of 8 slots of two sectors of 256; one of another version, one whose first sector is
+        damaged, and one that is cut off."""
+        medium = medium_header(256, 3, 5).ljust(4096, b"\xff")
+        (self.folder / "medium").write_bytes(medium)
+        (self.folder / "forced").write_bytes(medium)
+        (self.folder / "medium2").write_bytes(medium_header(256, 3, 5, 2).ljust(4096, b"\xff"))
+        (self.folder / "damaged").write_bytes(medium[:20] + b"\x04" + medium[21:])
+        (self.folder / "cut").write_bytes(medium[:1000])
+
+    def run(self, words: str, given: bytes = b"", **options: Any) -> Ended:
+        name, *rest = words.split(" ")
+        program = Program(self.folder / "bin" / name)
+        settings: dict[str, Any] = {"cwd": self.folder, "env": self.environment, **options}
+        return program.run(*rest, given=given, **settings)
+
+    def files(self) -> dict[str, bytes]:
+        return {name: (self.folder / name).read_bytes() for name in ("six", "random", "short", "medium", "medium2", "damaged", "cut")}
+
+
+    def start(self, words: str, **options: Any) -> "subprocess.Popen[bytes]":
+        """A run that may be told to end."""
+        return subprocess.Popen(words.split(" "), cwd=self.folder, env=self.environment, preexec_fn=let_signals_end_it, **options)
+
+
+def said(runs: Runs) -> None:
+    before = runs.files()
+    for words, given, status, lines in SAID:
+        done = runs.run(words, given)
+        found = done.said.splitlines()
+        runs.expect((done.status, found) == (status, lines), f"{words}: wanted {status} {lines}, found {done.status} {found}")
+        # The same from a file in place of a pipe.
+        with tempfile.TemporaryFile() as file:
+            file.write(given)
+            file.seek(0)
+            again = runs.run(words, stdin=file)
+        runs.expect((again.said, again.written) == (done.said, done.written), f"{words}: from a file it says {again.said!r}")
+    runs.expect(runs.files() == before, "a file that was refused is another")
+    for words, given, replies in ANSWERED:
+        done = runs.run(words, given)
+        runs.expect((done.status, done.text, done.said) == (0, replies, ""), f"{words}: {done}")
+
+
+def faults(runs: Runs) -> None:
+    """The command lines that the tool `options` tries have a fault where the program refuses them."""
+    for words in IN_FORM:
+        runs.expect(read("apei", split(words)).fault is None, f"{words}: a fault is found")
+    for words in OUT_OF_FORM:
+        runs.expect(read("apei", split(words)).fault is not None, f"{words}: no fault is found")
+
+
+def is_alive(pid: int) -> bool:
+    if not Path(f"/proc/{pid}").exists():
+        return False
+    return Path(f"/proc/{pid}/stat").read_text().rpartition(")")[2].split()[0] != "Z"
+
+
+def child_of(pid: int) -> int | None:
+    """The process that the script started, once it is there."""
+    for _ in range(200):
+        for found in Path(f"/proc/{pid}/task/{pid}/children").read_text().split():
+            try:
+                if b"/out/apei\0play\0" in Path(f"/proc/{found}/cmdline").read_bytes():
+                    return int(found)
+            except FileNotFoundError:
+                pass  # It has ended meanwhile, as the look at the file does.
+        time.sleep(0.02)
+    return None
+
+
+def let_signals_end_it() -> None:
+    """A run in the background, as a gate's may be, passes on that it ignores them."""
+    for number in ENDING:
+        signal.signal(number, signal.SIG_DFL)
+
+
+def signals(runs: Runs) -> None:
+    """A script that is told to end ends when its program has, and the lock is free then."""
+    for number in ENDING:
+        started = runs.start("apei play --image=six", stdin=subprocess.PIPE, stdout=subprocess.DEVNULL)
+        child = child_of(started.pid)
+        started.send_signal(number)
+        status = started.wait(20)
+        runs.expect(child is not None and not is_alive(child) and status == -number, f"{number}: status {status}, the program {child}")
+        with open(runs.folder / "six", "rb") as file:
+            fcntl.flock(file, fcntl.LOCK_EX | fcntl.LOCK_NB)
+
+
+# A build that says when it begins and when it is ended.
+BUILD = """#!/bin/sh
+trap 'echo > ended; exit 130' INT TERM HUP
+echo > begun
+for turn in $(seq 200); do sleep 0.05; done
+"""
+
+
+def builds(runs: Runs) -> None:
+    """A script that is told to end while its program is being built ends when the build has."""
+    kept = runs.folder / "lib/apei"
+    program, away = kept / "crates/apei_look/out/apei_look", runs.folder / "away"
+    program.rename(away)
+    (kept / "crates.txt").write_text("")
+    (kept / "tools/build").write_text(BUILD)
+    (kept / "tools/build").chmod(0o755)
+    for number in ENDING:
+        started = runs.start("apei-look six", stdin=subprocess.DEVNULL)
+        begun, ended = runs.folder / "begun", runs.folder / "ended"
+        for _ in range(200):
+            if begun.exists():
+                break
+            time.sleep(0.02)
+        started.send_signal(number)
+        status = started.wait(20)
+        runs.expect(begun.exists() and ended.exists() and status == -number, f"{number} while it is built: status {status}")
+        begun.unlink(missing_ok=True)
+        ended.unlink(missing_ok=True)
+    (kept / "tools/build").unlink()
+    (kept / "crates.txt").unlink()
+    away.rename(program)
+
+
+def held(runs: Runs) -> None:
+    with open(runs.folder / "six", "rb") as file:
+        fcntl.flock(file, fcntl.LOCK_EX)
+        done = runs.run("apei play --image=six")
+    runs.expect((done.status, done.said) == (5, "apei: flash failed\napei: another run holds six\n"), f"a file that is held: {done}")
+
+
+def on_terminal(runs: Runs, words: str) -> tuple[int, bytes]:
+    """Status and output of a run whose standard output is a terminal."""
+    ours, theirs = pty.openpty()
+    done = runs.run(words, stdin=subprocess.DEVNULL, stdout=theirs)
+    os.close(theirs)
+    try:
+        shown = os.read(ours, 1 << 16)
+    except OSError:
+        shown = b""
+    os.close(ours)
+    return done.status, shown
+
+
+def terminals(runs: Runs) -> None:
+    runs.expect(on_terminal(runs, "apei-look --record=1 six") == (4, b""), "the bytes of a record are written to a terminal")
+    status, shown = on_terminal(runs, "apei-look --force --record=1 six")
+    runs.expect(status == 0 and shown.startswith(b"CPER"), "--force does not write to a terminal")
+    runs.expect(runs.run("apei-look --record=1 six").written[:4] == b"CPER", "the bytes of a record are not written to a pipe")
+
+
+def answers(runs: Runs) -> None:
+    """What is answered without the program, and what ./install put where."""
+    is_checkout = (TOP / ".git").exists()
+    for name in ("apei", "apei-look", "apei-show"):
+        helped = runs.run(f"{name} --help")
+        runs.expect(helped.status == 0 and helped.written == (TOP / "tools" / f"help{name[4:]}.txt").read_bytes(), f"{name} --help")
+        shown = runs.run(f"{name} --version").text
+        runs.expect(shown.startswith(f"{name} ") and ("(no commit)" not in shown or not is_checkout), f"{name} --version: {shown}")
+        for path in (f"share/man/man1/{name}.1", f"share/bash-completion/completions/{name}"):
+            runs.expect((runs.folder / path).exists(), f"{path} is not installed")
+    kept = [path for part in ("bin", "lib", "share") for path in (runs.folder / part).rglob("*") if "__pycache__" not in path.parts]
+    runs.expect(all(path.stat().st_mode & 0o044 == 0o044 for path in kept), "other users can't read what is installed")
+    wrong = subprocess.run([TOP / "install"], capture_output=True, check=False)
+    runs.expect(wrong.returncode == 1, "./install without a folder")
+
+
+def without_toolchain(runs: Runs) -> None:
+    """A program that is older than its sources is run, and said to be, where there is no toolchain to build it."""
+    kept = runs.folder / "lib/apei"
+    (kept / "crates.txt").write_text("")
+    done = runs.run("apei sim", b"count\n", env={"PATH": f"{runs.folder}/bin:/usr/bin:/bin"})
+    said_so, wanted = "the sources are newer than the program" in done.said, shutil.which("rt", path="/usr/bin:/bin") is None
+    runs.expect((done.status, done.text, said_so) == (0, "count 0 @0\n", wanted), f"without the toolchain: {done}")
+    (kept / "crates.txt").unlink()
+
+
+def main(_words: list[str]) -> int:
+    with scratch() as folder:
+        runs = Runs(folder)
+        faults(runs)
+        said(runs)
+        held(runs)
+        signals(runs)
+        builds(runs)
+        terminals(runs)
+        answers(runs)
+        without_toolchain(runs)
+        return runs.end()
