@@ -6,6 +6,11 @@ use Rattle.look_text.specs.declared.unread.Unread.{Unread}
 use Rattle.apei_look.specs.declared.status.Status.TheVariants.{Done, File, Length, Memory}
 use Rattle.apei_look.specs.declared.status.Status.TheVariants as statuses
 
+-- where it is opened
+abbrev pub IsOpenRefusal : Status → Type 0
+IsOpenRefusal (File fault) = ⊤
+IsOpenRefusal other = ⊥
+
 -- where its bytes are read
 abbrev pub IsReadRefusal : Status → Type 0
 IsReadRefusal (File fault) = ⊤

@@ -1,6 +1,6 @@
 // The file of an image, opened for reading alone.
 ghost use Rattle.std.specs.Prelude.{◌≡◌, ◌≤◌, ◌^◌, length, min, IfOk, IfErr};
-ghost use Rattle.apei_look.specs.Refusals.{IsFileRefusal, IsReadRefusal, length_checked};
+ghost use Rattle.apei_look.specs.Refusals.{IsFileRefusal, IsOpenRefusal, IsReadRefusal, length_checked};
 
 use crate::status::Status;
 use std::alloc::Global;
@@ -39,7 +39,9 @@ pub struct ImageFile {
 
 impl ImageFile {
     /// Opens the file at `path`. One that another run holds for its changes is refused.
-    pub fn open(rt: &HostRuntime, path: &str) -> Result<ImageFile, Status> {
+    pub fn open(rt: &HostRuntime, path: &str) -> Result<ImageFile, Status>
+        ensures { IfErr result IsOpenRefusal }
+    {
         let file = open(rt, path).map_err(Status::File)?;
         match file.metadata() {
             Ok(metadata) => Ok(ImageFile {
@@ -60,7 +62,8 @@ impl ImageFile {
     /// Its first bytes: so many, or all where it has fewer.
     pub fn beginning(&self, alloc: Global, most: u64) -> Result<Vec<u8>, Status>
         requires { most ≤ 2 ^ 27 }
-        ensures { IfOk result (λ bytes. length bytes.items ≡ min self.now.size most) }
+        ensures whole { IfOk result (λ bytes. length bytes.items ≡ min self.now.size most) }
+        ensures refused { IfErr result IsReadRefusal }
     {
         self.read(alloc, self.size.min(most))
     }

@@ -1,6 +1,8 @@
 -- The exit numbers of a run.
 use Rattle.std.specs.Prelude.{ℕ}
 use Rattle.clap_words.specs.declared.error.WordsError.TheVariants as words
+use Rattle.show_items.specs.declared.pages.Stop.{Stop}
+use Rattle.show_items.specs.declared.pages.Stop.TheVariants as stops
 use Rattle.apei_show.specs.declared.status.Status.{Status}
 use Rattle.apei_show.specs.declared.status.Status.TheVariants.{Done, Words, Bad, Output, Unread, Memory, Closed}
 
@@ -13,6 +15,12 @@ number_of Output = 4
 number_of Unread = 5
 number_of Memory = 8
 number_of Closed = 0
+
+-- how a run ends whose output stopped
+abbrev pub status_of : Stop → Status
+status_of stops.Memory = Memory
+status_of stops.Output = Output
+status_of stops.Closed = Closed
 
 -- a file that could not be read is said before an item that was bad
 abbrev pub worse_of : Status → Status → Status

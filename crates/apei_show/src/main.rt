@@ -1,6 +1,9 @@
 //! Shows what files of hardware errors hold: `apei-show FILE..`. It writes to standard output, and what it can't read to standard error.
 #![tactic(auto)]
 
+ghost use Rattle.std.specs.Prelude.{◌≡◌};
+ghost use Rattle.apei_show.specs.Forms.{shown_as};
+
 mod output;
 mod source;
 mod status;
@@ -27,21 +30,27 @@ fn run(rt: &HostRuntime) -> Result<Status, WordsError> {
 }
 
 fn manner_of(rt: &HostRuntime, options: &Options) -> Manner {
-    let form = match options.form {
-        Form::Text => Shown::Text,
-        Form::Brief => Shown::Brief,
-        Form::Json => Shown::Json,
-    };
     let colored = match options.color {
         Color::Always => true,
         Color::Never => false,
         Color::Auto => rt.stdout().is_terminal(),
     };
     Manner {
-        form,
+        form: shown_as(options.form),
         places: options.bytes,
         colored,
         named: options.files.len() > 1,
+    }
+}
+
+// The form that the words ask for.
+fn shown_as(form: Form) -> Shown
+    ensures { result ≡ shown_as form }
+{
+    match form {
+        Form::Text => Shown::Text,
+        Form::Brief => Shown::Brief,
+        Form::Json => Shown::Json,
     }
 }
 

@@ -1,9 +1,13 @@
 // The bytes of a file, or of standard input.
+ghost use Rattle.std.specs.Prelude.{◌≡◌};
+ghost use Rattle.apei_show.specs.Names.{name_of};
+
 use crate::status::Status;
 use std::alloc::Global;
 use std::fs::File;
 use std::io;
 use std::io::Read;
+use std::path::Path;
 
 // The most bytes of a file that are shown.
 const MOST: usize = 1 << 28;
@@ -72,11 +76,12 @@ fn read_all<R: Read + Drop>(alloc: Global, mut reader: R) -> Result<Vec<u8>, Unr
     Ok(bytes)
 }
 
-/// The last part of a path.
-pub fn name_of(path: &str) -> &[u8] {
-    let bytes = path.as_bytes();
-    match bytes.iter().rposition(|byte| *byte == b'/') {
-        Some(slash) => &bytes[slash + 1..],
-        None => bytes,
+/// The last part of a path, or the whole path where it has none.
+pub fn name_of(path: &str) -> &[u8]
+    ensures { result.now ≡ name_of path.now }
+{
+    match Path::new(path).file_name() {
+        Some(name) => name.as_bytes(),
+        None => path.as_bytes(),
     }
 }

@@ -1,6 +1,6 @@
 // How a run ended.
 ghost use Rattle.std.specs.Prelude.{◌≡◌};
-ghost use Rattle.apei_show.specs.Numbers.{number_of, worse_of};
+ghost use Rattle.apei_show.specs.Numbers.{number_of, status_of, worse_of};
 
 use clap_words::WordsError;
 use show_items::Stop;
@@ -59,6 +59,8 @@ impl Status {
 }
 
 impl From<Stop> for Status {
+    ghost from_gives = { λ stop status. status ≡ status_of stop };
+
     fn from(stop: Stop) -> Status {
         match stop {
             Stop::Memory => Status::Memory,

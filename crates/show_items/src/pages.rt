@@ -1,4 +1,7 @@
 // Where what is shown goes to.
+ghost use Rattle.std.specs.Prelude.{◌≡◌};
+ghost use Rattle.show_items.specs.declared.pages.Stop.TheVariants.{Memory as WantOfMemory};
+
 use std::alloc::{AllocError, AllocFailed};
 
 /// Why no more is shown.
@@ -13,12 +16,16 @@ pub enum Stop {
 }
 
 impl From<AllocError> for Stop {
+    ghost from_gives = { λ _ stop. stop ≡ WantOfMemory };
+
     fn from(_: AllocError) -> Stop {
         Stop::Memory
     }
 }
 
 impl<T: Drop> From<AllocFailed<T>> for Stop {
+    ghost from_gives = { λ _ stop. stop ≡ WantOfMemory };
+
     fn from(_: AllocFailed<T>) -> Stop {
         Stop::Memory
     }

@@ -1,5 +1,7 @@
 // Items one after another.
-ghost use Rattle.std.specs.Prelude.{◌≤◌, ◌<◌, ◌+◌, ◌^◌, length, IfOk};
+ghost use Rattle.std.specs.Prelude.{◌≡◌, ◌≤◌, ◌<◌, length, IfOk};
+ghost use Rattle.show_kinds.specs.Kinds.{kind_behind};
+ghost use Rattle.show_items.specs.Sequences.{len_of};
 
 use crate::blocks::show_block;
 use crate::pages::{Pages, Stop};
@@ -34,6 +36,7 @@ fn show_next<P: Pages>(
     rest: &[u8],
 ) -> Result<usize, Stop>
     requires { 0 < length rest.now }
+    ensures exact { IfOk result (λ len. len ≡ len_of (kind_behind rest.now) rest.now) }
     ensures some { IfOk result (λ len. 0 < len) }
     ensures within { IfOk result (λ len. len ≤ length rest.now) }
 {
