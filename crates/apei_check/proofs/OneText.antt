@@ -35,7 +35,7 @@ module _ (one_line : (a b : CheckedLine) → IsValidCheck a → IsValidCheck b �
 
   one_text : (show : Show) (line : Line) (text other : List ℕ) → IsTextOf show line text → IsTextOf show line other → text ≡ other
   one_text show line text other a b =
-      let same : b.asked ≡ a.asked = one_line b.asked a.asked b.is.written.0 a.is.written.0 (sym b.is.written.1 ∙ a.is.written.1) in
+      let same : b.asked ≡ a.asked = one_line b.asked a.asked b.is.is.0 a.is.is.0 (sym b.is.is.1 ∙ a.is.is.1) in
       let shown : a.shown ≡ b.shown = one_list show a.asked a.shown b.shown a.are (subst (λ (asked : CheckedLine). AreShownBy show asked b.shown) same b.are) in
       a.text_is ∙ ap lines_text shown ∙ sym b.text_is
 

@@ -1,18 +1,22 @@
 -- Laws of a check of a script so far, and of its ends.
-use Rattle.std.proofs.Common.{◌≡◌, ℕ, List, [], ◌∷◌, ◌++◌, sym, subst, ◌∙◌, append_assoc}
+use Rattle.std.proofs.Common.{◌≡◌, ℕ, ◌⊎◌, List, [], ◌∷◌, ◌++◌, refl, sym, subst}
+use Rattle.base_model.specs.Faults.{Rose}
 use Rattle.line_grammar.specs.Columns.{BreaksAt}
 use Rattle.script_text.specs.CheckGrammar.{IsCheckLine}
-use Rattle.script_text.specs.CheckText.{IsCheckText, checked_line_of}
+use Rattle.script_text.specs.CheckText.{IsCheckText, IsCheckWritten, checked_line_of}
 use Rattle.script_text.specs.declared.check_line.CheckLine.{CheckLine}
-use Rattle.script_lines.specs.Lines.{Line, Reading, IsNextLine}
+use Rattle.script_lines.specs.Lines.{Line, Reading, lines_of, IsNextLine}
+use Rattle.script_lines.specs.Causes.{HasSourceCause, HasSinkCause}
+use Rattle.script_lines.specs.Played.{IsLineOf, AreInGrammar}
 use Rattle.script_lines.specs.Reads.{HasRead, StandsAt, AreReadInOrder, last_line}
-use Rattle.script_lines.specs.Ends.{EndsReading}
+use Rattle.script_lines.specs.Ends.{EndsReading, IsBadFrom, fault_of}
 use Rattle.script_lines.specs.declared.ending.ScriptEnd.{ScriptEnd}
 use Rattle.apei_check.specs.Shown.{Shows, ShowsPart}
 use Rattle.apei_check.specs.declared.text.show.Show.{Show}
-use Rattle.apei_check.specs.Texts.{IsLineOf, AreShownBy, TakesMemory}
-use Rattle.apei_check.specs.Checks.{ChecksScript, WritesAll}
+use Rattle.apei_check.specs.Texts.{AreShownBy, TakesMemory}
+use Rattle.apei_check.specs.Checks.{ChecksScript, MayWantMemory, WritesAll, WritesByEnd}
 use Rattle.script_lines.specs.declared.ending.ScriptEnd.TheVariants.{Done, BadLine, SourceFault, SinkFault, TooLong, Memory}
+use Rattle.script_lines.proofs.PlayedLemmas.{is_line, is_bad, stops_at, ends_behind, ends_none as lines_end, is_done as lines_done}
 use Rattle.apei_check.proofs.TextLemmas.{writes_next, writes_part}
 use Rattle.apei_check.proofs.GrammarLemmas.{is_read}
 
@@ -25,8 +29,8 @@ pub record SoFar (told_source told_sink : Type 0) (show : Show) (script rest wri
 module _ (told_source told_sink : Type 0) (show : Show) (script rest rest_now written middle : List ℕ) (a b : Reading) (so_far : SoFar told_source told_sink show script rest written middle a)
     (text : List ℕ) (line : CheckLine) (next : IsNextLine told_source a b rest rest_now) (same : text ≡ b.line) (is : IsCheckText text line) where
   -- the line that was read is this one
-  is_line : IsLineOf (last_line b) (is_read text line is).asked
-  is_line = let read = is_read text line is in record { within = next.within; written = (read.written.0, sym same ∙ read.written.1) }
+  is_this : IsLineOf (λ written. IsCheckWritten written (is_read text line is).asked) (last_line b)
+  is_this = is_line (λ (written : List ℕ). IsCheckWritten written (is_read text line is).asked) told_source a b rest rest_now text next same (is_read text line is).written
 
   -- one more line was shown
   pub so_far_next : (now : List ℕ) → HasRead told_source script rest_now (so_far.lines ++ last_line b ∷ []) b → Shows told_sink (AreShownBy show (checked_line_of line)) middle now
@@ -36,7 +40,7 @@ module _ (told_source told_sink : Type 0) (show : Show) (script rest rest_now wr
       record {
         lines = so_far.lines ++ last_line b ∷ [];
         read = reads;
-        writes = writes_next told_sink show so_far.lines (last_line b) read.asked written middle now so_far.writes is_line
+        writes = writes_next told_sink show so_far.lines (last_line b) read.asked written middle now so_far.writes is_this
             (record { lines = shows.lines; are = read.same show shows.lines shows.are; text = shows.text });
       }
 
@@ -47,8 +51,8 @@ module _ (told_source told_sink : Type 0) (show : Show) (script rest rest_now wr
       let read = is_read text line is in
       record {
         lines = so_far.lines ++ last_line b ∷ [];
-        ends = λ told. let at = stands told in (at.behind, at.lines ∙ sym (append_assoc so_far.lines (last_line b ∷ []) at.behind));
-        writes = writes_part told_sink show so_far.lines (last_line b) read.asked written middle now so_far.writes is_line
+        ends = λ told. ends_behind script so_far.lines (last_line b) b.number (stands told);
+        writes = writes_part told_sink show so_far.lines (last_line b) read.asked written middle now so_far.writes is_this
             (record { lines = shows.lines; are = read.same show shows.lines shows.are; count = shows.count; text = shows.text });
       }
 
@@ -57,27 +61,31 @@ module _ (told_source told_sink : Type 0) (show : Show) (script rest rest_now wr
       → ChecksScript told_source told_sink show script rest_now written now Memory
   ends_memory now stands takes left =
       let read = is_read text line is in
+      let wants : MayWantMemory text = record { asked = read.asked; written = read.written; takes = read.takes takes } in
       record {
         lines = so_far.lines;
-        ends = λ told. (last_line b, b.number, stands told, record { asked = read.asked; is = is_line; takes = read.takes takes });
+        ends = λ told. (b.number, stops_at (IsLineOf MayWantMemory) script so_far.lines (last_line b) b.number b.number refl (stands told) (is_line MayWantMemory told_source a b rest rest_now text next same wants));
         writes = subst (WritesAll told_sink show so_far.lines written) (sym left) so_far.writes;
       }
+
+-- where there is no next line, what was written is the whole of what the lines show
+writes_by : (told_source told_sink : Type 0) (show : Show) (rest rest_now written now : List ℕ) (a b : Reading) (lines : List Line) (ending : ScriptEnd) → EndsReading told_source a b rest rest_now ending
+    → WritesAll told_sink show lines written now → WritesByEnd told_sink show lines written now ending
+writes_by told_source told_sink show rest rest_now written now a b lines Done end writes = writes
+writes_by told_source told_sink show rest rest_now written now a b lines (BadLine number column) end writes = writes
+writes_by told_source told_sink show rest rest_now written now a b lines SourceFault end writes = writes
+writes_by told_source told_sink show rest rest_now written now a b lines SinkFault end writes = absurd end
+writes_by told_source told_sink show rest rest_now written now a b lines (TooLong number) end writes = writes
+writes_by told_source told_sink show rest rest_now written now a b lines Memory end writes = writes
 
 -- there is no next line
 pub ends_none : (told_source told_sink : Type 0) (order : AreReadInOrder told_source) (show : Show) (script rest rest_now written now : List ℕ) (a b : Reading) (ending : ScriptEnd)
     → SoFar told_source told_sink show script rest written now a → EndsReading told_source a b rest rest_now ending → ChecksScript told_source told_sink show script rest_now written now ending
-ends_none told_source told_sink order show script rest rest_now written now a b Done so_far end =
-    record { lines = so_far.lines; ends = order.at_end script rest rest_now so_far.lines a b so_far.read end; writes = so_far.writes }
-ends_none told_source told_sink order show script rest rest_now written now a b (BadLine number column) so_far end = absurd end
-ends_none told_source told_sink order show script rest rest_now written now a b SourceFault so_far end =
-    record { lines = so_far.lines; ends = order.failed script rest rest_now so_far.lines a b so_far.read end; writes = so_far.writes }
-ends_none told_source told_sink order show script rest rest_now written now a b SinkFault so_far end = absurd end
-ends_none told_source told_sink order show script rest rest_now written now a b (TooLong number) so_far (is, long) = record {
+ends_none told_source told_sink order show script rest rest_now written now a b ending so_far end = record {
   lines = so_far.lines;
-  ends = λ told. let at = order.too_long script rest so_far.lines a b so_far.read long told in (at.0, subst (λ (n : ℕ). StandsAt script so_far.lines n at.0) (sym is) at.1, at.2);
-  writes = so_far.writes;
+  ends = lines_end IsCheckLine MayWantMemory told_source script rest rest_now so_far.lines a b ending order so_far.read end;
+  writes = writes_by told_source told_sink show rest rest_now written now a b so_far.lines ending end so_far.writes;
 }
-ends_none told_source told_sink order show script rest rest_now written now a b Memory so_far end = absurd end
 
 -- the line that was read is none
 pub ends_bad : (told_source told_sink : Type 0) (show : Show) (script rest rest_now written now text : List ℕ) (a b : Reading) (number column : ℕ) → (so_far : SoFar told_source told_sink show script rest written now a)
@@ -85,10 +93,13 @@ pub ends_bad : (told_source told_sink : Type 0) (show : Show) (script rest rest_
     → ChecksScript told_source told_sink show script rest_now written now (BadLine number column)
 ends_bad told_source told_sink show script rest rest_now written now text a b number column so_far next stands numbered same breaks = record {
   lines = so_far.lines;
-  ends = λ told. (
-    last_line b,
-    subst (λ (n : ℕ). StandsAt script so_far.lines n (last_line b)) (sym numbered) (stands told),
-    record { within = next.within; breaks = subst (λ (t : List ℕ). BreaksAt IsCheckLine t column) same breaks },
-  );
+  ends = λ told. stops_at (IsBadFrom IsCheckLine column) script so_far.lines (last_line b) number b.number numbered (stands told) (is_bad IsCheckLine told_source a b rest rest_now text column next same breaks);
   writes = so_far.writes;
 }
+
+-- where all lines are in the grammar and no fault was counted, all are read
+pub is_done : (told_source told_sink : Type 0) (show : Show) (script rest written now : List ℕ) (source source_now sink sink_now : ℕ) (ending : ScriptEnd)
+    → ChecksScript told_source told_sink show script rest written now ending → HasSourceCause source source_now (fault_of ending) → HasSinkCause sink sink_now (fault_of ending)
+    → told_source → AreInGrammar IsCheckLine (lines_of 0 script) → (Rose source source_now → ⊥) → (Rose sink sink_now → ⊥) → (ending ≡ Done) ⊎ (ending ≡ Memory)
+is_done told_source told_sink show script rest written now source source_now sink sink_now ending checks in_cause out_cause told all no_source no_sink =
+    lines_done IsCheckLine MayWantMemory script rest checks.lines source source_now sink sink_now ending (checks.ends told) in_cause out_cause all no_source no_sink

@@ -4,8 +4,10 @@ use Rattle.std.proofs.lemmas.List.{append-nil}
 use Rattle.apei_check.specs.Shown.{Shows, ShowsPart, lines_text}
 use Rattle.apei_check.specs.declared.text.show.Show.{Show}
 use Rattle.script_lines.specs.Lines.{Line}
+use Rattle.script_lines.specs.Played.{IsLineOf}
 use Rattle.script_text.specs.CheckGrammar.{CheckedLine}
-use Rattle.apei_check.specs.Texts.{AreShownBy, IsLineOf, IsTextOf, IsTextOfAll}
+use Rattle.script_text.specs.CheckText.{IsCheckWritten}
+use Rattle.apei_check.specs.Texts.{AreShownBy, IsTextOf, IsTextOfAll}
 use Rattle.apei_check.specs.Checks.{WritesAll, WritesUpTo}
 
 -- nothing was shown
@@ -23,7 +25,7 @@ pub writes_none : (told : Type 0) (show : Show) (written : List ℕ) → WritesA
 writes_none told show written = record { text = []; is = refl; wrote = λ t. sym (append-nil written) }
 
 pub writes_next : (told : Type 0) (show : Show) (lines : List Line) (line : Line) (asked : CheckedLine) (written middle now : List ℕ) → WritesAll told show lines written middle
-    → IsLineOf line asked → Shows told (AreShownBy show asked) middle now → WritesAll told show (lines ++ line ∷ []) written now
+    → IsLineOf (λ written. IsCheckWritten written asked) line → Shows told (AreShownBy show asked) middle now → WritesAll told show (lines ++ line ∷ []) written now
 writes_next told show lines line asked written middle now before is shows = record {
   text = before.text ++ lines_text shows.lines;
   is = push show lines line before.text (lines_text shows.lines) before.is (record { asked = asked; is = is; shown = shows.lines; are = shows.are; text_is = refl });
@@ -32,7 +34,7 @@ writes_next told show lines line asked written middle now before is shows = reco
 
 -- one more in part
 pub writes_part : (told : Type 0) (show : Show) (lines : List Line) (line : Line) (asked : CheckedLine) (written middle now : List ℕ) → WritesAll told show lines written middle
-    → IsLineOf line asked → ShowsPart told (AreShownBy show asked) middle now → WritesUpTo told show (lines ++ line ∷ []) written now
+    → IsLineOf (λ written. IsCheckWritten written asked) line → ShowsPart told (AreShownBy show asked) middle now → WritesUpTo told show (lines ++ line ∷ []) written now
 writes_part told show lines line asked written middle now before is shows = record {
   first = lines;
   last = line;

@@ -1,29 +1,19 @@
 -- What a check of a script leaves, by its end.
 use Rattle.std.specs.Prelude.{◌≡◌, ℕ, List, [], ◌∷◌, ◌++◌, take}
 use Rattle.script_text.specs.CheckGrammar.{CheckedLine, IsCheckLine}
-use Rattle.script_lines.specs.Lines.{Line, lines_of, IsTooLong}
-use Rattle.script_lines.specs.Reads.{StandsAt, AreTaken}
-use Rattle.script_lines.specs.Ends.{IsBadFrom}
+use Rattle.script_text.specs.CheckText.{IsCheckWritten}
+use Rattle.script_lines.specs.Lines.{Line}
+use Rattle.script_lines.specs.Played.{EndsBehind}
 use Rattle.apei_check.specs.declared.text.show.Show.{Show}
-use Rattle.apei_check.specs.Texts.{IsLineOf, IsTextOf, IsTextOfAll, TakesMemory}
+use Rattle.apei_check.specs.Texts.{IsTextOf, IsTextOfAll, TakesMemory}
 use Rattle.script_lines.specs.declared.ending.ScriptEnd.{ScriptEnd}
-use Rattle.script_lines.specs.declared.ending.ScriptEnd.TheVariants.{Done, BadLine, SourceFault, SinkFault, TooLong, Memory}
+use Rattle.script_lines.specs.declared.ending.ScriptEnd.TheVariants.{SinkFault}
 
--- a line gives a table for which memory is taken
-pub record MayWantMemory (line : Line) : Type 0 where
+-- a text gives a table for which memory is taken
+pub record MayWantMemory (text : List ℕ) : Type 0 where
   pub asked : CheckedLine
-  pub is : IsLineOf line asked
+  pub written : IsCheckWritten text asked
   pub takes : TakesMemory asked
-
--- which lines of the script were shown, by the end: all of them; those before one that ended it; those whose newline was taken; or, the
--- last in part, some from the first on
-abbrev pub EndsBehind : List ℕ → List ℕ → List Line → ScriptEnd → Type 0
-EndsBehind script rest lines Done = (lines_of 0 script ≡ lines) × (rest ≡ [])
-EndsBehind script rest lines (BadLine number column) = (line : Line) × StandsAt script lines number line × IsBadFrom IsCheckLine column line
-EndsBehind script rest lines SourceFault = AreTaken script rest lines
-EndsBehind script rest lines SinkFault = (behind : List Line) × (lines_of 0 script ≡ lines ++ behind)
-EndsBehind script rest lines (TooLong number) = (line : Line) × StandsAt script lines number line × IsTooLong line
-EndsBehind script rest lines Memory = (line : Line) × (number : ℕ) × StandsAt script lines number line × MayWantMemory line
 
 -- the text of what the lines show was written
 pub record WritesAll (told : Type 0) (show : Show) (lines : List Line) (written written_now : List ℕ) : Type 0 where
@@ -50,5 +40,5 @@ WritesByEnd told show lines written written_now ending = WritesAll told show lin
 -- lines of a script were shown, each once and in order, and what was written is what they show
 pub record ChecksScript (told_source told_sink : Type 0) (show : Show) (script rest written written_now : List ℕ) (ending : ScriptEnd) : Type 0 where
   pub lines : List Line
-  pub ends : told_source → EndsBehind script rest lines ending
+  pub ends : told_source → EndsBehind IsCheckLine MayWantMemory script rest lines ending
   pub writes : WritesByEnd told_sink show lines written written_now ending

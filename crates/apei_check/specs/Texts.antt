@@ -3,8 +3,9 @@ use Rattle.std.specs.Prelude.{◌≡◌, ℕ, List, [], ◌∷◌, ◌++◌, Non
 use Rattle.hex.specs.Hex.{decode_of}
 use Rattle.erst_entries.specs.Tables.{refusal as erst_refusal}
 use Rattle.hest_sources.specs.Tables.{refusal as hest_refusal}
-use Rattle.script_lines.specs.Lines.{Line, IsTooLong}
-use Rattle.script_text.specs.CheckGrammar.{CheckedLine, IsCheckLine, blank, comment, erst, hest, bert, one_record, block}
+use Rattle.script_lines.specs.Lines.{Line}
+use Rattle.script_lines.specs.Played.{IsLineOf}
+use Rattle.script_text.specs.CheckGrammar.{CheckedLine, blank, comment, erst, hest, bert, one_record, block}
 use Rattle.script_text.specs.CheckText.{IsCheckWritten}
 use Rattle.apei_check.specs.Shown.{lines_text}
 use Rattle.apei_check.specs.declared.text.show.Show.{Show}
@@ -39,15 +40,10 @@ TakesMemory (erst hex) = Stands (λ bytes. erst_refusal bytes ≡ None) hex
 TakesMemory (hest hex) = Stands (λ bytes. hest_refusal bytes ≡ None) hex
 TakesMemory line = ⊥
 
--- a line of a script is this one, within the lengths
-pub record IsLineOf (line : Line) (asked : CheckedLine) : Type 0 where
-  pub within : IsTooLong line → ⊥
-  pub written : IsCheckWritten line.text asked
-
--- and this is the text of what it shows
+-- this is the text of what a line of a script shows
 pub record IsTextOf (show : Show) (line : Line) (text : List ℕ) : Type 0 where
   pub asked : CheckedLine
-  pub is : IsLineOf line asked
+  pub is : IsLineOf (λ written. IsCheckWritten written asked) line
   pub shown : List (List ℕ)
   pub are : AreShownBy show asked shown
   pub text_is : text ≡ lines_text shown
@@ -56,8 +52,3 @@ pub record IsTextOf (show : Show) (line : Line) (text : List ℕ) : Type 0 where
 abbrev pub IsTextOfAll : Show → List Line → List ℕ → Type 0
 IsTextOfAll show [] text = text ≡ []
 IsTextOfAll show (line ∷ lines) text = (first : List ℕ) × (rest : List ℕ) × IsTextOf show line first × IsTextOfAll show lines rest × (text ≡ first ++ rest)
-
--- each line is in the grammar, and within the lengths
-abbrev pub AreInGrammar : List Line → Type 0
-AreInGrammar [] = Unit {0}
-AreInGrammar (line ∷ lines) = (IsTooLong line → ⊥) × IsCheckLine line.text × AreInGrammar lines

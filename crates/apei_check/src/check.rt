@@ -4,8 +4,9 @@ ghost use Rattle.base_model.specs.Faults.{Rose};
 ghost use Rattle.script_lines.specs.Causes.{HasSourceCause, HasSinkCause};
 ghost use Rattle.script_lines.specs.Ends.{fault_of};
 ghost use Rattle.script_lines.specs.Lines.{lines_of};
+ghost use Rattle.script_lines.specs.Played.{AreInGrammar};
 ghost use Rattle.script_lines.specs.Reads.{first_reading};
-ghost use Rattle.apei_check.specs.Texts.{AreInGrammar};
+ghost use Rattle.script_text.specs.CheckGrammar.{IsCheckLine};
 ghost use Rattle.apei_check.specs.Checks.{ChecksScript};
 
 use crate::item::show_line;
@@ -70,7 +71,7 @@ pub fn check_script<I: Source, O: Sink>(
     ensures source { HasSourceCause (I.faults script.old) (I.faults script.new) (fault_of result) }
     ensures sink { HasSinkCause (O.faults out.old) (O.faults out.new) (fault_of result) }
     // A script whose lines are all in the grammar and within the lengths is read to its end, want of memory aside.
-    ensures done { I.tells → AreInGrammar (lines_of 0 (I.rest script.old)) → (Rose (I.faults script.old) (I.faults script.new) → ⊥)
+    ensures done { I.tells → AreInGrammar IsCheckLine (lines_of 0 (I.rest script.old)) → (Rose (I.faults script.old) (I.faults script.new) → ⊥)
         → (Rose (O.faults out.old) (O.faults out.new) → ⊥) → (result ≡ ScriptEnd.Done) ⊎ (result ≡ ScriptEnd.Memory) }
 {
     let Ok(mut lines) = LineReader::new(alloc) else {

@@ -15,34 +15,25 @@ use Rattle.apei_script.specs.Words.{Reply, text_of_replies}
 use Rattle.apei_script.specs.Plays.{LinePlayed, HasHappened, FailsRestart, PartlyWritten, PlaysLine, PlaysUnheard, Stops, Told, step_of}
 use Rattle.erst_machine.specs.Shown.{changes_of}
 use Rattle.apei_script.specs.History.{Played, Follows, AreCounted, blocks_of, reply_of, text_of, heard_after}
-use Rattle.script_lines.specs.Ends.{EndsReading}
+use Rattle.script_lines.specs.Ends.{IsBadFrom, EndsReading}
 use Rattle.script_lines.specs.declared.ending.ScriptEnd.{ScriptEnd}
 use Rattle.script_lines.specs.declared.ending.ScriptEnd.TheVariants as ending
 use Rattle.script_lines.specs.Lines.{Line, Reading, IsNextLine}
-use Rattle.script_lines.specs.Reads.{HasRead, StandsAt, AreReadInOrder, last_line}
-use Rattle.apei_cli.specs.Played.{CanPlay, ArePlayed}
-use Rattle.apei_cli.specs.Statuses.{StopsAt, EndsLines, LeavesLast, status_of}
+use Rattle.script_lines.specs.Played.{IsLineOf, ArePlayed, StopsAt, PlaysByFault}
+use Rattle.script_lines.specs.Reads.{HasRead, AreReadInOrder, last_line}
+use Rattle.script_lines.proofs.PlayedLemmas.{ArePlayed-push, is_bad, stops_at, ends_behind, whole, ends_none as lines_end}
+use Rattle.apei_cli.specs.Statuses.{GivesTable, FailsInRestart, IsUnheard, EndsLines, LeavesLast, status_of}
 use Rattle.apei_cli.specs.Runs.{PlaysScript}
 use Rattle.apei_cli.specs.declared.status.Status.{Status}
 use Rattle.apei_cli.specs.declared.status.Status.TheVariants.{Done, BadLine, SourceFault, SinkFault, FlashFault, TooLong, Memory}
 use Rattle.apei_notify.proofs.ToldLemmas.{told_none, told_then}
+use Rattle.apei_cli.proofs.EndLemmas.{has_status}
 use Rattle.apei_cli.proofs.ToldLemmas.{WantsOf, wants_first, wants_stay, heard_all}
-
--- the line that was read can be played
-pub playable : (tells : Type 0) (a b : Reading) (rest rest_now text : List ℕ) (line : ScriptLine) → IsNextLine tells a b rest rest_now → text ≡ b.line → Means text line
-    → CanPlay (last_line b) line
-playable tells a b rest rest_now text line next is read = record { within = next.within; means = subst (λ (t : List ℕ). Means t line) is read }
 
 -- one more line
 pub AreCounted-push : (some : List Played) (one : Played) → AreCounted some → changes_of one.left.machine ≡ step_of one.left → AreCounted (some ++ one ∷ [])
 AreCounted-push [] one before is = (is, tt)
 AreCounted-push (played ∷ rest) one before is = (before.0, AreCounted-push rest one before.1 is)
-
-pub ArePlayed-push : (texts : List Line) (text : Line) (some : List Played) (played : Played) → ArePlayed texts some → CanPlay text played.line → ArePlayed (texts ++ text ∷ []) (some ++ played ∷ [])
-ArePlayed-push [] text [] played are is = (is, tt)
-ArePlayed-push [] text (first ∷ some) played are is = absurd are
-ArePlayed-push (first ∷ texts) text [] played are is = absurd are
-ArePlayed-push (first ∷ texts) text (one ∷ some) played are is = (are.0, ArePlayed-push texts text some played are.1 is)
 
 text_of-push : (some : List Played) (played : Played) → text_of (some ++ played ∷ []) ≡ text_of some ++ reply_of played
 text_of-push [] played = append-nil (reply_of played)
@@ -76,7 +67,7 @@ module _ {L : Type 0} (hearing : L → Hearing) (told_source told_sink tells : T
     pub lines : List Line
     pub played : List Played
     pub read : HasRead told_source script rest lines reading
-    pub are : ArePlayed lines played
+    pub are : ArePlayed (λ (text : List ℕ) (one : Played). Means text one.line) lines played
     pub history : Follows tells (wants_of hearing listeners) (counts_of hearing listeners) old played new
     pub counts : counts_of hearing listeners_now ≡ counts_after (wants_of hearing listeners) played (counts_of hearing listeners)
     pub wants : WantsOf hearing (wants_of hearing listeners) listeners_now
@@ -102,15 +93,12 @@ module _ {L : Type 0} (hearing : L → Hearing) (told_source told_sink tells : T
         counted = λ told. tt;
       })
 
-  -- the lines before the one that was read, and those behind it
-  stops_at : (script rest rest_now written middle : List ℕ) (members members_now : List L) (old mid : PlayerState) (a b : Reading) (number : ℕ)
-      → (so_far : SoFar hearing told_source told_sink tells script rest written middle members members_now old mid a) → IsNextLine told_source a b rest rest_now → number ≡ b.number → told_source
-      → StopsAt script so_far.played number (last_line b)
-  stops_at script rest rest_now written middle members members_now old mid a b number so_far next is told = record {
-    before = so_far.lines;
-    stands = subst (λ (n : ℕ). StandsAt script so_far.lines n (last_line b)) (sym is) (order.stands script rest rest_now so_far.lines a b so_far.read next told);
-    are = so_far.are;
-  }
+  -- it was the line that was read last
+  stops_here : (Is : Line → Type 0) (script rest rest_now written middle : List ℕ) (members members_now : List L) (old mid : PlayerState) (a b : Reading) (number : ℕ)
+      → (so_far : SoFar hearing told_source told_sink tells script rest written middle members members_now old mid a) → IsNextLine told_source a b rest rest_now → number ≡ b.number → Is (last_line b)
+      → told_source → StopsAt Is script so_far.lines number
+  stops_here Is script rest rest_now written middle members members_now old mid a b number so_far next numbered is told =
+      stops_at Is script so_far.lines (last_line b) number b.number numbered (order.stands script rest rest_now so_far.lines a b so_far.read next told) is
 
   -- a line that was played, behind some
   module _ (script rest written middle : List ℕ) (first members : List L) (old mid : PlayerState) (a : Reading) (so_far : SoFar hearing told_source told_sink tells script rest written middle first members old mid a)
@@ -134,14 +122,14 @@ module _ {L : Type 0} (hearing : L → Hearing) (told_source told_sink tells : T
 
   -- one more line was read and played
   pub SoFar-played : (script rest rest_now written middle now : List ℕ) (first members members_now : List L) (old mid new : PlayerState) (a b : Reading) (line : ScriptLine)
-      → SoFar hearing told_source told_sink tells script rest written middle first members old mid a → IsNextLine told_source a b rest rest_now → CanPlay (last_line b) line
+      → SoFar hearing told_source told_sink tells script rest written middle first members old mid a → IsNextLine told_source a b rest rest_now → IsLineOf (λ (text : List ℕ). Means text line) (last_line b)
       → PlaysLine hearing tells told_sink mid new members members_now line middle now → (tells → changes_of new.machine ≡ step_of new)
       → SoFar hearing told_source told_sink tells script rest_now written now first members_now old new b
   SoFar-played script rest rest_now written middle now first members members_now old mid new a b line so_far next is plays counts = record {
     lines = so_far.lines ++ last_line b ∷ [];
     played = so_far.played ++ played_as line plays.said plays.blocks plays.steps new ∷ [];
     read = order.next script rest rest_now so_far.lines a b so_far.read next;
-    are = ArePlayed-push so_far.lines (last_line b) so_far.played (played_as line plays.said plays.blocks plays.steps new) so_far.are is;
+    are = ArePlayed-push (λ (text : List ℕ) (one : Played). Means text one.line) so_far.lines (last_line b) so_far.played (played_as line plays.said plays.blocks plays.steps new) so_far.are is;
     history = history_then script rest written middle first members old mid a so_far line plays.said plays.blocks plays.steps new members_now plays.played plays.told;
     counts = counts_now script rest written middle first members old mid a so_far line plays.said plays.blocks plays.steps new members_now plays.played plays.told;
     wants = wants_stay hearing (wants_of hearing first) plays.blocks members members_now so_far.wants plays.told;
@@ -183,52 +171,33 @@ module _ {L : Type 0} (hearing : L → Hearing) (told_source told_sink tells : T
   pub ends_none : (script rest rest_now written now : List ℕ) (first members : List L) (old new : PlayerState) (a b : Reading) (ending : ScriptEnd)
       → EndsReading told_source a b rest rest_now ending → SoFar hearing told_source told_sink tells script rest written now first members old new a
       → PlaysScript hearing told_source told_sink tells script rest_now written now first members old new (status_of ending)
-  ends_none script rest rest_now written now first members old new a b ending.Done end so_far =
-      as_so_far script rest rest_now written now now first members old new a Done so_far (
-        λ told.
-            let all = order.at_end script rest rest_now so_far.lines a b so_far.read end told in
-            record { all_read = all.1; are = subst (λ (ls : List Line). ArePlayed ls so_far.played) (sym all.0) so_far.are },
-        so_far.text,
-      )
-      refl (λ e. absurd (cc e))
-  ends_none script rest rest_now written now first members old new a b (ending.BadLine number column) end so_far = absurd end
-  ends_none script rest rest_now written now first members old new a b ending.SourceFault end so_far =
-      as_so_far script rest rest_now written now now first members old new a SourceFault so_far
-      ((λ told. record { lines = so_far.lines; taken = order.failed script rest rest_now so_far.lines a b so_far.read end told; are = so_far.are }), so_far.text)
-      refl (λ e. absurd (cc e))
-  ends_none script rest rest_now written now first members old new a b ending.SinkFault end so_far = absurd end
-  ends_none script rest rest_now written now first members old new a b (ending.TooLong number) (is, long) so_far =
-      as_so_far script rest rest_now written now now first members old new a (TooLong number) so_far (
-        λ told.
-            let ahead = order.too_long script rest so_far.lines a b so_far.read long told in
-            record {
-              line = ahead.0;
-              stops = record { before = so_far.lines; stands = subst (λ (n : ℕ). StandsAt script so_far.lines n ahead.0) (sym is) ahead.1; are = so_far.are };
-              too_long = ahead.2;
-            },
-        so_far.text,
-      )
-      refl (λ e. absurd (cc e))
-  ends_none script rest rest_now written now first members old new a b ending.Memory end so_far = absurd end
+  ends_none script rest rest_now written now first members old new a b ending end so_far =
+      let has = has_status tells ending in
+      as_so_far script rest rest_now written now now first members old new a (status_of ending) so_far (record {
+        lines = so_far.lines;
+        ends = λ told. has.ends script rest_now so_far.lines new.machine new.machine (lines_end IsLine GivesTable told_source script rest rest_now so_far.lines a b ending order so_far.read end told);
+        are = subst (PlaysByFault (λ (text : List ℕ) (one : Played). Means text one.line) (IsUnheard told_sink written now) (λ (all : List Played). told_sink → now ≡ written ++ text_of all) so_far.lines so_far.played)
+            has.fault
+            (whole (λ (text : List ℕ) (one : Played). Means text one.line) (IsUnheard told_sink written now) (λ (all : List Played). told_sink → now ≡ written ++ text_of all)
+            told_source a b rest rest_now so_far.lines so_far.played ending end (so_far.are, so_far.text));
+      })
+      (has.leaves new.machine) has.no_flash
 
   -- the line that was read is none
-  pub ends_bad : (script rest rest_now written now : List ℕ) (first members : List L) (old new : PlayerState) (a b : Reading) (number column : ℕ)
-      → IsNextLine told_source a b rest rest_now → number ≡ b.number → BreaksAt IsLine b.line column → SoFar hearing told_source told_sink tells script rest written now first members old new a
+  pub ends_bad : (script rest rest_now written now text : List ℕ) (first members : List L) (old new : PlayerState) (a b : Reading) (number column : ℕ)
+      → IsNextLine told_source a b rest rest_now → number ≡ b.number → text ≡ b.line → BreaksAt IsLine text column → SoFar hearing told_source told_sink tells script rest written now first members old new a
       → PlaysScript hearing told_source told_sink tells script rest_now written now first members old new (BadLine number column)
-  ends_bad script rest rest_now written now first members old new a b number column next is breaks so_far =
-      as_so_far script rest rest_now written now now first members old new a (BadLine number column) so_far (
-        (λ told. record {
-          line = last_line b;
-          stops = stops_at script rest rest_now written now first members old new a b number so_far next is told;
-          bad = record { within = next.within; breaks = breaks };
-        }),
-        so_far.text,
-      )
+  ends_bad script rest rest_now written now text first members old new a b number column next numbered same breaks so_far =
+      as_so_far script rest rest_now written now now first members old new a (BadLine number column) so_far (record {
+        lines = so_far.lines;
+        ends = stops_here (IsBadFrom IsLine column) script rest rest_now written now first members old new a b number so_far next numbered (is_bad IsLine told_source a b rest rest_now text column next same breaks);
+        are = (so_far.are, so_far.text);
+      })
       refl (λ e. absurd (cc e))
 
   -- its reply was refused by the sink
   pub ends_unheard : (script rest rest_now written middle now : List ℕ) (first members members_now : List L) (old mid new : PlayerState) (a b : Reading) (line : ScriptLine)
-      → SoFar hearing told_source told_sink tells script rest written middle first members old mid a → IsNextLine told_source a b rest rest_now → CanPlay (last_line b) line
+      → SoFar hearing told_source told_sink tells script rest written middle first members old mid a → IsNextLine told_source a b rest rest_now → IsLineOf (λ (text : List ℕ). Means text line) (last_line b)
       → PlaysUnheard hearing tells told_sink mid new members members_now line middle now → (tells → changes_of new.machine ≡ step_of new)
       → PlaysScript hearing told_source told_sink tells script rest_now written now first members_now old new SinkFault
   ends_unheard script rest rest_now written middle now first members members_now old mid new a b line so_far next is plays counts = record {
@@ -236,22 +205,28 @@ module _ {L : Type 0} (hearing : L → Hearing) (told_source told_sink tells : T
     last = new;
     history = history_then script rest written middle first members old mid a so_far plays.made plays.said plays.blocks plays.steps new members_now plays.played plays.told;
     lines = record {
-      first = so_far.played;
-      last = played_as plays.made plays.said plays.blocks plays.steps new;
-      played_is = refl;
-      line = line;
-      before = plays.before;
-      unheard = plays.last;
-      left = plays.left;
-      lines = λ told. record {
+      lines = so_far.lines ++ last_line b ∷ [];
+      ends = λ told. ends_behind script so_far.lines (last_line b) b.number (order.stands script rest rest_now so_far.lines a b so_far.read next told);
+      are = record {
         before = so_far.lines;
-        text = last_line b;
-        behind = (order.stands script rest rest_now so_far.lines a b so_far.read next told).behind;
-        lines = (order.stands script rest rest_now so_far.lines a b so_far.read next told).lines;
+        line = last_line b;
+        lines_are = refl;
+        first = so_far.played;
+        last = played_as plays.made plays.said plays.blocks plays.steps new;
+        played_is = refl;
         are = so_far.are;
-        is = is;
+        made = record {
+          within = is.within;
+          is = record {
+            line = line;
+            means = is.is;
+            before = plays.before;
+            unheard = plays.last;
+            left = plays.left;
+            wrote = λ told. subst (λ (bs : List ℕ). PartlyWritten plays.before plays.last bs now) (so_far.text told) (plays.text told);
+          };
+        };
       };
-      text = λ told. subst (λ (bs : List ℕ). PartlyWritten plays.before plays.last bs now) (so_far.text told) (plays.text told);
     };
     behind = refl;
     told = told_now script rest written middle first members old mid a so_far plays.made plays.said plays.blocks plays.steps new members_now plays.played plays.told;
@@ -261,14 +236,15 @@ module _ {L : Type 0} (hearing : L → Hearing) (told_source told_sink tells : T
 
   -- the flash failed in its restart
   pub ends_failed : (script rest rest_now written middle now : List ℕ) (first members members_now : List L) (old mid new : PlayerState) (a b : Reading) (line : ScriptLine) (stop : PlayStop)
-      → SoFar hearing told_source told_sink tells script rest written middle first members old mid a → IsNextLine told_source a b rest rest_now → CanPlay (last_line b) line
+      → SoFar hearing told_source told_sink tells script rest written middle first members old mid a → IsNextLine told_source a b rest rest_now → IsLineOf (λ (text : List ℕ). Means text line) (last_line b)
       → Stops tells mid line new stop → stop ≡ RestartFailed → members_now ≡ members → now ≡ middle
       → PlaysScript hearing told_source told_sink tells script rest_now written now first members_now old new FlashFault
   ends_failed script rest rest_now written middle now first members members_now old mid new a b line stop so_far next is stops why quiet said =
-      stopped script rest rest_now written middle now first members members_now old mid new a FlashFault so_far (
-        (λ told. record { asked = line; before = record { line = last_line b; number = b.number; stops = at told; is = is }; fails = fails }),
-        λ told. said ∙ so_far.text told,
-      )
+      stopped script rest rest_now written middle now first members members_now old mid new a FlashFault so_far (record {
+        lines = so_far.lines;
+        ends = λ told. (b.number, at told);
+        are = (so_far.are, λ told. said ∙ so_far.text told);
+      })
       (line, fails) quiet
       (λ e. subst (λ (m : MachineState). HasHappened tells mid.machine m × Rose mid.machine.device.store.flash.faults m.device.store.flash.faults) left (failed.2, failed.3))
     where
@@ -281,19 +257,22 @@ module _ {L : Type 0} (hearing : L → Hearing) (told_source told_sink tells : T
       fails : FailsRestart tells mid.machine line new.machine
       fails = subst (FailsRestart tells mid.machine line) left failed.1
 
-      at : told_source → StopsAt script so_far.played b.number (last_line b)
-      at = stops_at script rest rest_now written middle first members old mid a b b.number so_far next refl
+      at : told_source → StopsAt (IsLineOf (FailsInRestart tells mid.machine new.machine)) script so_far.lines b.number
+      at = stops_here (IsLineOf (FailsInRestart tells mid.machine new.machine)) script rest rest_now written middle first members old mid a b b.number so_far next refl
+          (record { within = is.within; is = record { asked = line; means = is.is; fails = fails } })
 
   -- there was no memory for its table
   pub ends_memory : (script rest rest_now written middle now : List ℕ) (first members members_now : List L) (old mid new : PlayerState) (a b : Reading) (line : ScriptLine) (stop : PlayStop)
-      → SoFar hearing told_source told_sink tells script rest written middle first members old mid a → IsNextLine told_source a b rest rest_now → CanPlay (last_line b) line
+      → SoFar hearing told_source told_sink tells script rest written middle first members old mid a → IsNextLine told_source a b rest rest_now → IsLineOf (λ (text : List ℕ). Means text line) (last_line b)
       → Stops tells mid line new stop → stop ≡ NoMemory → members_now ≡ members → now ≡ middle
       → PlaysScript hearing told_source told_sink tells script rest_now written now first members_now old new Memory
   ends_memory script rest rest_now written middle now first members members_now old mid new a b line stop so_far next is stops why quiet said =
       let left : Stops tells mid line new NoMemory = subst (Stops tells mid line new) why stops in
-      let at = stops_at script rest rest_now written middle first members old mid a b b.number so_far next refl in
-      stopped script rest rest_now written middle now first members members_now old mid new a Memory so_far (
-        (λ told. record { asked = line; before = record { line = last_line b; number = b.number; stops = at told; is = is }; brings_table = left.1 }),
-        λ told. said ∙ so_far.text told,
-      )
+      let at = stops_here (IsLineOf GivesTable) script rest rest_now written middle first members old mid a b b.number so_far next refl
+          (record { within = is.within; is = record { asked = line; means = is.is; brings_table = left.1 } }) in
+      stopped script rest rest_now written middle now first members members_now old mid new a Memory so_far (record {
+        lines = so_far.lines;
+        ends = λ told. (b.number, at told);
+        are = (so_far.are, λ told. said ∙ so_far.text told);
+      })
       (ap (λ (p : PlayerState). p.machine) left.0) quiet (λ e. absurd (cc e))

@@ -1,4 +1,3 @@
-pub mod Played
 pub mod Statuses
 pub mod Runs
 pub mod LineLaws

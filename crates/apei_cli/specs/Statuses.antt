@@ -1,18 +1,18 @@
 -- What each status of a run says of its script.
-use Rattle.std.specs.Prelude.{◌≡◌, ℕ, List, [], ◌∷◌, ◌++◌}
+use Rattle.std.specs.Prelude.{◌≡◌, ℕ, List, ◌++◌}
 use Rattle.clap_words.specs.declared.error.WordsError.{WordsError}
 use Rattle.clap_words.specs.declared.error.WordsError.TheVariants as words
 use Rattle.erst_machine.specs.MachineState.{MachineState}
 use Rattle.script_text.specs.ScriptGrammar.{Line as ScriptLine, IsLine}
+use Rattle.script_text.specs.ScriptText.{Means}
 use Rattle.apei_script.specs.Words.{Reply}
 use Rattle.apei_script.specs.Plays.{LeftIn, FailsRestart, BringsTable, PartlyWritten}
 use Rattle.apei_script.specs.History.{Played, text_of}
 use Rattle.script_lines.specs.declared.ending.ScriptEnd.{ScriptEnd}
 use Rattle.script_lines.specs.declared.ending.ScriptEnd.TheVariants as ending
-use Rattle.script_lines.specs.Lines.{Line, lines_of, IsTooLong}
-use Rattle.script_lines.specs.Reads.{StandsAt, AreTaken}
-use Rattle.script_lines.specs.Ends.{IsBadFrom}
-use Rattle.apei_cli.specs.Played.{CanPlay, ArePlayed}
+use Rattle.script_lines.specs.Causes.{Fault, OfSource, OfSink, NoFault}
+use Rattle.script_lines.specs.Lines.{Line}
+use Rattle.script_lines.specs.Played.{IsLineOf, StopsAt, EndsBehind, PlaysByFault}
 use Rattle.apei_cli.specs.declared.status.Status.{Status}
 use Rattle.apei_cli.specs.declared.status.Status.TheVariants.{Done, BadWords, BadLine, SourceFault, SinkFault, FlashFault, BadGeometry, TooLong, Memory}
 
@@ -30,96 +30,60 @@ abbrev pub status_of_words : WordsError → Status
 status_of_words words.BadWords = BadWords
 status_of_words words.Memory = Memory
 
--- the lines before one of the script were played, and what that line is
-pub record StopsAt (script : List ℕ) (played : List Played) (number : ℕ) (line : Line) : Type 0 where
-  pub before : List Line
-  pub stands : StandsAt script before number line
-  pub are : ArePlayed before played
+-- the fault of the script or of the output that a status tells of
+abbrev pub fault_of : Status → Fault
+fault_of SourceFault = OfSource
+fault_of SinkFault = OfSink
+fault_of status = NoFault
 
--- the script was played to its end
-pub record PlaysAll (script rest : List ℕ) (played : List Played) : Type 0 where
-  pub all_read : rest ≡ []
-  pub are : ArePlayed (lines_of 0 script) played
-
--- the lines whose newline was taken from the source were played
-pub record PlaysTaken (script rest : List ℕ) (played : List Played) : Type 0 where
-  pub lines : List Line
-  pub taken : AreTaken script rest lines
-  pub are : ArePlayed lines played
-
--- the lines before one of the script were played, and then that one, which is this line
-pub record PlaysUpTo (script : List ℕ) (first : List Played) (line : ScriptLine) : Type 0 where
-  pub before : List Line
-  pub text : Line
-  pub behind : List Line
-  pub lines : lines_of 0 script ≡ before ++ text ∷ behind
-  pub are : ArePlayed before first
-  pub is : CanPlay text line
-
--- a line is too long
-pub record StopsTooLong (script : List ℕ) (played : List Played) (number : ℕ) : Type 0 where
-  pub line : Line
-  pub stops : StopsAt script played number line
-  pub too_long : IsTooLong line
-
--- a text is no line of a script, from this column on
-pub record StopsBad (script : List ℕ) (played : List Played) (number column : ℕ) : Type 0 where
-  pub line : Line
-  pub stops : StopsAt script played number line
-  pub bad : IsBadFrom IsLine column line
-
--- the lines before one of the script were played, and that one is this line
-pub record StopsBefore (script : List ℕ) (played : List Played) (asked : ScriptLine) : Type 0 where
-  pub line : Line
-  pub number : ℕ
-  pub stops : StopsAt script played number line
-  pub is : CanPlay line asked
-
--- the flash failed in the restart of a line
-pub record StopsInRestart (tells : Type 0) (script : List ℕ) (played : List Played) (last final : MachineState) : Type 0 where
+-- a text gives a table, the one line for which memory is taken
+pub record GivesTable (text : List ℕ) : Type 0 where
   pub asked : ScriptLine
-  pub before : StopsBefore script played asked
-  pub fails : FailsRestart tells last asked final
-
--- there was no memory for the table of a line
-pub record StopsAtTable (script : List ℕ) (played : List Played) : Type 0 where
-  pub asked : ScriptLine
-  pub before : StopsBefore script played asked
+  pub means : Means text asked
   pub brings_table : BringsTable asked
 
--- the lines of the script that were played once the machine was booted, by a status that the sink has no part in; `last` is the machine after
--- them, and `final` the one that is left
-abbrev pub EndsBy : Type 0 → List ℕ → List ℕ → List Played → MachineState → MachineState → Status → Type 0
-EndsBy tells script rest played last final Done = PlaysAll script rest played
-EndsBy tells script rest played last final BadWords = ⊥
-EndsBy tells script rest played last final (BadLine number column) = StopsBad script played number column
-EndsBy tells script rest played last final SourceFault = PlaysTaken script rest played
-EndsBy tells script rest played last final SinkFault = ⊥
-EndsBy tells script rest played last final FlashFault = StopsInRestart tells script played last final
-EndsBy tells script rest played last final (BadGeometry sector per_slot slots size) = ⊥
-EndsBy tells script rest played last final (TooLong number) = StopsTooLong script played number
-EndsBy tells script rest played last final Memory = StopsAtTable script played
+-- a text is a line in whose restart the flash failed
+pub record FailsInRestart (tells : Type 0) (last final : MachineState) (text : List ℕ) : Type 0 where
+  pub asked : ScriptLine
+  pub means : Means text asked
+  pub fails : FailsRestart tells last asked final
+
+-- which lines of the script were played once the machine was booted, by the status; `last` is the machine after them, and `final` the one that is
+-- left
+abbrev pub EndsBy : Type 0 → List ℕ → List ℕ → List Line → MachineState → MachineState → Status → Type 0
+EndsBy tells script rest lines last final Done = EndsBehind IsLine GivesTable script rest lines ending.Done
+EndsBy tells script rest lines last final BadWords = ⊥
+EndsBy tells script rest lines last final (BadLine number column) = EndsBehind IsLine GivesTable script rest lines (ending.BadLine number column)
+EndsBy tells script rest lines last final SourceFault = EndsBehind IsLine GivesTable script rest lines ending.SourceFault
+EndsBy tells script rest lines last final SinkFault = EndsBehind IsLine GivesTable script rest lines ending.SinkFault
+EndsBy tells script rest lines last final FlashFault = (number : ℕ) × StopsAt (IsLineOf (FailsInRestart tells last final)) script lines number
+EndsBy tells script rest lines last final (BadGeometry sector per_slot slots size) = ⊥
+EndsBy tells script rest lines last final (TooLong number) = EndsBehind IsLine GivesTable script rest lines (ending.TooLong number)
+EndsBy tells script rest lines last final Memory = EndsBehind IsLine GivesTable script rest lines ending.Memory
 
 -- nothing happens to the machine behind the last line, but a restart that the flash failed
 abbrev pub LeavesLast : Type 0 → MachineState → MachineState → Status → Type 0
 LeavesLast tells last final FlashFault = (line : ScriptLine) × FailsRestart tells last line final
 LeavesLast tells last final status = final ≡ last
 
--- the sink refused a reply of the line that was played last: what is left of that line says which reply. What was written are the replies to the
--- lines before it, of its own those before that one, and a part of that
-pub record StopsUnheard (told_source told_sink : Type 0) (script : List ℕ) (played : List Played) (written written_now : List ℕ) : Type 0 where
-  pub first : List Played
-  pub last : Played
-  pub played_is : played ≡ first ++ last ∷ []
+-- the sink refused a reply of the line that was played last, behind some that were played whole: what is left of it says which reply. What was
+-- written are the replies to the lines before it, of its own those before that one, and a part of that
+pub record IsUnheard (told_sink : Type 0) (written written_now : List ℕ) (first : List Played) (text : List ℕ) (last : Played) : Type 0 where
   pub line : ScriptLine
+  pub means : Means text line
   pub before : List Reply
   pub unheard : Reply
   pub left : LeftIn line last.line last.said before unheard
-  pub lines : told_source → PlaysUpTo script first line
-  pub text : told_sink → PartlyWritten before unheard (written ++ text_of first) written_now
+  pub wrote : told_sink → PartlyWritten before unheard (written ++ text_of first) written_now
 
--- the lines that were played and what was written, by the status: all replies to these lines, but where the sink failed
-abbrev pub EndsLines : Type 0 → Type 0 → Type 0 → List ℕ → List ℕ → List ℕ → List ℕ → List Played → MachineState → MachineState → Status → Type 0
-EndsLines told_source told_sink tells script rest written written_now played last final SinkFault = StopsUnheard told_source told_sink script played written written_now
-EndsLines told_source told_sink tells script rest written written_now played last final status =
-    (told_source → EndsBy tells script rest played last final status) × (told_sink → written_now ≡ written ++ text_of played)
+-- these lines were played, and their replies written; but where the sink failed, the last in part
+abbrev pub ArePlayedBy : Type 0 → List ℕ → List ℕ → List Line → List Played → Status → Type 0
+ArePlayedBy told_sink written written_now lines played status =
+    PlaysByFault (λ (text : List ℕ) (one : Played). Means text one.line) (IsUnheard told_sink written written_now)
+    (λ (all : List Played). told_sink → written_now ≡ written ++ text_of all) lines played (fault_of status)
+
+-- the lines that were played and what was written, by the status
+pub record EndsLines (told_source told_sink tells : Type 0) (script rest written written_now : List ℕ) (played : List Played) (last final : MachineState) (status : Status) : Type 0 where
+  pub lines : List Line
+  pub ends : told_source → EndsBy tells script rest lines last final status
+  pub are : ArePlayedBy told_sink written written_now lines played status

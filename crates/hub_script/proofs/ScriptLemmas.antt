@@ -8,18 +8,20 @@ use Rattle.line_grammar.specs.declared.lengths.TheConstants.{LONGEST_LINE}
 use Rattle.apei_notify.specs.Telling.{Hearing}
 use Rattle.script_lines.specs.Causes.{HasSourceCause, HasSinkCause}
 use Rattle.script_lines.specs.Lines.{Line as TextLine, Reading, lines_of, IsTooLong, IsNextLine}
+use Rattle.script_lines.specs.Played.{IsLineOf, AreInGrammar, ArePlayed}
 use Rattle.script_lines.specs.Reads.{HasRead, StandsAt, AreReadInOrder, last_line}
-use Rattle.hub_script.specs.HubGrammar.{Line, IsLine, hest}
+use Rattle.hub_script.specs.HubGrammar.{IsLine}
 use Rattle.hub_script.specs.HubText.{IsWritten}
 use Rattle.hub_script.specs.Replies.{text_of_replies, reply_line}
 use Rattle.hub_script.specs.Stages.{Stage, Waiting, IsWaiting, members_in}
 use Rattle.hub_script.specs.Plays.{Plays}
 use Rattle.hub_script.specs.Lines.{PlaysLine, PlaysUnheard, TextIs, GivesTable, PairsAreNamed}
-use Rattle.hub_script.specs.History.{Played, Follows, IsLineOf, ArePlayed, AreInGrammar, stage_behind, text_of_played}
-use Rattle.hub_script.specs.Scripts.{StopsAt, EndsLines, PlaysScript, ServesScript}
-use Rattle.script_lines.specs.Ends.{EndsReading, fault_of}
+use Rattle.hub_script.specs.History.{Played, Follows, stage_behind, text_of_played}
+use Rattle.hub_script.specs.Scripts.{IsUnheard, PlaysScript, ServesScript}
+use Rattle.script_lines.specs.Ends.{EndsReading, IsBadFrom, fault_of}
 use Rattle.script_lines.specs.declared.ending.ScriptEnd.{ScriptEnd}
-use Rattle.script_lines.specs.declared.ending.ScriptEnd.TheVariants.{Done, BadLine, SourceFault, SinkFault, TooLong, Memory}
+use Rattle.script_lines.specs.declared.ending.ScriptEnd.TheVariants.{Done, BadLine, SinkFault, Memory}
+use Rattle.script_lines.proofs.PlayedLemmas.{ArePlayed-push, is_line, is_bad, stops_at, ends_behind, whole, not_memory, ends_none as lines_end, is_done as lines_done}
 use Rattle.hub_script.proofs.ServedLemmas.{are_served}
 
 -- a line within the lengths has no more bytes than are parsed
@@ -36,12 +38,6 @@ behind_is : {L : Type 0} (hearing : L → Hearing) (first : Stage L) (some : Lis
 behind_is hearing first [] last follows = sym follows
 behind_is hearing first (head ∷ some) last (plays, follows) = behind_is hearing head.left some last follows
 
-ArePlayed-push : {L : Type 0} (texts : List TextLine) (text : TextLine) (some : List (Played L)) (one : Played L) → ArePlayed texts some → IsLineOf text one.line → ArePlayed (texts ++ text ∷ []) (some ++ one ∷ [])
-ArePlayed-push [] text [] one are is = (is, tt)
-ArePlayed-push [] text (first ∷ some) one are is = absurd are
-ArePlayed-push (first ∷ texts) text [] one are is = absurd are
-ArePlayed-push (first ∷ texts) text (head ∷ some) one are is = (are.0, ArePlayed-push texts text some one are.1 is)
-
 text-push : {L : Type 0} (some : List (Played L)) (one : Played L) → text_of_played (some ++ one ∷ []) ≡ text_of_played some ++ text_of_replies one.said
 text-push [] one = append-nil (text_of_replies one.said)
 text-push (first ∷ some) one = ap (λ (bs : List ℕ). text_of_replies first.said ++ bs) (text-push some one) ∙ sym (append_assoc (text_of_replies first.said) (text_of_played some) (text_of_replies one.said))
@@ -52,43 +48,31 @@ module _ {L : Type 0} (hearing : L → Hearing) (told_source told_sink : Type 0)
     pub lines : List TextLine
     pub played : List (Played L)
     pub read : HasRead told_source script rest lines reading
-    pub are : ArePlayed lines played
+    pub are : ArePlayed (λ (text : List ℕ) (one : Played L). IsWritten text one.line) lines played
     pub follows : Follows hearing old played new
     pub text : told_sink → written_now ≡ written ++ text_of_played played
 
   pub start : (stage : Stage L) (script written : List ℕ) (reading : Reading) → HasRead told_source script script [] reading → SoFar stage stage script script written written reading
   start stage script written reading read = record { lines = []; played = []; read = read; are = tt; follows = refl; text = λ told. sym (append-nil written) }
 
-  -- an end behind a line that was read, or where none is
-  ends_by : (old new : Stage L) (script rest rest_now written now : List ℕ) (reading : Reading) (ending : ScriptEnd) → (so_far : SoFar old new script rest written now reading)
-      → EndsLines told_source told_sink old script rest_now written now so_far.played ending → (ending ≡ Memory → ⊥) → PlaysScript hearing told_source told_sink old new script rest_now written now ending
-  ends_by old new script rest rest_now written now reading ending so_far ends other = record { played = so_far.played; follows = so_far.follows; ends = ends; waits = λ memory. absurd (other memory) }
-
   -- there is no next line
   pub ends_none : (order : AreReadInOrder told_source) (old new : Stage L) (script rest rest_now written now : List ℕ) (a b : Reading) (ending : ScriptEnd)
       → SoFar old new script rest written now a → EndsReading told_source a b rest rest_now ending → PlaysScript hearing told_source told_sink old new script rest_now written now ending
-  ends_none order old new script rest rest_now written now a b Done so_far end = ends_by old new script rest rest_now written now a Done so_far
-      ((λ told. let at = order.at_end script rest rest_now so_far.lines a b so_far.read end told in (at.1, subst (λ (lines : List TextLine). ArePlayed lines so_far.played) (sym at.0) so_far.are)), so_far.text) (λ e. absurd (cc e))
-  ends_none order old new script rest rest_now written now a b (BadLine number column) so_far end = absurd end
-  ends_none order old new script rest rest_now written now a b SourceFault so_far end = ends_by old new script rest rest_now written now a SourceFault so_far
-      ((λ told. (so_far.lines, order.failed script rest rest_now so_far.lines a b so_far.read end told, so_far.are)), so_far.text) (λ e. absurd (cc e))
-  ends_none order old new script rest rest_now written now a b SinkFault so_far end = absurd end
-  ends_none order old new script rest rest_now written now a b (TooLong number) so_far (is, long) = ends_by old new script rest rest_now written now a (TooLong number) so_far (
-    (λ told.
-        let at = order.too_long script rest so_far.lines a b so_far.read long told in
-        (at.0, record { before = so_far.lines; stands = subst (λ (n : ℕ). StandsAt script so_far.lines n at.0) (sym is) at.1; are = so_far.are }, at.2)),
-    so_far.text,
-  ) (λ e. absurd (cc e))
-  ends_none order old new script rest rest_now written now a b Memory so_far end = absurd end
+  ends_none order old new script rest rest_now written now a b ending so_far end = record {
+    lines = so_far.lines;
+    ends = lines_end IsLine GivesTable told_source script rest rest_now so_far.lines a b ending order so_far.read end;
+    played = so_far.played;
+    follows = so_far.follows;
+    are = whole (λ (text : List ℕ) (one : Played L). IsWritten text one.line) (IsUnheard told_sink old written now) (λ (all : List (Played L)). told_sink → now ≡ written ++ text_of_played all)
+        told_source a b rest rest_now so_far.lines so_far.played ending end (so_far.are, so_far.text);
+    waits = λ memory. absurd (not_memory told_source a b rest rest_now ending end memory);
+  }
 
   -- the line that was read last
   module _ (old mid : Stage L) (script rest rest_now written middle : List ℕ) (a b : Reading) (so_far : SoFar old mid script rest written middle a)
       (text : List ℕ) (next : IsNextLine told_source a b rest rest_now) (same : text ≡ b.line) where
-    is_line : (line : Line) → IsWritten text line → IsLineOf (last_line b) line
-    is_line line written = record { within = next.within; written = (written.0, sym same ∙ written.1) }
-
-    stops_at : (number : ℕ) → number ≡ b.number → (told_source → StandsAt script so_far.lines b.number (last_line b)) → told_source → StopsAt script so_far.played number (last_line b)
-    stops_at number is stands told = record { before = so_far.lines; stands = subst (λ (n : ℕ). StandsAt script so_far.lines n (last_line b)) (sym is) (stands told); are = so_far.are }
+    is_this : (Is : List ℕ → Type 0) → Is text → IsLineOf Is (last_line b)
+    is_this Is is = is_line Is told_source a b rest rest_now text next same is
 
     -- it was played
     pub so_far_next : (new : Stage L) (now : List ℕ) → HasRead told_source script rest_now (so_far.lines ++ last_line b ∷ []) b
@@ -99,7 +83,7 @@ module _ {L : Type 0} (hearing : L → Hearing) (told_source told_sink : Type 0)
           lines = so_far.lines ++ last_line b ∷ [];
           played = so_far.played ++ one ∷ [];
           read = read;
-          are = ArePlayed-push so_far.lines (last_line b) so_far.played one so_far.are (is_line plays.line plays.written);
+          are = ArePlayed-push (λ (words : List ℕ) (each : Played L). IsWritten words each.line) so_far.lines (last_line b) so_far.played one so_far.are (is_this (λ (words : List ℕ). IsWritten words plays.line) plays.written);
           follows = Follows-push hearing old so_far.played mid one so_far.follows plays.made.plays;
           text = λ told. plays.made.text told ∙ ap (λ (bs : List ℕ). bs ++ text_of_replies one.said) (so_far.text told) ∙ append_assoc written (text_of_played so_far.played) (text_of_replies one.said)
               ∙ ap (λ (bs : List ℕ). written ++ bs) (sym (text-push so_far.played one));
@@ -111,20 +95,29 @@ module _ {L : Type 0} (hearing : L → Hearing) (told_source told_sink : Type 0)
     ends_unheard new now stands plays =
         let made = plays.made in
         let one : Played L = record { line = made.made; said = made.said; calls = made.calls; left = new } in
+        let unheard : IsUnheard told_sink old written now so_far.played text one = record {
+          line = plays.line;
+          is = plays.written;
+          before = made.before;
+          unheard = made.last;
+          left = made.left;
+          named = subst (λ (stage : Stage L). (made.made ≡ plays.line) ⊎ PairsAreNamed stage plays.line) (sym (behind_is hearing old so_far.played mid so_far.follows)) made.named;
+          wrote = λ told. let part = made.text told in (part.0, part.1 ∙ ap (λ (bs : List ℕ). bs ++ text_of_replies made.before ++ take part.0 (reply_line made.last)) (so_far.text told));
+        } in
         record {
+          lines = so_far.lines ++ last_line b ∷ [];
+          ends = λ told. ends_behind script so_far.lines (last_line b) b.number (stands told);
           played = so_far.played ++ one ∷ [];
           follows = Follows-push hearing old so_far.played mid one so_far.follows made.plays;
-          ends = record {
+          are = record {
+            before = so_far.lines;
+            line = last_line b;
+            lines_are = refl;
             first = so_far.played;
             last = one;
             played_is = refl;
-            line = plays.line;
-            before = made.before;
-            unheard = made.last;
-            left = made.left;
-            named = subst (λ (stage : Stage L). (made.made ≡ plays.line) ⊎ PairsAreNamed stage plays.line) (sym (behind_is hearing old so_far.played mid so_far.follows)) made.named;
-            lines = λ told. let at = stands told in record { before = so_far.lines; text = last_line b; behind = at.behind; lines = at.lines; are = so_far.are; is = is_line plays.line plays.written };
-            text = λ told. let part = made.text told in (part.0, part.1 ∙ ap (λ (bs : List ℕ). bs ++ text_of_replies made.before ++ take part.0 (reply_line made.last)) (so_far.text told));
+            are = so_far.are;
+            made = is_this (λ (words : List ℕ). IsUnheard told_sink old written now so_far.played words one) unheard;
           };
           waits = λ e. absurd (cc e);
         }
@@ -133,12 +126,11 @@ module _ {L : Type 0} (hearing : L → Hearing) (told_source told_sink : Type 0)
     pub ends_bad : (new : Stage L) (now : List ℕ) (number column : ℕ) → new ≡ mid → now ≡ middle → number ≡ b.number → (told_source → StandsAt script so_far.lines b.number (last_line b)) → BreaksAt IsLine text column
         → PlaysScript hearing told_source told_sink old new script rest_now written now (BadLine number column)
     ends_bad new now number column stays kept is stands breaks = record {
+      lines = so_far.lines;
+      ends = λ told. stops_at (IsBadFrom IsLine column) script so_far.lines (last_line b) number b.number is (stands told) (is_bad IsLine told_source a b rest rest_now text column next same breaks);
       played = so_far.played;
       follows = subst (Follows hearing old so_far.played) (sym stays) so_far.follows;
-      ends = (
-        (λ told. (last_line b, stops_at number is stands told, record { within = next.within; breaks = subst (λ (t : List ℕ). BreaksAt IsLine t column) same breaks })),
-        (λ told. kept ∙ so_far.text told),
-      );
+      are = (so_far.are, λ told. kept ∙ so_far.text told);
       waits = λ e. absurd (cc e);
     }
 
@@ -146,12 +138,11 @@ module _ {L : Type 0} (hearing : L → Hearing) (told_source told_sink : Type 0)
     pub ends_memory : (new : Stage L) (now : List ℕ) → new ≡ mid → now ≡ middle → (told_source → StandsAt script so_far.lines b.number (last_line b)) → GivesTable text → IsWaiting mid
         → PlaysScript hearing told_source told_sink old new script rest_now written now Memory
     ends_memory new now stays kept stands table waits = record {
+      lines = so_far.lines;
+      ends = λ told. (b.number, stops_at (IsLineOf GivesTable) script so_far.lines (last_line b) b.number b.number refl (stands told) (is_this GivesTable table));
       played = so_far.played;
       follows = subst (Follows hearing old so_far.played) (sym stays) so_far.follows;
-      ends = (
-        (λ told. (last_line b, b.number, table.hex, stops_at b.number refl stands told, is_line (hest table.hex) table.written)),
-        (λ told. kept ∙ so_far.text told),
-      );
+      are = (so_far.are, λ told. kept ∙ so_far.text told);
       waits = λ memory. subst IsWaiting (sym stays) waits;
     }
 
@@ -160,27 +151,13 @@ pub serves_script : {L : Type 0} (hearing : L → Hearing) (told_source told_sin
     → PlaysScript hearing told_source told_sink old new script rest written now ending → old ≡ Waiting listeners → listeners_now ≡ members_in new
     → ServesScript hearing told_source told_sink script rest written now listeners listeners_now ending
 serves_script {L} hearing told_source told_sink old new script rest written now listeners listeners_now ending plays begins back =
-    let follows = subst (λ (stage : Stage L). Follows hearing stage plays.played new) begins plays.follows in
-    record { played = plays.played; last = new; follows = follows; ends = subst (λ (stage : Stage L). EndsLines told_source told_sink stage script rest written now plays.played ending) begins plays.ends; waits = plays.waits; members = back; served = are_served hearing listeners plays.played new follows }
-
--- a line among those in the grammar
-in_grammar_at : (before : List TextLine) (line : TextLine) (behind : List TextLine) → AreInGrammar (before ++ line ∷ behind) → (IsTooLong line → ⊥) × IsLine line.text
-in_grammar_at [] line behind all = (all.0, all.1)
-in_grammar_at (first ∷ before) line behind all = in_grammar_at before line behind all.2
+    let from : PlaysScript hearing told_source told_sink (Waiting listeners) new script rest written now ending =
+    subst (λ (stage : Stage L). PlaysScript hearing told_source told_sink stage new script rest written now ending) begins plays in
+    record { last = new; plays = from; members = back; served = are_served hearing listeners from.played new from.follows }
 
 -- where all lines are in the grammar and no fault was counted, all are read
 pub is_done : {L : Type 0} (hearing : L → Hearing) (told_source told_sink : Type 0) (old new : Stage L) (script rest written now : List ℕ) (source source_now sink sink_now : ℕ) (ending : ScriptEnd)
     → PlaysScript hearing told_source told_sink old new script rest written now ending → HasSourceCause source source_now (fault_of ending) → HasSinkCause sink sink_now (fault_of ending)
-    → told_source → AreInGrammar (lines_of 0 script) → (Rose source source_now → ⊥) → (Rose sink sink_now → ⊥) → (ending ≡ Done) ⊎ (ending ≡ Memory)
-is_done hearing told_source told_sink old new script rest written now source source_now sink sink_now Done plays in_cause out_cause told all no_source no_sink = inl refl
-is_done hearing told_source told_sink old new script rest written now source source_now sink sink_now (BadLine number column) plays in_cause out_cause told all no_source no_sink =
-    let ends = plays.ends.0 told in
-    let at = in_grammar_at ends.1.before ends.0 ends.1.stands.behind (subst AreInGrammar ends.1.stands.lines all) in
-    absurd (ends.2.breaks.1.outside at.1)
-is_done hearing told_source told_sink old new script rest written now source source_now sink sink_now SourceFault plays in_cause out_cause told all no_source no_sink = absurd (no_source in_cause)
-is_done hearing told_source told_sink old new script rest written now source source_now sink sink_now SinkFault plays in_cause out_cause told all no_source no_sink = absurd (no_sink out_cause)
-is_done hearing told_source told_sink old new script rest written now source source_now sink sink_now (TooLong number) plays in_cause out_cause told all no_source no_sink =
-    let ends = plays.ends.0 told in
-    let at = in_grammar_at ends.1.before ends.0 ends.1.stands.behind (subst AreInGrammar ends.1.stands.lines all) in
-    absurd (at.0 ends.2)
-is_done hearing told_source told_sink old new script rest written now source source_now sink sink_now Memory plays in_cause out_cause told all no_source no_sink = inr refl
+    → told_source → AreInGrammar IsLine (lines_of 0 script) → (Rose source source_now → ⊥) → (Rose sink sink_now → ⊥) → (ending ≡ Done) ⊎ (ending ≡ Memory)
+is_done hearing told_source told_sink old new script rest written now source source_now sink sink_now ending plays in_cause out_cause told all no_source no_sink =
+    lines_done IsLine GivesTable script rest plays.lines source source_now sink sink_now ending (plays.ends told) in_cause out_cause all no_source no_sink

@@ -10,9 +10,7 @@ use Rattle.ghes_hub.specs.Hubs.{HubState, Call, DoAll, Serves, sources_in}
 use Rattle.ghes_hub.specs.Layouts.{layout_kind}
 use Rattle.ghes_hub.specs.Opens.{IsOpened}
 use Rattle.ghes_hub.specs.Refusals.{generics, layout_of}
-use Rattle.script_lines.specs.Lines.{Line as TextLine, IsTooLong}
-use Rattle.hub_script.specs.HubGrammar.{Line, IsLine}
-use Rattle.hub_script.specs.HubText.{IsWritten}
+use Rattle.hub_script.specs.HubGrammar.{Line}
 use Rattle.hub_script.specs.Replies.{text_of_replies}
 use Rattle.hub_script.specs.Stages.{Stage, Waiting, Serving}
 use Rattle.hub_script.specs.Plays.{Plays}
@@ -41,22 +39,6 @@ calls_of {L} lines = flat_map (λ (played : Played L). played.calls) lines
 -- all replies as they are written
 abbrev pub text_of_played : {L : Type 0} → List (Played L) → List ℕ
 text_of_played {L} lines = flat_map (λ (played : Played L). text_of_replies played.said) lines
-
--- a line of the script is this one, within the lengths
-pub record IsLineOf (text : TextLine) (line : Line) : Type 0 where
-  pub within : IsTooLong text → ⊥
-  pub written : IsWritten text.text line
-
--- the lines of a script are those that were played
-abbrev pub ArePlayed : {L : Type 0} → List TextLine → List (Played L) → Type 0
-ArePlayed [] [] = Unit {0}
-ArePlayed (text ∷ texts) (played ∷ rest) = IsLineOf text played.line × ArePlayed texts rest
-ArePlayed texts lines = ⊥
-
--- each line is one of such a script, within the lengths
-abbrev pub AreInGrammar : List TextLine → Type 0
-AreInGrammar [] = Unit {0}
-AreInGrammar (line ∷ lines) = (IsTooLong line → ⊥) × IsLine line.text × AreInGrammar lines
 
 -- What became of the listeners that a script was given, and of the blocks of which they were told. No hub was opened, and they wait; or one
 -- was opened for a table, and each of its sources is served as its own blocks, turns and removals alone say, whatever stands between

@@ -1,8 +1,8 @@
 // A script of several error sources, played line by line.
 ghost use Rattle.std.specs.Prelude.{◌≡◌, ◌⊎◌, ⊤};
 ghost use Rattle.base_model.specs.Faults.{Rose};
-ghost use Rattle.script_lines.specs.{Causes.HasSourceCause, Causes.HasSinkCause, Ends.fault_of, Lines.lines_of, Reads.first_reading};
-ghost use Rattle.hub_script.specs.{History.AreInGrammar, Made.stage_of, Scripts.PlaysScript, Scripts.ServesScript};
+ghost use Rattle.script_lines.specs.{Causes.HasSourceCause, Causes.HasSinkCause, Ends.fault_of, Lines.lines_of, Played.AreInGrammar, Reads.first_reading};
+ghost use Rattle.hub_script.specs.{HubGrammar.IsLine, Made.stage_of, Scripts.PlaysScript, Scripts.ServesScript};
 
 use crate::player::{HubPlayer, HubStop};
 use apei_bytes::{Sink, Source};
@@ -59,7 +59,7 @@ pub fn serve_script<I: Source, O: Sink>(
     ensures source { HasSourceCause (I.faults script.old) (I.faults script.new) (fault_of result.0) }
     ensures sink { HasSinkCause (O.faults out.old) (O.faults out.new) (fault_of result.0) }
     // A script whose lines are all in the grammar and within the lengths is read to its end, want of memory aside.
-    ensures done { I.tells → AreInGrammar (lines_of 0 (I.rest script.old)) → (Rose (I.faults script.old) (I.faults script.new) → ⊥)
+    ensures done { I.tells → AreInGrammar IsLine (lines_of 0 (I.rest script.old)) → (Rose (I.faults script.old) (I.faults script.new) → ⊥)
         → (Rose (O.faults out.old) (O.faults out.new) → ⊥) → (result.0 ≡ ScriptEnd.Done) ⊎ (result.0 ≡ ScriptEnd.Memory) }
 {
     let Ok(mut lines) = LineReader::new(alloc) else {

@@ -1,4 +1,4 @@
-use Rattle.apei_check.proofs.GrammarLemmas.{is_done}
+use Rattle.apei_check.proofs.RunLemmas.{is_done}
 use Rattle.apei_check.proofs.check.check_script.Goals as goal
 
 pub returns-clause-done : goal.returns-clause-done
