@@ -17,7 +17,6 @@ use Rattle.erst_machine.specs.Shown.{changes_of}
 use Rattle.apei_script.specs.History.{Played, Follows, AreCounted, blocks_of, reply_of, text_of, heard_after}
 use Rattle.script_lines.specs.Ends.{IsBadFrom, EndsReading}
 use Rattle.script_lines.specs.declared.ending.ScriptEnd.{ScriptEnd}
-use Rattle.script_lines.specs.declared.ending.ScriptEnd.TheVariants as ending
 use Rattle.script_lines.specs.Lines.{Line, Reading, IsNextLine}
 use Rattle.script_lines.specs.Played.{IsLineOf, ArePlayed, StopsAt, PlaysByFault}
 use Rattle.script_lines.specs.Reads.{HasRead, AreReadInOrder, last_line}
@@ -25,7 +24,7 @@ use Rattle.script_lines.proofs.PlayedLemmas.{ArePlayed-push, is_bad, stops_at, e
 use Rattle.apei_cli.specs.Statuses.{GivesTable, FailsInRestart, IsUnheard, EndsLines, LeavesLast, status_of}
 use Rattle.apei_cli.specs.Runs.{PlaysScript}
 use Rattle.apei_cli.specs.declared.status.Status.{Status}
-use Rattle.apei_cli.specs.declared.status.Status.TheVariants.{Done, BadLine, SourceFault, SinkFault, FlashFault, TooLong, Memory}
+use Rattle.apei_cli.specs.declared.status.Status.TheVariants.{BadLine, SinkFault, FlashFault, Memory}
 use Rattle.apei_notify.proofs.ToldLemmas.{told_none, told_then}
 use Rattle.apei_cli.proofs.EndLemmas.{has_status}
 use Rattle.apei_cli.proofs.ToldLemmas.{WantsOf, wants_first, wants_stay, heard_all}
@@ -269,7 +268,7 @@ module _ {L : Type 0} (hearing : L → Hearing) (told_source told_sink tells : T
   ends_memory script rest rest_now written middle now first members members_now old mid new a b line stop so_far next is stops why quiet said =
       let left : Stops tells mid line new NoMemory = subst (Stops tells mid line new) why stops in
       let at = stops_here (IsLineOf GivesTable) script rest rest_now written middle first members old mid a b b.number so_far next refl
-          (record { within = is.within; is = record { asked = line; means = is.is; brings_table = left.1 } }) in
+      (record { within = is.within; is = record { asked = line; means = is.is; brings_table = left.1 } }) in
       stopped script rest rest_now written middle now first members members_now old mid new a Memory so_far (record {
         lines = so_far.lines;
         ends = λ told. (b.number, at told);
