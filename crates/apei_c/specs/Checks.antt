@@ -25,13 +25,17 @@ item_part part = record { offset = part.at; length = part.len; body = part.body;
 abbrev pub HasFault : Item → List ℕ → Fault → Type 0
 HasFault item bytes fault = (error : ItemError) × IsFault item bytes error × (fault_of error (length bytes) ≡ Some fault)
 
+-- the decoder's error, which is no fault but want of memory
+abbrev pub LacksMemory : Item → List ℕ → Type 0
+LacksMemory item bytes = (error : ItemError) × IsFault item bytes error × (fault_of error (length bytes) ≡ None)
+
 -- the answer of a check: what is written in the places of the number of parts and of the fault
 abbrev pub ChecksItem : Option Item → List ℕ → (parts : ℕ) → ItemFault → Status → (parts_after : ℕ) → ItemFault → Type 0
 ChecksItem None bytes parts fault status parts_after fault_after = (status ≡ Bad) × (parts_after ≡ 0) × (fault_after ≡ no_item)
 ChecksItem (Some item) bytes parts fault status parts_after fault_after =
     ((status ≡ Done) × Counts (PartsOf item) bytes parts_after × (fault_after ≡ fault))
     ⊎ ((status ≡ Bad) × ((found : Fault) × HasFault item bytes found × (fault_after ≡ item_fault found)) × (parts_after ≡ 0))
-    ⊎ ((status ≡ Memory) × (parts_after ≡ parts) × (fault_after ≡ fault))
+    ⊎ ((status ≡ Memory) × LacksMemory item bytes × (parts_after ≡ parts) × (fault_after ≡ fault))
 
 -- an item that is well is found, but where a Hardware Error Source Table had no memory
 abbrev pub FindsItem : Option Item → List ℕ → Status → ℕ → Type 0
@@ -46,7 +50,7 @@ TellsPart (Some item) bytes index part status after =
     ((status ≡ Done) × ((found : Part) × Tells (PartsOf item) bytes index (Some found) × (after ≡ item_part found)))
     ⊎ ((status ≡ Nothing) × Tells (PartsOf item) bytes index None × (after ≡ part))
     ⊎ ((status ≡ Bad) × ((found : Fault) × HasFault item bytes found) × (after ≡ part))
-    ⊎ ((status ≡ Memory) × (after ≡ part))
+    ⊎ ((status ≡ Memory) × LacksMemory item bytes × (after ≡ part))
 
 abbrev pub IsPart : Option Part → Status → ItemPart → Type 0
 IsPart (Some found) status after = (status ≡ Done) × (after ≡ item_part found)

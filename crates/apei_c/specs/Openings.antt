@@ -11,10 +11,11 @@ use Rattle.apei_c.specs.declared.structs.MediumGeometry.{MediumGeometry}
 use Rattle.apei_c.specs.Statuses.{number_of, status_of_opening}
 use Rattle.apei_c.specs.Formats.{Divides, DividesNothing}
 
--- why a medium is not opened, by its status: want of memory, or the port's own reason
+-- why a medium is not opened, by its status: want of memory for a port that was, or the port's own reason
 abbrev pub RefusedOpening : List ℕ → Addresses → Status → Type 0
 RefusedOpening medium addresses status =
-    (status ≡ Memory) ⊎ ((error : OpenError) × RefusesOpening medium addresses error × (status ≡ status_of_opening error))
+    ((status ≡ Memory) × ((port : PortState) × OpenedOn medium addresses port))
+    ⊎ ((error : OpenError) × RefusesOpening medium addresses error × (status ≡ status_of_opening error))
 
 -- the same of a flash that is all of its medium
 abbrev pub MeansRaw : MediumGeometry → List ℕ → Addresses → PortState → Type 0
@@ -23,7 +24,7 @@ MeansRaw numbers flash addresses port = (geometry : Geometry) × Divides numbers
 abbrev pub RefusedRaw : MediumGeometry → List ℕ → Addresses → Status → Type 0
 RefusedRaw numbers flash addresses status =
     ((status ≡ BadGeometry) × DividesNothing numbers)
-    ⊎ (status ≡ Memory)
+    ⊎ ((status ≡ Memory) × ((port : PortState) × MeansRaw numbers flash addresses port))
     ⊎ ((geometry : Geometry) × (error : OpenError) × Divides numbers geometry × RefusesImage geometry flash addresses error × (status ≡ status_of_opening error))
 
 -- a handle that has a device keeps it; one without gets one, or stays without

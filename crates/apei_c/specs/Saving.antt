@@ -45,10 +45,11 @@ status_of_loading (loading.Size found wanted) = Unsaved
 abbrev pub LoadedOn : (medium saved : List ℕ) → PortState → Type 0
 LoadedOn medium saved port = LoadedBy (OpenedOn medium) saved port × AnswersAsSaved (drop port.origin medium) saved port
 
--- why there is none, by its status: want of memory, or the port's own reason
+-- why there is none, by its status: want of memory for one that was loaded, or the port's own reason
 abbrev pub RefusedLoad : (medium saved : List ℕ) → Status → Type 0
 RefusedLoad medium saved status =
-    (status ≡ Memory) ⊎ ((error : LoadError) × RefusesLoad (OpenedOn medium) (RefusesOpening medium) saved error × (status ≡ status_of_loading error))
+    ((status ≡ Memory) × ((port : PortState) × LoadedOn medium saved port))
+    ⊎ ((error : LoadError) × RefusesLoad (OpenedOn medium) (RefusesOpening medium) saved error × (status ≡ status_of_loading error))
 
 -- the same of a flash that is all of its medium
 abbrev pub LoadedRaw : MediumGeometry → (flash saved : List ℕ) → PortState → Type 0
@@ -58,7 +59,7 @@ LoadedRaw numbers flash saved port =
 abbrev pub RefusedLoadRaw : MediumGeometry → (flash saved : List ℕ) → Status → Type 0
 RefusedLoadRaw numbers flash saved status =
     ((status ≡ BadGeometry) × DividesNothing numbers)
-    ⊎ (status ≡ Memory)
+    ⊎ ((status ≡ Memory) × ((port : PortState) × LoadedRaw numbers flash saved port))
     ⊎ ((geometry : Geometry) × (error : LoadError) × Divides numbers geometry
     × RefusesLoad (OpenedAs 0 geometry flash) (RefusesImage geometry flash) saved error × (status ≡ status_of_loading error))
 

@@ -1,4 +1,4 @@
-use Rattle.std.proofs.Common.{sym, subst, inr}
+use Rattle.std.proofs.Common.{refl, sym, subst, inl, inr}
 use Rattle.erst_port.specs.declared.windows.Addresses.{Addresses}
 use Rattle.erst_port.specs.PortState.{PortState}
 use Rattle.erst_port.specs.Openings.{OpenedAs, RefusesImage}
@@ -15,3 +15,8 @@ pub returns-clause-refused : goal.returns-clause-refused
 returns-clause-refused c =
     let why = subst (λ (addresses : Addresses). RefusesImage c.in-Some.geometry c.args.flash.now addresses c.in-Err.error) c.addresses_of.ensures c.in-Err.ensures.refused in
     inr (inr (c.in-Some.geometry, c.in-Err.error, c.in-Some.ensures.some, why, c.of_opening.ensures))
+
+pub returns-in-Ok-clause-refused : goal.returns-in-Ok-clause-refused
+returns-in-Ok-clause-refused c =
+    let there = subst (λ (addresses : Addresses). OpenedAs 0 c.in-Some.geometry c.args.flash.now addresses c.in-Ok.port) c.addresses_of.ensures c.in-Ok.ensures.opened in
+    inr (inl (refl, (c.in-Ok.port, (c.in-Some.geometry, c.in-Some.ensures.some, there))))

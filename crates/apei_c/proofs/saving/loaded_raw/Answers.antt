@@ -1,4 +1,4 @@
-use Rattle.std.proofs.Common.{sym, subst, inr}
+use Rattle.std.proofs.Common.{refl, sym, subst, inl, inr}
 use Rattle.erst_port.specs.PortState.{PortState}
 use Rattle.apei_c.specs.Saving.{LoadedRaw}
 use Rattle.apei_c.proofs.saving.loaded_raw.Goals as goal
@@ -10,3 +10,7 @@ returns-in-Ok-new-clause-loaded c =
 
 pub returns-clause-refused : goal.returns-clause-refused
 returns-clause-refused c = inr (inr (c.in-Some.geometry, c.in-Err.error, c.in-Some.ensures.some, c.in-Err.ensures.refused, c.of_loading.ensures))
+
+pub returns-in-Ok-clause-refused : goal.returns-in-Ok-clause-refused
+returns-in-Ok-clause-refused c =
+    inr (inl (refl, (c.in-Ok.port, (c.in-Some.geometry, c.in-Some.ensures.some, c.in-Ok.ensures.loaded, c.in-Ok.ensures.alike))))
