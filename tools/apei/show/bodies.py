@@ -235,7 +235,7 @@ def sealed(table: bytes) -> bytes:
 
 
 def table_header(chance: Chance, signature: bytes) -> bytes:
-    names_of_maker = b"APEI  " + b"ORACLES " + chance.number(4) + b"TEST" + chance.number(4)
+    names_of_maker = b"APEI  " + b"EXAMPLE " + chance.number(4) + b"TEST" + chance.number(4)
     return signature + bytes(4) + spell(1 + chance.below(2), 1) + bytes(1) + names_of_maker
 
 
