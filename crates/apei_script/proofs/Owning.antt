@@ -1,5 +1,5 @@
 -- What attaching to the machine's own table answers.
-use Rattle.std.proofs.Common.{◌≡◌, ℕ, ◌≤◌, Result, Ok, Err, subst, arith}
+use Rattle.std.proofs.Common.{◌≡◌, ℕ, Result, Ok, Err, subst, arith}
 use Rattle.erst_entries.specs.Layout.{Erst}
 use Rattle.erst_client.specs.declared.errors.AttachError.{AttachError}
 use Rattle.erst_client.specs.Attaching.{Attaches}
@@ -10,13 +10,14 @@ use Rattle.erst_machine.specs.Allowed.{Allows}
 use Rattle.erst_machine.specs.OwnTables.{own_erst}
 use Rattle.erst_commands.specs.OwnPrograms.{with_value}
 use Rattle.erst_commands.specs.Attached.{own_client, AttachesOwn}
+use Rattle.erst_commands.specs.Theorems.{AttachingFindsItsClient}
 
-module _ (tells : Type 0) (law : (budget : ℕ) (first : MachineState) (result : Result ClientState AttachError) (left : ℕ) (last : MachineState) → 8 ≤ budget
-    → Attaches (Allows tells) own_erst budget first result left last → AttachesOwn budget first result left last) where
+module _ (tells : Type 0) (law : (first : MachineState) → AttachingFindsItsClient tells first) where
   pub attaches_own : (erst : Erst) (budget : ℕ) (first : MachineState) (result : Result ClientState AttachError) (left : ℕ) (last : MachineState) → erst ≡ own_erst → budget ≡ 64
       → Attaches (Allows tells) erst budget first result left last → AttachesOwn budget first result left last
   attaches_own erst budget first result left last is given attaches =
-      law budget first result left last (omega arith) (subst (λ (e : Erst). Attaches (Allows tells) e budget first result left last) is attaches)
+      law first (record { budget = budget; answer = result; left = left; last = last }) (omega arith)
+      (subst (λ (e : Erst). Attaches (Allows tells) e budget first result left last) is attaches)
 
   pub never_fails : (erst : Erst) (budget : ℕ) (first : MachineState) (why : AttachError) (left : ℕ) (last : MachineState) → erst ≡ own_erst → budget ≡ 64
       → Attaches (Allows tells) erst budget first (Err why) left last → ⊥

@@ -1,5 +1,5 @@
 -- What attaching to the machine's second table answers.
-use Rattle.std.proofs.Common.{◌≡◌, ℕ, ◌≤◌, Result, Ok, subst, arith}
+use Rattle.std.proofs.Common.{◌≡◌, ℕ, Result, Ok, subst, arith}
 use Rattle.apei_space.specs.Accesses.{Reaches}
 use Rattle.erst_entries.specs.Layout.{Erst}
 use Rattle.erst_client.specs.declared.errors.AttachError.{AttachError}
@@ -9,6 +9,7 @@ use Rattle.erst_machine.specs.MachineState.{MachineState, IsMachine}
 use Rattle.erst_machine.specs.Allowed.{Allows}
 use Rattle.erst_shadow.specs.ShadowTables.{shadow_erst}
 use Rattle.erst_shadow.specs.ShadowCommands.{pieces_in, shadow_client, AttachesShadow}
+use Rattle.erst_shadow.specs.ShadowTheorems.{AttachingFindsShadowClient}
 use Rattle.apei_script.specs.Tables.{ATTACH_STEPS, GivesShadow}
 
 -- the client, and what attaching it left
@@ -16,14 +17,13 @@ pub record IsShadowGiven (tells : Type 0) (old new : MachineState) (client : Cli
   pub client_is : client ≡ shadow_client old
   pub gives : GivesShadow tells old new
 
-module _ (tells : Type 0) (law : (budget : ℕ) (first : MachineState) (result : Result ClientState AttachError) (left : ℕ) (last : MachineState) → IsMachine first → 8 ≤ budget
-    → Attaches (Allows tells) (shadow_erst (pieces_in first)) budget first result left last → AttachesShadow budget first result left last) where
+module _ (tells : Type 0) (law : (first : MachineState) → IsMachine first → AttachingFindsShadowClient tells first) where
   attaches_it : (erst : Erst) (budget : ℕ) (first : MachineState) (result : Result ClientState AttachError) (left : ℕ) (last : MachineState) → IsMachine first → erst ≡ shadow_erst (pieces_in first)
       → budget ≡ ATTACH_STEPS → Attaches (Allows tells) erst budget first result left last
       → Attaches (Allows tells) (shadow_erst (pieces_in first)) ATTACH_STEPS first result left last × AttachesShadow ATTACH_STEPS first result left last
   attaches_it erst budget first result left last machine is given attaches =
       let attaches_so = subst (λ (e : Erst). Attaches (Allows tells) e ATTACH_STEPS first result left last) is (subst (λ (n : ℕ). Attaches (Allows tells) erst n first result left last) given attaches) in
-      (attaches_so, law ATTACH_STEPS first result left last machine (omega arith) attaches_so)
+      (attaches_so, law first machine (record { budget = ATTACH_STEPS; answer = result; left = left; last = last }) (omega arith) attaches_so)
 
   pub is_given : (erst : Erst) (budget : ℕ) (first : MachineState) (client : ClientState) (left : ℕ) (last : MachineState) → IsMachine first → erst ≡ shadow_erst (pieces_in first) → budget ≡ ATTACH_STEPS
       → Attaches (Allows tells) erst budget first (Ok client) left last → Reaches (Allows tells) first last → IsShadowGiven tells first last client

@@ -3,3 +3,5 @@ pub mod Shown
 pub mod InStep
 pub mod Sums
 pub mod Prefixes
+pub mod BridgedRuns
+pub mod BridgeTheorems

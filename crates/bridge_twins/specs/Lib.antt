@@ -1,1 +1,2 @@
 pub mod AlikeSteps
+pub mod BridgedAlike

@@ -21,3 +21,4 @@ pub mod PutLemmas
 pub mod CallCauses
 pub mod BusyLemmas
 pub mod ThroughLemmas
+pub mod OperationLemmas

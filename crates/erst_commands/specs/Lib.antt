@@ -5,3 +5,7 @@ pub mod Changes
 pub mod Writes
 pub mod Reads
 pub mod Causes
+pub mod Operations
+pub mod Runs
+pub mod AsTheMap
+pub mod Theorems

@@ -10,3 +10,4 @@ pub mod CrashLemmas
 pub mod NeedLemmas
 pub mod EnoughLemmas
 pub mod CauseLemmas
+pub mod OperationLemmas

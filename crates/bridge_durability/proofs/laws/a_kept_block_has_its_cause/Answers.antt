@@ -2,22 +2,22 @@ use Rattle.bridge_durability.proofs.CauseLemmas.{too_long, never_too_long, kept_
 use Rattle.bridge_durability.proofs.laws.a_kept_block_has_its_cause.Goals as goal
 
 pub returns-clause-too_long : goal.returns-clause-too_long
-returns-clause-too_long g c = too_long g.F.Flash.tells
+returns-clause-too_long g c = λ turn. too_long g.F.Flash.tells turn.client turn.budget turn.old turn.bridge turn.event turn.next turn.left turn.new
 
 pub returns-clause-fits : goal.returns-clause-fits
-returns-clause-fits g c = λ told client budget old bridge event next left new turn own machine.
-    never_too_long g.F.Flash.tells client budget old bridge event next left new turn c.own_programs_run_through.ensures own told machine
+returns-clause-fits g c = λ told turn by made.
+    never_too_long g.F.Flash.tells turn.client turn.budget turn.old turn.bridge turn.event turn.next turn.left turn.new made c.own_programs_run_through.ensures by.own told by.machine
 
 pub returns-clause-hardware : goal.returns-clause-hardware
-returns-clause-hardware g c = λ client budget old bridge event next left new turn own.
-    kept_hardware g.F.Flash.tells client budget old bridge event next left new turn c.own_programs_run_through.ensures own
+returns-clause-hardware g c = λ turn made own.
+    kept_hardware g.F.Flash.tells turn.client turn.budget turn.old turn.bridge turn.event turn.next turn.left turn.new made c.own_programs_run_through.ensures own
 
 pub returns-clause-enough : goal.returns-clause-enough
-returns-clause-enough g c = λ client budget old bridge event next left new turn own.
-    kept_through g.F.Flash.tells client budget old bridge event next left new turn c.own_programs_run_through.ensures own
+returns-clause-enough g c = λ turn by made.
+    kept_through g.F.Flash.tells turn.client turn.budget turn.old turn.bridge turn.event turn.next turn.left turn.new made c.own_programs_run_through.ensures by.own by.machine
 
 pub returns-clause-out : goal.returns-clause-out
-returns-clause-out g c = out_is g.F.Flash.tells
+returns-clause-out g c = λ turn. out_is g.F.Flash.tells turn.client turn.budget turn.old turn.bridge turn.event turn.next turn.left turn.new
 
 pub returns-clause-last : goal.returns-clause-last
-returns-clause-last g c = is_out g.F.Flash.tells
+returns-clause-last g c = λ turn. is_out g.F.Flash.tells turn.client turn.budget turn.old turn.bridge turn.event turn.next turn.left turn.new

@@ -1,15 +1,20 @@
-use Rattle.std.proofs.Common.{◌+◌, arith}
-use Rattle.erst_bridge.specs.Bridges.{Releases}
+use Rattle.std.proofs.Common.{◌+◌, subst, sym, arith}
+use Rattle.erst_bridge.specs.declared.events.BridgeEvent.{BridgeEvent}
+use Rattle.bridge_durability.specs.Turns.{BridgesMachine}
 use Rattle.bridge_durability.proofs.CoverLemmas.{turns_covered}
-use Rattle.bridge_durability.proofs.ShownLemmas.{stored_stays, crash_stays}
+use Rattle.bridge_durability.proofs.ShownLemmas.{IsBeyond, stored_stays, crash_stays}
 use Rattle.bridge_durability.proofs.laws.a_stored_block_stays.Goals as goal
 
 pub returns-clause-stored : goal.returns-clause-stored
-returns-clause-stored g c = λ told client budget. stored_stays g.F.Flash.tells client budget c.own_programs_run_through.ensures told
+returns-clause-stored g c = λ told turn by made id is steps end last.
+    stored_stays g.F.Flash.tells turn.client turn.budget c.own_programs_run_through.ensures told turn.old by.own by.machine turn.bridge id turn.next turn.left turn.new
+    (subst (λ (event : BridgeEvent). BridgesMachine g.F.Flash.tells turn.client turn.budget turn.old turn.bridge event turn.next turn.left turn.new) is made) steps end last
 
 pub returns-clause-covered : goal.returns-clause-covered
-returns-clause-covered g c = λ told client budget. turns_covered g.F.Flash.tells c.own_programs_run_through.ensures told client budget
+returns-clause-covered g c = λ told run by are m.
+    turns_covered g.F.Flash.tells c.own_programs_run_through.ensures told run.client run.budget run.bridge run.first run.steps run.next run.last m by.own by.machine are
 
 pub returns-clause-stays : goal.returns-clause-stays
-returns-clause-stays g c = λ told client budget first id bytes steps next last own machine there are.
-    crash_stays g.F.Flash.tells client budget c.own_programs_run_through.ensures told (Releases (id + 1)) first steps next last id bytes own machine are (omega arith) there
+returns-clause-stays g c = λ told run by are id bytes is there.
+    crash_stays g.F.Flash.tells run.client run.budget c.own_programs_run_through.ensures told run.bridge run.first run.steps run.next run.last id bytes by.own by.machine are
+    (subst (IsBeyond id) (sym is) (omega arith)) there

@@ -3,7 +3,7 @@ use Rattle.bridge_durability.proofs.SumLemmas.{turns_balance}
 use Rattle.bridge_durability.proofs.laws.what_is_acknowledged_was_stored.Goals as goal
 
 pub returns-clause-order : goal.returns-clause-order
-returns-clause-order g c = turns_in_step g.F.Flash.tells
+returns-clause-order g c = λ run are m. turns_in_step g.F.Flash.tells run.client run.budget run.bridge run.first run.steps run.next run.last m are
 
 pub returns-clause-sums : goal.returns-clause-sums
-returns-clause-sums g c = turns_balance g.F.Flash.tells
+returns-clause-sums g c = λ run are. turns_balance g.F.Flash.tells run.client run.budget run.bridge run.first run.steps run.next run.last are

@@ -3,5 +3,6 @@ use Rattle.erst_shadow.proofs.ProgramLemmas.{own_next}
 use Rattle.erst_shadow.proofs.laws.a_next_is_the_maps.Goals as goal
 
 pub returns : goal.returns
-returns g c = λ told pieces budget first result left last names.
-    next_command g.F.Flash.tells c.own_programs_run_through.ensures told budget first result left last (own_next g.F.Flash.tells pieces budget first result left last names)
+returns g c = λ told pieces first run names.
+    next_command g.F.Flash.tells c.own_programs_run_through.ensures told run.budget first run.answer run.left run.last
+    (own_next g.F.Flash.tells pieces run.budget first run.answer run.left run.last names)

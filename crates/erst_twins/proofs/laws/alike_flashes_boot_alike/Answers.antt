@@ -6,4 +6,4 @@ pub returns-clause-machines : goal.returns-clause-machines
 returns-clause-machines c = boots_alike
 
 pub returns-clause-flashes : goal.returns-clause-flashes
-returns-clause-flashes c = boots_from_alike
+returns-clause-flashes c = λ geometry first second one other same. boots_from_alike geometry first second one other same.records same.steps same.copies
