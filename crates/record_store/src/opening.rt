@@ -5,6 +5,7 @@ ghost use Rattle.flash_words.specs.Layout.{reach_of};
 ghost use Rattle.flash_model.specs.Layouts.{layout_of};
 ghost use Rattle.record_slots.specs.Slots.{Fits};
 ghost use Rattle.record_recovery.specs.Answers.{IsOneFault};
+ghost use Rattle.record_recovery.specs.Recovered.{KillsBelow};
 ghost use Rattle.record_store.specs.Answers.{OpensOn};
 ghost use Rattle.record_store.specs.Index.{IsListing};
 ghost use Rattle.record_store.specs.Kept.{KnowsSlots};
@@ -31,6 +32,7 @@ pub fn open<F: Flash>(
         ≡ (F.state flash.old).steps + second_copies geometry.now.slot_size geometry.now.slots (F.state flash.old).told.image) }
     ensures at_most { F.tells → (F.state flash.new).steps
         ≤ (F.state flash.old).steps + second_copies geometry.now.slot_size geometry.now.slots (F.state flash.old).told.image }
+    ensures order { F.tells → KillsBelow geometry.now.slot_size (F.state flash.old).told geometry.now.slots (F.state flash.new).told }
     ensures reads { OnOk result ((F.state flash.new).reads ≡ raised (2 * geometry.now.slots) (F.state flash.old).reads) }
     ensures power { LosesOnlyByChange (F.state flash.old) (F.state flash.new) }
     ensures lit { StaysLit (F.state flash.old) (F.state flash.new) }

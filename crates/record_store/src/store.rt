@@ -8,6 +8,7 @@ ghost use Rattle.record_model.specs.Records.{second_copies, parts_of};
 ghost use Rattle.record_model.specs.RecordMap.{Write, Clear, Read, IsNextAbove};
 ghost use Rattle.record_slots.specs.Slots.{Fits};
 ghost use Rattle.record_recovery.specs.Answers.{IsOneFault};
+ghost use Rattle.record_recovery.specs.Recovered.{KillsBelow};
 ghost use Rattle.record_store.specs.Store.{Idle, Clearing, stored, free_in, slots_for, map_after, IsBusy, IsWriteOf, IsSettled, IsReady, IsOpened, IsFlashOf, StandsIn, PlacedAfter, DividesAlike, KeepsMap, KeepsOrMakes, KeepsRecordsOf, abandoned, doubted, restarted};
 ghost use Rattle.record_store.specs.Finish.{IsUnfinished, IsFinished};
 ghost use Rattle.record_store.specs.Answers.{HasFaultsOf, EndsAtFault, StartsWrite, StartsClear, IsStep, HasStepped, AnswersWrite, AnswersClear, AnswersRead, AnswersLength, FailsByFlash, RefusesFlash, ReadsExactly, StartsByItself, AnswersByItself, HasLooked, TakesReads, copies_in, copies_pending};
@@ -70,6 +71,9 @@ impl<F: Flash> Store<F> {
             ≡ (F.state flash).steps + second_copies geometry.slot_size geometry.slots (F.state flash).told.image) }
         ensures at_most { IfErr result (λ refused. F.tells → (F.state refused.flash).steps
             ≤ (F.state flash).steps + second_copies geometry.slot_size geometry.slots (F.state flash).told.image) }
+
+        // Each is of one byte, in a slot of its own.
+        ensures order { IfOk result (λ store. F.tells → KillsBelow geometry.slot_size (F.state flash).told geometry.slots store.flash.told) }
 
         // Power lost at any step on the way leaves the records of the flash.
         ensures kept { IfOk result (λ store. F.tells → KeepsRecordsOf geometry (F.state flash) store.flash) }
