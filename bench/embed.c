@@ -1,12 +1,14 @@
 /*
- * Times the device from C, beside a plain table of records that promises nothing.
+ * Times the device from C, beside two plain tables of records that promise nothing: one on the same flash, and one in memory.
  *
  *     ./libapei --out=lib && cc -O2 -Ilib bench/embed.c -Llib -lapei -o embed && ./embed
  *
  * It writes nanoseconds, the least of 21 runs of each: a read of VALUE, a write of it, a write of 8 bytes of the log range, an
  * action that makes no change, and a record of 400 bytes that is put into the log range and written, its changes made on a
- * medium in memory: by numbers of 8 bytes, as a guest does, and by one call, as a firmware can. The plain table takes the same
- * record by the same accesses, and copies it into a slot of its identifier.
+ * medium in memory: by numbers of 8 bytes, as a guest does, and by one call, as a firmware can. Both plain tables take the same
+ * record by the same accesses. The one on flash erases the sectors of its identifier's slot, as NOR flash asks, and programs a
+ * header and the record; the one in memory copies the record into a slot. Device and tables run in turn. A second part has
+ * slots of small sectors.
  */
 #define _POSIX_C_SOURCE 199309L
 
@@ -19,7 +21,10 @@
 
 enum { RUNS = 21, ACCESSES = 1000000, RECORDS = 20000, LENGTH = 400, SLOTS = 64, IDENTIFIERS = 32 };
 
-static const apei_geometry geometry = {.sector = 4096, .sectors_per_slot = 2, .slots = SLOTS};
+static const apei_geometry geometries[] = {
+    {.sector = 4096, .sectors_per_slot = 2, .slots = SLOTS},
+    {.sector = 256, .sectors_per_slot = 2, .slots = SLOTS},
+};
 static const apei_addresses addresses = {.registers = 0xFED40000, .range = 0xFED50000};
 
 static uint8_t *medium;
@@ -125,29 +130,62 @@ static void records_at_once(void)
     device_records(put_at_once);
 }
 
-/* The plain device: registers, a log range, and a slot for each identifier. */
+/* The plain device: registers and a log range, over a table of records. */
 static struct {
     uint64_t value;
     uint8_t range[65536];
+    void (*store)(uint64_t identifier, uint32_t length);
+} plain;
+
+/* A table in memory: a slot for each identifier. */
+static struct {
+    uint64_t identifier;
+    uint32_t length;
+    uint8_t bytes[8128];
+} slots[SLOTS];
+
+static void store_in_memory(uint64_t identifier, uint32_t length)
+{
+    int at = 0;
+    while (at < SLOTS - 1 && slots[at].identifier != 0 && slots[at].identifier != identifier)
+        at++;
+    slots[at].identifier = identifier;
+    slots[at].length = length;
+    memcpy(slots[at].bytes, plain.range, length);
+}
+
+/* A table on flash: a slot for each identifier, which is erased and then programmed. Which identifier stands where is kept in
+ * memory. Power lost before the end loses the record, and the one that it replaces. */
+static struct {
+    uint64_t identifiers[SLOTS];
+    uint64_t slot_size;
+    uint8_t *bytes;
+} on_flash;
+
+static void store_on_flash(uint64_t identifier, uint32_t length)
+{
     struct {
         uint64_t identifier;
-        uint32_t length;
-        uint8_t bytes[8128];
-    } slots[SLOTS];
-} plain;
+        uint64_t length;
+    } header = {identifier, length};
+    uint8_t *slot;
+    int at = 0;
+    while (at < SLOTS - 1 && on_flash.identifiers[at] != 0 && on_flash.identifiers[at] != identifier)
+        at++;
+    on_flash.identifiers[at] = identifier;
+    slot = on_flash.bytes + (uint64_t)at * on_flash.slot_size;
+    memset(slot, 0xFF, on_flash.slot_size);
+    memcpy(slot, &header, sizeof header);
+    memcpy(slot + sizeof header, plain.range, length);
+}
 
 static void plain_store(void)
 {
     uint64_t identifier;
     uint32_t length;
-    int at = 0;
     memcpy(&identifier, plain.range + 96, 8);
     memcpy(&length, plain.range + 20, 4);
-    while (at < SLOTS - 1 && plain.slots[at].identifier != 0 && plain.slots[at].identifier != identifier)
-        at++;
-    plain.slots[at].identifier = identifier;
-    plain.slots[at].length = length;
-    memcpy(plain.slots[at].bytes, plain.range, length);
+    plain.store(identifier, length);
 }
 
 static __attribute__((noinline)) void plain_write(int window, uint64_t offset, uint64_t value)
@@ -184,8 +222,9 @@ static void plain_put_at_once(void)
     memcpy(plain.range, record, LENGTH);
 }
 
-static inline void plain_records(void (*put)(void))
+static inline void plain_records(void (*put)(void), void (*store)(uint64_t, uint32_t))
 {
+    plain.store = store;
     for (int i = 0; i < RECORDS; i++) {
         record[12] = 1 + (uint64_t)(i % IDENTIFIERS);
         plain_act(0x0);
@@ -198,54 +237,101 @@ static inline void plain_records(void (*put)(void))
     }
 }
 
-static void plain_by_numbers(void)
+static void flash_by_numbers(void)
 {
-    plain_records(plain_put_by_numbers);
+    plain_records(plain_put_by_numbers, store_on_flash);
 }
 
-static void plain_at_once(void)
+static void flash_at_once(void)
 {
-    plain_records(plain_put_at_once);
+    plain_records(plain_put_at_once, store_on_flash);
 }
 
-static void show(const char *what, void (*job)(void), int count)
+static void memory_by_numbers(void)
 {
-    double least = 0;
-    for (int run = 0; run < RUNS; run++) {
-        double start = now(), took;
-        job();
-        took = (now() - start) / count;
-        if (run == 0 || took < least)
-            least = took;
-    }
-    printf("%-46s %9.1f ns\n", what, least);
+    plain_records(plain_put_by_numbers, store_in_memory);
 }
 
-int main(void)
+static void memory_at_once(void)
+{
+    plain_records(plain_put_at_once, store_in_memory);
+}
+
+/* The least time of each of up to three jobs, which run in turn. */
+static void measure(void (*const *jobs)(void), int count, double *least)
+{
+    for (int run = 0; run < RUNS; run++)
+        for (int job = 0; job < 3 && jobs[job] != NULL; job++) {
+            double start = now(), took;
+            jobs[job]();
+            took = (now() - start) / count;
+            if (run == 0 || took < least[job])
+                least[job] = took;
+        }
+}
+
+static void show(const char *what, void (*job)(void))
+{
+    void (*const jobs[3])(void) = {job};
+    double least[3];
+    measure(jobs, ACCESSES, least);
+    printf("%-54s %9.1f ns\n", what, least[0]);
+}
+
+static void compare(const char *what, void (*device)(void), void (*flash)(void), void (*memory)(void))
+{
+    void (*const jobs[3])(void) = {device, flash, memory};
+    double least[3];
+    measure(jobs, RECORDS, least);
+    printf("%-54s %9.1f ns\n", what, least[0]);
+    printf("%-54s %9.1f ns, the device takes %4.1f times that\n", "  in a plain table on the same flash", least[1], least[0] / least[1]);
+    printf("%-54s %9.1f ns, the device takes %4.1f times that\n", "  in a plain table in memory", least[2], least[0] / least[2]);
+}
+
+/* A medium of the geometry with a device, and a flash of the same size for the plain table. */
+static int begin(const apei_geometry *geometry)
 {
     uint64_t size = 0;
     apei_change change;
     uint8_t bytes[APEI_PROGRAM_MAX];
-    apei_medium_size(&geometry, &size);
+    apei_medium_size(geometry, &size);
     medium = malloc(size);
-    if (medium == NULL)
-        return 1;
-    for (uint64_t step = 0; apei_format_change(&geometry, step, &change, bytes) == APEI_OK; step++)
+    memset(&on_flash, 0, sizeof on_flash);
+    on_flash.slot_size = (uint64_t)geometry->sector * geometry->sectors_per_slot;
+    on_flash.bytes = malloc(SLOTS * on_flash.slot_size);
+    if (medium == NULL || on_flash.bytes == NULL)
+        return 0;
+    for (uint64_t step = 0; apei_format_change(geometry, step, &change, bytes) == APEI_OK; step++)
         make(&change, bytes);
-    if (apei_erst_open(&erst, medium, size, &addresses) != APEI_OK)
-        return 1;
+    return apei_erst_open(&erst, medium, size, &addresses) == APEI_OK;
+}
+
+static void end(void)
+{
+    apei_erst_close(&erst);
+    free(medium);
+    free(on_flash.bytes);
+}
+
+int main(void)
+{
     memcpy(record, "CPER\x01\x01\xFF\xFF\xFF\xFF", 10);
     ((uint8_t *)record)[20] = LENGTH % 256;
     ((uint8_t *)record)[21] = LENGTH / 256;
-    show("a read of VALUE", reads, ACCESSES);
-    show("a write of VALUE", writes, ACCESSES);
-    show("a write of 8 bytes of the log range", range_writes, ACCESSES);
-    show("an action that makes no change", actions, ACCESSES);
-    show("a record of 400 bytes, by numbers of 8 bytes", records_by_numbers, RECORDS);
-    show("the same in a plain table of records", plain_by_numbers, RECORDS);
-    show("a record of 400 bytes, put by one call", records_at_once, RECORDS);
-    show("the same in a plain table of records", plain_at_once, RECORDS);
-    apei_erst_close(&erst);
-    free(medium);
+    for (size_t at = 0; at < sizeof geometries / sizeof *geometries; at++) {
+        const apei_geometry *geometry = &geometries[at];
+        if (!begin(geometry))
+            return 1;
+        printf("slots of %u sectors of %u bytes\n", (unsigned)geometry->sectors_per_slot, (unsigned)geometry->sector);
+        if (at == 0) {
+            show("a read of VALUE", reads);
+            show("a write of VALUE", writes);
+            show("a write of 8 bytes of the log range", range_writes);
+            show("an action that makes no change", actions);
+        }
+        compare("a record of 400 bytes, by numbers of 8 bytes", records_by_numbers, flash_by_numbers, memory_by_numbers);
+        compare("a record of 400 bytes, put by one call", records_at_once, flash_at_once, memory_at_once);
+        end();
+    }
     return 0;
 }

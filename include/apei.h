@@ -115,12 +115,12 @@ enum apei_window {
 
 /* Opens the device of a formatted medium. `medium` has all its bytes; they are copied. A few changes may be due behind it
  * (records that a loss of power had left twice). APEI_OPEN, APEI_FOREIGN, APEI_VERSION, APEI_SIZE, APEI_ADDRESSES,
- * APEI_MEMORY, APEI_FLASH. */
+ * APEI_MEMORY. */
 static inline enum apei_status apei_erst_open(apei_erst *erst, const uint8_t *medium, size_t size,
                                               const apei_addresses *addresses);
 
 /* The same over a flash that has no sector to spare: the caller says the geometry, and nothing says that it is the right
- * one. APEI_OPEN, APEI_GEOMETRY, APEI_SIZE, APEI_ADDRESSES, APEI_MEMORY, APEI_FLASH. */
+ * one. APEI_OPEN, APEI_GEOMETRY, APEI_SIZE, APEI_ADDRESSES, APEI_MEMORY. */
 static inline enum apei_status apei_erst_open_raw(apei_erst *erst, const uint8_t *flash, size_t size,
                                                   const apei_geometry *geometry, const apei_addresses *addresses);
 
@@ -179,12 +179,12 @@ static inline enum apei_status apei_erst_save(apei_erst *erst, uint8_t *bytes, s
 
 /* Opens the device of a medium, as apei_erst_open does, and goes on where a saved one stopped: its addresses, registers and
  * log range are those of `saved`. The medium has to hold what the saved one's held. APEI_OPEN, APEI_UNSAVED,
- * APEI_SAVED_VERSION, APEI_SAVED_FLASH, APEI_FOREIGN, APEI_VERSION, APEI_SIZE, APEI_ADDRESSES, APEI_MEMORY, APEI_FLASH. */
+ * APEI_SAVED_VERSION, APEI_SAVED_FLASH, APEI_FOREIGN, APEI_VERSION, APEI_SIZE, APEI_ADDRESSES, APEI_MEMORY. */
 static inline enum apei_status apei_erst_load(apei_erst *erst, const uint8_t *medium, size_t size, const uint8_t *saved,
                                               size_t saved_size);
 
 /* The same over a flash that has no sector to spare. APEI_OPEN, APEI_UNSAVED, APEI_SAVED_VERSION, APEI_SAVED_FLASH,
- * APEI_GEOMETRY, APEI_SIZE, APEI_ADDRESSES, APEI_MEMORY, APEI_FLASH. */
+ * APEI_GEOMETRY, APEI_SIZE, APEI_ADDRESSES, APEI_MEMORY. */
 static inline enum apei_status apei_erst_load_raw(apei_erst *erst, const uint8_t *flash, size_t size,
                                                   const apei_geometry *geometry, const uint8_t *saved, size_t saved_size);
 

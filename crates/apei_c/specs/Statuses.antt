@@ -3,7 +3,7 @@ use Rattle.std.specs.Prelude.{ℕ, Result, Ok, Err}
 use Rattle.erst_port.specs.declared.errors.PortError.{PortError}
 use Rattle.erst_port.specs.declared.errors.PortError.TheVariants.{BadAccess, Due as AccessDue, Flash as AccessFlash}
 use Rattle.erst_port.specs.declared.errors.OpenError.{OpenError}
-use Rattle.erst_port.specs.declared.errors.OpenError.TheVariants.{Foreign as IsForeign, Version as OtherVersion, Size as OtherSize, Addresses as BadAddresses, Memory as NoMemory, Flash as FlashFailed}
+use Rattle.erst_port.specs.declared.errors.OpenError.TheVariants.{Foreign as IsForeign, Version as OtherVersion, Size as OtherSize, Addresses as BadAddresses, Memory as NoMemory}
 use Rattle.apei_c.specs.declared.status.Status.{Status}
 use Rattle.apei_c.specs.declared.status.Status.TheVariants.{Done, Closed, Open, Window, Access, Due, Nothing, Short, Busy, Flash, Memory, Geometry, Foreign, Version, Size, Addresses, Bad, Unsaved, SavedVersion, SavedFlash}
 
@@ -44,4 +44,3 @@ status_of_opening (OtherVersion found) = Version
 status_of_opening (OtherSize found wanted) = Size
 status_of_opening BadAddresses = Addresses
 status_of_opening NoMemory = Memory
-status_of_opening FlashFailed = Flash

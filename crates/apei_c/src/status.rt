@@ -62,7 +62,6 @@ impl Status {
             } => Status::Size,
             OpenError::Addresses => Status::Addresses,
             OpenError::Memory => Status::Memory,
-            OpenError::Flash => Status::Flash,
         }
     }
 }

@@ -4,3 +4,4 @@ pub mod TableLemmas
 pub mod OpenLemmas
 pub mod SavedLemmas
 pub mod LoadLemmas
+pub mod LogLemmas

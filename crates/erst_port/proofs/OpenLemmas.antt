@@ -1,5 +1,5 @@
 -- The opening of a medium, from that of the flash on it.
-use Rattle.std.proofs.Common.{◌≡◌, ◌∙◌, ℕ, ◌-◌, ◌<◌, ◌≤◌, true, List, length, take, drop, Result, Ok, Err, sym, ap, subst, arith}
+use Rattle.std.proofs.Common.{◌≡◌, ◌∙◌, ℕ, ◌-◌, ◌≤◌, true, List, length, take, drop, Result, Ok, Err, sym, ap, subst, arith}
 use Rattle.std.proofs.lemmas.List.{length-replicate, take_rest}
 use Rattle.base_model.specs.Bytes.{zeros}
 use Rattle.flash_words.specs.Layout.{Layout, room_of, reach_of}
@@ -36,7 +36,7 @@ module _ (medium : List ℕ) (addresses : Addresses) (geometry : Geometry) (is :
 -- what was opened is a port
 pub is_port : (geometry : Geometry) (device : DeviceState) (range table : List ℕ) (addresses : Addresses) (origin size reach : ℕ) → IsOpened geometry device.store
     → size ≡ reach_of (geometry.slot_size - 64) → reach ≡ reach_of (geometry.slot_size - 64) → range ≡ zeros reach → length table ≡ table_size → table ≡ spelling (port_erst addresses.registers) → are_apart size addresses ≡ true → origin ≤ 32768
-    → (1 < device.store.flash.steps → IsLogged device.store.flash) → IsPort (state_of device range table addresses origin 0)
+    → IsLogged device.store.flash → IsPort (state_of device range table addresses origin 0)
 is_port geometry device range table addresses origin size reach opened size_is reach_is range_is long tells apart near known =
     let range_size : length range ≡ reach_of (geometry.slot_size - 64) = ap (λ (xs : List ℕ). length xs) range_is ∙ length-replicate reach 0 ∙ reach_is in
     record {
@@ -46,5 +46,5 @@ is_port geometry device range table addresses origin size reach opened size_is r
       apart = subst (λ (n : ℕ). are_apart n addresses ≡ true) (size_is ∙ sym range_size) apart;
       origin = near;
       behind = omega arith;
-      known = known;
+      known = λ _. known;
     }

@@ -117,7 +117,7 @@ pub record LoadedBy (Opens : Addresses → PortState → Type 0) (saved : List �
   pub is_opened : Opens (addresses_in saved) opened
   pub resumes : Resumes saved opened new
 
--- why it is not: exactly one reason applies, but for want of memory and a flash that fails
+-- why it is not: exactly one reason applies, but for want of memory
 abbrev pub RefusesLoad : (Addresses → PortState → Type 0) → (Addresses → OpenError → Type 0) → List ℕ → LoadError → Type 0
 RefusesLoad Opens Refuses saved errors.Foreign = RefusesState saved errors.Foreign
 RefusesLoad Opens Refuses saved (errors.Version found) = RefusesState saved (errors.Version found)

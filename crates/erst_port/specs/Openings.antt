@@ -44,14 +44,13 @@ abbrev pub OpenedOn : List ℕ → Addresses → PortState → Type 0
 OpenedOn medium addresses port =
     (geometry : Geometry) × IsMedium geometry medium × OpenedAs geometry.sector geometry (drop geometry.sector medium) addresses port
 
--- why a flash is not opened: exactly one reason applies, but for want of memory and a flash that fails
+-- why a flash is not opened: exactly one reason applies, but for want of memory
 abbrev pub RefusesImage : Geometry → List ℕ → Addresses → OpenError → Type 0
 RefusesImage geometry image addresses errors.Foreign = ⊥
 RefusesImage geometry image addresses (errors.Version found) = ⊥
 RefusesImage geometry image addresses (errors.Size found wanted) = (found ≡ length image) × (wanted ≡ flash_size geometry) × (found ≢ wanted)
 RefusesImage geometry image addresses errors.Addresses = (length image ≡ flash_size geometry) × (are_apart (range_size geometry) addresses ≡ false)
 RefusesImage geometry image addresses errors.Memory = (length image ≡ flash_size geometry) × (are_apart (range_size geometry) addresses ≡ true)
-RefusesImage geometry image addresses errors.Flash = (length image ≡ flash_size geometry) × (are_apart (range_size geometry) addresses ≡ true)
 
 abbrev pub open_error : MediumError → OpenError
 open_error media.Foreign = errors.Foreign

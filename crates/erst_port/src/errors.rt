@@ -14,8 +14,6 @@ pub enum OpenError {
     Addresses,
     /// There was no memory.
     Memory,
-    /// The flash failed.
-    Flash,
 }
 
 impl From<MediumError> for OpenError {

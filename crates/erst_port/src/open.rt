@@ -1,5 +1,5 @@
 // How a port is opened.
-ghost use Rattle.std.specs.Prelude.{◌≡◌, ◌<◌, ◌≤◌, ◌+◌, length, IfOk, IfErr};
+ghost use Rattle.std.specs.Prelude.{◌≡◌, ◌≤◌, ◌+◌, length, IfOk, IfErr};
 ghost use Rattle.flash_model.specs.Layouts.{Fits};
 ghost use Rattle.record_model.specs.Records.{second_copies};
 ghost use Rattle.record_store.specs.Store.{IsOpened, IsFlashOf, IsSettled, KeepsRecordsOf};
@@ -17,9 +17,9 @@ use crate::windows::Addresses;
 use erst_device::Device;
 use erst_medium::geometry_of;
 use flash_mirror::MirrorFlash;
-use flash_model::{Flash, Geometry};
+use flash_model::Geometry;
 use record_store::{ScanError, Store};
-use std::alloc::Global;
+use std::alloc::{AllocError, Global};
 
 impl Port {
     /// Opens the port of a medium, whose first sector says its geometry. All memory that it will ever have is taken here. A few changes may be
@@ -75,10 +75,8 @@ impl Port {
         let Ok(range) = blank(alloc, geometry.reach() as usize) else {
             return Err(OpenError::Memory);
         };
-        let device = match device_of(alloc, image, geometry) {
-            Ok(device) => device,
-            Err(NoDevice::Memory) => return Err(OpenError::Memory),
-            Err(NoDevice::Flash) => return Err(OpenError::Flash),
+        let Ok(device) = device_of(alloc, image, geometry) else {
+            return Err(OpenError::Memory);
         };
         Ok(Port {
             device,
@@ -91,18 +89,12 @@ impl Port {
     }
 }
 
-// Why a flash that has its geometry's size gets no device.
-enum NoDevice {
-    Memory,
-    Flash,
-}
-
 // The device over a flash of these bytes.
 fn device_of(
     alloc: Global,
     image: &[u8],
     geometry: Geometry,
-) -> Result<Device<MirrorFlash>, NoDevice>
+) -> Result<Device<MirrorFlash>, AllocError>
     requires { length image.now ≡ flash_size geometry }
     ensures opened { IfOk result (λ device. IsOpened geometry device.store) }
     ensures first { IfOk result (λ device. device ≡ at_first device.store) }
@@ -110,41 +102,37 @@ fn device_of(
     ensures flash { IfOk result (λ device. IsFlashOf (first_state image.now geometry.sector) device.store.flash) }
     ensures steps { IfOk result (λ device. device.store.flash.steps ≡ second_copies geometry.slot_size geometry.slots image.now) }
     ensures kept { IfOk result (λ device. KeepsRecordsOf geometry (first_state image.now geometry.sector) device.store.flash) }
-    ensures known { IfOk result (λ device. 1 < device.store.flash.steps → IsLogged device.store.flash) }
+    ensures known { IfOk result (λ device. IsLogged device.store.flash) }
 {
-    let Ok(copy) = copied(alloc, image) else {
-        return Err(NoDevice::Memory);
-    };
-    let Ok(flash) = MirrorFlash::new(alloc, geometry.sector() as u32, copy) else {
-        return Err(NoDevice::Memory);
-    };
+    let copy = copied(alloc, image)?;
+    let flash = MirrorFlash::new(alloc, geometry.sector() as u32, copy)?;
     let store = store_of(alloc, flash, geometry)?;
-    if store.flash().steps() > 1 {
-        if !store.flash().is_logged() {
-            return Err(NoDevice::Flash);
-        }
-    }
     Ok(Device::new(store))
 }
 
-// The store of a flash that has its geometry's size.
+// The store of a flash that has its geometry's size, and made no change yet: it fails none.
 fn store_of(
     alloc: Global,
     flash: MirrorFlash,
     geometry: Geometry,
-) -> Result<Store<MirrorFlash>, NoDevice>
-    requires { Fits geometry (state_of flash) }
+) -> Result<Store<MirrorFlash>, AllocError>
+    requires fits { Fits geometry (state_of flash) }
+    requires first { state_of flash ≡ first_state (state_of flash).told.image geometry.sector }
     ensures opened { IfOk result (λ store. IsOpened geometry store) }
     ensures settled { IfOk result (λ store. IsSettled store) }
     ensures flash { IfOk result (λ store. IsFlashOf (state_of flash) store.flash) }
     ensures steps { IfOk result (λ store. store.flash.steps ≡ (state_of flash).steps + second_copies geometry.slot_size geometry.slots (state_of flash).told.image) }
     ensures kept { IfOk result (λ store. KeepsRecordsOf geometry (state_of flash) store.flash) }
+    ensures known { IfOk result (λ store. IsLogged store.flash) }
 {
     match Store::attach(alloc, flash, geometry) {
         Ok(store) => Ok(store),
         Err(refused) => match refused.why {
-            ScanError::Memory => Err(NoDevice::Memory),
-            ScanError::Flash => Err(NoDevice::Flash),
+            ScanError::Memory => Err(AllocError),
+            ScanError::Flash => {
+                refused.flash.fails_last();
+                unreachable!()
+            }
             ScanError::Size {
                 found: _,
                 sector: _,

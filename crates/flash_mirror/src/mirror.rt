@@ -32,6 +32,7 @@ pub struct MirrorFlash {
     ghost log_room: { log.room ≡ log_room (length image.items) },
     ghost log_told: { AreEntries sector (record { past = past.changes; image = image.items }) log.entries.items log.bytes.items },
     ghost log_filled: { IsFilled (length image.items) past.changes log.entries.items log.bytes.items },
+    ghost failed_last: { 0 < faults → steps ≡ 2 ^ 64 - 1 },
     ghost last_told: { IsLast sector (record { past = past.changes; image = image.items }) last },
 }
 
@@ -80,13 +81,10 @@ impl MirrorFlash {
         &self.image
     }
 
-    /// Whether every change so far is in the log: as long as there are no more of them, and no more bytes in their ranges, than
-    /// it has room for.
-    pub fn is_logged(&self) -> bool
-        ensures { (result ≡ true) ↔ IsLogged (state_of self.now) }
-    {
-        self.log.len() as u64 == self.steps
-    }
+    /// It failed nothing as long as a change could be counted. It does nothing.
+    pub fn fails_last(&self)
+        ensures { 0 < (state_of self.now).faults → (state_of self.now).steps ≡ 2 ^ 64 - 1 }
+    {}
 
     /// Change number `step`, from 0, where it is in the log or is the last one.
     pub fn change_at(&self, step: u64) -> Option<Due<'_>>
