@@ -1,5 +1,5 @@
 -- What attaching to the machine's second table answers.
-use Rattle.std.proofs.Common.{◌≡◌, ℕ, Result, Ok, subst, arith}
+use Rattle.std.proofs.Common.{◌≡◌, ℕ, Result, Ok, Err, subst, arith}
 use Rattle.apei_space.specs.Accesses.{Reaches}
 use Rattle.erst_entries.specs.Layout.{Erst}
 use Rattle.erst_client.specs.declared.errors.AttachError.{AttachError}
@@ -40,3 +40,7 @@ module _ (tells : Type 0) (law : (first : MachineState) → IsMachine first → 
           reaches = reaches;
         };
       }
+
+  pub never_fails : (erst : Erst) (budget : ℕ) (first : MachineState) (why : AttachError) (left : ℕ) (last : MachineState) → IsMachine first → erst ≡ shadow_erst (pieces_in first) → budget ≡ ATTACH_STEPS
+      → Attaches (Allows tells) erst budget first (Err why) left last → ⊥
+  never_fails erst budget first why left last machine is given attaches = let never = (attaches_it erst budget first (Err why) left last machine is given attaches).1.result_is in cc never

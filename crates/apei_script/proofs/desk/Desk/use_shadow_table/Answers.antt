@@ -3,7 +3,7 @@ use Rattle.erst_entries.specs.Layout.{Erst}
 use Rattle.erst_shadow.specs.ShadowTables.{pieces_of, shadow_erst}
 use Rattle.erst_commands.proofs.LimitLemmas.{reach-least}
 use Rattle.apei_script.specs.Plays.{Named}
-use Rattle.apei_script.proofs.ShadowGiving.{is_given}
+use Rattle.apei_script.proofs.ShadowGiving.{is_given, never_fails}
 use Rattle.apei_script.proofs.DeskLines.{by_shadow_table}
 use Rattle.apei_script.proofs.desk.Desk.use_shadow_table.Goals as goal
 
@@ -21,3 +21,8 @@ returns-clause-made g c =
 
 pub returns-in_default-clause-stopped : goal.returns-in_default-clause-stopped
 returns-in_default-clause-stopped g c = (refl, Named)
+
+pub unreachable-requires : goal.unreachable-requires
+unreachable-requires g c =
+    never_fails g.F.Flash.tells c.attaching_never_fails.ensures _ _ _ _ _ _ c.stands.ensures.machine
+    (c.in-Ok.ensures.table ∙ ap (λ (n : ℕ). shadow_erst (pieces_of n)) c.reach.ensures.value) c.new.ensures c.in-Err.ensures.attaches
