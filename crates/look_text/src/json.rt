@@ -1,10 +1,14 @@
 // The whole as JSON.
-ghost use Rattle.std.specs.Prelude.{◌<◌, length};
+#![tactic(auto, using(crate::proofs::TextLemmas::growth))]
 
+ghost use Rattle.std.specs.Prelude.{◌≡◌, ◌++◌, ◌<◌, length, OnOk, string_bytes};
+ghost use Rattle.look_text.specs.Texts.{Grows, geometry_json, identity_json};
+
+use crate::digits::add_bytes;
 use crate::guid::add_guid;
 use crate::image::{Image, further_slots};
 use crate::kind::{file_word, word};
-use crate::records::{add_bytes, add_slot_numbers};
+use crate::records::add_slot_numbers;
 use crate::time::{RecordTime, time_of};
 use cper_frame::{Record, RecordHead, notification_name, section_name, severity_name};
 use erst_medium::VERSION;
@@ -17,21 +21,28 @@ use std::alloc::{AllocError, Global};
 /// numbers.
 pub fn json_of(alloc: Global, image: &Image<'_>) -> Result<String, AllocError> {
     let mut out = String::new(alloc);
-    add_file(&mut out, image)?;
-    add_totals(&mut out, image)?;
-    add_slots(&mut out, image)?;
-    add_records(alloc, &mut out, image)?;
+    out.push_str("{\"geometry\":")?;
+    add_geometry(&mut out, image.geometry)?;
+    add_rest(alloc, &mut out, image)?;
     out.push_str("}\n")?;
     Ok(out)
 }
 
-// The geometry that the image is looked at by, how many bytes the file has, what kind of file it is, and the medium that it is.
-fn add_file(out: &mut String, image: &Image<'_>) -> Result<(), AllocError> {
+// What stands behind the geometry that the image is looked at by.
+fn add_rest(alloc: Global, out: &mut String, image: &Image<'_>) -> Result<(), AllocError> {
+    add_file(out, image)?;
+    add_totals(out, image)?;
+    add_slots(out, image)?;
+    add_records(alloc, out, image)
+}
+
+// How many bytes the file has, what kind of file it is, and the medium that it is.
+fn add_file(out: &mut String, image: &Image<'_>) -> Result<(), AllocError>
+    ensures { OnOk result (Grows (string_bytes out.old) (string_bytes out.new)) }
+{
     let held = image.held;
     let FileView { heads, guess, kind } = view_file(image.bytes, image.geometry, image.views);
     let kind = file_word(image.is_medium, kind);
-    out.push_str("{\"geometry\":")?;
-    add_geometry(out, image.geometry)?;
     write!(out, ",\"held\":{held},\"file\":\"{kind}\",\"medium\":")?;
     add_medium(out, image)?;
     write!(out, ",\"heads\":{heads},\"seems\":")?;
@@ -42,7 +53,9 @@ fn add_file(out: &mut String, image: &Image<'_>) -> Result<(), AllocError> {
 }
 
 // What the first sector of a medium says, `null` where the file is none.
-fn add_medium(out: &mut String, image: &Image<'_>) -> Result<(), AllocError> {
+fn add_medium(out: &mut String, image: &Image<'_>) -> Result<(), AllocError>
+    ensures { OnOk result (Grows (string_bytes out.old) (string_bytes out.new)) }
+{
     if !image.is_medium {
         return out.push_str("null");
     }
@@ -50,7 +63,9 @@ fn add_medium(out: &mut String, image: &Image<'_>) -> Result<(), AllocError> {
     write!(out, "{{\"version\":{VERSION},\"flash_at\":{at}}}")
 }
 
-fn add_geometry(out: &mut String, geometry: &Geometry) -> Result<(), AllocError> {
+fn add_geometry(out: &mut String, geometry: &Geometry) -> Result<(), AllocError>
+    ensures { OnOk result (string_bytes out.new ≡ string_bytes out.old ++ geometry_json geometry.now) }
+{
     let sector = geometry.sector();
     let per_slot = geometry.per_slot();
     let slots = geometry.slots();
@@ -60,7 +75,9 @@ fn add_geometry(out: &mut String, geometry: &Geometry) -> Result<(), AllocError>
     )
 }
 
-fn add_totals(out: &mut String, image: &Image<'_>) -> Result<(), AllocError> {
+fn add_totals(out: &mut String, image: &Image<'_>) -> Result<(), AllocError>
+    ensures { OnOk result (Grows (string_bytes out.old) (string_bytes out.new)) }
+{
     let totals = count_slots(image.views, image.geometry);
     write!(
         out,
@@ -74,7 +91,9 @@ fn add_totals(out: &mut String, image: &Image<'_>) -> Result<(), AllocError> {
     )
 }
 
-fn add_slots(out: &mut String, image: &Image<'_>) -> Result<(), AllocError> {
+fn add_slots(out: &mut String, image: &Image<'_>) -> Result<(), AllocError>
+    ensures { OnOk result (Grows (string_bytes out.old) (string_bytes out.new)) }
+{
     out.push_str(",\"slots\":[")?;
     for slot in 0..image.geometry.slots as u32 {
         add_comma(out, slot == 0)?;
@@ -84,17 +103,22 @@ fn add_slots(out: &mut String, image: &Image<'_>) -> Result<(), AllocError> {
 }
 
 // The kind of a slot and the byte of the file at which it begins, and its head and its tail mark where it is not erased.
-fn add_slot(out: &mut String, at: u64, view: &SlotView) -> Result<(), AllocError> {
+fn add_slot(out: &mut String, at: u64, view: &SlotView) -> Result<(), AllocError>
+    ensures { OnOk result (Grows (string_bytes out.old) (string_bytes out.new)) }
+{
     let kind = word(view.kind);
     write!(out, "{{\"kind\":\"{kind}\",\"at\":{at}")?;
-    if view.kind != SlotKind::Erased {
-        add_look(out, &view.look)?;
+    if view.kind == SlotKind::Erased {
+        return out.push('}');
     }
+    add_look(out, &view.look)?;
     out.push('}')
 }
 
 // What was seen of a slot.
-fn add_look(out: &mut String, look: &Look) -> Result<(), AllocError> {
+fn add_look(out: &mut String, look: &Look) -> Result<(), AllocError>
+    ensures { OnOk result (Grows (string_bytes out.old) (string_bytes out.new)) }
+{
     let Head {
         gate,
         kill,
@@ -112,7 +136,9 @@ fn add_look(out: &mut String, look: &Look) -> Result<(), AllocError> {
 }
 
 // The record that a head names.
-fn add_identity(out: &mut String, head: &Head) -> Result<(), AllocError> {
+fn add_identity(out: &mut String, head: &Head) -> Result<(), AllocError>
+    ensures { OnOk result (string_bytes out.new ≡ string_bytes out.old ++ identity_json head.now) }
+{
     let Head {
         id,
         generation,
@@ -129,24 +155,41 @@ fn add_records(alloc: Global, out: &mut String, image: &Image<'_>) -> Result<(),
     out.push_str(",\"stored\":[")?;
     let mut is_first = true;
     for slot in 0..image.geometry.slots as u32 {
-        if let Some((head, bytes)) = image.record_at(alloc, slot)? {
-            add_comma(out, is_first)?;
-            is_first = false;
-            let further = further_slots(image.geometry, &head);
-            add_stored(out, slot, &head, further)?;
-            add_frame(out, &bytes)?;
-        }
+        is_first = add_record(alloc, out, image, slot, is_first)?;
     }
     out.push(']')
 }
 
+// Adds the record whose first slot a slot is, and says whether the next one is the first of the list.
+fn add_record(
+    alloc: Global,
+    out: &mut String,
+    image: &Image<'_>,
+    slot: u32,
+    is_first: bool,
+) -> Result<bool, AllocError>
+    requires { slot < image.now.geometry.now.slots }
+{
+    let Some((head, bytes)) = image.record_at(alloc, slot)? else {
+        return Ok(is_first);
+    };
+    add_comma(out, is_first)?;
+    add_stored(out, slot, &head, further_slots(image.geometry, &head))?;
+    add_frame(out, &bytes)?;
+    Ok(false)
+}
+
 // A comma before all but the first item of a list.
-fn add_comma(out: &mut String, is_first: bool) -> Result<(), AllocError> {
+fn add_comma(out: &mut String, is_first: bool) -> Result<(), AllocError>
+    ensures { OnOk result (Grows (string_bytes out.old) (string_bytes out.new)) }
+{
     if is_first { Ok(()) } else { out.push(',') }
 }
 
 // What the store says of a record.
-fn add_stored(out: &mut String, slot: u32, head: &Head, further: &[u16]) -> Result<(), AllocError> {
+fn add_stored(out: &mut String, slot: u32, head: &Head, further: &[u16]) -> Result<(), AllocError>
+    ensures { OnOk result (Grows (string_bytes out.old) (string_bytes out.new)) }
+{
     out.push('{')?;
     add_identity(out, head)?;
     write!(out, ",\"slots\":[{slot}")?;
@@ -159,15 +202,22 @@ fn add_frame(out: &mut String, bytes: &[u8]) -> Result<(), AllocError> {
     match Record::decode(bytes) {
         Ok((frame, _)) => {
             add_head(out, &frame.head())?;
-            out.push_str(",\"sections\":[")?;
-            for index in 0..frame.sections() {
-                add_comma(out, index == 0)?;
-                add_section(out, &frame, index)?;
-            }
+            add_sections(out, &frame)?;
             out.push_str("]}}")
         }
         Err(_) => out.push_str(",\"frame\":null}"),
     }
+}
+
+fn add_sections(out: &mut String, frame: &Record<'_>) -> Result<(), AllocError>
+    ensures { OnOk result (Grows (string_bytes out.old) (string_bytes out.new)) }
+{
+    out.push_str(",\"sections\":[")?;
+    for index in 0..frame.sections() {
+        add_comma(out, index == 0)?;
+        add_section(out, frame, index)?;
+    }
+    Ok(())
 }
 
 // What its header says.
@@ -188,7 +238,9 @@ fn add_head(out: &mut String, head: &RecordHead) -> Result<(), AllocError> {
 }
 
 // A time as text, or as bytes where it is none of the calendar.
-fn add_time(out: &mut String, time: &RecordTime) -> Result<(), AllocError> {
+fn add_time(out: &mut String, time: &RecordTime) -> Result<(), AllocError>
+    ensures { OnOk result (Grows (string_bytes out.old) (string_bytes out.new)) }
+{
     match time {
         RecordTime::Missing => {
             out.push_str(",\"time\":null,\"precise\":false,\"time_bytes\":null")
@@ -210,6 +262,7 @@ fn add_time(out: &mut String, time: &RecordTime) -> Result<(), AllocError> {
 // What the descriptor of a section says.
 fn add_section(out: &mut String, frame: &Record<'_>, index: u16) -> Result<(), AllocError>
     requires { index < length frame.now.sections }
+    ensures { OnOk result (Grows (string_bytes out.old) (string_bytes out.new)) }
 {
     let section = frame.section(index);
     let len = section.body.len();
@@ -222,7 +275,9 @@ fn add_section(out: &mut String, frame: &Record<'_>, index: u16) -> Result<(), A
 }
 
 // A name as a string, or `null`.
-fn add_name(out: &mut String, name: Option<&str>) -> Result<(), AllocError> {
+fn add_name(out: &mut String, name: Option<&str>) -> Result<(), AllocError>
+    ensures { OnOk result (Grows (string_bytes out.old) (string_bytes out.new)) }
+{
     match name {
         Some(name) => write!(out, "\"{name}\""),
         None => out.push_str("null"),

@@ -2,6 +2,7 @@
 //! JSON.
 #![tactic(auto)]
 
+mod digits;
 mod guid;
 mod image;
 mod json;

@@ -1,6 +1,10 @@
 // Lines for each record.
-ghost use Rattle.std.specs.Prelude.{◌<◌, length};
+#![tactic(auto, using(crate::proofs::TextLemmas::growth))]
 
+ghost use Rattle.std.specs.Prelude.{◌≡◌, ◌++◌, ◌<◌, length, OnOk, string_bytes};
+ghost use Rattle.look_text.specs.Texts.{Grows, identity_text, slot_numbers};
+
+use crate::digits::add_bytes;
 use crate::guid::add_guid;
 use crate::image::{Image, further_slots};
 use crate::time::{RecordTime, time_of};
@@ -12,20 +16,35 @@ use std::alloc::{AllocError, Global};
 /// its slots, and behind them what its header and its section descriptors say.
 pub fn add_records(alloc: Global, out: &mut String, image: &Image<'_>) -> Result<(), AllocError> {
     for slot in 0..image.geometry.slots as u32 {
-        if let Some((head, bytes)) = image.record_at(alloc, slot)? {
-            out.push_str("\nrecord ")?;
-            add_identity(out, &head)?;
-            write!(out, " slots {slot}")?;
-            add_slot_numbers(out, ' ', further_slots(image.geometry, &head))?;
-            out.push('\n')?;
-            add_frame(out, &bytes)?;
-        }
+        add_record(alloc, out, image, slot)?;
     }
     Ok(())
 }
 
+// The record whose first slot a slot is.
+fn add_record(
+    alloc: Global,
+    out: &mut String,
+    image: &Image<'_>,
+    slot: u32,
+) -> Result<(), AllocError>
+    requires { slot < image.now.geometry.now.slots }
+{
+    let Some((head, bytes)) = image.record_at(alloc, slot)? else {
+        return Ok(());
+    };
+    out.push_str("\nrecord ")?;
+    add_identity(out, &head)?;
+    write!(out, " slots {slot}")?;
+    add_slot_numbers(out, ' ', further_slots(image.geometry, &head))?;
+    out.push('\n')?;
+    add_frame(out, &bytes)
+}
+
 /// The record that a head names.
-pub fn add_identity(out: &mut String, head: &Head) -> Result<(), AllocError> {
+pub fn add_identity(out: &mut String, head: &Head) -> Result<(), AllocError>
+    ensures { OnOk result (string_bytes out.new ≡ string_bytes out.old ++ identity_text head.now) }
+{
     let Head {
         id,
         generation,
@@ -36,30 +55,43 @@ pub fn add_identity(out: &mut String, head: &Head) -> Result<(), AllocError> {
 }
 
 /// Numbers of slots, each behind a mark.
-pub fn add_slot_numbers(out: &mut String, mark: char, slots: &[u16]) -> Result<(), AllocError> {
-    for slot in slots {
+pub fn add_slot_numbers(out: &mut String, mark: char, mut slots: &[u16]) -> Result<(), AllocError>
+    ensures { OnOk result (string_bytes out.new ≡ string_bytes out.old ++ slot_numbers mark slots.entry.now) }
+{
+    while let [slot, rest @ ..] = slots {
         let slot = *slot;
         write!(out, "{mark}{slot}")?;
+        slots = rest;
     }
     Ok(())
 }
 
 // What its bytes say.
-fn add_frame(out: &mut String, bytes: &[u8]) -> Result<(), AllocError> {
+fn add_frame(out: &mut String, bytes: &[u8]) -> Result<(), AllocError>
+    ensures { OnOk result (Grows (string_bytes out.old) (string_bytes out.new)) }
+{
     match Record::decode(bytes) {
         Ok((frame, _)) => {
             add_head(out, &frame.head())?;
-            for index in 0..frame.sections() {
-                add_section(out, &frame, index)?;
-            }
-            Ok(())
+            add_sections(out, &frame)
         }
         Err(_) => out.push_str("  no error record\n"),
     }
 }
 
+fn add_sections(out: &mut String, frame: &Record<'_>) -> Result<(), AllocError>
+    ensures { OnOk result (Grows (string_bytes out.old) (string_bytes out.new)) }
+{
+    for index in 0..frame.sections() {
+        add_section(out, frame, index)?;
+    }
+    Ok(())
+}
+
 // What its header says.
-fn add_head(out: &mut String, head: &RecordHead) -> Result<(), AllocError> {
+fn add_head(out: &mut String, head: &RecordHead) -> Result<(), AllocError>
+    ensures { OnOk result (Grows (string_bytes out.old) (string_bytes out.new)) }
+{
     add_severity(out, "  severity ", head.severity)?;
     out.push_str("\n  time ")?;
     add_time(out, &time_of(head))?;
@@ -72,16 +104,14 @@ fn add_head(out: &mut String, head: &RecordHead) -> Result<(), AllocError> {
 }
 
 // A time, or the bytes that stand in its place.
-fn add_time(out: &mut String, time: &RecordTime) -> Result<(), AllocError> {
+fn add_time(out: &mut String, time: &RecordTime) -> Result<(), AllocError>
+    ensures { OnOk result (Grows (string_bytes out.old) (string_bytes out.new)) }
+{
     match time {
         RecordTime::Missing => out.push_str("none"),
         RecordTime::Calendar { time, is_precise } => {
             write!(out, "{time}")?;
-            if *is_precise {
-                Ok(())
-            } else {
-                out.push_str(" or about then")
-            }
+            out.push_str(if *is_precise { "" } else { " or about then" })
         }
         RecordTime::Bytes(stamp) => {
             out.push_str("bytes ")?;
@@ -90,17 +120,10 @@ fn add_time(out: &mut String, time: &RecordTime) -> Result<(), AllocError> {
     }
 }
 
-/// The bytes of a number, from the low one on.
-pub fn add_bytes(out: &mut String, number: u64) -> Result<(), AllocError> {
-    for byte in number.to_le_bytes() {
-        write!(out, "{byte:02x}")?;
-    }
-    Ok(())
-}
-
 // What the descriptor of a section says.
 fn add_section(out: &mut String, frame: &Record<'_>, index: u16) -> Result<(), AllocError>
     requires { index < length frame.now.sections }
+    ensures { OnOk result (Grows (string_bytes out.old) (string_bytes out.new)) }
 {
     let section = frame.section(index);
     let len = section.body.len();
@@ -113,13 +136,17 @@ fn add_section(out: &mut String, frame: &Record<'_>, index: u16) -> Result<(), A
 }
 
 // A severity behind a label: its number, and its word where it has one.
-fn add_severity(out: &mut String, label: &str, severity: u32) -> Result<(), AllocError> {
+fn add_severity(out: &mut String, label: &str, severity: u32) -> Result<(), AllocError>
+    ensures { OnOk result (Grows (string_bytes out.old) (string_bytes out.new)) }
+{
     write!(out, "{label}{severity}")?;
     add_name(out, severity_name(severity))
 }
 
 // The name of what stands before it, where it has one.
-fn add_name(out: &mut String, name: Option<&str>) -> Result<(), AllocError> {
+fn add_name(out: &mut String, name: Option<&str>) -> Result<(), AllocError>
+    ensures { OnOk result (Grows (string_bytes out.old) (string_bytes out.new)) }
+{
     match name {
         Some(name) => write!(out, " ({name})"),
         None => Ok(()),

@@ -1,4 +1,10 @@
 // A line for each slot.
+#![tactic(auto, using(crate::proofs::TextLemmas::growth))]
+
+ghost use Rattle.std.specs.Prelude.{OnOk, string_bytes};
+ghost use Rattle.look_text.specs.Texts.{Grows};
+
+use crate::digits::add_digits;
 use crate::image::further_slots;
 use crate::kind::word;
 use crate::records::{add_identity, add_slot_numbers};
@@ -16,11 +22,11 @@ pub fn add_slots(
     out: &mut String,
     geometry: &Geometry,
     views: &[SlotView],
-) -> Result<(), AllocError> {
+) -> Result<(), AllocError>
+    ensures { OnOk result (Grows (string_bytes out.old) (string_bytes out.new)) }
+{
     for (slot, view) in views.iter().enumerate() {
-        if view.kind != SlotKind::Erased {
-            add_slot(out, geometry, slot, view)?;
-        }
+        add_slot(out, geometry, slot, view)?;
     }
     Ok(())
 }
@@ -30,35 +36,55 @@ fn add_slot(
     geometry: &Geometry,
     slot: usize,
     view: &SlotView,
-) -> Result<(), AllocError> {
+) -> Result<(), AllocError>
+    ensures { OnOk result (Grows (string_bytes out.old) (string_bytes out.new)) }
+{
+    if view.kind == SlotKind::Erased {
+        return Ok(());
+    }
     let kind = word(view.kind);
     write!(out, "slot {slot} {kind}")?;
-    let head = &view.look.head;
-    match view.kind {
-        SlotKind::First | SlotKind::SecondCopy | SlotKind::Killed => {
-            add_first(out, geometry, head)?;
-        }
-        SlotKind::Further | SlotKind::Orphan => add_part(out, head)?,
-        SlotKind::Filling => add_filling(out, geometry, head)?,
-        SlotKind::Unknown => add_marks(out, head, view.look.tail)?,
-        SlotKind::Erased => (),
-    }
+    add_view(out, geometry, view)?;
     out.push('\n')
 }
 
+// What the head of a slot says.
+fn add_view(out: &mut String, geometry: &Geometry, view: &SlotView) -> Result<(), AllocError>
+    ensures { OnOk result (Grows (string_bytes out.old) (string_bytes out.new)) }
+{
+    let head = &view.look.head;
+    match view.kind {
+        SlotKind::First | SlotKind::SecondCopy | SlotKind::Killed => add_first(out, geometry, head),
+        SlotKind::Further | SlotKind::Orphan => add_part(out, head),
+        SlotKind::Filling => add_filling(out, geometry, head),
+        SlotKind::Unknown => add_marks(out, head, view.look.tail),
+        SlotKind::Erased => Ok(()),
+    }
+}
+
 // The head of a first slot.
-fn add_first(out: &mut String, geometry: &Geometry, head: &Head) -> Result<(), AllocError> {
+fn add_first(out: &mut String, geometry: &Geometry, head: &Head) -> Result<(), AllocError>
+    ensures { OnOk result (Grows (string_bytes out.old) (string_bytes out.new)) }
+{
     out.push_str(" id ")?;
     add_identity(out, head)?;
-    let further = further_slots(geometry, head);
-    if !further.is_empty() {
-        out.push_str(" further")?;
+    add_further(out, further_slots(geometry, head))
+}
+
+fn add_further(out: &mut String, further: &[u16]) -> Result<(), AllocError>
+    ensures { OnOk result (Grows (string_bytes out.old) (string_bytes out.new)) }
+{
+    if further.is_empty() {
+        return Ok(());
     }
+    out.push_str(" further")?;
     add_slot_numbers(out, ' ', further)
 }
 
 // The head of a further slot.
-fn add_part(out: &mut String, head: &Head) -> Result<(), AllocError> {
+fn add_part(out: &mut String, head: &Head) -> Result<(), AllocError>
+    ensures { OnOk result (Grows (string_bytes out.old) (string_bytes out.new)) }
+{
     out.push_str(" id ")?;
     add_identity(out, head)?;
     let [part, first, _] = head.next;
@@ -66,7 +92,9 @@ fn add_part(out: &mut String, head: &Head) -> Result<(), AllocError> {
 }
 
 // The head of a slot that is being filled or erased, as far as it has one.
-fn add_filling(out: &mut String, geometry: &Geometry, head: &Head) -> Result<(), AllocError> {
+fn add_filling(out: &mut String, geometry: &Geometry, head: &Head) -> Result<(), AllocError>
+    ensures { OnOk result (Grows (string_bytes out.old) (string_bytes out.new)) }
+{
     if head.gate == GATE_FURTHER {
         return add_part(out, head);
     }
@@ -77,15 +105,19 @@ fn add_filling(out: &mut String, geometry: &Geometry, head: &Head) -> Result<(),
 }
 
 // The marks of a slot that is of no known form.
-fn add_marks(out: &mut String, head: &Head, tail: u8) -> Result<(), AllocError> {
+fn add_marks(out: &mut String, head: &Head, tail: u8) -> Result<(), AllocError>
+    ensures { OnOk result (Grows (string_bytes out.old) (string_bytes out.new)) }
+{
     let Head {
         gate,
         kill,
         format,
         ..
     } = *head;
-    write!(
-        out,
-        " gate {gate:#04x} kill {kill:#04x} format {format} tail {tail:#04x}"
-    )
+    out.push_str(" gate 0x")?;
+    add_digits(out, gate)?;
+    out.push_str(" kill 0x")?;
+    add_digits(out, kill)?;
+    write!(out, " format {format} tail 0x")?;
+    add_digits(out, tail)
 }

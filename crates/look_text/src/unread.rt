@@ -1,5 +1,6 @@
 // A medium whose slots are not shown.
-ghost use Rattle.std.specs.Prelude.{◌≡◌};
+ghost use Rattle.std.specs.Prelude.{◌≡◌, ◌++◌, IfOk, OnOk, string_bytes};
+ghost use Rattle.look_text.specs.Texts.{IsLine, unread_object, version_json};
 ghost use Rattle.look_text.specs.Words.{unread_word_of};
 
 use std::alloc::{AllocError, Global};
@@ -17,26 +18,37 @@ pub enum Unread {
 }
 
 /// The text of such a medium: one line.
-pub fn unread_text(alloc: Global, unread: Unread) -> Result<String, AllocError> {
+pub fn unread_text(alloc: Global, unread: Unread) -> Result<String, AllocError>
+    ensures { IfOk result (λ text. IsLine (string_bytes text)) }
+{
     let mut out = String::new(alloc);
-    writeln!(out, "{unread}")?;
+    write!(out, "{unread}")?;
+    out.push_str("\n")?;
     Ok(out)
 }
 
 /// The same as one JSON object on one line, with the bytes that the file has.
-pub fn unread_json(alloc: Global, unread: Unread, held: u64) -> Result<String, AllocError> {
+pub fn unread_json(alloc: Global, unread: Unread, held: u64) -> Result<String, AllocError>
+    ensures { IfOk result (λ text. string_bytes text ≡ unread_object unread held) }
+{
     let mut out = String::new(alloc);
     let word = unread_word(unread);
     write!(
         out,
         "{{\"held\":{held},\"file\":\"{word}\",\"medium\":{{\"version\":"
     )?;
-    match unread {
-        Unread::Version(found) => write!(out, "{found}")?,
-        Unread::Damaged => out.push_str("null")?,
-    }
+    add_version(&mut out, unread)?;
     out.push_str("}}\n")?;
     Ok(out)
+}
+
+fn add_version(out: &mut String, unread: Unread) -> Result<(), AllocError>
+    ensures { OnOk result (string_bytes out.new ≡ string_bytes out.old ++ version_json unread) }
+{
+    match unread {
+        Unread::Version(found) => write!(out, "{found}"),
+        Unread::Damaged => out.push_str("null"),
+    }
 }
 
 // The word of its kind of file.

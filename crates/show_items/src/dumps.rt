@@ -1,5 +1,6 @@
 // The text of acpidump: for each table a line with its signature and its address, and lines of up to 16 bytes in digits.
-ghost use Rattle.std.specs.Prelude.{◌<◌, IfSome};
+ghost use Rattle.std.specs.Prelude.{◌≡◌, ◌<◌, IfSome};
+ghost use Rattle.show_items.specs.Digits.{value_of};
 
 use crate::pages::{Pages, Stop};
 use crate::sheet::Sheet;
@@ -77,13 +78,11 @@ fn behind_colon(line: &[u8]) -> &[u8] {
 }
 
 // The value of a digit of sixteen.
+#[tactic(auto, using(std::proofs::lemmas::Bool::Decides::nat_tests))]
 fn value(digit: u8) -> Option<u8>
-    ensures { IfSome result (λ value. value < 16) }
+    ensures value { result ≡ value_of digit }
+    ensures low { IfSome result (λ value. value < 16) }
 {
-    match digit {
-        b'0'..=b'9' => Some(digit - b'0'),
-        b'a'..=b'f' => Some(digit - b'a' + 10),
-        b'A'..=b'F' => Some(digit - b'A' + 10),
-        _ => None,
-    }
+    let value = char::from(digit).to_digit(16)?;
+    Some(value as u8)
 }
