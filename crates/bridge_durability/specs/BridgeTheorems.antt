@@ -6,14 +6,14 @@ use Rattle.ghes_ack.specs.Machine.{Machine as HandoverMachine}
 use Rattle.erst_client.specs.declared.errors.ClientError.{ClientError as AnyError}
 use Rattle.erst_client.specs.declared.errors.ClientError.TheVariants.{Hardware, TooLong}
 use Rattle.erst_client.specs.Timings.{enough_steps}
-use Rattle.erst_machine.specs.MachineState.{MachineState, IsMachine, records_of}
+use Rattle.erst_machine.specs.MachineState.{MachineState, records_of}
 use Rattle.erst_machine.specs.Events.{Event, Happens}
 use Rattle.erst_commands.specs.Attached.{own_client}
 use Rattle.erst_commands.specs.Causes.{GoesThrough}
 use Rattle.erst_bridge.specs.declared.events.BridgeEvent.TheVariants.{Stored, Kept, Out}
 use Rattle.erst_bridge.specs.Bridges.{BridgeState, Holds, Releases}
 use Rattle.bridge_durability.specs.Turns.{Step}
-use Rattle.bridge_durability.specs.BridgedRuns.{BridgedTurn, IsMadeTurn, BridgedRun, IsMadeRun, run_behind, IsByOwnClient, EachLossShows}
+use Rattle.bridge_durability.specs.BridgedRuns.{BridgedTurn, BridgedRun, IsMadeRun, run_behind, EachLossShows}
 use Rattle.bridge_durability.specs.Shown.{stored_record, ShowsTurns, IsStoredAs, IsCovered}
 use Rattle.bridge_durability.specs.InStep.{StandsInStep, KeepOrder}
 use Rattle.bridge_durability.specs.Sums.{taken_by, stored_by, acknowledged_by, sum_of, held_in, released_in}

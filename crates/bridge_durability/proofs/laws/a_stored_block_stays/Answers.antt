@@ -1,4 +1,4 @@
-use Rattle.std.proofs.Common.{◌+◌, subst, sym, arith}
+use Rattle.std.proofs.Common.{subst, sym, arith}
 use Rattle.erst_bridge.specs.declared.events.BridgeEvent.{BridgeEvent}
 use Rattle.bridge_durability.specs.Turns.{BridgesMachine}
 use Rattle.bridge_durability.proofs.CoverLemmas.{turns_covered}
