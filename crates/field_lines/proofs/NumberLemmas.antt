@@ -2,6 +2,8 @@
 use Rattle.std.proofs.Common.{◌≡◌, ℕ, zero, suc, ◌-◌, ◌^◌, ◌==◌, ◌<◌, ◌≤◌, List, [], ◌∷◌, ◌++◌, length, take, drop, replicate, false, refl, ap, ◌∙◌, arith, length-append, length-drop}
 use Rattle.std.proofs.lemmas.List.{take_all, drop-replicate}
 use Rattle.std.proofs.lemmas.Nat.Bits.{bit_at_above}
+use Rattle.std.proofs.lemmas.Fmt.{length-decimal-le}
+use Rattle.std.specs.Prelude.{decimal}
 use Rattle.base_model.specs.Bytes.{part, number_at, little}
 use Rattle.field_lines.specs.Numbers.{has_bit}
 
@@ -26,6 +28,9 @@ padded_number bytes copied few same =
     ∙ ap little (take_all 8 (bytes ++ zeros) whole)
     ∙ little_padded bytes zeros nothing
 
+pub few_digits : (number : ℕ) → number < 2 ^ 64 → length (decimal number) ≤ 20
+few_digits number small = length-decimal-le 20 number (omega arith) (omega (arith, small)) small
+
 pub no_such_bit : (number bit : ℕ) → number < 2 ^ 64 → 64 ≤ bit → has_bit number bit ≡ false
 no_such_bit number bit small above = ap (λ (b : ℕ). b == 1) (bit_at_above number 64 bit small above)
 
@@ -33,3 +38,7 @@ no_such_bit number bit small above = ap (λ (b : ℕ). b == 1) (bit_at_above num
 pub whole_part : (bytes : List ℕ) (n : ℕ) → length bytes ≡ n → part bytes 0 n ≡ bytes
 unfolding part
 whole_part bytes n all = take_all n bytes (omega arith)
+
+pub whole_number : (bytes : List ℕ) → length bytes ≡ 8 → number_at bytes 0 8 ≡ little bytes
+unfolding number_at
+whole_number bytes all = ap little (whole_part bytes 8 all)

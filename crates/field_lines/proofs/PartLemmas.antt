@@ -3,7 +3,7 @@ use Rattle.std.proofs.Common.{◌≡◌, ℕ, zero, suc, ◌+◌, ◌-◌, ◌<�
 use Rattle.std.specs.Prelude.{if◌then◌else◌}
 use Rattle.std.proofs.lemmas.Grind.{common_steps}
 use Rattle.base_model.specs.Bytes.{part}
-use Rattle.field_lines.specs.Rows.{Row}
+use Rattle.field_lines.specs.Fields.{Field}
 use Rattle.field_lines.specs.Layouts.{Group, Heading, parts_text, parts_end, part_text, part_size, end_text}
 
 one_less : (n : ℕ) → n ≡ suc n - 1
@@ -11,7 +11,7 @@ one_less n = omega arith
 
 -- with parts left and the end not reached
 pub next_part :
-    (text : ℕ → ℕ → Row → List ℕ → List ℕ) (heading : ℕ → ℕ → Heading → List ℕ) (base : ℕ) (body : List ℕ) (group : Group) (n index at : ℕ)
+    (text : ℕ → ℕ → Field → List ℕ → List ℕ) (heading : ℕ → ℕ → Heading → List ℕ) (base : ℕ) (body : List ℕ) (group : Group) (n index at : ℕ)
     → 0 < n → at < length body
     → parts_text text heading base body group n index at
     ≡ part_text text heading group index (base + at) (part body at (part_size group.measure (drop at body)))
@@ -26,7 +26,7 @@ next_part text heading base body group (suc n) index at some within =
     (one_less n))
 
 pub no_next_part :
-    (text : ℕ → ℕ → Row → List ℕ → List ℕ) (heading : ℕ → ℕ → Heading → List ℕ) (base : ℕ) (body : List ℕ) (group : Group) (n index at : ℕ)
+    (text : ℕ → ℕ → Field → List ℕ → List ℕ) (heading : ℕ → ℕ → Heading → List ℕ) (base : ℕ) (body : List ℕ) (group : Group) (n index at : ℕ)
     → length body ≤ at → parts_text text heading base body group n index at ≡ end_text heading index (base + at)
 unfolding parts_text
 no_next_part text heading base body group zero index at beyond = refl
@@ -35,7 +35,7 @@ no_next_part text heading base body group (suc n) index at beyond =
     rw test refl
 
 pub no_part_left :
-    (text : ℕ → ℕ → Row → List ℕ → List ℕ) (heading : ℕ → ℕ → Heading → List ℕ) (base : ℕ) (body : List ℕ) (group : Group) (n index at : ℕ)
+    (text : ℕ → ℕ → Field → List ℕ → List ℕ) (heading : ℕ → ℕ → Heading → List ℕ) (base : ℕ) (body : List ℕ) (group : Group) (n index at : ℕ)
     → n ≡ 0 → parts_text text heading base body group n index at ≡ end_text heading index (base + at)
 unfolding parts_text
 no_part_left text heading base body group zero index at none = refl
@@ -62,7 +62,7 @@ no_end_left body group (suc n) at none = absurd (omega (arith, none))
 
 -- a part was written
 pub wrote_part :
-    (text : ℕ → ℕ → Row → List ℕ → List ℕ) (heading : ℕ → ℕ → Heading → List ℕ) (base : ℕ) (body : List ℕ) (group : Group) (n index at size : ℕ) (old new bytes : List ℕ)
+    (text : ℕ → ℕ → Field → List ℕ → List ℕ) (heading : ℕ → ℕ → Heading → List ℕ) (base : ℕ) (body : List ℕ) (group : Group) (n index at size : ℕ) (old new bytes : List ℕ)
     → size ≡ part_size group.measure (drop at body) → bytes ≡ part body at size → new ≡ old ++ part_text text heading group index (base + at) bytes
     → 0 < n → at < length body
     → new ++ parts_text text heading base body group (n - 1) (index + 1) (at + size) ≡ old ++ parts_text text heading base body group n index at

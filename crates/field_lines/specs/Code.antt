@@ -1,8 +1,8 @@
 -- What the code's tables say.
 use Rattle.std.specs.Prelude.{ℕ, ◌+◌, List, [], ◌∷◌, None, map}
-use Rattle.field_lines.specs.Rows.{Shown, Row, row, decimal_number, hexadecimal, guid, text, one_of, flags, bits, stamp, seconds, register, digits_of_bytes, all_bytes, all_lines}
+use Rattle.field_lines.specs.Fields.{Shown, Field, field, decimal_number, hexadecimal, guid, text, one_of, flags, bits, stamp, seconds, register, digits_of_bytes, all_bytes, all_lines}
 use Rattle.field_lines.specs.Layouts.{Group, Measure, fixed, told, rest, Sign, number_sign, guid_sign, Inside, Structure, Heading, part_heading, inside_heading, end_heading, end_of_parts}
-use Rattle.field_lines.specs.declared.field.Field.{Field}
+use Rattle.field_lines.specs.declared.field.Field.{Field as FieldOfCode}
 use Rattle.field_lines.specs.declared.field.Name.{Name}
 use Rattle.field_lines.specs.declared.field.Shape.{Shape}
 use Rattle.field_lines.specs.declared.field.Shape.TheVariants.{Decimal, Hexadecimal, Guid, Text, OneOf, Flags, Bits, Stamp, Seconds, Register, Digits, Bytes, Lines}
@@ -20,17 +20,17 @@ use Rattle.field_lines.specs.declared.layout.Layout.{Layout}
 use Rattle.field_lines.specs.declared.style.Mark.{Mark}
 use Rattle.field_lines.specs.declared.style.Mark.TheVariants.{Part, Inner as InnerMark, End, EndParts}
 
-abbrev pub name_row : Name → ℕ × List ℕ
-name_row name = (name.number, name.name.now)
+abbrev pub name_of : Name → ℕ × List ℕ
+name_of name = (name.number, name.name.now)
 
 abbrev pub shown_of : Shape → Shown
 shown_of Decimal = decimal_number
 shown_of Hexadecimal = hexadecimal
 shown_of Guid = guid
 shown_of Text = text
-shown_of (OneOf names) = one_of (map name_row names.now)
-shown_of (Flags names) = flags (map name_row names.now)
-shown_of (Bits low count names) = bits low count (map name_row names.now)
+shown_of (OneOf names) = one_of (map name_of names.now)
+shown_of (Flags names) = flags (map name_of names.now)
+shown_of (Bits low count names) = bits low count (map name_of names.now)
 shown_of Stamp = stamp
 shown_of Seconds = seconds
 shown_of Register = register
@@ -38,8 +38,8 @@ shown_of Digits = digits_of_bytes
 shown_of Bytes = all_bytes
 shown_of Lines = all_lines
 
-abbrev pub row_of : Field → Row
-row_of field = row field.at field.width field.bit field.name.now (shown_of field.shape)
+abbrev pub field_of : FieldOfCode → Field
+field_of coded = field coded.at coded.width coded.bit coded.name.now (shown_of coded.shape)
 
 abbrev pub measure_of : Size → Measure
 measure_of (Fixed count) = fixed count
@@ -51,19 +51,19 @@ sign_of (NumberKey at width number) = number_sign at width number
 sign_of (GuidKey at name) = guid_sign at name.now
 
 -- registers of so many bytes each, one behind another
-abbrev pub register_rows : (width at : ℕ) → List (List ℕ) → List Row
-register_rows width at [] = []
-register_rows width at (name ∷ names) = row at width None name hexadecimal ∷ register_rows width (at + width) names
+abbrev pub register_fields : (width at : ℕ) → List (List ℕ) → List Field
+register_fields width at [] = []
+register_fields width at (name ∷ names) = field at width None name hexadecimal ∷ register_fields width (at + width) names
 
 abbrev pub register_name : RegisterName → List ℕ
 register_name named = named.name.now
 
-abbrev pub content_rows : Content → List Row
-content_rows (Fields fields) = map row_of fields.now
-content_rows (Registers width registers) = register_rows width 0 (map register_name registers.now)
+abbrev pub content_fields : Content → List Field
+content_fields (Fields fields) = map field_of fields.now
+content_fields (Registers width registers) = register_fields width 0 (map register_name registers.now)
 
 abbrev pub inside_of : Inner → Inside
-inside_of inner = record { name = inner.name.now; bit = inner.bit; sign = sign_of inner.key; at = inner.at; rows = content_rows inner.content }
+inside_of inner = record { name = inner.name.now; bit = inner.bit; sign = sign_of inner.key; at = inner.at; fields = content_fields inner.content }
 
 abbrev pub group_of : Parts → Group
 group_of parts = record {
@@ -74,14 +74,14 @@ group_of parts = record {
   bits = parts.count.bits;
   measure = measure_of parts.size;
   valid_at = parts.valid_at;
-  rows = map row_of parts.fields.now;
+  fields = map field_of parts.fields.now;
   inside = map inside_of parts.inner.now;
 }
 
 abbrev pub structure_of : Layout → Structure
 structure_of layout = record {
   valid_at = layout.valid_at;
-  rows = map row_of layout.fields.now;
+  fields = map field_of layout.fields.now;
   groups_at = layout.parts_at;
   groups = map group_of layout.parts.now;
 }

@@ -3,7 +3,7 @@ use Rattle.std.specs.Prelude.{ℕ, zero, suc, ◌+◌, ◌==◌, ◌&&◌, nat_l
 use Rattle.base_model.specs.Bytes.{part, little, joined}
 use Rattle.apei_bytes.specs.Guid.{guid_text}
 use Rattle.field_lines.specs.Numbers.{number_in, bits_of, validation, is_valid}
-use Rattle.field_lines.specs.Rows.{Row, are_sound}
+use Rattle.field_lines.specs.Fields.{Field, are_sound}
 use Rattle.field_lines.specs.Walks.{fields_text}
 
 -- how many bytes a part has: always as many, as many as a number of the part says and some more, or all that are left
@@ -23,7 +23,7 @@ pub record Inside : Type 0 where
   pub bit : Option ℕ
   pub sign : Sign
   pub at : ℕ
-  pub rows : List Row
+  pub fields : List Field
 
 -- parts that stand one behind another, as many as some bits of a number of the body say
 pub record Group : Type 0 where
@@ -34,21 +34,21 @@ pub record Group : Type 0 where
   pub bits : ℕ
   pub measure : Measure
   pub valid_at : ℕ
-  pub rows : List Row
+  pub fields : List Field
   pub inside : List Inside
 
 -- a body: its fields, and its parts, the first of them at a place
 pub record Structure : Type 0 where
   pub valid_at : ℕ
-  pub rows : List Row
+  pub fields : List Field
   pub groups_at : ℕ
   pub groups : List Group
 
-abbrev pub inside : (name : List ℕ) → (bit : Option ℕ) → Sign → (at : ℕ) → List Row → Inside
-inside name bit sign at rows = record { name = name; bit = bit; sign = sign; at = at; rows = rows }
+abbrev pub inside : (name : List ℕ) → (bit : Option ℕ) → Sign → (at : ℕ) → List Field → Inside
+inside name bit sign at fields = record { name = name; bit = bit; sign = sign; at = at; fields = fields }
 
-abbrev pub group : (name : List ℕ) → (count_at count_width low bits : ℕ) → Measure → (valid_at : ℕ) → List Row → List Inside → Group
-group name count_at count_width low bits measure valid_at rows inside = record {
+abbrev pub group : (name : List ℕ) → (count_at count_width low bits : ℕ) → Measure → (valid_at : ℕ) → List Field → List Inside → Group
+group name count_at count_width low bits measure valid_at fields inside = record {
   name = name;
   count_at = count_at;
   count_width = count_width;
@@ -56,12 +56,12 @@ group name count_at count_width low bits measure valid_at rows inside = record {
   bits = bits;
   measure = measure;
   valid_at = valid_at;
-  rows = rows;
+  fields = fields;
   inside = inside;
 }
 
-abbrev pub structure : (valid_at : ℕ) → List Row → (groups_at : ℕ) → List Group → Structure
-structure valid_at rows groups_at groups = record { valid_at = valid_at; rows = rows; groups_at = groups_at; groups = groups }
+abbrev pub structure : (valid_at : ℕ) → List Field → (groups_at : ℕ) → List Group → Structure
+structure valid_at fields groups_at groups = record { valid_at = valid_at; fields = fields; groups_at = groups_at; groups = groups }
 
 -- what is written beside fields: a heading of a part, by its number from 0 on, or of what stands inside one, and the end of either, and of all parts of a group
 pub data Heading : Type 0 where
@@ -105,20 +105,20 @@ is_there valid bytes inside = nat_le inside.at (length bytes) && is_valid inside
 -- How a style writes, at a depth and a place: a field of a body, and a heading.
 
 -- what stands inside a part that begins at a place
-abbrev pub inside_text : (ℕ → ℕ → Row → List ℕ → List ℕ) → (ℕ → ℕ → Heading → List ℕ) → (base : ℕ) → (bytes : List ℕ) → Inside → List ℕ
+abbrev pub inside_text : (ℕ → ℕ → Field → List ℕ → List ℕ) → (ℕ → ℕ → Heading → List ℕ) → (base : ℕ) → (bytes : List ℕ) → Inside → List ℕ
 inside_text text heading base bytes inside =
     heading 1 (base + inside.at) (inside_heading inside.name)
-    ++ fields_text (text 2 (base + inside.at)) 0 inside.rows (drop inside.at bytes)
+    ++ fields_text (text 2 (base + inside.at)) 0 inside.fields (drop inside.at bytes)
     ++ heading 1 (base + inside.at) end_heading
 
-abbrev pub all_inside_text : (ℕ → ℕ → Row → List ℕ → List ℕ) → (ℕ → ℕ → Heading → List ℕ) → (base valid : ℕ) → (bytes : List ℕ) → List Inside → List ℕ
+abbrev pub all_inside_text : (ℕ → ℕ → Field → List ℕ → List ℕ) → (ℕ → ℕ → Heading → List ℕ) → (base valid : ℕ) → (bytes : List ℕ) → List Inside → List ℕ
 all_inside_text text heading base valid bytes insides = joined (map (inside_text text heading base bytes) (filter (is_there valid bytes) insides))
 
 -- a part of these bytes, with a number, that begins at a place
-abbrev pub part_text : (ℕ → ℕ → Row → List ℕ → List ℕ) → (ℕ → ℕ → Heading → List ℕ) → Group → (index base : ℕ) → (bytes : List ℕ) → List ℕ
+abbrev pub part_text : (ℕ → ℕ → Field → List ℕ → List ℕ) → (ℕ → ℕ → Heading → List ℕ) → Group → (index base : ℕ) → (bytes : List ℕ) → List ℕ
 part_text text heading group index base bytes =
     heading 0 base (part_heading group.name index)
-    ++ fields_text (text 1 base) group.valid_at group.rows bytes
+    ++ fields_text (text 1 base) group.valid_at group.fields bytes
     ++ all_inside_text text heading base (validation group.valid_at bytes) bytes group.inside
     ++ heading 0 base end_heading
 
@@ -126,7 +126,7 @@ abbrev pub end_text : (ℕ → ℕ → Heading → List ℕ) → (index base : �
 end_text heading index base = if index == 0 then [] else heading 0 base end_of_parts
 
 -- at most n parts from a place of a body on, up to its end
-unfoldable pub parts_text : (ℕ → ℕ → Row → List ℕ → List ℕ) → (ℕ → ℕ → Heading → List ℕ) → (base : ℕ) → (body : List ℕ) → Group → (n index at : ℕ) → List ℕ
+unfoldable pub parts_text : (ℕ → ℕ → Field → List ℕ → List ℕ) → (ℕ → ℕ → Heading → List ℕ) → (base : ℕ) → (body : List ℕ) → Group → (n index at : ℕ) → List ℕ
 parts_text text heading base body group zero index at = end_text heading index (base + at)
 parts_text text heading base body group (suc n) index at =
     if nat_lt at (length body) then
@@ -140,16 +140,16 @@ parts_end body group zero at = at
 parts_end body group (suc n) at = if nat_lt at (length body) then parts_end body group n (at + part_size group.measure (drop at body)) else at
 
 -- the parts of each group, one group behind another
-abbrev pub groups_text : (ℕ → ℕ → Row → List ℕ → List ℕ) → (ℕ → ℕ → Heading → List ℕ) → (base : ℕ) → (body : List ℕ) → List Group → (at : ℕ) → List ℕ
+abbrev pub groups_text : (ℕ → ℕ → Field → List ℕ → List ℕ) → (ℕ → ℕ → Heading → List ℕ) → (base : ℕ) → (body : List ℕ) → List Group → (at : ℕ) → List ℕ
 groups_text text heading base body [] at = []
 groups_text text heading base body (group ∷ groups) at =
     parts_text text heading base body group (parts_told group body) 0 at
     ++ groups_text text heading base body groups (parts_end body group (parts_told group body) at)
 
 -- the fields of a body and its parts; they begin at a place, or at the body's end where it ends before
-abbrev pub structure_text : (ℕ → ℕ → Row → List ℕ → List ℕ) → (ℕ → ℕ → Heading → List ℕ) → (base : ℕ) → Structure → (body : List ℕ) → List ℕ
+abbrev pub structure_text : (ℕ → ℕ → Field → List ℕ → List ℕ) → (ℕ → ℕ → Heading → List ℕ) → (base : ℕ) → Structure → (body : List ℕ) → List ℕ
 structure_text text heading base structure body =
-    fields_text (text 0 base) structure.valid_at structure.rows body
+    fields_text (text 0 base) structure.valid_at structure.fields body
     ++ groups_text text heading base body structure.groups (min structure.groups_at (length body))
 
 -- a number has at most 8 bytes
@@ -167,11 +167,11 @@ is_sound_sign (guid_sign at guid) = true
 
 abbrev pub are_sound_inside : List Inside → Bool
 are_sound_inside [] = true
-are_sound_inside (inside ∷ others) = is_sound_sign inside.sign && are_sound inside.rows && are_sound_inside others
+are_sound_inside (inside ∷ others) = is_sound_sign inside.sign && are_sound inside.fields && are_sound_inside others
 
 abbrev pub is_sound_group : Group → Bool
 is_sound_group group =
-    is_number group.count_width && nat_lt group.low 64 && nat_lt group.bits 64 && is_sound_measure group.measure && are_sound group.rows && are_sound_inside group.inside
+    is_number group.count_width && nat_lt group.low 64 && nat_lt group.bits 64 && is_sound_measure group.measure && are_sound group.fields && are_sound_inside group.inside
 
 abbrev pub are_sound_groups : List Group → Bool
 are_sound_groups [] = true
@@ -179,4 +179,4 @@ are_sound_groups (group ∷ groups) = is_sound_group group && are_sound_groups g
 
 -- numbers have at most 8 bytes, and no part is empty
 abbrev pub is_sound_structure : Structure → Bool
-is_sound_structure structure = are_sound structure.rows && are_sound_groups structure.groups
+is_sound_structure structure = are_sound structure.fields && are_sound_groups structure.groups

@@ -1,7 +1,7 @@
 pub mod Numbers
 pub mod Texts
 pub mod Times
-pub mod Rows
+pub mod Fields
 pub mod Names
 pub mod Values
 pub mod Walks

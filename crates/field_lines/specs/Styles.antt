@@ -1,6 +1,6 @@
 -- How a field and a heading are written: as a line of text, and as a member of a JSON object.
 use Rattle.std.specs.Prelude.{ℕ, zero, suc, ◌+◌, ◌*◌, ◌==◌, Bool, true, false, if◌then◌else◌, List, [], ◌∷◌, ◌++◌, codes, decimal, replicate}
-use Rattle.field_lines.specs.Rows.{Row}
+use Rattle.field_lines.specs.Fields.{Field}
 use Rattle.field_lines.specs.Values.{value_text, value_json, field_bytes}
 use Rattle.field_lines.specs.Layouts.{Heading, part_heading, inside_heading, end_heading, end_of_parts}
 use Rattle.field_lines.specs.declared.plain.Plain.{Plain}
@@ -13,9 +13,9 @@ place_text places at = if places then codes "[" ++ decimal at ++ codes "] " else
 abbrev pub margin : Plain → (depth at : ℕ) → List ℕ
 margin plain depth at = replicate (plain.indent + 2 * depth) 32 ++ place_text plain.places at
 
-abbrev pub plain_line : Plain → (depth base : ℕ) → Row → (body : List ℕ) → List ℕ
-plain_line plain depth base row body =
-    margin plain depth (base + row.at) ++ row.name ++ codes ": " ++ value_text row.shown (field_bytes row body) ++ codes "\n"
+abbrev pub plain_line : Plain → (depth base : ℕ) → Field → (body : List ℕ) → List ℕ
+plain_line plain depth base field body =
+    margin plain depth (base + field.at) ++ field.name ++ codes ": " ++ value_text field.shown (field_bytes field body) ++ codes "\n"
 
 abbrev pub plain_heading : Plain → (depth base : ℕ) → Heading → List ℕ
 plain_heading plain depth base (part_heading name index) = margin plain depth base ++ name ++ codes " " ++ decimal index ++ codes "\n"
@@ -24,8 +24,8 @@ plain_heading plain depth base end_heading = []
 plain_heading plain depth base end_of_parts = []
 
 -- `,"name":value`: a comma before each member
-abbrev pub json_member : Row → (body : List ℕ) → List ℕ
-json_member row body = codes ",\"" ++ row.name ++ codes "\":" ++ value_json row.shown (field_bytes row body)
+abbrev pub json_member : Field → (body : List ℕ) → List ℕ
+json_member field body = codes ",\"" ++ field.name ++ codes "\":" ++ value_json field.shown (field_bytes field body)
 
 -- an object whose first member says where it stands
 abbrev pub json_offset : ℕ → List ℕ

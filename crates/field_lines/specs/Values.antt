@@ -6,7 +6,7 @@ use Rattle.field_lines.specs.Numbers.{bits_of}
 use Rattle.field_lines.specs.Texts.{high_first, text_of, lines_text, escaped_text, escaped_lines, quoted}
 use Rattle.field_lines.specs.Times.{stamp_text, date_text}
 use Rattle.field_lines.specs.Names.{name_in, named, flag_words, named_object, flags_object}
-use Rattle.field_lines.specs.Rows.{Shown, Row, decimal_number, hexadecimal, guid, text, one_of, flags, bits, stamp, seconds, register, digits_of_bytes, all_bytes, all_lines}
+use Rattle.field_lines.specs.Fields.{Shown, Field, decimal_number, hexadecimal, guid, text, one_of, flags, bits, stamp, seconds, register, digits_of_bytes, all_bytes, all_lines}
 
 -- a time of the years up to 9999
 abbrev pub date_in_brackets : ℕ → List ℕ
@@ -102,5 +102,5 @@ bytes_for all_lines at width body = drop at body
 bytes_for shown at width body = part body at width
 
 -- the bytes of a field: so many from its place on, or all
-abbrev pub field_bytes : Row → List ℕ → List ℕ
-field_bytes row body = bytes_for row.shown row.at row.width body
+abbrev pub field_bytes : Field → List ℕ → List ℕ
+field_bytes field body = bytes_for field.shown field.at field.width body

@@ -1,16 +1,42 @@
 // Digits and texts.
-ghost use Rattle.std.specs.Prelude.{◌≡◌, ◌++◌, ◌<◌, ◌/◌, ◌%◌, OnOk, decimal};
+ghost use Rattle.std.specs.Prelude.{◌≡◌, [], ◌∷◌, ◌++◌, ◌<◌, ◌/◌, ◌%◌, length, OnOk, codes, decimal};
 ghost use Rattle.apei_bytes.specs.Guid.{digit, digits};
 ghost use Rattle.field_lines.specs.Texts.{high_first, text_of, shown_byte, lines_text};
 
-use itoa::Buffer;
+use itoa::{Buffer, write_digits};
 use std::alloc::AllocError;
 
 /// Appends the decimal digits of a number.
+#[tactic(auto, using(std::proofs::lemmas::Fmt::decimal_digit))]
 pub fn add_decimal(number: u64, out: &mut Vec<u8>) -> Result<(), AllocError>
     ensures { OnOk result (out.new.items ≡ out.old.items ++ decimal number) }
 {
+    if number < 10 {
+        return out.extend_from_slice(&[b'0' + number as u8]);
+    }
     out.extend_from_slice(Buffer::new().format(number).as_bytes())
+}
+
+/// Appends the decimal digits of a number behind a colon, and the end of a line.
+#[tactic(auto, using(std::proofs::lemmas::Fmt::decimal_digit))]
+pub(crate) fn end_with_decimal(number: u64, out: &mut Vec<u8>) -> Result<(), AllocError>
+    ensures { OnOk result (out.new.items ≡ out.old.items ++ codes ": " ++ decimal number ++ codes "\n") }
+{
+    if number < 10 {
+        out.extend_from_slice(&[b':', b' ', b'0' + number as u8, b'\n'])?;
+        return Ok(());
+    }
+    out.extend_from_slice(b": ")?;
+    end_with_digits(number, out)
+}
+
+#[tactic(auto, using(crate::proofs::NumberLemmas::few_digits))]
+fn end_with_digits(number: u64, out: &mut Vec<u8>) -> Result<(), AllocError>
+    ensures { OnOk result (out.new.items ≡ out.old.items ++ decimal number ++ codes "\n") }
+{
+    let mut text = [b'\n'; 21];
+    let start = write_digits(number, &mut text, 20);
+    out.extend_from_slice(&text[start..])
 }
 
 pub(crate) fn digit(value: u8) -> u8
@@ -36,30 +62,91 @@ pub(crate) fn low(byte: u8) -> u8
     digit(byte % 16)
 }
 
+#[inline(always)]
+fn add_four(a: u8, b: u8, c: u8, d: u8, out: &mut Vec<u8>) -> Result<(), AllocError>
+    ensures { OnOk result (out.new.items ≡ out.old.items ++ high_first (a ∷ b ∷ c ∷ d ∷ [])) }
+{
+    out.extend_from_slice(&[
+        high(d),
+        low(d),
+        high(c),
+        low(c),
+        high(b),
+        low(b),
+        high(a),
+        low(a),
+    ])
+}
+
+#[inline(always)]
+fn add_four_bytes(bytes: &[u8], out: &mut Vec<u8>) -> Result<(), AllocError>
+    requires { length bytes.now ≡ 4 }
+    ensures { OnOk result (out.new.items ≡ out.old.items ++ high_first bytes.now) }
+{
+    match *bytes {
+        [a, b, c, d] => add_four(a, b, c, d, out),
+        _ => Ok(()),
+    }
+}
+
+#[inline(always)]
+fn end_with_four(a: u8, b: u8, c: u8, d: u8, out: &mut Vec<u8>) -> Result<(), AllocError>
+    ensures { OnOk result (out.new.items ≡ out.old.items ++ high_first (a ∷ b ∷ c ∷ d ∷ []) ++ codes "\n") }
+{
+    out.extend_from_slice(&[
+        high(d),
+        low(d),
+        high(c),
+        low(c),
+        high(b),
+        low(b),
+        high(a),
+        low(a),
+        b'\n',
+    ])
+}
+
 /// Appends two digits of sixteen for each byte, those of the last byte first.
 pub fn add_high_first(bytes: &[u8], out: &mut Vec<u8>) -> Result<(), AllocError>
     ensures { OnOk result (out.new.items ≡ out.old.items ++ high_first bytes.now) }
 {
     match *bytes {
         [] => Ok(()),
+        [a, b] => out.extend_from_slice(&[high(b), low(b), high(a), low(a)]),
         [a, b, c, d, ref rest @ ..] => {
+            if rest.len() == 4 {
+                add_four_bytes(rest, out)?;
+                return add_four(a, b, c, d, out);
+            }
             add_high_first(rest, out)?;
-            out.extend_from_slice(&[
-                high(d),
-                low(d),
-                high(c),
-                low(c),
-                high(b),
-                low(b),
-                high(a),
-                low(a),
-            ])
+            add_four(a, b, c, d, out)
         }
         [first, ref rest @ ..] => {
             add_high_first(rest, out)?;
             out.extend_from_slice(&[high(first), low(first)])
         }
     }
+}
+
+/// Appends two digits of sixteen for each byte, those of the last byte first, behind a colon, and the end of a line.
+pub(crate) fn end_with_high_first(bytes: &[u8], out: &mut Vec<u8>) -> Result<(), AllocError>
+    ensures { OnOk result (out.new.items ≡ out.old.items ++ codes ": 0x" ++ high_first bytes.now ++ codes "\n") }
+{
+    out.extend_from_slice(b": 0x")?;
+    end_with_digits_of(bytes, out)
+}
+
+fn end_with_digits_of(bytes: &[u8], out: &mut Vec<u8>) -> Result<(), AllocError>
+    ensures { OnOk result (out.new.items ≡ out.old.items ++ high_first bytes.now ++ codes "\n") }
+{
+    if let [a, b, c, d, ref rest @ ..] = *bytes {
+        if rest.len() == 4 {
+            add_four_bytes(rest, out)?;
+            return end_with_four(a, b, c, d, out);
+        }
+    }
+    add_high_first(bytes, out)?;
+    out.extend_from_slice(b"\n")
 }
 
 /// Appends two digits of sixteen for each byte, those of the first byte first.

@@ -1,11 +1,11 @@
 // Fields as members of a JSON object.
 ghost use Rattle.std.specs.Prelude.{◌≡◌, ◌≤◌, ◌<◌, ◌+◌, ◌^◌, ◌++◌, length, OnOk, IsTrue};
-ghost use Rattle.field_lines.specs.Rows.{is_sound, fits, hexadecimal, guid, stamp, all_bytes, text, all_lines};
+ghost use Rattle.field_lines.specs.Fields.{is_sound, fits, hexadecimal, guid, stamp, all_bytes, text, all_lines};
 ghost use Rattle.field_lines.specs.Texts.{escaped, escaped_text, escaped_lines};
 ghost use Rattle.field_lines.specs.Values.{value_json, time_member, seconds_object};
 ghost use Rattle.field_lines.specs.Layouts.{part_heading, inside_heading};
 ghost use Rattle.field_lines.specs.Styles.{json_member, json_heading, json_offset};
-ghost use Rattle.field_lines.specs.Code.{row_of, shown_of, heading_of};
+ghost use Rattle.field_lines.specs.Code.{field_of, shown_of, heading_of};
 
 use crate::digits::{add_decimal, add_digits, add_high_first, high, low};
 use crate::field::{Field, Shape};

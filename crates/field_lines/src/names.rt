@@ -2,7 +2,7 @@
 ghost use Rattle.std.specs.Prelude.{◌≡◌, ◌++◌, map, option_map, OnOk, false};
 ghost use Rattle.field_lines.specs.Names.{name_in, named, is_flag, flag_words, named_object, flag_list, flags_object};
 ghost use Rattle.field_lines.specs.Texts.{quoted};
-ghost use Rattle.field_lines.specs.Code.{name_row};
+ghost use Rattle.field_lines.specs.Code.{name_of};
 
 use crate::digits::add_decimal;
 use crate::field::Name;
@@ -11,7 +11,7 @@ use std::alloc::AllocError;
 
 /// The name of a number in a list; none where it has none there.
 pub(crate) fn name_in(mut names: &[Name], number: u64) -> Option<&'static str>
-    ensures { option_map (λ name. name.now) result ≡ name_in (map name_row names.entry.now) number }
+    ensures { option_map (λ name. name.now) result ≡ name_in (map name_of names.entry.now) number }
 {
     while let [first, rest @ ..] = names {
         if first.number == number {
@@ -24,7 +24,7 @@ pub(crate) fn name_in(mut names: &[Name], number: u64) -> Option<&'static str>
 
 /// Appends a number, and its name where it has one.
 pub(crate) fn add_named(names: &[Name], number: u64, out: &mut Vec<u8>) -> Result<(), AllocError>
-    ensures { OnOk result (out.new.items ≡ out.old.items ++ named (map name_row names.now) number) }
+    ensures { OnOk result (out.new.items ≡ out.old.items ++ named (map name_of names.now) number) }
 {
     add_decimal(number, out)?;
     if let Some(name) = name_in(names, number) {
@@ -47,7 +47,7 @@ pub(crate) fn add_flags(
     number: u64,
     out: &mut Vec<u8>,
 ) -> Result<(), AllocError>
-    ensures { OnOk result (out.new.items ≡ out.old.items ++ flag_words (map name_row names.entry.now) number) }
+    ensures { OnOk result (out.new.items ≡ out.old.items ++ flag_words (map name_of names.entry.now) number) }
 {
     while let [first, rest @ ..] = names {
         if is_flag(number, first.number) {
@@ -65,7 +65,7 @@ pub(crate) fn add_named_object(
     number: u64,
     out: &mut Vec<u8>,
 ) -> Result<(), AllocError>
-    ensures { OnOk result (out.new.items ≡ out.old.items ++ named_object (map name_row names.now) number) }
+    ensures { OnOk result (out.new.items ≡ out.old.items ++ named_object (map name_of names.now) number) }
 {
     let [_, ..] = names else {
         return add_decimal(number, out);
@@ -83,7 +83,7 @@ pub(crate) fn add_named_object(
 
 // Appends the names of the bits of a number that are set, with a comma before each but the first.
 fn add_flag_list(mut names: &[Name], number: u64, out: &mut Vec<u8>) -> Result<(), AllocError>
-    ensures { OnOk result (out.new.items ≡ out.old.items ++ flag_list false (map name_row names.entry.now) number) }
+    ensures { OnOk result (out.new.items ≡ out.old.items ++ flag_list false (map name_of names.entry.now) number) }
 {
     let mut more = false;
     while let [first, rest @ ..] = names {
@@ -105,7 +105,7 @@ pub(crate) fn add_flags_object(
     number: u64,
     out: &mut Vec<u8>,
 ) -> Result<(), AllocError>
-    ensures { OnOk result (out.new.items ≡ out.old.items ++ flags_object (map name_row names.now) number) }
+    ensures { OnOk result (out.new.items ≡ out.old.items ++ flags_object (map name_of names.now) number) }
 {
     out.extend_from_slice(b"{\"value\":")?;
     add_decimal(number, out)?;

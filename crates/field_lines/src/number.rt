@@ -7,6 +7,7 @@ use apei_bytes::get_u64;
 use apei_fields::bytes_at;
 
 /// The number that bytes stand for.
+#[tactic(auto, using(crate::proofs::NumberLemmas::whole_number))]
 pub(crate) fn number_of(bytes: &[u8]) -> u64
     requires { length bytes.now ≤ 8 }
     ensures { result ≡ little bytes.now }
@@ -15,6 +16,7 @@ pub(crate) fn number_of(bytes: &[u8]) -> u64
         [a] => u64::from(a),
         [a, b] => two_bytes(a, b),
         [a, b, c, d] => two_bytes(a, b) + 65_536 * two_bytes(c, d),
+        [_, _, _, _, _, _, _, _] => get_u64(bytes, 0),
         _ => padded_number(bytes),
     }
 }

@@ -3,9 +3,9 @@ ghost use Rattle.std.specs.Prelude.{◌≡◌, ◌<◌, ◌≤◌, ◌+◌, ◌^
 ghost use Rattle.base_model.specs.Bytes.{part};
 ghost use Rattle.field_lines.specs.Numbers.{validation};
 ghost use Rattle.field_lines.specs.Layouts.{is_sound_structure, is_sound_group, are_sound_groups, is_sound_measure, is_sound_sign, are_sound_inside, structure_text, groups_text, parts_text, parts_end, parts_told, part_text, part_size, all_inside_text, inside_text, has_sign, has_guid, is_there, end_text};
-ghost use Rattle.field_lines.specs.Rows.{are_sound};
+ghost use Rattle.field_lines.specs.Fields.{are_sound};
 ghost use Rattle.field_lines.specs.Walks.{fields_text};
-ghost use Rattle.field_lines.specs.Code.{content_rows, structure_of, group_of, measure_of, sign_of, inside_of};
+ghost use Rattle.field_lines.specs.Code.{content_fields, structure_of, group_of, measure_of, sign_of, inside_of};
 
 use crate::layout::{Content, Inner, Key, Layout, Parts, Size};
 use crate::number::{bits_of, number_in};
@@ -176,7 +176,7 @@ fn add_inside<S: Style>(
     bytes: &[u8],
     out: &mut Vec<u8>,
 ) -> Result<(), AllocError>
-    requires sound { IsTrue (are_sound (content_rows inner.now.content)) }
+    requires sound { IsTrue (are_sound (content_fields inner.now.content)) }
     requires place { base + length bytes.now < 2 ^ 64 }
     requires start { inner.now.at ≤ length bytes.now }
     ensures { OnOk result (out.new.items ≡ out.old.items ++ inside_text (S.text style.now) (S.heading style.now) base bytes.now (inside_of inner.now)) }
@@ -204,9 +204,9 @@ fn add_content<S: Style>(
     bytes: &[u8],
     out: &mut Vec<u8>,
 ) -> Result<(), AllocError>
-    requires sound { IsTrue (are_sound (content_rows content.now)) }
+    requires sound { IsTrue (are_sound (content_fields content.now)) }
     requires place { spot.base + length bytes.now < 2 ^ 64 }
-    ensures { OnOk result (out.new.items ≡ out.old.items ++ fields_text (S.text style.now spot.depth spot.base) 0 (content_rows content.now) bytes.now) }
+    ensures { OnOk result (out.new.items ≡ out.old.items ++ fields_text (S.text style.now spot.depth spot.base) 0 (content_fields content.now) bytes.now) }
 {
     match *content {
         Content::Fields(fields) => add_fields(style, spot, 0, fields, bytes, out),

@@ -1,14 +1,14 @@
 // Fields as lines of text.
-ghost use Rattle.std.specs.Prelude.{◌≡◌, ◌≤◌, ◌<◌, ◌+◌, ◌*◌, ◌^◌, ◌++◌, length, replicate, OnOk, IsTrue, true, codes};
-ghost use Rattle.field_lines.specs.Rows.{is_sound, fits};
+ghost use Rattle.std.specs.Prelude.{◌≡◌, ◌≤◌, ◌<◌, ◌+◌, ◌*◌, ◌^◌, ◌++◌, length, replicate, OnOk, IsTrue, true};
+ghost use Rattle.field_lines.specs.Fields.{is_sound, fits};
 ghost use Rattle.field_lines.specs.Values.{field_bytes};
 ghost use Rattle.field_lines.specs.Styles.{margin, place_text, plain_line, plain_heading};
-ghost use Rattle.field_lines.specs.Code.{row_of, shown_of, heading_of};
+ghost use Rattle.field_lines.specs.Code.{field_of, shown_of, heading_of};
 
 use crate::digits::add_decimal;
 use crate::field::{Field, Shape};
 use crate::style::{Mark, Spot, Style};
-use crate::value::add_value;
+use crate::value::end_with_value;
 use apei_fields::bytes_at;
 use std::alloc::AllocError;
 
@@ -80,9 +80,7 @@ impl Style for Plain {
     ) -> Result<(), AllocError> {
         self.add_margin(spot.depth, spot.base + field.at as u64, out)?;
         out.extend_from_slice(field.name.as_bytes())?;
-        out.extend_from_slice(b": ")?;
-        add_value(&field.shape, field_bytes(field, body), out)?;
-        end_line(out)
+        end_with_value(&field.shape, field_bytes(field, body), out)
     }
 
     fn mark(&self, spot: Spot, mark: &Mark, out: &mut Vec<u8>) -> Result<(), AllocError> {
@@ -106,17 +104,11 @@ impl Style for Plain {
     }
 }
 
-fn end_line(out: &mut Vec<u8>) -> Result<(), AllocError>
-    ensures { OnOk result (out.new.items ≡ out.old.items ++ codes "\n") }
-{
-    out.extend_from_slice(b"\n")
-}
-
 /// The bytes of a field.
 pub(crate) fn field_bytes<'a>(field: &Field, body: &'a [u8]) -> &'a [u8]
-    requires sound { IsTrue (is_sound (row_of field.now)) }
+    requires sound { IsTrue (is_sound (field_of field.now)) }
     requires within { field.now.at + field.now.width ≤ length body.now }
-    ensures value { result.now ≡ field_bytes (row_of field.now) body.now }
+    ensures value { result.now ≡ field_bytes (field_of field.now) body.now }
     ensures fits { IsTrue (fits (shown_of field.now.shape) (length result.now)) }
 {
     let at = field.at as usize;

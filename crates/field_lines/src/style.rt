@@ -1,7 +1,7 @@
 // How fields and headings are written.
 ghost use Rattle.std.specs.Prelude.{◌≡◌, ◌≤◌, ◌<◌, ◌+◌, ◌^◌, ◌++◌, length, OnOk, IsTrue};
-ghost use Rattle.field_lines.specs.Rows.{is_sound};
-ghost use Rattle.field_lines.specs.Code.{row_of, heading_of};
+ghost use Rattle.field_lines.specs.Fields.{is_sound};
+ghost use Rattle.field_lines.specs.Code.{field_of, heading_of};
 
 use crate::field::Field;
 use std::alloc::AllocError;
@@ -29,11 +29,11 @@ pub enum Mark {
 /// How a field of a body is written, and a mark.
 pub trait Style {
     ghost use Rattle.std.specs.Prelude.{ℕ, List};
-    ghost use Rattle.field_lines.specs.Rows.{Row};
+    ghost use Rattle.field_lines.specs.Fields.{Field};
     ghost use Rattle.field_lines.specs.Layouts.{Heading};
 
     // What is written of a field, at a depth, of a body that begins at a place.
-    ghost text: { Self → ℕ → ℕ → Row → List ℕ → List ℕ };
+    ghost text: { Self → ℕ → ℕ → Field → List ℕ → List ℕ };
 
     // What is written of a mark, at a depth and a place.
     ghost heading: { Self → ℕ → ℕ → Heading → List ℕ };
@@ -46,10 +46,10 @@ pub trait Style {
         body: &[u8],
         out: &mut Vec<u8>,
     ) -> Result<(), AllocError>
-        requires sound { IsTrue (is_sound (row_of field.now)) }
+        requires sound { IsTrue (is_sound (field_of field.now)) }
         requires within { field.now.at + field.now.width ≤ length body.now }
         requires place { spot.base + length body.now < 2 ^ 64 }
-        ensures { OnOk result (out.new.items ≡ out.old.items ++ text self.now spot.depth spot.base (row_of field.now) body.now) };
+        ensures { OnOk result (out.new.items ≡ out.old.items ++ text self.now spot.depth spot.base (field_of field.now) body.now) };
 
     /// Appends a mark.
     fn mark(&self, spot: Spot, mark: &Mark, out: &mut Vec<u8>) -> Result<(), AllocError>

@@ -1,11 +1,14 @@
 // What stands in a field, as text.
-ghost use Rattle.std.specs.Prelude.{◌≡◌, ◌++◌, length, OnOk, IsTrue, decimal};
+ghost use Rattle.std.specs.Prelude.{◌≡◌, ◌++◌, length, OnOk, IsTrue, codes, decimal};
 ghost use Rattle.apei_bytes.specs.Guid.{guid_text};
-ghost use Rattle.field_lines.specs.Rows.{fits};
+ghost use Rattle.field_lines.specs.Fields.{fits};
 ghost use Rattle.field_lines.specs.Values.{value_text, date_in_brackets};
 ghost use Rattle.field_lines.specs.Code.{shown_of};
 
-use crate::digits::{add_decimal, add_digits, add_high_first, add_lines, add_text};
+use crate::digits::{
+    add_decimal, add_digits, add_high_first, add_lines, add_text, end_with_decimal,
+    end_with_high_first,
+};
 use crate::field::Shape;
 use crate::names::{add_flags, add_named};
 use crate::number::{bits_of, number_of};
@@ -14,8 +17,28 @@ use crate::time::{YEAR_10000, add_date, add_stamp};
 use apei_fields::guid_at;
 use std::alloc::AllocError;
 
-/// Appends what the bytes of a field say.
-pub(crate) fn add_value(shape: &Shape, bytes: &[u8], out: &mut Vec<u8>) -> Result<(), AllocError>
+/// Appends what the bytes of a field say, behind a colon, and the end of the line. Most fields are numbers, which take one move or two.
+pub(crate) fn end_with_value(
+    shape: &Shape,
+    bytes: &[u8],
+    out: &mut Vec<u8>,
+) -> Result<(), AllocError>
+    requires { IsTrue (fits (shown_of shape.now) (length bytes.now)) }
+    ensures { OnOk result (out.new.items ≡ out.old.items ++ codes ": " ++ value_text (shown_of shape.now) bytes.now ++ codes "\n") }
+{
+    match *shape {
+        Shape::Decimal => end_with_decimal(number_of(bytes), out),
+        Shape::Hexadecimal => end_with_high_first(bytes, out),
+        _ => {
+            out.extend_from_slice(b": ")?;
+            add_value(shape, bytes, out)?;
+            out.extend_from_slice(b"\n")
+        }
+    }
+}
+
+// Appends what the bytes of a field say.
+fn add_value(shape: &Shape, bytes: &[u8], out: &mut Vec<u8>) -> Result<(), AllocError>
     requires { IsTrue (fits (shown_of shape.now) (length bytes.now)) }
     ensures { OnOk result (out.new.items ≡ out.old.items ++ value_text (shown_of shape.now) bytes.now) }
 {

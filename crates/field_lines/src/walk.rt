@@ -1,9 +1,9 @@
 // The fields of a body.
 ghost use Rattle.std.specs.Prelude.{◌≡◌, ◌<◌, ◌+◌, ◌^◌, ◌++◌, length, map, OnOk, IsTrue};
 ghost use Rattle.field_lines.specs.Numbers.{validation, is_valid};
-ghost use Rattle.field_lines.specs.Rows.{are_sound};
+ghost use Rattle.field_lines.specs.Fields.{are_sound};
 ghost use Rattle.field_lines.specs.Walks.{is_shown, fields_text};
-ghost use Rattle.field_lines.specs.Code.{row_of, register_rows, register_name};
+ghost use Rattle.field_lines.specs.Code.{field_of, register_fields, register_name};
 
 use crate::field::{Field, Shape};
 use crate::layout::Register;
@@ -21,9 +21,9 @@ pub fn add_fields<S: Style>(
     body: &[u8],
     out: &mut Vec<u8>,
 ) -> Result<(), AllocError>
-    requires sound { IsTrue (are_sound (map row_of fields.now)) }
+    requires sound { IsTrue (are_sound (map field_of fields.now)) }
     requires place { spot.base + length body.now < 2 ^ 64 }
-    ensures { OnOk result (out.new.items ≡ out.old.items ++ fields_text (S.text style.now spot.depth spot.base) valid_at (map row_of fields.entry.now) body.now) }
+    ensures { OnOk result (out.new.items ≡ out.old.items ++ fields_text (S.text style.now spot.depth spot.base) valid_at (map field_of fields.entry.now) body.now) }
 {
     let valid = validation(body, valid_at);
     while let [field, rest @ ..] = fields {
@@ -44,9 +44,9 @@ pub(crate) fn add_registers<S: Style>(
     body: &[u8],
     out: &mut Vec<u8>,
 ) -> Result<(), AllocError>
-    requires sound { IsTrue (are_sound (register_rows width 0 (map register_name registers.now))) }
+    requires sound { IsTrue (are_sound (register_fields width 0 (map register_name registers.now))) }
     requires place { spot.base + length body.now < 2 ^ 64 }
-    ensures { OnOk result (out.new.items ≡ out.old.items ++ fields_text (S.text style.now spot.depth spot.base) 0 (register_rows width 0 (map register_name registers.entry.now)) body.now) }
+    ensures { OnOk result (out.new.items ≡ out.old.items ++ fields_text (S.text style.now spot.depth spot.base) 0 (register_fields width 0 (map register_name registers.entry.now)) body.now) }
 {
     let mut at = 0;
     while let [register, rest @ ..] = registers {
@@ -77,7 +77,7 @@ pub(crate) fn validation(body: &[u8], at: u16) -> u64
 
 // Whether a field is valid and lies within a body of so many bytes.
 fn is_shown(field: &Field, valid: u64, len: usize) -> bool
-    ensures { result ≡ is_shown valid len (row_of field.now) }
+    ensures { result ≡ is_shown valid len (field_of field.now) }
 {
     if len < field.at as usize + field.width as usize {
         return false;

@@ -1,6 +1,6 @@
 -- IA-32 and x64 processor errors (UEFI 2.8, N.2.4.2).
 use Rattle.std.specs.Prelude.{ℕ, List, [], ◌∷◌, Some, None, codes}
-use Rattle.field_lines.specs.Rows.{Row, bits, decimal_number, digits_of_bytes, guid, hexadecimal, one_of, row}
+use Rattle.field_lines.specs.Fields.{Field, bits, decimal_number, digits_of_bytes, guid, hexadecimal, one_of, field}
 use Rattle.field_lines.specs.Layouts.{Structure, structure, Group, group, fixed, told, Inside, inside, guid_sign, number_sign}
 
 -- the transaction types of a check (UEFI 2.8, N.2.4.2.1)
@@ -67,160 +67,160 @@ context_types =
     ∷ []
 
 -- an IA-32 or x64 processor error (UEFI 2.8, N.2.4.2)
-abbrev pub ia32_processor_rows : List Row
-ia32_processor_rows =
-    row 8 8 (Some 0) (codes "local APIC ID") hexadecimal
-    ∷ row 16 48 (Some 1) (codes "CPUID info") digits_of_bytes
+abbrev pub ia32_processor_fields : List Field
+ia32_processor_fields =
+    field 8 8 (Some 0) (codes "local APIC ID") hexadecimal
+    ∷ field 16 48 (Some 1) (codes "CPUID info") digits_of_bytes
     ∷ []
 
 -- a part of it: error information
-abbrev pub ia32_error_rows : List Row
-ia32_error_rows =
-    row 0 16 None (codes "error structure type") guid
-    ∷ row 24 8 (Some 0) (codes "check information") hexadecimal
-    ∷ row 32 8 (Some 1) (codes "target identifier") hexadecimal
-    ∷ row 40 8 (Some 2) (codes "requestor identifier") hexadecimal
-    ∷ row 48 8 (Some 3) (codes "responder identifier") hexadecimal
-    ∷ row 56 8 (Some 4) (codes "instruction pointer") hexadecimal
+abbrev pub ia32_error_fields : List Field
+ia32_error_fields =
+    field 0 16 None (codes "error structure type") guid
+    ∷ field 24 8 (Some 0) (codes "check information") hexadecimal
+    ∷ field 32 8 (Some 1) (codes "target identifier") hexadecimal
+    ∷ field 40 8 (Some 2) (codes "requestor identifier") hexadecimal
+    ∷ field 48 8 (Some 3) (codes "responder identifier") hexadecimal
+    ∷ field 56 8 (Some 4) (codes "instruction pointer") hexadecimal
     ∷ []
 
 -- what stands inside: cache check
-abbrev pub check_rows : List Row
-check_rows =
-    row 0 8 (Some 0) (codes "transaction type") (bits 16 2 transactions)
-    ∷ row 0 8 (Some 1) (codes "operation") (bits 18 4 check_operations)
-    ∷ row 0 8 (Some 2) (codes "level") (bits 22 3 [])
-    ∷ row 0 8 (Some 3) (codes "processor context corrupt") (bits 25 1 [])
-    ∷ row 0 8 (Some 4) (codes "uncorrected") (bits 26 1 [])
-    ∷ row 0 8 (Some 5) (codes "precise IP") (bits 27 1 [])
-    ∷ row 0 8 (Some 6) (codes "restartable IP") (bits 28 1 [])
-    ∷ row 0 8 (Some 7) (codes "overflow") (bits 29 1 [])
+abbrev pub check_fields : List Field
+check_fields =
+    field 0 8 (Some 0) (codes "transaction type") (bits 16 2 transactions)
+    ∷ field 0 8 (Some 1) (codes "operation") (bits 18 4 check_operations)
+    ∷ field 0 8 (Some 2) (codes "level") (bits 22 3 [])
+    ∷ field 0 8 (Some 3) (codes "processor context corrupt") (bits 25 1 [])
+    ∷ field 0 8 (Some 4) (codes "uncorrected") (bits 26 1 [])
+    ∷ field 0 8 (Some 5) (codes "precise IP") (bits 27 1 [])
+    ∷ field 0 8 (Some 6) (codes "restartable IP") (bits 28 1 [])
+    ∷ field 0 8 (Some 7) (codes "overflow") (bits 29 1 [])
     ∷ []
 
 -- what stands inside: bus check
-abbrev pub bus_check_rows : List Row
-bus_check_rows =
-    row 0 8 (Some 0) (codes "transaction type") (bits 16 2 transactions)
-    ∷ row 0 8 (Some 1) (codes "operation") (bits 18 4 check_operations)
-    ∷ row 0 8 (Some 2) (codes "level") (bits 22 3 [])
-    ∷ row 0 8 (Some 3) (codes "processor context corrupt") (bits 25 1 [])
-    ∷ row 0 8 (Some 4) (codes "uncorrected") (bits 26 1 [])
-    ∷ row 0 8 (Some 5) (codes "precise IP") (bits 27 1 [])
-    ∷ row 0 8 (Some 6) (codes "restartable IP") (bits 28 1 [])
-    ∷ row 0 8 (Some 7) (codes "overflow") (bits 29 1 [])
-    ∷ row 0 8 (Some 8) (codes "participation type") (bits 30 2 participations)
-    ∷ row 0 8 (Some 9) (codes "time out") (bits 32 1 [])
-    ∷ row 0 8 (Some 10) (codes "address space") (bits 33 2 bus_spaces)
+abbrev pub bus_check_fields : List Field
+bus_check_fields =
+    field 0 8 (Some 0) (codes "transaction type") (bits 16 2 transactions)
+    ∷ field 0 8 (Some 1) (codes "operation") (bits 18 4 check_operations)
+    ∷ field 0 8 (Some 2) (codes "level") (bits 22 3 [])
+    ∷ field 0 8 (Some 3) (codes "processor context corrupt") (bits 25 1 [])
+    ∷ field 0 8 (Some 4) (codes "uncorrected") (bits 26 1 [])
+    ∷ field 0 8 (Some 5) (codes "precise IP") (bits 27 1 [])
+    ∷ field 0 8 (Some 6) (codes "restartable IP") (bits 28 1 [])
+    ∷ field 0 8 (Some 7) (codes "overflow") (bits 29 1 [])
+    ∷ field 0 8 (Some 8) (codes "participation type") (bits 30 2 participations)
+    ∷ field 0 8 (Some 9) (codes "time out") (bits 32 1 [])
+    ∷ field 0 8 (Some 10) (codes "address space") (bits 33 2 bus_spaces)
     ∷ []
 
 -- what stands inside: MS check
-abbrev pub ms_check_rows : List Row
-ms_check_rows =
-    row 0 8 (Some 0) (codes "error type") (bits 16 3 ms_errors)
-    ∷ row 0 8 (Some 1) (codes "processor context corrupt") (bits 19 1 [])
-    ∷ row 0 8 (Some 2) (codes "uncorrected") (bits 20 1 [])
-    ∷ row 0 8 (Some 3) (codes "precise IP") (bits 21 1 [])
-    ∷ row 0 8 (Some 4) (codes "restartable IP") (bits 22 1 [])
-    ∷ row 0 8 (Some 5) (codes "overflow") (bits 23 1 [])
+abbrev pub ms_check_fields : List Field
+ms_check_fields =
+    field 0 8 (Some 0) (codes "error type") (bits 16 3 ms_errors)
+    ∷ field 0 8 (Some 1) (codes "processor context corrupt") (bits 19 1 [])
+    ∷ field 0 8 (Some 2) (codes "uncorrected") (bits 20 1 [])
+    ∷ field 0 8 (Some 3) (codes "precise IP") (bits 21 1 [])
+    ∷ field 0 8 (Some 4) (codes "restartable IP") (bits 22 1 [])
+    ∷ field 0 8 (Some 5) (codes "overflow") (bits 23 1 [])
     ∷ []
 
 -- a part of it: context
-abbrev pub ia32_context_rows : List Row
-ia32_context_rows =
-    row 0 2 None (codes "register context type") (one_of context_types)
-    ∷ row 2 2 None (codes "register array size") decimal_number
-    ∷ row 4 4 None (codes "MSR address") hexadecimal
-    ∷ row 8 8 None (codes "MM register address") hexadecimal
+abbrev pub ia32_context_fields : List Field
+ia32_context_fields =
+    field 0 2 None (codes "register context type") (one_of context_types)
+    ∷ field 2 2 None (codes "register array size") decimal_number
+    ∷ field 4 4 None (codes "MSR address") hexadecimal
+    ∷ field 8 8 None (codes "MM register address") hexadecimal
     ∷ []
 
 -- what stands inside: the registers of an IA-32 context
-abbrev pub ia32_registers_rows : List Row
-ia32_registers_rows =
-    row 0 4 None (codes "EAX") hexadecimal
-    ∷ row 4 4 None (codes "EBX") hexadecimal
-    ∷ row 8 4 None (codes "ECX") hexadecimal
-    ∷ row 12 4 None (codes "EDX") hexadecimal
-    ∷ row 16 4 None (codes "ESI") hexadecimal
-    ∷ row 20 4 None (codes "EDI") hexadecimal
-    ∷ row 24 4 None (codes "EBP") hexadecimal
-    ∷ row 28 4 None (codes "ESP") hexadecimal
-    ∷ row 32 2 None (codes "CS") hexadecimal
-    ∷ row 34 2 None (codes "DS") hexadecimal
-    ∷ row 36 2 None (codes "SS") hexadecimal
-    ∷ row 38 2 None (codes "ES") hexadecimal
-    ∷ row 40 2 None (codes "FS") hexadecimal
-    ∷ row 42 2 None (codes "GS") hexadecimal
-    ∷ row 44 4 None (codes "EFLAGS") hexadecimal
-    ∷ row 48 4 None (codes "EIP") hexadecimal
-    ∷ row 52 4 None (codes "CR0") hexadecimal
-    ∷ row 56 4 None (codes "CR1") hexadecimal
-    ∷ row 60 4 None (codes "CR2") hexadecimal
-    ∷ row 64 4 None (codes "CR3") hexadecimal
-    ∷ row 68 4 None (codes "CR4") hexadecimal
-    ∷ row 72 8 None (codes "GDTR") hexadecimal
-    ∷ row 80 8 None (codes "IDTR") hexadecimal
-    ∷ row 88 2 None (codes "LDTR") hexadecimal
-    ∷ row 90 2 None (codes "TR") hexadecimal
+abbrev pub ia32_registers_fields : List Field
+ia32_registers_fields =
+    field 0 4 None (codes "EAX") hexadecimal
+    ∷ field 4 4 None (codes "EBX") hexadecimal
+    ∷ field 8 4 None (codes "ECX") hexadecimal
+    ∷ field 12 4 None (codes "EDX") hexadecimal
+    ∷ field 16 4 None (codes "ESI") hexadecimal
+    ∷ field 20 4 None (codes "EDI") hexadecimal
+    ∷ field 24 4 None (codes "EBP") hexadecimal
+    ∷ field 28 4 None (codes "ESP") hexadecimal
+    ∷ field 32 2 None (codes "CS") hexadecimal
+    ∷ field 34 2 None (codes "DS") hexadecimal
+    ∷ field 36 2 None (codes "SS") hexadecimal
+    ∷ field 38 2 None (codes "ES") hexadecimal
+    ∷ field 40 2 None (codes "FS") hexadecimal
+    ∷ field 42 2 None (codes "GS") hexadecimal
+    ∷ field 44 4 None (codes "EFLAGS") hexadecimal
+    ∷ field 48 4 None (codes "EIP") hexadecimal
+    ∷ field 52 4 None (codes "CR0") hexadecimal
+    ∷ field 56 4 None (codes "CR1") hexadecimal
+    ∷ field 60 4 None (codes "CR2") hexadecimal
+    ∷ field 64 4 None (codes "CR3") hexadecimal
+    ∷ field 68 4 None (codes "CR4") hexadecimal
+    ∷ field 72 8 None (codes "GDTR") hexadecimal
+    ∷ field 80 8 None (codes "IDTR") hexadecimal
+    ∷ field 88 2 None (codes "LDTR") hexadecimal
+    ∷ field 90 2 None (codes "TR") hexadecimal
     ∷ []
 
 -- what stands inside: the registers of an x64 context
-abbrev pub x64_registers_rows : List Row
-x64_registers_rows =
-    row 0 8 None (codes "RAX") hexadecimal
-    ∷ row 8 8 None (codes "RBX") hexadecimal
-    ∷ row 16 8 None (codes "RCX") hexadecimal
-    ∷ row 24 8 None (codes "RDX") hexadecimal
-    ∷ row 32 8 None (codes "RSI") hexadecimal
-    ∷ row 40 8 None (codes "RDI") hexadecimal
-    ∷ row 48 8 None (codes "RBP") hexadecimal
-    ∷ row 56 8 None (codes "RSP") hexadecimal
-    ∷ row 64 8 None (codes "R8") hexadecimal
-    ∷ row 72 8 None (codes "R9") hexadecimal
-    ∷ row 80 8 None (codes "R10") hexadecimal
-    ∷ row 88 8 None (codes "R11") hexadecimal
-    ∷ row 96 8 None (codes "R12") hexadecimal
-    ∷ row 104 8 None (codes "R13") hexadecimal
-    ∷ row 112 8 None (codes "R14") hexadecimal
-    ∷ row 120 8 None (codes "R15") hexadecimal
-    ∷ row 128 2 None (codes "CS") hexadecimal
-    ∷ row 130 2 None (codes "DS") hexadecimal
-    ∷ row 132 2 None (codes "SS") hexadecimal
-    ∷ row 134 2 None (codes "ES") hexadecimal
-    ∷ row 136 2 None (codes "FS") hexadecimal
-    ∷ row 138 2 None (codes "GS") hexadecimal
-    ∷ row 144 8 None (codes "RFLAGS") hexadecimal
-    ∷ row 152 8 None (codes "EIP") hexadecimal
-    ∷ row 160 8 None (codes "CR0") hexadecimal
-    ∷ row 168 8 None (codes "CR1") hexadecimal
-    ∷ row 176 8 None (codes "CR2") hexadecimal
-    ∷ row 184 8 None (codes "CR3") hexadecimal
-    ∷ row 192 8 None (codes "CR4") hexadecimal
-    ∷ row 200 8 None (codes "CR8") hexadecimal
-    ∷ row 208 16 None (codes "GDTR") hexadecimal
-    ∷ row 224 16 None (codes "IDTR") hexadecimal
-    ∷ row 240 2 None (codes "LDTR") hexadecimal
-    ∷ row 242 2 None (codes "TR") hexadecimal
+abbrev pub x64_registers_fields : List Field
+x64_registers_fields =
+    field 0 8 None (codes "RAX") hexadecimal
+    ∷ field 8 8 None (codes "RBX") hexadecimal
+    ∷ field 16 8 None (codes "RCX") hexadecimal
+    ∷ field 24 8 None (codes "RDX") hexadecimal
+    ∷ field 32 8 None (codes "RSI") hexadecimal
+    ∷ field 40 8 None (codes "RDI") hexadecimal
+    ∷ field 48 8 None (codes "RBP") hexadecimal
+    ∷ field 56 8 None (codes "RSP") hexadecimal
+    ∷ field 64 8 None (codes "R8") hexadecimal
+    ∷ field 72 8 None (codes "R9") hexadecimal
+    ∷ field 80 8 None (codes "R10") hexadecimal
+    ∷ field 88 8 None (codes "R11") hexadecimal
+    ∷ field 96 8 None (codes "R12") hexadecimal
+    ∷ field 104 8 None (codes "R13") hexadecimal
+    ∷ field 112 8 None (codes "R14") hexadecimal
+    ∷ field 120 8 None (codes "R15") hexadecimal
+    ∷ field 128 2 None (codes "CS") hexadecimal
+    ∷ field 130 2 None (codes "DS") hexadecimal
+    ∷ field 132 2 None (codes "SS") hexadecimal
+    ∷ field 134 2 None (codes "ES") hexadecimal
+    ∷ field 136 2 None (codes "FS") hexadecimal
+    ∷ field 138 2 None (codes "GS") hexadecimal
+    ∷ field 144 8 None (codes "RFLAGS") hexadecimal
+    ∷ field 152 8 None (codes "EIP") hexadecimal
+    ∷ field 160 8 None (codes "CR0") hexadecimal
+    ∷ field 168 8 None (codes "CR1") hexadecimal
+    ∷ field 176 8 None (codes "CR2") hexadecimal
+    ∷ field 184 8 None (codes "CR3") hexadecimal
+    ∷ field 192 8 None (codes "CR4") hexadecimal
+    ∷ field 200 8 None (codes "CR8") hexadecimal
+    ∷ field 208 16 None (codes "GDTR") hexadecimal
+    ∷ field 224 16 None (codes "IDTR") hexadecimal
+    ∷ field 240 2 None (codes "LDTR") hexadecimal
+    ∷ field 242 2 None (codes "TR") hexadecimal
     ∷ []
 
 abbrev pub ia32_error_inside : List Inside
 ia32_error_inside =
-    inside (codes "cache check") (Some 0) (guid_sign 0 (codes "a55701f5-e3ef-43de-ac72-249b573fad2c")) 24 check_rows
-    ∷ inside (codes "TLB check") (Some 0) (guid_sign 0 (codes "fc06b535-5e1f-4562-9f25-0a3b9adb63c3")) 24 check_rows
-    ∷ inside (codes "bus check") (Some 0) (guid_sign 0 (codes "1cf3f8b3-c5b1-49a2-aa59-5eef92ffa63c")) 24 bus_check_rows
-    ∷ inside (codes "MS check") (Some 0) (guid_sign 0 (codes "48ab7f57-dc34-4f6c-a7d3-b0b5b0a74314")) 24 ms_check_rows
+    inside (codes "cache check") (Some 0) (guid_sign 0 (codes "a55701f5-e3ef-43de-ac72-249b573fad2c")) 24 check_fields
+    ∷ inside (codes "TLB check") (Some 0) (guid_sign 0 (codes "fc06b535-5e1f-4562-9f25-0a3b9adb63c3")) 24 check_fields
+    ∷ inside (codes "bus check") (Some 0) (guid_sign 0 (codes "1cf3f8b3-c5b1-49a2-aa59-5eef92ffa63c")) 24 bus_check_fields
+    ∷ inside (codes "MS check") (Some 0) (guid_sign 0 (codes "48ab7f57-dc34-4f6c-a7d3-b0b5b0a74314")) 24 ms_check_fields
     ∷ []
 
 abbrev pub ia32_context_inside : List Inside
 ia32_context_inside =
-    inside (codes "registers") None (number_sign 0 2 2) 16 ia32_registers_rows
-    ∷ inside (codes "registers") None (number_sign 0 2 3) 16 x64_registers_rows
+    inside (codes "registers") None (number_sign 0 2 2) 16 ia32_registers_fields
+    ∷ inside (codes "registers") None (number_sign 0 2 3) 16 x64_registers_fields
     ∷ []
 
 abbrev pub ia32_processor_groups : List Group
 ia32_processor_groups =
-    group (codes "error information") 0 8 2 6 (fixed 64) 16 ia32_error_rows ia32_error_inside
-    ∷ group (codes "context") 0 8 8 6 (told 2 2 16) 0 ia32_context_rows ia32_context_inside
+    group (codes "error information") 0 8 2 6 (fixed 64) 16 ia32_error_fields ia32_error_inside
+    ∷ group (codes "context") 0 8 8 6 (told 2 2 16) 0 ia32_context_fields ia32_context_inside
     ∷ []
 
 unfoldable pub ia32_processor : Structure
-ia32_processor = structure 0 ia32_processor_rows 64 ia32_processor_groups
+ia32_processor = structure 0 ia32_processor_fields 64 ia32_processor_groups

@@ -1,6 +1,6 @@
 -- Errors of PCI Express, PCI and PCI-X (UEFI 2.8, N.2.7 to N.2.9).
 use Rattle.std.specs.Prelude.{ℕ, List, [], ◌∷◌, Some, None, codes}
-use Rattle.field_lines.specs.Rows.{Row, bits, decimal_number, flags, hexadecimal, one_of, row}
+use Rattle.field_lines.specs.Fields.{Field, bits, decimal_number, flags, hexadecimal, one_of, field}
 use Rattle.field_lines.specs.Layouts.{Structure, structure, Group, group, fixed}
 use Rattle.section_fields.specs.Memory.{error_types}
 
@@ -102,116 +102,116 @@ bus_errors =
     ∷ []
 
 -- a PCI Express error (UEFI 2.8, N.2.7)
-abbrev pub pci_express_rows : List Row
-pci_express_rows =
-    row 8 4 (Some 0) (codes "port type") (one_of port_types)
-    ∷ row 12 1 (Some 1) (codes "version minor") hexadecimal
-    ∷ row 13 1 (Some 1) (codes "version major") hexadecimal
-    ∷ row 16 2 (Some 2) (codes "command") (flags command_bits)
-    ∷ row 18 2 (Some 2) (codes "status") (flags status_bits)
-    ∷ row 24 2 (Some 3) (codes "vendor ID") hexadecimal
-    ∷ row 26 2 (Some 3) (codes "device ID") hexadecimal
-    ∷ row 28 3 (Some 3) (codes "class code") hexadecimal
-    ∷ row 31 1 (Some 3) (codes "function number") decimal_number
-    ∷ row 32 1 (Some 3) (codes "device number") decimal_number
-    ∷ row 33 2 (Some 3) (codes "segment number") decimal_number
-    ∷ row 35 1 (Some 3) (codes "primary bus number") decimal_number
-    ∷ row 36 1 (Some 3) (codes "secondary bus number") decimal_number
-    ∷ row 37 2 (Some 3) (codes "slot number") (bits 3 13 [])
-    ∷ row 40 8 (Some 4) (codes "device serial number") hexadecimal
-    ∷ row 48 2 (Some 5) (codes "secondary status") (flags secondary_bits)
-    ∷ row 50 2 (Some 5) (codes "bridge control") hexadecimal
-    ∷ row 52 1 (Some 6) (codes "capability ID") hexadecimal
-    ∷ row 53 1 (Some 6) (codes "next capability") hexadecimal
-    ∷ row 54 2 (Some 6) (codes "PCI Express capabilities") hexadecimal
-    ∷ row 56 4 (Some 6) (codes "device capabilities") hexadecimal
-    ∷ row 60 2 (Some 6) (codes "device control") hexadecimal
-    ∷ row 62 2 (Some 6) (codes "device status") hexadecimal
-    ∷ row 64 4 (Some 6) (codes "link capabilities") hexadecimal
-    ∷ row 68 2 (Some 6) (codes "link control") hexadecimal
-    ∷ row 70 2 (Some 6) (codes "link status") hexadecimal
-    ∷ row 72 4 (Some 6) (codes "slot capabilities") hexadecimal
-    ∷ row 76 2 (Some 6) (codes "slot control") hexadecimal
-    ∷ row 78 2 (Some 6) (codes "slot status") hexadecimal
-    ∷ row 80 2 (Some 6) (codes "root control") hexadecimal
-    ∷ row 82 2 (Some 6) (codes "root capabilities") hexadecimal
-    ∷ row 84 4 (Some 6) (codes "root status") hexadecimal
-    ∷ row 88 4 (Some 6) (codes "device capabilities 2") hexadecimal
-    ∷ row 92 2 (Some 6) (codes "device control 2") hexadecimal
-    ∷ row 94 2 (Some 6) (codes "device status 2") hexadecimal
-    ∷ row 96 4 (Some 6) (codes "link capabilities 2") hexadecimal
-    ∷ row 100 2 (Some 6) (codes "link control 2") hexadecimal
-    ∷ row 102 2 (Some 6) (codes "link status 2") hexadecimal
-    ∷ row 104 4 (Some 6) (codes "slot capabilities 2") hexadecimal
-    ∷ row 108 2 (Some 6) (codes "slot control 2") hexadecimal
-    ∷ row 110 2 (Some 6) (codes "slot status 2") hexadecimal
-    ∷ row 112 4 (Some 7) (codes "AER capability header") hexadecimal
-    ∷ row 116 4 (Some 7) (codes "uncorrectable error status") (flags uncorrectable_bits)
-    ∷ row 120 4 (Some 7) (codes "uncorrectable error mask") (flags uncorrectable_bits)
-    ∷ row 124 4 (Some 7) (codes "uncorrectable error severity") (flags uncorrectable_bits)
-    ∷ row 128 4 (Some 7) (codes "correctable error status") (flags correctable_bits)
-    ∷ row 132 4 (Some 7) (codes "correctable error mask") (flags correctable_bits)
-    ∷ row 136 4 (Some 7) (codes "advanced error capabilities and control") hexadecimal
-    ∷ row 140 4 (Some 7) (codes "header log 0") hexadecimal
-    ∷ row 144 4 (Some 7) (codes "header log 1") hexadecimal
-    ∷ row 148 4 (Some 7) (codes "header log 2") hexadecimal
-    ∷ row 152 4 (Some 7) (codes "header log 3") hexadecimal
-    ∷ row 156 4 (Some 7) (codes "root error command") hexadecimal
-    ∷ row 160 4 (Some 7) (codes "root error status") hexadecimal
-    ∷ row 164 2 (Some 7) (codes "correctable error source") hexadecimal
-    ∷ row 166 2 (Some 7) (codes "uncorrectable error source") hexadecimal
+abbrev pub pci_express_fields : List Field
+pci_express_fields =
+    field 8 4 (Some 0) (codes "port type") (one_of port_types)
+    ∷ field 12 1 (Some 1) (codes "version minor") hexadecimal
+    ∷ field 13 1 (Some 1) (codes "version major") hexadecimal
+    ∷ field 16 2 (Some 2) (codes "command") (flags command_bits)
+    ∷ field 18 2 (Some 2) (codes "status") (flags status_bits)
+    ∷ field 24 2 (Some 3) (codes "vendor ID") hexadecimal
+    ∷ field 26 2 (Some 3) (codes "device ID") hexadecimal
+    ∷ field 28 3 (Some 3) (codes "class code") hexadecimal
+    ∷ field 31 1 (Some 3) (codes "function number") decimal_number
+    ∷ field 32 1 (Some 3) (codes "device number") decimal_number
+    ∷ field 33 2 (Some 3) (codes "segment number") decimal_number
+    ∷ field 35 1 (Some 3) (codes "primary bus number") decimal_number
+    ∷ field 36 1 (Some 3) (codes "secondary bus number") decimal_number
+    ∷ field 37 2 (Some 3) (codes "slot number") (bits 3 13 [])
+    ∷ field 40 8 (Some 4) (codes "device serial number") hexadecimal
+    ∷ field 48 2 (Some 5) (codes "secondary status") (flags secondary_bits)
+    ∷ field 50 2 (Some 5) (codes "bridge control") hexadecimal
+    ∷ field 52 1 (Some 6) (codes "capability ID") hexadecimal
+    ∷ field 53 1 (Some 6) (codes "next capability") hexadecimal
+    ∷ field 54 2 (Some 6) (codes "PCI Express capabilities") hexadecimal
+    ∷ field 56 4 (Some 6) (codes "device capabilities") hexadecimal
+    ∷ field 60 2 (Some 6) (codes "device control") hexadecimal
+    ∷ field 62 2 (Some 6) (codes "device status") hexadecimal
+    ∷ field 64 4 (Some 6) (codes "link capabilities") hexadecimal
+    ∷ field 68 2 (Some 6) (codes "link control") hexadecimal
+    ∷ field 70 2 (Some 6) (codes "link status") hexadecimal
+    ∷ field 72 4 (Some 6) (codes "slot capabilities") hexadecimal
+    ∷ field 76 2 (Some 6) (codes "slot control") hexadecimal
+    ∷ field 78 2 (Some 6) (codes "slot status") hexadecimal
+    ∷ field 80 2 (Some 6) (codes "root control") hexadecimal
+    ∷ field 82 2 (Some 6) (codes "root capabilities") hexadecimal
+    ∷ field 84 4 (Some 6) (codes "root status") hexadecimal
+    ∷ field 88 4 (Some 6) (codes "device capabilities 2") hexadecimal
+    ∷ field 92 2 (Some 6) (codes "device control 2") hexadecimal
+    ∷ field 94 2 (Some 6) (codes "device status 2") hexadecimal
+    ∷ field 96 4 (Some 6) (codes "link capabilities 2") hexadecimal
+    ∷ field 100 2 (Some 6) (codes "link control 2") hexadecimal
+    ∷ field 102 2 (Some 6) (codes "link status 2") hexadecimal
+    ∷ field 104 4 (Some 6) (codes "slot capabilities 2") hexadecimal
+    ∷ field 108 2 (Some 6) (codes "slot control 2") hexadecimal
+    ∷ field 110 2 (Some 6) (codes "slot status 2") hexadecimal
+    ∷ field 112 4 (Some 7) (codes "AER capability header") hexadecimal
+    ∷ field 116 4 (Some 7) (codes "uncorrectable error status") (flags uncorrectable_bits)
+    ∷ field 120 4 (Some 7) (codes "uncorrectable error mask") (flags uncorrectable_bits)
+    ∷ field 124 4 (Some 7) (codes "uncorrectable error severity") (flags uncorrectable_bits)
+    ∷ field 128 4 (Some 7) (codes "correctable error status") (flags correctable_bits)
+    ∷ field 132 4 (Some 7) (codes "correctable error mask") (flags correctable_bits)
+    ∷ field 136 4 (Some 7) (codes "advanced error capabilities and control") hexadecimal
+    ∷ field 140 4 (Some 7) (codes "header log 0") hexadecimal
+    ∷ field 144 4 (Some 7) (codes "header log 1") hexadecimal
+    ∷ field 148 4 (Some 7) (codes "header log 2") hexadecimal
+    ∷ field 152 4 (Some 7) (codes "header log 3") hexadecimal
+    ∷ field 156 4 (Some 7) (codes "root error command") hexadecimal
+    ∷ field 160 4 (Some 7) (codes "root error status") hexadecimal
+    ∷ field 164 2 (Some 7) (codes "correctable error source") hexadecimal
+    ∷ field 166 2 (Some 7) (codes "uncorrectable error source") hexadecimal
     ∷ []
 
 unfoldable pub pci_express : Structure
-pci_express = structure 0 pci_express_rows 0 []
+pci_express = structure 0 pci_express_fields 0 []
 
 -- a PCI or PCI-X bus error (UEFI 2.8, N.2.8)
-abbrev pub pci_bus_rows : List Row
-pci_bus_rows =
-    row 8 8 (Some 0) (codes "error status") hexadecimal
-    ∷ row 8 8 (Some 0) (codes "error status type") (bits 8 8 error_types)
-    ∷ row 16 2 (Some 1) (codes "error type") (one_of bus_errors)
-    ∷ row 18 1 (Some 2) (codes "bus number") decimal_number
-    ∷ row 19 1 (Some 2) (codes "segment number") decimal_number
-    ∷ row 24 8 (Some 3) (codes "bus address") hexadecimal
-    ∷ row 32 8 (Some 4) (codes "bus data") hexadecimal
-    ∷ row 40 8 (Some 5) (codes "bus command") hexadecimal
-    ∷ row 48 8 (Some 6) (codes "bus requestor ID") hexadecimal
-    ∷ row 56 8 (Some 7) (codes "bus completer ID") hexadecimal
-    ∷ row 64 8 (Some 8) (codes "target ID") hexadecimal
+abbrev pub pci_bus_fields : List Field
+pci_bus_fields =
+    field 8 8 (Some 0) (codes "error status") hexadecimal
+    ∷ field 8 8 (Some 0) (codes "error status type") (bits 8 8 error_types)
+    ∷ field 16 2 (Some 1) (codes "error type") (one_of bus_errors)
+    ∷ field 18 1 (Some 2) (codes "bus number") decimal_number
+    ∷ field 19 1 (Some 2) (codes "segment number") decimal_number
+    ∷ field 24 8 (Some 3) (codes "bus address") hexadecimal
+    ∷ field 32 8 (Some 4) (codes "bus data") hexadecimal
+    ∷ field 40 8 (Some 5) (codes "bus command") hexadecimal
+    ∷ field 48 8 (Some 6) (codes "bus requestor ID") hexadecimal
+    ∷ field 56 8 (Some 7) (codes "bus completer ID") hexadecimal
+    ∷ field 64 8 (Some 8) (codes "target ID") hexadecimal
     ∷ []
 
 unfoldable pub pci_bus : Structure
-pci_bus = structure 0 pci_bus_rows 0 []
+pci_bus = structure 0 pci_bus_fields 0 []
 
 -- a PCI or PCI-X component error (UEFI 2.8, N.2.9)
-abbrev pub pci_component_rows : List Row
-pci_component_rows =
-    row 8 8 (Some 0) (codes "error status") hexadecimal
-    ∷ row 8 8 (Some 0) (codes "error status type") (bits 8 8 error_types)
-    ∷ row 16 2 (Some 1) (codes "vendor ID") hexadecimal
-    ∷ row 18 2 (Some 1) (codes "device ID") hexadecimal
-    ∷ row 20 3 (Some 1) (codes "class code") hexadecimal
-    ∷ row 23 1 (Some 1) (codes "function number") decimal_number
-    ∷ row 24 1 (Some 1) (codes "device number") decimal_number
-    ∷ row 25 1 (Some 1) (codes "bus number") decimal_number
-    ∷ row 26 1 (Some 1) (codes "segment number") decimal_number
-    ∷ row 32 4 (Some 2) (codes "memory number") decimal_number
-    ∷ row 36 4 (Some 3) (codes "IO number") decimal_number
+abbrev pub pci_component_fields : List Field
+pci_component_fields =
+    field 8 8 (Some 0) (codes "error status") hexadecimal
+    ∷ field 8 8 (Some 0) (codes "error status type") (bits 8 8 error_types)
+    ∷ field 16 2 (Some 1) (codes "vendor ID") hexadecimal
+    ∷ field 18 2 (Some 1) (codes "device ID") hexadecimal
+    ∷ field 20 3 (Some 1) (codes "class code") hexadecimal
+    ∷ field 23 1 (Some 1) (codes "function number") decimal_number
+    ∷ field 24 1 (Some 1) (codes "device number") decimal_number
+    ∷ field 25 1 (Some 1) (codes "bus number") decimal_number
+    ∷ field 26 1 (Some 1) (codes "segment number") decimal_number
+    ∷ field 32 4 (Some 2) (codes "memory number") decimal_number
+    ∷ field 36 4 (Some 3) (codes "IO number") decimal_number
     ∷ []
 
 -- a part of it: memory register
-abbrev pub register_pair_rows : List Row
-register_pair_rows =
-    row 0 8 None (codes "address") hexadecimal
-    ∷ row 8 8 None (codes "value") hexadecimal
+abbrev pub register_pair_fields : List Field
+register_pair_fields =
+    field 0 8 None (codes "address") hexadecimal
+    ∷ field 8 8 None (codes "value") hexadecimal
     ∷ []
 
 abbrev pub pci_component_groups : List Group
 pci_component_groups =
-    group (codes "memory register") 32 4 0 32 (fixed 16) 0 register_pair_rows []
-    ∷ group (codes "IO register") 36 4 0 32 (fixed 16) 0 register_pair_rows []
+    group (codes "memory register") 32 4 0 32 (fixed 16) 0 register_pair_fields []
+    ∷ group (codes "IO register") 36 4 0 32 (fixed 16) 0 register_pair_fields []
     ∷ []
 
 unfoldable pub pci_component : Structure
-pci_component = structure 0 pci_component_rows 40 pci_component_groups
+pci_component = structure 0 pci_component_fields 40 pci_component_groups

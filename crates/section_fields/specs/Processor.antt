@@ -1,6 +1,6 @@
 -- A generic processor error (UEFI 2.8, N.2.4.1).
 use Rattle.std.specs.Prelude.{ℕ, List, [], ◌∷◌, Some, codes}
-use Rattle.field_lines.specs.Rows.{Row, decimal_number, flags, hexadecimal, one_of, row, text}
+use Rattle.field_lines.specs.Fields.{Field, decimal_number, flags, hexadecimal, one_of, field, text}
 use Rattle.field_lines.specs.Layouts.{Structure, structure}
 
 -- the types of processors (UEFI 2.8, N.2.4.1)
@@ -49,22 +49,22 @@ processor_flags =
     ∷ []
 
 -- a generic processor error (UEFI 2.8, N.2.4.1)
-abbrev pub processor_generic_rows : List Row
-processor_generic_rows =
-    row 8 1 (Some 0) (codes "processor type") (one_of processor_types)
-    ∷ row 9 1 (Some 1) (codes "processor ISA") (one_of instruction_sets)
-    ∷ row 10 1 (Some 2) (codes "processor error type") (flags processor_errors)
-    ∷ row 11 1 (Some 3) (codes "operation") (one_of processor_operations)
-    ∷ row 12 1 (Some 4) (codes "flags") (flags processor_flags)
-    ∷ row 13 1 (Some 5) (codes "level") decimal_number
-    ∷ row 16 8 (Some 6) (codes "CPU version info") hexadecimal
-    ∷ row 24 128 (Some 7) (codes "CPU brand string") text
-    ∷ row 152 8 (Some 8) (codes "processor ID") hexadecimal
-    ∷ row 160 8 (Some 9) (codes "target address") hexadecimal
-    ∷ row 168 8 (Some 10) (codes "requestor identifier") hexadecimal
-    ∷ row 176 8 (Some 11) (codes "responder identifier") hexadecimal
-    ∷ row 184 8 (Some 12) (codes "instruction IP") hexadecimal
+abbrev pub processor_generic_fields : List Field
+processor_generic_fields =
+    field 8 1 (Some 0) (codes "processor type") (one_of processor_types)
+    ∷ field 9 1 (Some 1) (codes "processor ISA") (one_of instruction_sets)
+    ∷ field 10 1 (Some 2) (codes "processor error type") (flags processor_errors)
+    ∷ field 11 1 (Some 3) (codes "operation") (one_of processor_operations)
+    ∷ field 12 1 (Some 4) (codes "flags") (flags processor_flags)
+    ∷ field 13 1 (Some 5) (codes "level") decimal_number
+    ∷ field 16 8 (Some 6) (codes "CPU version info") hexadecimal
+    ∷ field 24 128 (Some 7) (codes "CPU brand string") text
+    ∷ field 152 8 (Some 8) (codes "processor ID") hexadecimal
+    ∷ field 160 8 (Some 9) (codes "target address") hexadecimal
+    ∷ field 168 8 (Some 10) (codes "requestor identifier") hexadecimal
+    ∷ field 176 8 (Some 11) (codes "responder identifier") hexadecimal
+    ∷ field 184 8 (Some 12) (codes "instruction IP") hexadecimal
     ∷ []
 
 unfoldable pub processor_generic : Structure
-processor_generic = structure 0 processor_generic_rows 0 []
+processor_generic = structure 0 processor_generic_fields 0 []

@@ -1,6 +1,6 @@
 -- The header of a record, and section descriptors (UEFI 2.8, N.2.1 and N.2.2).
 use Rattle.std.specs.Prelude.{ℕ, List, [], ◌∷◌, Some, None, codes}
-use Rattle.field_lines.specs.Rows.{Row, decimal_number, flags, guid, hexadecimal, one_of, row, seconds, stamp, text}
+use Rattle.field_lines.specs.Fields.{Field, decimal_number, flags, guid, hexadecimal, one_of, field, seconds, stamp, text}
 use Rattle.field_lines.specs.Layouts.{Structure, structure}
 
 -- the severities of records and sections (UEFI 2.8, N.2.1)
@@ -49,64 +49,64 @@ section_flags =
     ∷ []
 
 -- the header of a record (UEFI 2.8, N.2.1)
-abbrev pub record_header_rows : List Row
-record_header_rows =
-    row 0 4 None (codes "signature start") text
-    ∷ row 4 2 None (codes "revision") hexadecimal
-    ∷ row 6 4 None (codes "signature end") hexadecimal
-    ∷ row 10 2 None (codes "section count") decimal_number
-    ∷ row 12 4 None (codes "error severity") (one_of severities)
-    ∷ row 16 4 None (codes "validation bits") (flags record_validity)
-    ∷ row 20 4 None (codes "record length") decimal_number
-    ∷ row 24 8 (Some 1) (codes "timestamp") stamp
-    ∷ row 32 16 (Some 0) (codes "platform ID") guid
-    ∷ row 48 16 (Some 2) (codes "partition ID") guid
-    ∷ row 64 16 None (codes "creator ID") guid
-    ∷ row 80 16 None (codes "notification type") guid
-    ∷ row 96 8 None (codes "record ID") hexadecimal
-    ∷ row 104 4 None (codes "flags") (flags record_flags)
-    ∷ row 108 8 None (codes "persistence information") hexadecimal
+abbrev pub record_header_fields : List Field
+record_header_fields =
+    field 0 4 None (codes "signature start") text
+    ∷ field 4 2 None (codes "revision") hexadecimal
+    ∷ field 6 4 None (codes "signature end") hexadecimal
+    ∷ field 10 2 None (codes "section count") decimal_number
+    ∷ field 12 4 None (codes "error severity") (one_of severities)
+    ∷ field 16 4 None (codes "validation bits") (flags record_validity)
+    ∷ field 20 4 None (codes "record length") decimal_number
+    ∷ field 24 8 (Some 1) (codes "timestamp") stamp
+    ∷ field 32 16 (Some 0) (codes "platform ID") guid
+    ∷ field 48 16 (Some 2) (codes "partition ID") guid
+    ∷ field 64 16 None (codes "creator ID") guid
+    ∷ field 80 16 None (codes "notification type") guid
+    ∷ field 96 8 None (codes "record ID") hexadecimal
+    ∷ field 104 4 None (codes "flags") (flags record_flags)
+    ∷ field 108 8 None (codes "persistence information") hexadecimal
     ∷ []
 
 abbrev pub record_header : Structure
-record_header = structure 16 record_header_rows 0 []
+record_header = structure 16 record_header_fields 0 []
 
 -- the header of a record of Linux's, whose time is in seconds
-abbrev pub linux_header_rows : List Row
-linux_header_rows =
-    row 0 4 None (codes "signature start") text
-    ∷ row 4 2 None (codes "revision") hexadecimal
-    ∷ row 6 4 None (codes "signature end") hexadecimal
-    ∷ row 10 2 None (codes "section count") decimal_number
-    ∷ row 12 4 None (codes "error severity") (one_of severities)
-    ∷ row 16 4 None (codes "validation bits") (flags record_validity)
-    ∷ row 20 4 None (codes "record length") decimal_number
-    ∷ row 24 8 (Some 1) (codes "timestamp") seconds
-    ∷ row 32 16 (Some 0) (codes "platform ID") guid
-    ∷ row 48 16 (Some 2) (codes "partition ID") guid
-    ∷ row 64 16 None (codes "creator ID") guid
-    ∷ row 80 16 None (codes "notification type") guid
-    ∷ row 96 8 None (codes "record ID") hexadecimal
-    ∷ row 104 4 None (codes "flags") (flags record_flags)
-    ∷ row 108 8 None (codes "persistence information") hexadecimal
+abbrev pub linux_header_fields : List Field
+linux_header_fields =
+    field 0 4 None (codes "signature start") text
+    ∷ field 4 2 None (codes "revision") hexadecimal
+    ∷ field 6 4 None (codes "signature end") hexadecimal
+    ∷ field 10 2 None (codes "section count") decimal_number
+    ∷ field 12 4 None (codes "error severity") (one_of severities)
+    ∷ field 16 4 None (codes "validation bits") (flags record_validity)
+    ∷ field 20 4 None (codes "record length") decimal_number
+    ∷ field 24 8 (Some 1) (codes "timestamp") seconds
+    ∷ field 32 16 (Some 0) (codes "platform ID") guid
+    ∷ field 48 16 (Some 2) (codes "partition ID") guid
+    ∷ field 64 16 None (codes "creator ID") guid
+    ∷ field 80 16 None (codes "notification type") guid
+    ∷ field 96 8 None (codes "record ID") hexadecimal
+    ∷ field 104 4 None (codes "flags") (flags record_flags)
+    ∷ field 108 8 None (codes "persistence information") hexadecimal
     ∷ []
 
 abbrev pub linux_header : Structure
-linux_header = structure 16 linux_header_rows 0 []
+linux_header = structure 16 linux_header_fields 0 []
 
 -- a section descriptor (UEFI 2.8, N.2.2)
-abbrev pub section_descriptor_rows : List Row
-section_descriptor_rows =
-    row 0 4 None (codes "section offset") decimal_number
-    ∷ row 4 4 None (codes "section length") decimal_number
-    ∷ row 8 2 None (codes "revision") hexadecimal
-    ∷ row 10 1 None (codes "validation bits") (flags section_validity)
-    ∷ row 12 4 None (codes "flags") (flags section_flags)
-    ∷ row 16 16 None (codes "section type") guid
-    ∷ row 32 16 (Some 0) (codes "FRU ID") guid
-    ∷ row 48 4 None (codes "section severity") (one_of severities)
-    ∷ row 52 20 (Some 1) (codes "FRU text") text
+abbrev pub section_descriptor_fields : List Field
+section_descriptor_fields =
+    field 0 4 None (codes "section offset") decimal_number
+    ∷ field 4 4 None (codes "section length") decimal_number
+    ∷ field 8 2 None (codes "revision") hexadecimal
+    ∷ field 10 1 None (codes "validation bits") (flags section_validity)
+    ∷ field 12 4 None (codes "flags") (flags section_flags)
+    ∷ field 16 16 None (codes "section type") guid
+    ∷ field 32 16 (Some 0) (codes "FRU ID") guid
+    ∷ field 48 4 None (codes "section severity") (one_of severities)
+    ∷ field 52 20 (Some 1) (codes "FRU text") text
     ∷ []
 
 abbrev pub section_descriptor : Structure
-section_descriptor = structure 10 section_descriptor_rows 0 []
+section_descriptor = structure 10 section_descriptor_fields 0 []

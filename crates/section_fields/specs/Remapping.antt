@@ -1,6 +1,6 @@
 -- Firmware error records, DMA remapping and CCIX (UEFI 2.8, N.2.10 to N.2.12).
 use Rattle.std.specs.Prelude.{ℕ, List, [], ◌∷◌, Some, None, codes}
-use Rattle.field_lines.specs.Rows.{Row, all_bytes, decimal_number, guid, hexadecimal, one_of, row, text}
+use Rattle.field_lines.specs.Fields.{Field, all_bytes, decimal_number, guid, hexadecimal, one_of, field, text}
 use Rattle.field_lines.specs.Layouts.{Structure, structure}
 
 -- the types of firmware error records (UEFI 2.8, N.2.10)
@@ -50,84 +50,84 @@ dma_architectures =
     ∷ []
 
 -- a reference to a firmware error record (UEFI 2.8, N.2.10)
-abbrev pub firmware_record_rows : List Row
-firmware_record_rows =
-    row 0 1 None (codes "firmware error record type") (one_of firmware_records)
-    ∷ row 1 1 None (codes "revision") decimal_number
-    ∷ row 8 8 None (codes "record identifier") hexadecimal
-    ∷ row 16 16 None (codes "record identifier GUID extension") guid
+abbrev pub firmware_record_fields : List Field
+firmware_record_fields =
+    field 0 1 None (codes "firmware error record type") (one_of firmware_records)
+    ∷ field 1 1 None (codes "revision") decimal_number
+    ∷ field 8 8 None (codes "record identifier") hexadecimal
+    ∷ field 16 16 None (codes "record identifier GUID extension") guid
     ∷ []
 
 unfoldable pub firmware_record : Structure
-firmware_record = structure 0 firmware_record_rows 0 []
+firmware_record = structure 0 firmware_record_fields 0 []
 
 -- a DMA remapping error (UEFI 2.8, N.2.11.1)
-abbrev pub dma_remapping_rows : List Row
-dma_remapping_rows =
-    row 0 2 None (codes "requester ID") hexadecimal
-    ∷ row 2 2 None (codes "segment number") decimal_number
-    ∷ row 4 1 None (codes "fault reason") (one_of fault_reasons)
-    ∷ row 5 1 None (codes "access type") (one_of dma_accesses)
-    ∷ row 6 1 None (codes "address type") (one_of dma_addresses)
-    ∷ row 7 1 None (codes "architecture type") (one_of dma_architectures)
-    ∷ row 8 8 None (codes "device address") hexadecimal
+abbrev pub dma_remapping_fields : List Field
+dma_remapping_fields =
+    field 0 2 None (codes "requester ID") hexadecimal
+    ∷ field 2 2 None (codes "segment number") decimal_number
+    ∷ field 4 1 None (codes "fault reason") (one_of fault_reasons)
+    ∷ field 5 1 None (codes "access type") (one_of dma_accesses)
+    ∷ field 6 1 None (codes "address type") (one_of dma_addresses)
+    ∷ field 7 1 None (codes "architecture type") (one_of dma_architectures)
+    ∷ field 8 8 None (codes "device address") hexadecimal
     ∷ []
 
 unfoldable pub dma_remapping : Structure
-dma_remapping = structure 0 dma_remapping_rows 0 []
+dma_remapping = structure 0 dma_remapping_fields 0 []
 
 -- an error of Intel's VT for Directed I/O (UEFI 2.8, N.2.11.2)
-abbrev pub directed_io_rows : List Row
-directed_io_rows =
-    row 0 1 None (codes "version") decimal_number
-    ∷ row 1 1 None (codes "revision") decimal_number
-    ∷ row 2 6 None (codes "OEM ID") text
-    ∷ row 8 8 None (codes "capability register") hexadecimal
-    ∷ row 16 8 None (codes "extended capability register") hexadecimal
-    ∷ row 24 4 None (codes "global command register") hexadecimal
-    ∷ row 28 4 None (codes "global status register") hexadecimal
-    ∷ row 32 4 None (codes "fault status register") hexadecimal
-    ∷ row 48 16 None (codes "fault record") hexadecimal
-    ∷ row 64 16 None (codes "root entry") hexadecimal
-    ∷ row 80 16 None (codes "context entry") hexadecimal
-    ∷ row 96 8 None (codes "level 6 page table entry") hexadecimal
-    ∷ row 104 8 None (codes "level 5 page table entry") hexadecimal
-    ∷ row 112 8 None (codes "level 4 page table entry") hexadecimal
-    ∷ row 120 8 None (codes "level 3 page table entry") hexadecimal
-    ∷ row 128 8 None (codes "level 2 page table entry") hexadecimal
-    ∷ row 136 8 None (codes "level 1 page table entry") hexadecimal
+abbrev pub directed_io_fields : List Field
+directed_io_fields =
+    field 0 1 None (codes "version") decimal_number
+    ∷ field 1 1 None (codes "revision") decimal_number
+    ∷ field 2 6 None (codes "OEM ID") text
+    ∷ field 8 8 None (codes "capability register") hexadecimal
+    ∷ field 16 8 None (codes "extended capability register") hexadecimal
+    ∷ field 24 4 None (codes "global command register") hexadecimal
+    ∷ field 28 4 None (codes "global status register") hexadecimal
+    ∷ field 32 4 None (codes "fault status register") hexadecimal
+    ∷ field 48 16 None (codes "fault record") hexadecimal
+    ∷ field 64 16 None (codes "root entry") hexadecimal
+    ∷ field 80 16 None (codes "context entry") hexadecimal
+    ∷ field 96 8 None (codes "level 6 page table entry") hexadecimal
+    ∷ field 104 8 None (codes "level 5 page table entry") hexadecimal
+    ∷ field 112 8 None (codes "level 4 page table entry") hexadecimal
+    ∷ field 120 8 None (codes "level 3 page table entry") hexadecimal
+    ∷ field 128 8 None (codes "level 2 page table entry") hexadecimal
+    ∷ field 136 8 None (codes "level 1 page table entry") hexadecimal
     ∷ []
 
 unfoldable pub directed_io : Structure
-directed_io = structure 0 directed_io_rows 0 []
+directed_io = structure 0 directed_io_fields 0 []
 
 -- an error of an IOMMU (UEFI 2.8, N.2.11.3)
-abbrev pub iommu_rows : List Row
-iommu_rows =
-    row 0 1 None (codes "revision") decimal_number
-    ∷ row 8 8 None (codes "control register") hexadecimal
-    ∷ row 16 8 None (codes "status register") hexadecimal
-    ∷ row 32 16 None (codes "event log entry") hexadecimal
-    ∷ row 64 32 None (codes "device table entry") hexadecimal
-    ∷ row 96 8 None (codes "level 6 page table entry") hexadecimal
-    ∷ row 104 8 None (codes "level 5 page table entry") hexadecimal
-    ∷ row 112 8 None (codes "level 4 page table entry") hexadecimal
-    ∷ row 120 8 None (codes "level 3 page table entry") hexadecimal
-    ∷ row 128 8 None (codes "level 2 page table entry") hexadecimal
-    ∷ row 136 8 None (codes "level 1 page table entry") hexadecimal
+abbrev pub iommu_fields : List Field
+iommu_fields =
+    field 0 1 None (codes "revision") decimal_number
+    ∷ field 8 8 None (codes "control register") hexadecimal
+    ∷ field 16 8 None (codes "status register") hexadecimal
+    ∷ field 32 16 None (codes "event log entry") hexadecimal
+    ∷ field 64 32 None (codes "device table entry") hexadecimal
+    ∷ field 96 8 None (codes "level 6 page table entry") hexadecimal
+    ∷ field 104 8 None (codes "level 5 page table entry") hexadecimal
+    ∷ field 112 8 None (codes "level 4 page table entry") hexadecimal
+    ∷ field 120 8 None (codes "level 3 page table entry") hexadecimal
+    ∷ field 128 8 None (codes "level 2 page table entry") hexadecimal
+    ∷ field 136 8 None (codes "level 1 page table entry") hexadecimal
     ∷ []
 
 unfoldable pub iommu : Structure
-iommu = structure 0 iommu_rows 0 []
+iommu = structure 0 iommu_fields 0 []
 
 -- a CCIX PER log (UEFI 2.8, N.2.12)
-abbrev pub ccix_rows : List Row
-ccix_rows =
-    row 0 4 None (codes "length") decimal_number
-    ∷ row 12 1 (Some 0) (codes "CCIX source ID") decimal_number
-    ∷ row 13 1 (Some 1) (codes "CCIX port ID") decimal_number
-    ∷ row 16 1 (Some 2) (codes "CCIX PER log") all_bytes
+abbrev pub ccix_fields : List Field
+ccix_fields =
+    field 0 4 None (codes "length") decimal_number
+    ∷ field 12 1 (Some 0) (codes "CCIX source ID") decimal_number
+    ∷ field 13 1 (Some 1) (codes "CCIX port ID") decimal_number
+    ∷ field 16 1 (Some 2) (codes "CCIX PER log") all_bytes
     ∷ []
 
 unfoldable pub ccix : Structure
-ccix = structure 4 ccix_rows 0 []
+ccix = structure 4 ccix_fields 0 []

@@ -35,8 +35,8 @@ abbrev pub kind_in : List (List ℕ × SectionKind) → List ℕ → Option Sect
 kind_in [] guid = None
 kind_in (kind ∷ kinds) guid = if bytes_eq kind.0 guid then Some kind.1 else kind_in kinds guid
 
-abbrev pub named_row : Named → List ℕ × SectionKind
-named_row named = (named.guid.now, named.kind)
+abbrev pub kind_of : Named → List ℕ × SectionKind
+kind_of named = (named.guid.now, named.kind)
 
 abbrev pub structure_for : SectionKind → Structure
 structure_for ProcessorGeneric = processor_generic

@@ -91,7 +91,7 @@ const ARM_CONTEXT_TYPES: [Name; 9] = [
 ];
 
 // An ARM processor error (UEFI 2.8, N.2.4.4).
-const ARM_PROCESSOR_ROWS: [Field; 8] = [
+const ARM_PROCESSOR_FIELDS: [Field; 8] = [
     field!(4, 2, None, "ERR_INFO_NUM", Decimal),
     field!(6, 2, None, "CONTEXT_INFO_NUM", Decimal),
     field!(8, 4, None, "section length", Decimal),
@@ -103,7 +103,7 @@ const ARM_PROCESSOR_ROWS: [Field; 8] = [
 ];
 
 // A part of it: error information.
-const ARM_ERROR_ROWS: [Field; 8] = [
+const ARM_ERROR_FIELDS: [Field; 8] = [
     field!(0, 1, None, "version", Decimal),
     field!(1, 1, None, "length", Decimal),
     field!(4, 1, None, "type", Flags(&ARM_ERROR_TYPES)),
@@ -115,7 +115,7 @@ const ARM_ERROR_ROWS: [Field; 8] = [
 ];
 
 // What stands inside: cache error.
-const ARM_CACHE_ERROR_ROWS: [Field; 7] = [
+const ARM_CACHE_ERROR_FIELDS: [Field; 7] = [
     bits!(0, 8, Some(0), "transaction type", 16, 2, &TRANSACTIONS),
     bits!(0, 8, Some(1), "operation", 18, 4, &ARM_OPERATIONS),
     bits!(0, 8, Some(2), "level", 22, 3, &NO_NAMES),
@@ -126,7 +126,7 @@ const ARM_CACHE_ERROR_ROWS: [Field; 7] = [
 ];
 
 // What stands inside: TLB error.
-const ARM_TLB_ERROR_ROWS: [Field; 7] = [
+const ARM_TLB_ERROR_FIELDS: [Field; 7] = [
     bits!(0, 8, Some(0), "transaction type", 16, 2, &TRANSACTIONS),
     bits!(0, 8, Some(1), "operation", 18, 4, &ARM_TLB_OPERATIONS),
     bits!(0, 8, Some(2), "level", 22, 3, &NO_NAMES),
@@ -137,7 +137,7 @@ const ARM_TLB_ERROR_ROWS: [Field; 7] = [
 ];
 
 // What stands inside: bus error.
-const ARM_BUS_ERROR_ROWS: [Field; 12] = [
+const ARM_BUS_ERROR_FIELDS: [Field; 12] = [
     bits!(0, 8, Some(0), "transaction type", 16, 2, &TRANSACTIONS),
     bits!(0, 8, Some(1), "operation", 18, 4, &ARM_BUS_OPERATIONS),
     bits!(0, 8, Some(2), "level", 22, 3, &NO_NAMES),
@@ -153,7 +153,7 @@ const ARM_BUS_ERROR_ROWS: [Field; 12] = [
 ];
 
 // A part of it: context.
-const ARM_CONTEXT_ROWS: [Field; 3] = [
+const ARM_CONTEXT_FIELDS: [Field; 3] = [
     field!(0, 2, None, "version", Decimal),
     field!(
         2,
@@ -186,7 +186,7 @@ const AARCH32_REGISTERS: [Register; 16] = [
 ];
 
 // What stands inside: the registers of a context, as bytes.
-const CONTEXT_BYTES_ROWS: [Field; 1] = [field!(0, 1, None, "bytes", Bytes)];
+const CONTEXT_BYTES_FIELDS: [Field; 1] = [field!(0, 1, None, "bytes", Bytes)];
 
 // What stands inside: the secure registers of AArch32.
 const AARCH32_SECURE: [Register; 2] = [register!("SCTLR_S"), register!("SPSR_mon")];
@@ -291,7 +291,7 @@ const ARM_ERROR_INSIDE: [Inner; 3] = [
             number: 2,
         },
         at: 8,
-        content: Content::Fields(&ARM_CACHE_ERROR_ROWS),
+        content: Content::Fields(&ARM_CACHE_ERROR_FIELDS),
     },
     Inner {
         name: "TLB error",
@@ -302,7 +302,7 @@ const ARM_ERROR_INSIDE: [Inner; 3] = [
             number: 4,
         },
         at: 8,
-        content: Content::Fields(&ARM_TLB_ERROR_ROWS),
+        content: Content::Fields(&ARM_TLB_ERROR_FIELDS),
     },
     Inner {
         name: "bus error",
@@ -313,7 +313,7 @@ const ARM_ERROR_INSIDE: [Inner; 3] = [
             number: 8,
         },
         at: 8,
-        content: Content::Fields(&ARM_BUS_ERROR_ROWS),
+        content: Content::Fields(&ARM_BUS_ERROR_FIELDS),
     },
 ];
 
@@ -341,7 +341,7 @@ const ARM_CONTEXT_INSIDE: [Inner; 8] = [
             number: 1,
         },
         at: 8,
-        content: Content::Fields(&CONTEXT_BYTES_ROWS),
+        content: Content::Fields(&CONTEXT_BYTES_FIELDS),
     },
     Inner {
         name: "registers",
@@ -352,7 +352,7 @@ const ARM_CONTEXT_INSIDE: [Inner; 8] = [
             number: 2,
         },
         at: 8,
-        content: Content::Fields(&CONTEXT_BYTES_ROWS),
+        content: Content::Fields(&CONTEXT_BYTES_FIELDS),
     },
     Inner {
         name: "registers",
@@ -437,7 +437,7 @@ const ARM_PROCESSOR_PARTS: [Parts; 2] = [
         },
         size: Size::Fixed(32),
         valid_at: 2,
-        fields: &ARM_ERROR_ROWS,
+        fields: &ARM_ERROR_FIELDS,
         inner: &ARM_ERROR_INSIDE,
     },
     Parts {
@@ -454,14 +454,14 @@ const ARM_PROCESSOR_PARTS: [Parts; 2] = [
             more: 8,
         },
         valid_at: 0,
-        fields: &ARM_CONTEXT_ROWS,
+        fields: &ARM_CONTEXT_FIELDS,
         inner: &ARM_CONTEXT_INSIDE,
     },
 ];
 
 const ARM_PROCESSOR: Layout = Layout {
     valid_at: 0,
-    fields: &ARM_PROCESSOR_ROWS,
+    fields: &ARM_PROCESSOR_FIELDS,
     parts_at: 40,
     parts: &ARM_PROCESSOR_PARTS,
 };

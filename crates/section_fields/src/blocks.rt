@@ -33,7 +33,7 @@ const ENTRY_VALIDITY: [Name; 3] = [
 ];
 
 // A generic error status block (ACPI 6.4, 18.3.2.7.1).
-const BLOCK_STATUS_ROWS: [Field; 6] = [
+const BLOCK_STATUS_FIELDS: [Field; 6] = [
     field!(0, 4, None, "block status", Flags(&BLOCK_STATUSES)),
     bits!(0, 4, None, "error data entry count", 4, 10, &NO_NAMES),
     field!(4, 4, None, "raw data offset", Decimal),
@@ -44,13 +44,13 @@ const BLOCK_STATUS_ROWS: [Field; 6] = [
 
 const BLOCK_STATUS: Layout = Layout {
     valid_at: 0,
-    fields: &BLOCK_STATUS_ROWS,
+    fields: &BLOCK_STATUS_FIELDS,
     parts_at: 0,
     parts: &NO_PARTS,
 };
 
 // A generic error data entry of a revision below 0x300 (ACPI 6.4, 18.3.2.7.1).
-const SHORT_DATA_ENTRY_ROWS: [Field; 8] = [
+const SHORT_DATA_ENTRY_FIELDS: [Field; 8] = [
     field!(0, 16, None, "section type", Guid),
     field!(16, 4, None, "error severity", OneOf(&BLOCK_SEVERITIES)),
     field!(20, 2, None, "revision", Hexadecimal),
@@ -63,13 +63,13 @@ const SHORT_DATA_ENTRY_ROWS: [Field; 8] = [
 
 const SHORT_DATA_ENTRY: Layout = Layout {
     valid_at: 22,
-    fields: &SHORT_DATA_ENTRY_ROWS,
+    fields: &SHORT_DATA_ENTRY_FIELDS,
     parts_at: 0,
     parts: &NO_PARTS,
 };
 
 // One from revision 0x300 on, with a time.
-const LONG_DATA_ENTRY_ROWS: [Field; 9] = [
+const LONG_DATA_ENTRY_FIELDS: [Field; 9] = [
     field!(0, 16, None, "section type", Guid),
     field!(16, 4, None, "error severity", OneOf(&BLOCK_SEVERITIES)),
     field!(20, 2, None, "revision", Hexadecimal),
@@ -83,7 +83,7 @@ const LONG_DATA_ENTRY_ROWS: [Field; 9] = [
 
 const LONG_DATA_ENTRY: Layout = Layout {
     valid_at: 22,
-    fields: &LONG_DATA_ENTRY_ROWS,
+    fields: &LONG_DATA_ENTRY_FIELDS,
     parts_at: 0,
     parts: &NO_PARTS,
 };

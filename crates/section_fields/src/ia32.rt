@@ -66,13 +66,13 @@ const CONTEXT_TYPES: [Name; 8] = [
 ];
 
 // An IA-32 or x64 processor error (UEFI 2.8, N.2.4.2).
-const IA32_PROCESSOR_ROWS: [Field; 2] = [
+const IA32_PROCESSOR_FIELDS: [Field; 2] = [
     field!(8, 8, Some(0), "local APIC ID", Hexadecimal),
     field!(16, 48, Some(1), "CPUID info", Digits),
 ];
 
 // A part of it: error information.
-const IA32_ERROR_ROWS: [Field; 6] = [
+const IA32_ERROR_FIELDS: [Field; 6] = [
     field!(0, 16, None, "error structure type", Guid),
     field!(24, 8, Some(0), "check information", Hexadecimal),
     field!(32, 8, Some(1), "target identifier", Hexadecimal),
@@ -82,7 +82,7 @@ const IA32_ERROR_ROWS: [Field; 6] = [
 ];
 
 // What stands inside: cache check.
-const CHECK_ROWS: [Field; 8] = [
+const CHECK_FIELDS: [Field; 8] = [
     bits!(0, 8, Some(0), "transaction type", 16, 2, &TRANSACTIONS),
     bits!(0, 8, Some(1), "operation", 18, 4, &CHECK_OPERATIONS),
     bits!(0, 8, Some(2), "level", 22, 3, &NO_NAMES),
@@ -94,7 +94,7 @@ const CHECK_ROWS: [Field; 8] = [
 ];
 
 // What stands inside: bus check.
-const BUS_CHECK_ROWS: [Field; 11] = [
+const BUS_CHECK_FIELDS: [Field; 11] = [
     bits!(0, 8, Some(0), "transaction type", 16, 2, &TRANSACTIONS),
     bits!(0, 8, Some(1), "operation", 18, 4, &CHECK_OPERATIONS),
     bits!(0, 8, Some(2), "level", 22, 3, &NO_NAMES),
@@ -109,7 +109,7 @@ const BUS_CHECK_ROWS: [Field; 11] = [
 ];
 
 // What stands inside: MS check.
-const MS_CHECK_ROWS: [Field; 6] = [
+const MS_CHECK_FIELDS: [Field; 6] = [
     bits!(0, 8, Some(0), "error type", 16, 3, &MS_ERRORS),
     bits!(0, 8, Some(1), "processor context corrupt", 19, 1, &NO_NAMES),
     bits!(0, 8, Some(2), "uncorrected", 20, 1, &NO_NAMES),
@@ -119,7 +119,7 @@ const MS_CHECK_ROWS: [Field; 6] = [
 ];
 
 // A part of it: context.
-const IA32_CONTEXT_ROWS: [Field; 4] = [
+const IA32_CONTEXT_FIELDS: [Field; 4] = [
     field!(0, 2, None, "register context type", OneOf(&CONTEXT_TYPES)),
     field!(2, 2, None, "register array size", Decimal),
     field!(4, 4, None, "MSR address", Hexadecimal),
@@ -127,7 +127,7 @@ const IA32_CONTEXT_ROWS: [Field; 4] = [
 ];
 
 // What stands inside: the registers of an IA-32 context.
-const IA32_REGISTERS_ROWS: [Field; 25] = [
+const IA32_REGISTERS_FIELDS: [Field; 25] = [
     field!(0, 4, None, "EAX", Hexadecimal),
     field!(4, 4, None, "EBX", Hexadecimal),
     field!(8, 4, None, "ECX", Hexadecimal),
@@ -156,7 +156,7 @@ const IA32_REGISTERS_ROWS: [Field; 25] = [
 ];
 
 // What stands inside: the registers of an x64 context.
-const X64_REGISTERS_ROWS: [Field; 34] = [
+const X64_REGISTERS_FIELDS: [Field; 34] = [
     field!(0, 8, None, "RAX", Hexadecimal),
     field!(8, 8, None, "RBX", Hexadecimal),
     field!(16, 8, None, "RCX", Hexadecimal),
@@ -202,7 +202,7 @@ const IA32_ERROR_INSIDE: [Inner; 4] = [
             text: b"a55701f5-e3ef-43de-ac72-249b573fad2c",
         },
         at: 24,
-        content: Content::Fields(&CHECK_ROWS),
+        content: Content::Fields(&CHECK_FIELDS),
     },
     Inner {
         name: "TLB check",
@@ -212,7 +212,7 @@ const IA32_ERROR_INSIDE: [Inner; 4] = [
             text: b"fc06b535-5e1f-4562-9f25-0a3b9adb63c3",
         },
         at: 24,
-        content: Content::Fields(&CHECK_ROWS),
+        content: Content::Fields(&CHECK_FIELDS),
     },
     Inner {
         name: "bus check",
@@ -222,7 +222,7 @@ const IA32_ERROR_INSIDE: [Inner; 4] = [
             text: b"1cf3f8b3-c5b1-49a2-aa59-5eef92ffa63c",
         },
         at: 24,
-        content: Content::Fields(&BUS_CHECK_ROWS),
+        content: Content::Fields(&BUS_CHECK_FIELDS),
     },
     Inner {
         name: "MS check",
@@ -232,7 +232,7 @@ const IA32_ERROR_INSIDE: [Inner; 4] = [
             text: b"48ab7f57-dc34-4f6c-a7d3-b0b5b0a74314",
         },
         at: 24,
-        content: Content::Fields(&MS_CHECK_ROWS),
+        content: Content::Fields(&MS_CHECK_FIELDS),
     },
 ];
 
@@ -246,7 +246,7 @@ const IA32_CONTEXT_INSIDE: [Inner; 2] = [
             number: 2,
         },
         at: 16,
-        content: Content::Fields(&IA32_REGISTERS_ROWS),
+        content: Content::Fields(&IA32_REGISTERS_FIELDS),
     },
     Inner {
         name: "registers",
@@ -257,7 +257,7 @@ const IA32_CONTEXT_INSIDE: [Inner; 2] = [
             number: 3,
         },
         at: 16,
-        content: Content::Fields(&X64_REGISTERS_ROWS),
+        content: Content::Fields(&X64_REGISTERS_FIELDS),
     },
 ];
 
@@ -272,7 +272,7 @@ const IA32_PROCESSOR_PARTS: [Parts; 2] = [
         },
         size: Size::Fixed(64),
         valid_at: 16,
-        fields: &IA32_ERROR_ROWS,
+        fields: &IA32_ERROR_FIELDS,
         inner: &IA32_ERROR_INSIDE,
     },
     Parts {
@@ -289,14 +289,14 @@ const IA32_PROCESSOR_PARTS: [Parts; 2] = [
             more: 16,
         },
         valid_at: 0,
-        fields: &IA32_CONTEXT_ROWS,
+        fields: &IA32_CONTEXT_FIELDS,
         inner: &IA32_CONTEXT_INSIDE,
     },
 ];
 
 const IA32_PROCESSOR: Layout = Layout {
     valid_at: 0,
-    fields: &IA32_PROCESSOR_ROWS,
+    fields: &IA32_PROCESSOR_FIELDS,
     parts_at: 64,
     parts: &IA32_PROCESSOR_PARTS,
 };

@@ -23,7 +23,7 @@ const VENDORS: [Name; 10] = [
 ];
 
 // Linux's machine check.
-const LINUX_MACHINE_CHECK_ROWS: [Field; 24] = [
+const LINUX_MACHINE_CHECK_FIELDS: [Field; 24] = [
     field!(0, 8, None, "status", Hexadecimal),
     field!(8, 8, None, "misc", Hexadecimal),
     field!(16, 8, None, "addr", Hexadecimal),
@@ -52,17 +52,17 @@ const LINUX_MACHINE_CHECK_ROWS: [Field; 24] = [
 
 const LINUX_MACHINE_CHECK: Layout = Layout {
     valid_at: 0,
-    fields: &LINUX_MACHINE_CHECK_ROWS,
+    fields: &LINUX_MACHINE_CHECK_FIELDS,
     parts_at: 0,
     parts: &NO_PARTS,
 };
 
 // Linux's messages.
-const LINUX_DMESG_ROWS: [Field; 1] = [field!(0, 1, None, "text", Lines)];
+const LINUX_DMESG_FIELDS: [Field; 1] = [field!(0, 1, None, "text", Lines)];
 
 const LINUX_DMESG: Layout = Layout {
     valid_at: 0,
-    fields: &LINUX_DMESG_ROWS,
+    fields: &LINUX_DMESG_FIELDS,
     parts_at: 0,
     parts: &NO_PARTS,
 };

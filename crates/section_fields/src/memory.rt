@@ -51,7 +51,7 @@ const MEMORY_ERRORS: [Name; 16] = [
 ];
 
 // A memory error (UEFI 2.8, N.2.5).
-const MEMORY_ERROR_ROWS: [Field; 23] = [
+const MEMORY_ERROR_FIELDS: [Field; 23] = [
     field!(8, 8, Some(0), "error status", Hexadecimal),
     bits!(8, 8, Some(0), "error status type", 8, 8, &ERROR_TYPES),
     field!(16, 8, Some(1), "physical address", Hexadecimal),
@@ -79,13 +79,13 @@ const MEMORY_ERROR_ROWS: [Field; 23] = [
 
 const MEMORY_ERROR: Layout = Layout {
     valid_at: 0,
-    fields: &MEMORY_ERROR_ROWS,
+    fields: &MEMORY_ERROR_FIELDS,
     parts_at: 0,
     parts: &NO_PARTS,
 };
 
 // A memory error, version 2 (UEFI 2.8, N.2.6).
-const MEMORY_ERROR_2_ROWS: [Field; 23] = [
+const MEMORY_ERROR_2_FIELDS: [Field; 23] = [
     field!(8, 8, Some(0), "error status", Hexadecimal),
     bits!(8, 8, Some(0), "error status type", 8, 8, &ERROR_TYPES),
     field!(16, 8, Some(1), "physical address", Hexadecimal),
@@ -113,7 +113,7 @@ const MEMORY_ERROR_2_ROWS: [Field; 23] = [
 
 const MEMORY_ERROR_2: Layout = Layout {
     valid_at: 0,
-    fields: &MEMORY_ERROR_2_ROWS,
+    fields: &MEMORY_ERROR_2_FIELDS,
     parts_at: 0,
     parts: &NO_PARTS,
 };

@@ -100,7 +100,7 @@ const BUS_ERRORS: [Name; 8] = [
 ];
 
 // A PCI Express error (UEFI 2.8, N.2.7).
-const PCI_EXPRESS_ROWS: [Field; 56] = [
+const PCI_EXPRESS_FIELDS: [Field; 56] = [
     field!(8, 4, Some(0), "port type", OneOf(&PORT_TYPES)),
     field!(12, 1, Some(1), "version minor", Hexadecimal),
     field!(13, 1, Some(1), "version major", Hexadecimal),
@@ -197,13 +197,13 @@ const PCI_EXPRESS_ROWS: [Field; 56] = [
 
 const PCI_EXPRESS: Layout = Layout {
     valid_at: 0,
-    fields: &PCI_EXPRESS_ROWS,
+    fields: &PCI_EXPRESS_FIELDS,
     parts_at: 0,
     parts: &NO_PARTS,
 };
 
 // A PCI or PCI-X bus error (UEFI 2.8, N.2.8).
-const PCI_BUS_ROWS: [Field; 11] = [
+const PCI_BUS_FIELDS: [Field; 11] = [
     field!(8, 8, Some(0), "error status", Hexadecimal),
     bits!(8, 8, Some(0), "error status type", 8, 8, &ERROR_TYPES),
     field!(16, 2, Some(1), "error type", OneOf(&BUS_ERRORS)),
@@ -219,13 +219,13 @@ const PCI_BUS_ROWS: [Field; 11] = [
 
 const PCI_BUS: Layout = Layout {
     valid_at: 0,
-    fields: &PCI_BUS_ROWS,
+    fields: &PCI_BUS_FIELDS,
     parts_at: 0,
     parts: &NO_PARTS,
 };
 
 // A PCI or PCI-X component error (UEFI 2.8, N.2.9).
-const PCI_COMPONENT_ROWS: [Field; 11] = [
+const PCI_COMPONENT_FIELDS: [Field; 11] = [
     field!(8, 8, Some(0), "error status", Hexadecimal),
     bits!(8, 8, Some(0), "error status type", 8, 8, &ERROR_TYPES),
     field!(16, 2, Some(1), "vendor ID", Hexadecimal),
@@ -240,7 +240,7 @@ const PCI_COMPONENT_ROWS: [Field; 11] = [
 ];
 
 // A part of it: memory register.
-const REGISTER_PAIR_ROWS: [Field; 2] = [
+const REGISTER_PAIR_FIELDS: [Field; 2] = [
     field!(0, 8, None, "address", Hexadecimal),
     field!(8, 8, None, "value", Hexadecimal),
 ];
@@ -256,7 +256,7 @@ const PCI_COMPONENT_PARTS: [Parts; 2] = [
         },
         size: Size::Fixed(16),
         valid_at: 0,
-        fields: &REGISTER_PAIR_ROWS,
+        fields: &REGISTER_PAIR_FIELDS,
         inner: &NOTHING_INSIDE,
     },
     Parts {
@@ -269,14 +269,14 @@ const PCI_COMPONENT_PARTS: [Parts; 2] = [
         },
         size: Size::Fixed(16),
         valid_at: 0,
-        fields: &REGISTER_PAIR_ROWS,
+        fields: &REGISTER_PAIR_FIELDS,
         inner: &NOTHING_INSIDE,
     },
 ];
 
 const PCI_COMPONENT: Layout = Layout {
     valid_at: 0,
-    fields: &PCI_COMPONENT_ROWS,
+    fields: &PCI_COMPONENT_FIELDS,
     parts_at: 40,
     parts: &PCI_COMPONENT_PARTS,
 };

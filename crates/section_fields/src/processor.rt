@@ -45,7 +45,7 @@ const PROCESSOR_FLAGS: [Name; 4] = [
 ];
 
 // A generic processor error (UEFI 2.8, N.2.4.1).
-const PROCESSOR_GENERIC_ROWS: [Field; 13] = [
+const PROCESSOR_GENERIC_FIELDS: [Field; 13] = [
     field!(8, 1, Some(0), "processor type", OneOf(&PROCESSOR_TYPES)),
     field!(9, 1, Some(1), "processor ISA", OneOf(&INSTRUCTION_SETS)),
     field!(
@@ -69,7 +69,7 @@ const PROCESSOR_GENERIC_ROWS: [Field; 13] = [
 
 const PROCESSOR_GENERIC: Layout = Layout {
     valid_at: 0,
-    fields: &PROCESSOR_GENERIC_ROWS,
+    fields: &PROCESSOR_GENERIC_FIELDS,
     parts_at: 0,
     parts: &NO_PARTS,
 };

@@ -46,7 +46,7 @@ pub(crate) const SECTION_FLAGS: [Name; 8] = [
 ];
 
 // The header of a record (UEFI 2.8, N.2.1).
-const RECORD_HEADER_ROWS: [Field; 15] = [
+const RECORD_HEADER_FIELDS: [Field; 15] = [
     field!(0, 4, None, "signature start", Text),
     field!(4, 2, None, "revision", Hexadecimal),
     field!(6, 4, None, "signature end", Hexadecimal),
@@ -66,13 +66,13 @@ const RECORD_HEADER_ROWS: [Field; 15] = [
 
 const RECORD_HEADER: Layout = Layout {
     valid_at: 16,
-    fields: &RECORD_HEADER_ROWS,
+    fields: &RECORD_HEADER_FIELDS,
     parts_at: 0,
     parts: &NO_PARTS,
 };
 
 // The header of a record of Linux's, whose time is in seconds.
-const LINUX_HEADER_ROWS: [Field; 15] = [
+const LINUX_HEADER_FIELDS: [Field; 15] = [
     field!(0, 4, None, "signature start", Text),
     field!(4, 2, None, "revision", Hexadecimal),
     field!(6, 4, None, "signature end", Hexadecimal),
@@ -92,13 +92,13 @@ const LINUX_HEADER_ROWS: [Field; 15] = [
 
 const LINUX_HEADER: Layout = Layout {
     valid_at: 16,
-    fields: &LINUX_HEADER_ROWS,
+    fields: &LINUX_HEADER_FIELDS,
     parts_at: 0,
     parts: &NO_PARTS,
 };
 
 // A section descriptor (UEFI 2.8, N.2.2).
-const SECTION_DESCRIPTOR_ROWS: [Field; 9] = [
+const SECTION_DESCRIPTOR_FIELDS: [Field; 9] = [
     field!(0, 4, None, "section offset", Decimal),
     field!(4, 4, None, "section length", Decimal),
     field!(8, 2, None, "revision", Hexadecimal),
@@ -112,7 +112,7 @@ const SECTION_DESCRIPTOR_ROWS: [Field; 9] = [
 
 const SECTION_DESCRIPTOR: Layout = Layout {
     valid_at: 10,
-    fields: &SECTION_DESCRIPTOR_ROWS,
+    fields: &SECTION_DESCRIPTOR_FIELDS,
     parts_at: 0,
     parts: &NO_PARTS,
 };

@@ -44,7 +44,7 @@ const DMA_ADDRESSES: [Name; 2] = [
 const DMA_ARCHITECTURES: [Name; 2] = [name!(1, "VT-d"), name!(2, "IOMMU")];
 
 // A reference to a firmware error record (UEFI 2.8, N.2.10).
-const FIRMWARE_RECORD_ROWS: [Field; 4] = [
+const FIRMWARE_RECORD_FIELDS: [Field; 4] = [
     field!(
         0,
         1,
@@ -59,13 +59,13 @@ const FIRMWARE_RECORD_ROWS: [Field; 4] = [
 
 const FIRMWARE_RECORD: Layout = Layout {
     valid_at: 0,
-    fields: &FIRMWARE_RECORD_ROWS,
+    fields: &FIRMWARE_RECORD_FIELDS,
     parts_at: 0,
     parts: &NO_PARTS,
 };
 
 // A DMA remapping error (UEFI 2.8, N.2.11.1).
-const DMA_REMAPPING_ROWS: [Field; 7] = [
+const DMA_REMAPPING_FIELDS: [Field; 7] = [
     field!(0, 2, None, "requester ID", Hexadecimal),
     field!(2, 2, None, "segment number", Decimal),
     field!(4, 1, None, "fault reason", OneOf(&FAULT_REASONS)),
@@ -77,13 +77,13 @@ const DMA_REMAPPING_ROWS: [Field; 7] = [
 
 const DMA_REMAPPING: Layout = Layout {
     valid_at: 0,
-    fields: &DMA_REMAPPING_ROWS,
+    fields: &DMA_REMAPPING_FIELDS,
     parts_at: 0,
     parts: &NO_PARTS,
 };
 
 // An error of Intel's VT for Directed I/O (UEFI 2.8, N.2.11.2).
-const DIRECTED_IO_ROWS: [Field; 17] = [
+const DIRECTED_IO_FIELDS: [Field; 17] = [
     field!(0, 1, None, "version", Decimal),
     field!(1, 1, None, "revision", Decimal),
     field!(2, 6, None, "OEM ID", Text),
@@ -105,13 +105,13 @@ const DIRECTED_IO_ROWS: [Field; 17] = [
 
 const DIRECTED_IO: Layout = Layout {
     valid_at: 0,
-    fields: &DIRECTED_IO_ROWS,
+    fields: &DIRECTED_IO_FIELDS,
     parts_at: 0,
     parts: &NO_PARTS,
 };
 
 // An error of an IOMMU (UEFI 2.8, N.2.11.3).
-const IOMMU_ROWS: [Field; 11] = [
+const IOMMU_FIELDS: [Field; 11] = [
     field!(0, 1, None, "revision", Decimal),
     field!(8, 8, None, "control register", Hexadecimal),
     field!(16, 8, None, "status register", Hexadecimal),
@@ -127,13 +127,13 @@ const IOMMU_ROWS: [Field; 11] = [
 
 const IOMMU: Layout = Layout {
     valid_at: 0,
-    fields: &IOMMU_ROWS,
+    fields: &IOMMU_FIELDS,
     parts_at: 0,
     parts: &NO_PARTS,
 };
 
 // A CCIX PER log (UEFI 2.8, N.2.12).
-const CCIX_ROWS: [Field; 4] = [
+const CCIX_FIELDS: [Field; 4] = [
     field!(0, 4, None, "length", Decimal),
     field!(12, 1, Some(0), "CCIX source ID", Decimal),
     field!(13, 1, Some(1), "CCIX port ID", Decimal),
@@ -142,7 +142,7 @@ const CCIX_ROWS: [Field; 4] = [
 
 const CCIX: Layout = Layout {
     valid_at: 4,
-    fields: &CCIX_ROWS,
+    fields: &CCIX_FIELDS,
     parts_at: 0,
     parts: &NO_PARTS,
 };

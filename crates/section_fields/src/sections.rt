@@ -3,7 +3,7 @@ ghost use Rattle.std.specs.Prelude.{◌≡◌, IfSome, IsTrue, map, option_map};
 ghost use Rattle.apei_bytes.specs.Guid.{guid_text};
 ghost use Rattle.field_lines.specs.Layouts.{is_sound_structure};
 ghost use Rattle.field_lines.specs.Code.{structure_of};
-ghost use Rattle.section_fields.specs.Sections.{section_kinds, kind_in, named_row, structure_for, section_structure};
+ghost use Rattle.section_fields.specs.Sections.{section_kinds, kind_in, kind_of, structure_for, section_structure};
 
 use crate::arm::arm_processor;
 use crate::ia32::ia32_processor;
@@ -130,7 +130,7 @@ pub fn section_kind(guid: &Guid) -> Option<SectionKind>
 }
 
 fn kind_in(mut named: &[Named], guid: &[u8; 36]) -> Option<SectionKind>
-    ensures { result ≡ kind_in (map named_row named.entry.now) guid.now }
+    ensures { result ≡ kind_in (map kind_of named.entry.now) guid.now }
 {
     while let [first, rest @ ..] = named {
         if first.guid == guid {

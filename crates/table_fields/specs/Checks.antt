@@ -1,6 +1,6 @@
 -- Error sources of IA-32 processors (ACPI 6.4, 18.3.2.1, 18.3.2.2 and 18.3.2.10).
 use Rattle.std.specs.Prelude.{ℕ, List, [], ◌∷◌, None, codes}
-use Rattle.field_lines.specs.Rows.{Row, decimal_number, flags, hexadecimal, one_of, row}
+use Rattle.field_lines.specs.Fields.{Field, decimal_number, flags, hexadecimal, one_of, field}
 use Rattle.field_lines.specs.Layouts.{Structure, structure, Group, group, fixed}
 
 -- the types of error sources (ACPI 6.4, 18.3.2)
@@ -62,78 +62,78 @@ configuration_writes =
     ∷ []
 
 -- an IA-32 machine check exception (ACPI 6.4, 18.3.2.1)
-abbrev pub machine_check_rows : List Row
-machine_check_rows =
-    row 0 2 None (codes "type") (one_of source_types)
-    ∷ row 2 2 None (codes "source ID") decimal_number
-    ∷ row 6 1 None (codes "flags") (flags source_flags)
-    ∷ row 7 1 None (codes "enabled") decimal_number
-    ∷ row 8 4 None (codes "number of records to pre-allocate") decimal_number
-    ∷ row 12 4 None (codes "max sections per record") decimal_number
-    ∷ row 16 8 None (codes "global capability init data") hexadecimal
-    ∷ row 24 8 None (codes "global control init data") hexadecimal
-    ∷ row 32 1 None (codes "number of hardware banks") decimal_number
+abbrev pub machine_check_fields : List Field
+machine_check_fields =
+    field 0 2 None (codes "type") (one_of source_types)
+    ∷ field 2 2 None (codes "source ID") decimal_number
+    ∷ field 6 1 None (codes "flags") (flags source_flags)
+    ∷ field 7 1 None (codes "enabled") decimal_number
+    ∷ field 8 4 None (codes "number of records to pre-allocate") decimal_number
+    ∷ field 12 4 None (codes "max sections per record") decimal_number
+    ∷ field 16 8 None (codes "global capability init data") hexadecimal
+    ∷ field 24 8 None (codes "global control init data") hexadecimal
+    ∷ field 32 1 None (codes "number of hardware banks") decimal_number
     ∷ []
 
 -- a part of it: bank
-abbrev pub bank_rows : List Row
-bank_rows =
-    row 0 1 None (codes "bank number") decimal_number
-    ∷ row 1 1 None (codes "clear status on initialization") decimal_number
-    ∷ row 2 1 None (codes "status data format") (one_of status_formats)
-    ∷ row 4 4 None (codes "control register MSR address") hexadecimal
-    ∷ row 8 8 None (codes "control init data") hexadecimal
-    ∷ row 16 4 None (codes "status register MSR address") hexadecimal
-    ∷ row 20 4 None (codes "address register MSR address") hexadecimal
-    ∷ row 24 4 None (codes "misc register MSR address") hexadecimal
+abbrev pub bank_fields : List Field
+bank_fields =
+    field 0 1 None (codes "bank number") decimal_number
+    ∷ field 1 1 None (codes "clear status on initialization") decimal_number
+    ∷ field 2 1 None (codes "status data format") (one_of status_formats)
+    ∷ field 4 4 None (codes "control register MSR address") hexadecimal
+    ∷ field 8 8 None (codes "control init data") hexadecimal
+    ∷ field 16 4 None (codes "status register MSR address") hexadecimal
+    ∷ field 20 4 None (codes "address register MSR address") hexadecimal
+    ∷ field 24 4 None (codes "misc register MSR address") hexadecimal
     ∷ []
 
 abbrev pub machine_check_groups : List Group
 machine_check_groups =
-    group (codes "bank") 32 1 0 8 (fixed 28) 0 bank_rows []
+    group (codes "bank") 32 1 0 8 (fixed 28) 0 bank_fields []
     ∷ []
 
 abbrev pub machine_check : Structure
-machine_check = structure 0 machine_check_rows 40 machine_check_groups
+machine_check = structure 0 machine_check_fields 40 machine_check_groups
 
 -- an IA-32 corrected machine check, or a deferred one (ACPI 6.4, 18.3.2.2, 18.3.2.10)
-abbrev pub corrected_check_rows : List Row
-corrected_check_rows =
-    row 0 2 None (codes "type") (one_of source_types)
-    ∷ row 2 2 None (codes "source ID") decimal_number
-    ∷ row 6 1 None (codes "flags") (flags source_flags)
-    ∷ row 7 1 None (codes "enabled") decimal_number
-    ∷ row 8 4 None (codes "number of records to pre-allocate") decimal_number
-    ∷ row 12 4 None (codes "max sections per record") decimal_number
-    ∷ row 16 1 None (codes "notification type") (one_of notifications)
-    ∷ row 17 1 None (codes "notification length") decimal_number
-    ∷ row 18 2 None (codes "configuration write enable") (flags configuration_writes)
-    ∷ row 20 4 None (codes "poll interval") decimal_number
-    ∷ row 24 4 None (codes "vector") decimal_number
-    ∷ row 28 4 None (codes "switch to polling threshold value") decimal_number
-    ∷ row 32 4 None (codes "switch to polling threshold window") decimal_number
-    ∷ row 36 4 None (codes "error threshold value") decimal_number
-    ∷ row 40 4 None (codes "error threshold window") decimal_number
-    ∷ row 44 1 None (codes "number of hardware banks") decimal_number
+abbrev pub corrected_check_fields : List Field
+corrected_check_fields =
+    field 0 2 None (codes "type") (one_of source_types)
+    ∷ field 2 2 None (codes "source ID") decimal_number
+    ∷ field 6 1 None (codes "flags") (flags source_flags)
+    ∷ field 7 1 None (codes "enabled") decimal_number
+    ∷ field 8 4 None (codes "number of records to pre-allocate") decimal_number
+    ∷ field 12 4 None (codes "max sections per record") decimal_number
+    ∷ field 16 1 None (codes "notification type") (one_of notifications)
+    ∷ field 17 1 None (codes "notification length") decimal_number
+    ∷ field 18 2 None (codes "configuration write enable") (flags configuration_writes)
+    ∷ field 20 4 None (codes "poll interval") decimal_number
+    ∷ field 24 4 None (codes "vector") decimal_number
+    ∷ field 28 4 None (codes "switch to polling threshold value") decimal_number
+    ∷ field 32 4 None (codes "switch to polling threshold window") decimal_number
+    ∷ field 36 4 None (codes "error threshold value") decimal_number
+    ∷ field 40 4 None (codes "error threshold window") decimal_number
+    ∷ field 44 1 None (codes "number of hardware banks") decimal_number
     ∷ []
 
 abbrev pub corrected_check_groups : List Group
 corrected_check_groups =
-    group (codes "bank") 44 1 0 8 (fixed 28) 0 bank_rows []
+    group (codes "bank") 44 1 0 8 (fixed 28) 0 bank_fields []
     ∷ []
 
 abbrev pub corrected_check : Structure
-corrected_check = structure 0 corrected_check_rows 48 corrected_check_groups
+corrected_check = structure 0 corrected_check_fields 48 corrected_check_groups
 
 -- an IA-32 non-maskable interrupt (ACPI 6.4, 18.3.2.2.1)
-abbrev pub nmi_source_rows : List Row
-nmi_source_rows =
-    row 0 2 None (codes "type") (one_of source_types)
-    ∷ row 2 2 None (codes "source ID") decimal_number
-    ∷ row 8 4 None (codes "number of records to pre-allocate") decimal_number
-    ∷ row 12 4 None (codes "max sections per record") decimal_number
-    ∷ row 16 4 None (codes "max raw data length") decimal_number
+abbrev pub nmi_source_fields : List Field
+nmi_source_fields =
+    field 0 2 None (codes "type") (one_of source_types)
+    ∷ field 2 2 None (codes "source ID") decimal_number
+    ∷ field 8 4 None (codes "number of records to pre-allocate") decimal_number
+    ∷ field 12 4 None (codes "max sections per record") decimal_number
+    ∷ field 16 4 None (codes "max raw data length") decimal_number
     ∷ []
 
 abbrev pub nmi_source : Structure
-nmi_source = structure 0 nmi_source_rows 0 []
+nmi_source = structure 0 nmi_source_fields 0 []

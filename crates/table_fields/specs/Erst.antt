@@ -1,6 +1,6 @@
 -- The Error Record Serialization Table (ACPI 6.4, 18.5.1).
 use Rattle.std.specs.Prelude.{ℕ, List, [], ◌∷◌, None, codes}
-use Rattle.field_lines.specs.Rows.{Row, decimal_number, flags, hexadecimal, one_of, register, row}
+use Rattle.field_lines.specs.Fields.{Field, decimal_number, flags, hexadecimal, one_of, register, field}
 use Rattle.field_lines.specs.Layouts.{Structure, structure}
 
 -- the serialization actions (ACPI 6.4, 18.5.1.1)
@@ -55,25 +55,25 @@ instruction_flags =
     ∷ []
 
 -- what stands behind the header of an ERST (ACPI 6.4, 18.5.1)
-abbrev pub erst_header_rows : List Row
-erst_header_rows =
-    row 36 4 None (codes "serialization header size") decimal_number
-    ∷ row 44 4 None (codes "instruction entry count") decimal_number
+abbrev pub erst_header_fields : List Field
+erst_header_fields =
+    field 36 4 None (codes "serialization header size") decimal_number
+    ∷ field 44 4 None (codes "instruction entry count") decimal_number
     ∷ []
 
 abbrev pub erst_header : Structure
-erst_header = structure 0 erst_header_rows 0 []
+erst_header = structure 0 erst_header_fields 0 []
 
 -- a serialization instruction entry (ACPI 6.4, 18.5.1.2)
-abbrev pub erst_entry_rows : List Row
-erst_entry_rows =
-    row 0 1 None (codes "serialization action") (one_of actions)
-    ∷ row 1 1 None (codes "instruction") (one_of instructions)
-    ∷ row 2 1 None (codes "flags") (flags instruction_flags)
-    ∷ row 4 12 None (codes "register region") register
-    ∷ row 16 8 None (codes "value") hexadecimal
-    ∷ row 24 8 None (codes "mask") hexadecimal
+abbrev pub erst_entry_fields : List Field
+erst_entry_fields =
+    field 0 1 None (codes "serialization action") (one_of actions)
+    ∷ field 1 1 None (codes "instruction") (one_of instructions)
+    ∷ field 2 1 None (codes "flags") (flags instruction_flags)
+    ∷ field 4 12 None (codes "register region") register
+    ∷ field 16 8 None (codes "value") hexadecimal
+    ∷ field 24 8 None (codes "mask") hexadecimal
     ∷ []
 
 abbrev pub erst_entry : Structure
-erst_entry = structure 0 erst_entry_rows 0 []
+erst_entry = structure 0 erst_entry_fields 0 []

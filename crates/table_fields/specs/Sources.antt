@@ -28,5 +28,5 @@ abbrev pub all_sound : List (ℕ × Structure) → Bool
 all_sound [] = true
 all_sound (table ∷ tables) = is_sound_structure table.1 && all_sound tables
 
-abbrev pub source_row : Source → ℕ × Structure
-source_row source = (source.kind, structure_of source.layout)
+abbrev pub source_of : Source → ℕ × Structure
+source_of source = (source.kind, structure_of source.layout)

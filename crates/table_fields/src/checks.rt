@@ -57,7 +57,7 @@ pub(crate) const CONFIGURATION_WRITES: [Name; 6] = [
 ];
 
 // An IA-32 machine check exception (ACPI 6.4, 18.3.2.1).
-const MACHINE_CHECK_ROWS: [Field; 9] = [
+const MACHINE_CHECK_FIELDS: [Field; 9] = [
     field!(0, 2, None, "type", OneOf(&SOURCE_TYPES)),
     field!(2, 2, None, "source ID", Decimal),
     field!(6, 1, None, "flags", Flags(&SOURCE_FLAGS)),
@@ -70,7 +70,7 @@ const MACHINE_CHECK_ROWS: [Field; 9] = [
 ];
 
 // A part of it: bank.
-const BANK_ROWS: [Field; 8] = [
+const BANK_FIELDS: [Field; 8] = [
     field!(0, 1, None, "bank number", Decimal),
     field!(1, 1, None, "clear status on initialization", Decimal),
     field!(2, 1, None, "status data format", OneOf(&STATUS_FORMATS)),
@@ -91,19 +91,19 @@ const MACHINE_CHECK_PARTS: [Parts; 1] = [Parts {
     },
     size: Size::Fixed(28),
     valid_at: 0,
-    fields: &BANK_ROWS,
+    fields: &BANK_FIELDS,
     inner: &NOTHING_INSIDE,
 }];
 
 pub(crate) const MACHINE_CHECK: Layout = Layout {
     valid_at: 0,
-    fields: &MACHINE_CHECK_ROWS,
+    fields: &MACHINE_CHECK_FIELDS,
     parts_at: 40,
     parts: &MACHINE_CHECK_PARTS,
 };
 
 // An IA-32 corrected machine check, or a deferred one (ACPI 6.4, 18.3.2.2, 18.3.2.10).
-const CORRECTED_CHECK_ROWS: [Field; 16] = [
+const CORRECTED_CHECK_FIELDS: [Field; 16] = [
     field!(0, 2, None, "type", OneOf(&SOURCE_TYPES)),
     field!(2, 2, None, "source ID", Decimal),
     field!(6, 1, None, "flags", Flags(&SOURCE_FLAGS)),
@@ -138,19 +138,19 @@ const CORRECTED_CHECK_PARTS: [Parts; 1] = [Parts {
     },
     size: Size::Fixed(28),
     valid_at: 0,
-    fields: &BANK_ROWS,
+    fields: &BANK_FIELDS,
     inner: &NOTHING_INSIDE,
 }];
 
 pub(crate) const CORRECTED_CHECK: Layout = Layout {
     valid_at: 0,
-    fields: &CORRECTED_CHECK_ROWS,
+    fields: &CORRECTED_CHECK_FIELDS,
     parts_at: 48,
     parts: &CORRECTED_CHECK_PARTS,
 };
 
 // An IA-32 non-maskable interrupt (ACPI 6.4, 18.3.2.2.1).
-const NMI_SOURCE_ROWS: [Field; 5] = [
+const NMI_SOURCE_FIELDS: [Field; 5] = [
     field!(0, 2, None, "type", OneOf(&SOURCE_TYPES)),
     field!(2, 2, None, "source ID", Decimal),
     field!(8, 4, None, "number of records to pre-allocate", Decimal),
@@ -160,7 +160,7 @@ const NMI_SOURCE_ROWS: [Field; 5] = [
 
 pub(crate) const NMI_SOURCE: Layout = Layout {
     valid_at: 0,
-    fields: &NMI_SOURCE_ROWS,
+    fields: &NMI_SOURCE_FIELDS,
     parts_at: 0,
     parts: &NO_PARTS,
 };

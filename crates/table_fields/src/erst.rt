@@ -55,20 +55,20 @@ const INSTRUCTIONS: [Name; 19] = [
 const INSTRUCTION_FLAGS: [Name; 1] = [name!(0, "preserve register")];
 
 // What stands behind the header of an ERST (ACPI 6.4, 18.5.1).
-const ERST_HEADER_ROWS: [Field; 2] = [
+const ERST_HEADER_FIELDS: [Field; 2] = [
     field!(36, 4, None, "serialization header size", Decimal),
     field!(44, 4, None, "instruction entry count", Decimal),
 ];
 
 const ERST_HEADER: Layout = Layout {
     valid_at: 0,
-    fields: &ERST_HEADER_ROWS,
+    fields: &ERST_HEADER_FIELDS,
     parts_at: 0,
     parts: &NO_PARTS,
 };
 
 // A serialization instruction entry (ACPI 6.4, 18.5.1.2).
-const ERST_ENTRY_ROWS: [Field; 6] = [
+const ERST_ENTRY_FIELDS: [Field; 6] = [
     field!(0, 1, None, "serialization action", OneOf(&ACTIONS)),
     field!(1, 1, None, "instruction", OneOf(&INSTRUCTIONS)),
     field!(2, 1, None, "flags", Flags(&INSTRUCTION_FLAGS)),
@@ -79,7 +79,7 @@ const ERST_ENTRY_ROWS: [Field; 6] = [
 
 const ERST_ENTRY: Layout = Layout {
     valid_at: 0,
-    fields: &ERST_ENTRY_ROWS,
+    fields: &ERST_ENTRY_FIELDS,
     parts_at: 0,
     parts: &NO_PARTS,
 };

@@ -5,7 +5,7 @@ use field_lines::Shape::{Decimal, Flags, Hexadecimal, OneOf, Register};
 use field_lines::{Field, Layout};
 
 // A generic hardware error source (ACPI 6.4, 18.3.2.7).
-const GENERIC_SOURCE_ROWS: [Field; 19] = [
+const GENERIC_SOURCE_FIELDS: [Field; 19] = [
     field!(0, 2, None, "type", OneOf(&SOURCE_TYPES)),
     field!(2, 2, None, "source ID", Decimal),
     field!(4, 2, None, "related source ID", Decimal),
@@ -35,13 +35,13 @@ const GENERIC_SOURCE_ROWS: [Field; 19] = [
 
 pub(crate) const GENERIC_SOURCE: Layout = Layout {
     valid_at: 0,
-    fields: &GENERIC_SOURCE_ROWS,
+    fields: &GENERIC_SOURCE_FIELDS,
     parts_at: 0,
     parts: &NO_PARTS,
 };
 
 // One of version 2 (ACPI 6.4, 18.3.2.8).
-const GENERIC_SOURCE_2_ROWS: [Field; 22] = [
+const GENERIC_SOURCE_2_FIELDS: [Field; 22] = [
     field!(0, 2, None, "type", OneOf(&SOURCE_TYPES)),
     field!(2, 2, None, "source ID", Decimal),
     field!(4, 2, None, "related source ID", Decimal),
@@ -74,7 +74,7 @@ const GENERIC_SOURCE_2_ROWS: [Field; 22] = [
 
 pub(crate) const GENERIC_SOURCE_2: Layout = Layout {
     valid_at: 0,
-    fields: &GENERIC_SOURCE_2_ROWS,
+    fields: &GENERIC_SOURCE_2_FIELDS,
     parts_at: 0,
     parts: &NO_PARTS,
 };

@@ -9,7 +9,7 @@ use field_lines::Shape::{Decimal, Hexadecimal, Text};
 use field_lines::{Field, Layout};
 
 // The header of a table (ACPI 6.4, 5.2.6).
-const TABLE_HEADER_ROWS: [Field; 9] = [
+const TABLE_HEADER_FIELDS: [Field; 9] = [
     field!(0, 4, None, "signature", Text),
     field!(4, 4, None, "length", Decimal),
     field!(8, 1, None, "revision", Decimal),
@@ -23,30 +23,30 @@ const TABLE_HEADER_ROWS: [Field; 9] = [
 
 const TABLE_HEADER: Layout = Layout {
     valid_at: 0,
-    fields: &TABLE_HEADER_ROWS,
+    fields: &TABLE_HEADER_FIELDS,
     parts_at: 0,
     parts: &NO_PARTS,
 };
 
 // What stands behind the header of a HEST (ACPI 6.4, 18.3.2).
-const HEST_HEADER_ROWS: [Field; 1] = [field!(36, 4, None, "error source count", Decimal)];
+const HEST_HEADER_FIELDS: [Field; 1] = [field!(36, 4, None, "error source count", Decimal)];
 
 const HEST_HEADER: Layout = Layout {
     valid_at: 0,
-    fields: &HEST_HEADER_ROWS,
+    fields: &HEST_HEADER_FIELDS,
     parts_at: 0,
     parts: &NO_PARTS,
 };
 
 // What stands behind the header of a BERT (ACPI 6.4, 18.3.1).
-const BERT_FIELDS_ROWS: [Field; 2] = [
+const BERT_FIELDS_FIELDS: [Field; 2] = [
     field!(36, 4, None, "boot error region length", Decimal),
     field!(40, 8, None, "boot error region", Hexadecimal),
 ];
 
 const BERT_FIELDS: Layout = Layout {
     valid_at: 0,
-    fields: &BERT_FIELDS_ROWS,
+    fields: &BERT_FIELDS_FIELDS,
     parts_at: 0,
     parts: &NO_PARTS,
 };

@@ -5,7 +5,7 @@ use field_lines::Shape::{Decimal, Flags, Hexadecimal, OneOf};
 use field_lines::{Field, Layout};
 
 // A PCI Express root port (ACPI 6.4, 18.3.2.3).
-const ROOT_PORT_ROWS: [Field; 15] = [
+const ROOT_PORT_FIELDS: [Field; 15] = [
     field!(0, 2, None, "type", OneOf(&SOURCE_TYPES)),
     field!(2, 2, None, "source ID", Decimal),
     field!(6, 1, None, "flags", Flags(&SOURCE_FLAGS)),
@@ -31,13 +31,13 @@ const ROOT_PORT_ROWS: [Field; 15] = [
 
 pub(crate) const ROOT_PORT: Layout = Layout {
     valid_at: 0,
-    fields: &ROOT_PORT_ROWS,
+    fields: &ROOT_PORT_FIELDS,
     parts_at: 0,
     parts: &NO_PARTS,
 };
 
 // A PCI Express device (ACPI 6.4, 18.3.2.4).
-const PCIE_DEVICE_ROWS: [Field; 14] = [
+const PCIE_DEVICE_FIELDS: [Field; 14] = [
     field!(0, 2, None, "type", OneOf(&SOURCE_TYPES)),
     field!(2, 2, None, "source ID", Decimal),
     field!(6, 1, None, "flags", Flags(&SOURCE_FLAGS)),
@@ -62,13 +62,13 @@ const PCIE_DEVICE_ROWS: [Field; 14] = [
 
 pub(crate) const PCIE_DEVICE: Layout = Layout {
     valid_at: 0,
-    fields: &PCIE_DEVICE_ROWS,
+    fields: &PCIE_DEVICE_FIELDS,
     parts_at: 0,
     parts: &NO_PARTS,
 };
 
 // A PCI Express bridge (ACPI 6.4, 18.3.2.5).
-const PCIE_BRIDGE_ROWS: [Field; 17] = [
+const PCIE_BRIDGE_FIELDS: [Field; 17] = [
     field!(0, 2, None, "type", OneOf(&SOURCE_TYPES)),
     field!(2, 2, None, "source ID", Decimal),
     field!(6, 1, None, "flags", Flags(&SOURCE_FLAGS)),
@@ -114,7 +114,7 @@ const PCIE_BRIDGE_ROWS: [Field; 17] = [
 
 pub(crate) const PCIE_BRIDGE: Layout = Layout {
     valid_at: 0,
-    fields: &PCIE_BRIDGE_ROWS,
+    fields: &PCIE_BRIDGE_FIELDS,
     parts_at: 0,
     parts: &NO_PARTS,
 };

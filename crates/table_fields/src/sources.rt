@@ -2,7 +2,7 @@
 ghost use Rattle.std.specs.Prelude.{◌≡◌, IfSome, IsTrue, map, option_map};
 ghost use Rattle.field_lines.specs.Layouts.{is_sound_structure};
 ghost use Rattle.field_lines.specs.Code.{structure_of};
-ghost use Rattle.table_fields.specs.Sources.{source_tables, structure_in, all_sound, source_row};
+ghost use Rattle.table_fields.specs.Sources.{source_tables, structure_in, all_sound, source_of};
 
 use crate::checks::{CORRECTED_CHECK, MACHINE_CHECK, NMI_SOURCE};
 use crate::generic::{GENERIC_SOURCE, GENERIC_SOURCE_2};
@@ -63,8 +63,8 @@ pub fn source_layout(kind: u16) -> Option<Layout>
 }
 
 fn layout_in(mut sources: &[Source], kind: u16) -> Option<Layout>
-    requires { IsTrue (all_sound (map source_row sources.now)) }
-    ensures layout { option_map structure_of result ≡ structure_in (map source_row sources.entry.now) kind }
+    requires { IsTrue (all_sound (map source_of sources.now)) }
+    ensures layout { option_map structure_of result ≡ structure_in (map source_of sources.entry.now) kind }
     ensures sound { IfSome result (λ layout. IsTrue (is_sound_structure (structure_of layout))) }
 {
     while let [source, rest @ ..] = sources {

@@ -1,4 +1,4 @@
--- A row of a standard's table: a field of a structure.
+-- A field of a structure, as a standard's table has it.
 use Rattle.std.specs.Prelude.{ℕ, ◌+◌, ◌==◌, ◌&&◌, nat_lt, Bool, true, List, [], ◌∷◌, Option}
 
 -- how what stands in a field is shown
@@ -18,15 +18,15 @@ pub data Shown : Type 0 where
   all_lines : Shown
 
 -- where a field stands, how long it is, its validation bit, its name, and how it is shown
-pub record Row : Type 0 where
+pub record Field : Type 0 where
   pub at : ℕ
   pub width : ℕ
   pub bit : Option ℕ
   pub name : List ℕ
   pub shown : Shown
 
-abbrev pub row : ℕ → ℕ → Option ℕ → List ℕ → Shown → Row
-row at width bit name shown = record { at = at; width = width; bit = bit; name = name; shown = shown }
+abbrev pub field : ℕ → ℕ → Option ℕ → List ℕ → Shown → Field
+field at width bit name shown = record { at = at; width = width; bit = bit; name = name; shown = shown }
 
 -- a number has at most 8 bytes, a time 8, a GUID 16 and a register 12
 abbrev pub fits : Shown → ℕ → Bool
@@ -44,9 +44,9 @@ fits digits_of_bytes width = true
 fits all_bytes width = true
 fits all_lines width = true
 
-abbrev pub is_sound : Row → Bool
-is_sound row = fits row.shown row.width && nat_lt (row.at + row.width) 65536
+abbrev pub is_sound : Field → Bool
+is_sound field = fits field.shown field.width && nat_lt (field.at + field.width) 65536
 
-abbrev pub are_sound : List Row → Bool
+abbrev pub are_sound : List Field → Bool
 are_sound [] = true
-are_sound (row ∷ rows) = is_sound row && are_sound rows
+are_sound (field ∷ fields) = is_sound field && are_sound fields
