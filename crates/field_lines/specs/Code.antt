@@ -1,6 +1,6 @@
 -- What the code's tables say.
-use Rattle.std.specs.Prelude.{ℕ, ◌+◌, List, [], ◌∷◌, None, map}
-use Rattle.field_lines.specs.Fields.{Shown, Field, field, decimal_number, hexadecimal, guid, text, one_of, flags, bits, stamp, seconds, register, digits_of_bytes, all_bytes, all_lines}
+use Rattle.std.specs.Prelude.{ℕ, List, map}
+use Rattle.field_lines.specs.Fields.{Shown, Field, field, decimal_number, hexadecimal, guid, text, one_of, flags, bits, stamp, seconds, register, digits_of_bytes, all_bytes, all_lines, register_fields}
 use Rattle.field_lines.specs.Layouts.{Group, Measure, fixed, told, rest, Sign, number_sign, guid_sign, Inside, Structure, Heading, part_heading, inside_heading, end_heading, end_of_parts}
 use Rattle.field_lines.specs.declared.field.Field.{Field as FieldOfCode}
 use Rattle.field_lines.specs.declared.field.Name.{Name}
@@ -12,7 +12,6 @@ use Rattle.field_lines.specs.declared.layout.Size.TheVariants.{Fixed, Told, Rest
 use Rattle.field_lines.specs.declared.layout.Key.{Key}
 use Rattle.field_lines.specs.declared.layout.Key.TheVariants.{Number as NumberKey, Guid as GuidKey}
 use Rattle.field_lines.specs.declared.layout.Inner.{Inner}
-use Rattle.field_lines.specs.declared.layout.Register.{Register as RegisterName}
 use Rattle.field_lines.specs.declared.layout.Content.{Content}
 use Rattle.field_lines.specs.declared.layout.Content.TheVariants.{Fields, Registers}
 use Rattle.field_lines.specs.declared.layout.Parts.{Parts}
@@ -50,17 +49,9 @@ abbrev pub sign_of : Key → Sign
 sign_of (NumberKey at width number) = number_sign at width number
 sign_of (GuidKey at name) = guid_sign at name.now
 
--- registers of so many bytes each, one behind another
-abbrev pub register_fields : (width at : ℕ) → List (List ℕ) → List Field
-register_fields width at [] = []
-register_fields width at (name ∷ names) = field at width None name hexadecimal ∷ register_fields width (at + width) names
-
-abbrev pub register_name : RegisterName → List ℕ
-register_name named = named.name.now
-
 abbrev pub content_fields : Content → List Field
 content_fields (Fields fields) = map field_of fields.now
-content_fields (Registers width registers) = register_fields width 0 (map register_name registers.now)
+content_fields (Registers width names) = register_fields width 0 (map (λ name. name.now) names.now)
 
 abbrev pub inside_of : Inner → Inside
 inside_of inner = record { name = inner.name.now; bit = inner.bit; sign = sign_of inner.key; at = inner.at; fields = content_fields inner.content }

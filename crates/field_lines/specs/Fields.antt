@@ -1,5 +1,5 @@
 -- A field of a structure, as a standard's table has it.
-use Rattle.std.specs.Prelude.{ℕ, ◌+◌, ◌==◌, ◌&&◌, nat_lt, Bool, true, List, [], ◌∷◌, Option}
+use Rattle.std.specs.Prelude.{ℕ, ◌+◌, ◌==◌, ◌&&◌, nat_lt, Bool, true, List, [], ◌∷◌, Option, None}
 
 -- how what stands in a field is shown
 pub data Shown : Type 0 where
@@ -27,6 +27,11 @@ pub record Field : Type 0 where
 
 abbrev pub field : ℕ → ℕ → Option ℕ → List ℕ → Shown → Field
 field at width bit name shown = record { at = at; width = width; bit = bit; name = name; shown = shown }
+
+-- registers of so many bytes each, one behind another
+abbrev pub register_fields : (width at : ℕ) → List (List ℕ) → List Field
+register_fields width at [] = []
+register_fields width at (name ∷ names) = field at width None name hexadecimal ∷ register_fields width (at + width) names
 
 -- a number has at most 8 bytes, a time 8, a GUID 16 and a register 12
 abbrev pub fits : Shown → ℕ → Bool

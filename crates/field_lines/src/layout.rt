@@ -27,12 +27,6 @@ pub enum Key {
     Guid { at: u16, text: &'static [u8; 36] },
 }
 
-/// A register, which has a name.
-#[derive(Clone, Copy)]
-pub struct Register {
-    pub name: &'static str,
-}
-
 /// The fields of what stands inside a part.
 #[derive(Clone, Copy)]
 pub enum Content {
@@ -40,7 +34,7 @@ pub enum Content {
     /// Registers one behind another, each of so many bytes.
     Registers {
         width: u16,
-        registers: &'static [Register],
+        names: &'static [&'static str],
     },
 }
 

@@ -21,7 +21,7 @@ mod walk;
 pub use digits::{add_decimal, add_digits, add_high_first};
 pub use field::{Field, Name, Shape};
 pub use json::Json;
-pub use layout::{Content, Count, Inner, Key, Layout, Parts, Register, Size};
+pub use layout::{Content, Count, Inner, Key, Layout, Parts, Size};
 pub use parts::add_layout;
 pub use plain::Plain;
 pub use style::{Mark, Spot, Style};

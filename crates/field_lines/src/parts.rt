@@ -210,8 +210,8 @@ fn add_content<S: Style>(
 {
     match *content {
         Content::Fields(fields) => add_fields(style, spot, 0, fields, bytes, out),
-        Content::Registers { width, registers } => {
-            add_registers(style, spot, width, registers, bytes, out)
+        Content::Registers { width, names } => {
+            add_registers(style, spot, width, names, bytes, out)
         }
     }
 }

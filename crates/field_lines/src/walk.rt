@@ -1,12 +1,11 @@
 // The fields of a body.
 ghost use Rattle.std.specs.Prelude.{◌≡◌, ◌<◌, ◌+◌, ◌^◌, ◌++◌, length, map, OnOk, IsTrue};
 ghost use Rattle.field_lines.specs.Numbers.{validation, is_valid};
-ghost use Rattle.field_lines.specs.Fields.{are_sound};
+ghost use Rattle.field_lines.specs.Fields.{are_sound, register_fields};
 ghost use Rattle.field_lines.specs.Walks.{is_shown, fields_text};
-ghost use Rattle.field_lines.specs.Code.{field_of, register_fields, register_name};
+ghost use Rattle.field_lines.specs.Code.{field_of};
 
 use crate::field::{Field, Shape};
-use crate::layout::Register;
 use crate::number::{has_bit, number_of};
 use crate::style::{Spot, Style};
 use std::alloc::AllocError;
@@ -40,28 +39,28 @@ pub(crate) fn add_registers<S: Style>(
     style: &S,
     spot: Spot,
     width: u16,
-    mut registers: &[Register],
+    mut names: &[&'static str],
     body: &[u8],
     out: &mut Vec<u8>,
 ) -> Result<(), AllocError>
-    requires sound { IsTrue (are_sound (register_fields width 0 (map register_name registers.now))) }
+    requires sound { IsTrue (are_sound (register_fields width 0 (map (λ name. name.now) names.now))) }
     requires place { spot.base + length body.now < 2 ^ 64 }
-    ensures { OnOk result (out.new.items ≡ out.old.items ++ fields_text (S.text style.now spot.depth spot.base) 0 (register_fields width 0 (map register_name registers.entry.now)) body.now) }
+    ensures { OnOk result (out.new.items ≡ out.old.items ++ fields_text (S.text style.now spot.depth spot.base) 0 (register_fields width 0 (map (λ name. name.now) names.entry.now)) body.now) }
 {
     let mut at = 0;
-    while let [register, rest @ ..] = registers {
+    while let [name, rest @ ..] = names {
         let field = Field {
             at,
             width,
             bit: None,
-            name: register.name,
+            name: *name,
             shape: Shape::Hexadecimal,
         };
         if is_shown(&field, 0, body.len()) {
             style.add(spot, &field, body, out)?;
         }
         at += width;
-        registers = rest;
+        names = rest;
     }
     Ok(())
 }

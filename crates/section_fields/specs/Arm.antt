@@ -1,6 +1,6 @@
 -- ARM processor errors (UEFI 2.8, N.2.4.4).
 use Rattle.std.specs.Prelude.{ℕ, List, [], ◌∷◌, Some, None, codes}
-use Rattle.field_lines.specs.Fields.{Field, all_bytes, bits, decimal_number, flags, hexadecimal, one_of, field}
+use Rattle.field_lines.specs.Fields.{Field, bits, decimal_number, flags, hexadecimal, one_of, field, register_fields}
 use Rattle.field_lines.specs.Layouts.{Structure, structure, Group, group, fixed, told, Inside, inside, number_sign}
 use Rattle.section_fields.specs.Ia32.{transactions, participations}
 
@@ -177,130 +177,182 @@ arm_context_fields =
 -- what stands inside: the general purpose registers of AArch32
 abbrev pub aarch32_registers_fields : List Field
 aarch32_registers_fields =
-    field 0 4 None (codes "R0") hexadecimal
-    ∷ field 4 4 None (codes "R1") hexadecimal
-    ∷ field 8 4 None (codes "R2") hexadecimal
-    ∷ field 12 4 None (codes "R3") hexadecimal
-    ∷ field 16 4 None (codes "R4") hexadecimal
-    ∷ field 20 4 None (codes "R5") hexadecimal
-    ∷ field 24 4 None (codes "R6") hexadecimal
-    ∷ field 28 4 None (codes "R7") hexadecimal
-    ∷ field 32 4 None (codes "R8") hexadecimal
-    ∷ field 36 4 None (codes "R9") hexadecimal
-    ∷ field 40 4 None (codes "R10") hexadecimal
-    ∷ field 44 4 None (codes "R11") hexadecimal
-    ∷ field 48 4 None (codes "R12") hexadecimal
-    ∷ field 52 4 None (codes "R13") hexadecimal
-    ∷ field 56 4 None (codes "R14") hexadecimal
-    ∷ field 60 4 None (codes "R15") hexadecimal
-    ∷ []
+    register_fields 4 0
+    (codes "R0"
+    ∷ codes "R1"
+    ∷ codes "R2"
+    ∷ codes "R3"
+    ∷ codes "R4"
+    ∷ codes "R5"
+    ∷ codes "R6"
+    ∷ codes "R7"
+    ∷ codes "R8"
+    ∷ codes "R9"
+    ∷ codes "R10"
+    ∷ codes "R11"
+    ∷ codes "R12"
+    ∷ codes "R13"
+    ∷ codes "R14"
+    ∷ codes "R15"
+    ∷ [])
 
--- what stands inside: the registers of a context, as bytes
-abbrev pub context_bytes_fields : List Field
-context_bytes_fields =
-    field 0 1 None (codes "bytes") all_bytes
-    ∷ []
+-- what stands inside: the EL1 registers of AArch32
+abbrev pub aarch32_el1_fields : List Field
+aarch32_el1_fields =
+    register_fields 4 0
+    (codes "DFAR"
+    ∷ codes "DFSR"
+    ∷ codes "IFAR"
+    ∷ codes "ISR"
+    ∷ codes "MAIR0"
+    ∷ codes "MAIR1"
+    ∷ codes "MIDR"
+    ∷ codes "MPIDR"
+    ∷ codes "NMRR"
+    ∷ codes "PRRR"
+    ∷ codes "SCTLR_NS"
+    ∷ codes "SPSR"
+    ∷ codes "SPSR_abt"
+    ∷ codes "SPSR_fiq"
+    ∷ codes "SPSR_irq"
+    ∷ codes "SPSR_svc"
+    ∷ codes "SPSR_und"
+    ∷ codes "TPIDRPRW"
+    ∷ codes "TPIDRURO"
+    ∷ codes "TPIDRURW"
+    ∷ codes "TTBCR"
+    ∷ codes "TTBR0"
+    ∷ codes "TTBR1"
+    ∷ codes "DACR"
+    ∷ [])
+
+-- what stands inside: the EL2 registers of AArch32
+abbrev pub aarch32_el2_fields : List Field
+aarch32_el2_fields =
+    register_fields 4 0
+    (codes "ELR_hyp"
+    ∷ codes "HAMAIR0"
+    ∷ codes "HAMAIR1"
+    ∷ codes "HCR"
+    ∷ codes "HCR2"
+    ∷ codes "HDFAR"
+    ∷ codes "HIFAR"
+    ∷ codes "HPFAR"
+    ∷ codes "HSR"
+    ∷ codes "HTCR"
+    ∷ codes "HTPIDR"
+    ∷ codes "HTTBR"
+    ∷ codes "SPSR_hyp"
+    ∷ codes "VTCR"
+    ∷ codes "VTTBR"
+    ∷ codes "DACR32_EL2"
+    ∷ [])
 
 -- what stands inside: the secure registers of AArch32
 abbrev pub aarch32_secure_fields : List Field
 aarch32_secure_fields =
-    field 0 4 None (codes "SCTLR_S") hexadecimal
-    ∷ field 4 4 None (codes "SPSR_mon") hexadecimal
-    ∷ []
+    register_fields 4 0
+    (codes "SCTLR_S"
+    ∷ codes "SPSR_mon"
+    ∷ [])
 
 -- what stands inside: the general purpose registers of AArch64
 abbrev pub aarch64_registers_fields : List Field
 aarch64_registers_fields =
-    field 0 8 None (codes "X0") hexadecimal
-    ∷ field 8 8 None (codes "X1") hexadecimal
-    ∷ field 16 8 None (codes "X2") hexadecimal
-    ∷ field 24 8 None (codes "X3") hexadecimal
-    ∷ field 32 8 None (codes "X4") hexadecimal
-    ∷ field 40 8 None (codes "X5") hexadecimal
-    ∷ field 48 8 None (codes "X6") hexadecimal
-    ∷ field 56 8 None (codes "X7") hexadecimal
-    ∷ field 64 8 None (codes "X8") hexadecimal
-    ∷ field 72 8 None (codes "X9") hexadecimal
-    ∷ field 80 8 None (codes "X10") hexadecimal
-    ∷ field 88 8 None (codes "X11") hexadecimal
-    ∷ field 96 8 None (codes "X12") hexadecimal
-    ∷ field 104 8 None (codes "X13") hexadecimal
-    ∷ field 112 8 None (codes "X14") hexadecimal
-    ∷ field 120 8 None (codes "X15") hexadecimal
-    ∷ field 128 8 None (codes "X16") hexadecimal
-    ∷ field 136 8 None (codes "X17") hexadecimal
-    ∷ field 144 8 None (codes "X18") hexadecimal
-    ∷ field 152 8 None (codes "X19") hexadecimal
-    ∷ field 160 8 None (codes "X20") hexadecimal
-    ∷ field 168 8 None (codes "X21") hexadecimal
-    ∷ field 176 8 None (codes "X22") hexadecimal
-    ∷ field 184 8 None (codes "X23") hexadecimal
-    ∷ field 192 8 None (codes "X24") hexadecimal
-    ∷ field 200 8 None (codes "X25") hexadecimal
-    ∷ field 208 8 None (codes "X26") hexadecimal
-    ∷ field 216 8 None (codes "X27") hexadecimal
-    ∷ field 224 8 None (codes "X28") hexadecimal
-    ∷ field 232 8 None (codes "X29") hexadecimal
-    ∷ field 240 8 None (codes "X30") hexadecimal
-    ∷ field 248 8 None (codes "SP") hexadecimal
-    ∷ []
+    register_fields 8 0
+    (codes "X0"
+    ∷ codes "X1"
+    ∷ codes "X2"
+    ∷ codes "X3"
+    ∷ codes "X4"
+    ∷ codes "X5"
+    ∷ codes "X6"
+    ∷ codes "X7"
+    ∷ codes "X8"
+    ∷ codes "X9"
+    ∷ codes "X10"
+    ∷ codes "X11"
+    ∷ codes "X12"
+    ∷ codes "X13"
+    ∷ codes "X14"
+    ∷ codes "X15"
+    ∷ codes "X16"
+    ∷ codes "X17"
+    ∷ codes "X18"
+    ∷ codes "X19"
+    ∷ codes "X20"
+    ∷ codes "X21"
+    ∷ codes "X22"
+    ∷ codes "X23"
+    ∷ codes "X24"
+    ∷ codes "X25"
+    ∷ codes "X26"
+    ∷ codes "X27"
+    ∷ codes "X28"
+    ∷ codes "X29"
+    ∷ codes "X30"
+    ∷ codes "SP"
+    ∷ [])
 
 -- what stands inside: the EL1 registers of AArch64
 abbrev pub aarch64_el1_fields : List Field
 aarch64_el1_fields =
-    field 0 8 None (codes "ELR_EL1") hexadecimal
-    ∷ field 8 8 None (codes "ESR_EL1") hexadecimal
-    ∷ field 16 8 None (codes "FAR_EL1") hexadecimal
-    ∷ field 24 8 None (codes "ISR_EL1") hexadecimal
-    ∷ field 32 8 None (codes "MAIR_EL1") hexadecimal
-    ∷ field 40 8 None (codes "MIDR_EL1") hexadecimal
-    ∷ field 48 8 None (codes "MPIDR_EL1") hexadecimal
-    ∷ field 56 8 None (codes "SCTLR_EL1") hexadecimal
-    ∷ field 64 8 None (codes "SP_EL0") hexadecimal
-    ∷ field 72 8 None (codes "SP_EL1") hexadecimal
-    ∷ field 80 8 None (codes "SPSR_EL1") hexadecimal
-    ∷ field 88 8 None (codes "TCR_EL1") hexadecimal
-    ∷ field 96 8 None (codes "TPIDR_EL0") hexadecimal
-    ∷ field 104 8 None (codes "TPIDR_EL1") hexadecimal
-    ∷ field 112 8 None (codes "TPIDRRO_EL0") hexadecimal
-    ∷ field 120 8 None (codes "TTBR0_EL1") hexadecimal
-    ∷ field 128 8 None (codes "TTBR1_EL1") hexadecimal
-    ∷ []
+    register_fields 8 0
+    (codes "ELR_EL1"
+    ∷ codes "ESR_EL1"
+    ∷ codes "FAR_EL1"
+    ∷ codes "ISR_EL1"
+    ∷ codes "MAIR_EL1"
+    ∷ codes "MIDR_EL1"
+    ∷ codes "MPIDR_EL1"
+    ∷ codes "SCTLR_EL1"
+    ∷ codes "SP_EL0"
+    ∷ codes "SP_EL1"
+    ∷ codes "SPSR_EL1"
+    ∷ codes "TCR_EL1"
+    ∷ codes "TPIDR_EL0"
+    ∷ codes "TPIDR_EL1"
+    ∷ codes "TPIDRRO_EL0"
+    ∷ codes "TTBR0_EL1"
+    ∷ codes "TTBR1_EL1"
+    ∷ [])
 
 -- what stands inside: the EL2 registers of AArch64
 abbrev pub aarch64_el2_fields : List Field
 aarch64_el2_fields =
-    field 0 8 None (codes "ELR_EL2") hexadecimal
-    ∷ field 8 8 None (codes "ESR_EL2") hexadecimal
-    ∷ field 16 8 None (codes "FAR_EL2") hexadecimal
-    ∷ field 24 8 None (codes "HACR_EL2") hexadecimal
-    ∷ field 32 8 None (codes "HCR_EL2") hexadecimal
-    ∷ field 40 8 None (codes "HPFAR_EL2") hexadecimal
-    ∷ field 48 8 None (codes "MAIR_EL2") hexadecimal
-    ∷ field 56 8 None (codes "SCTLR_EL2") hexadecimal
-    ∷ field 64 8 None (codes "SP_EL2") hexadecimal
-    ∷ field 72 8 None (codes "SPSR_EL2") hexadecimal
-    ∷ field 80 8 None (codes "TCR_EL2") hexadecimal
-    ∷ field 88 8 None (codes "TPIDR_EL2") hexadecimal
-    ∷ field 96 8 None (codes "TTBR0_EL2") hexadecimal
-    ∷ field 104 8 None (codes "VTCR_EL2") hexadecimal
-    ∷ field 112 8 None (codes "VTTBR_EL2") hexadecimal
-    ∷ []
+    register_fields 8 0
+    (codes "ELR_EL2"
+    ∷ codes "ESR_EL2"
+    ∷ codes "FAR_EL2"
+    ∷ codes "HACR_EL2"
+    ∷ codes "HCR_EL2"
+    ∷ codes "HPFAR_EL2"
+    ∷ codes "MAIR_EL2"
+    ∷ codes "SCTLR_EL2"
+    ∷ codes "SP_EL2"
+    ∷ codes "SPSR_EL2"
+    ∷ codes "TCR_EL2"
+    ∷ codes "TPIDR_EL2"
+    ∷ codes "TTBR0_EL2"
+    ∷ codes "VTCR_EL2"
+    ∷ codes "VTTBR_EL2"
+    ∷ [])
 
 -- what stands inside: the EL3 registers of AArch64
 abbrev pub aarch64_el3_fields : List Field
 aarch64_el3_fields =
-    field 0 8 None (codes "ELR_EL3") hexadecimal
-    ∷ field 8 8 None (codes "ESR_EL3") hexadecimal
-    ∷ field 16 8 None (codes "FAR_EL3") hexadecimal
-    ∷ field 24 8 None (codes "MAIR_EL3") hexadecimal
-    ∷ field 32 8 None (codes "SCTLR_EL3") hexadecimal
-    ∷ field 40 8 None (codes "SP_EL3") hexadecimal
-    ∷ field 48 8 None (codes "SPSR_EL3") hexadecimal
-    ∷ field 56 8 None (codes "TCR_EL3") hexadecimal
-    ∷ field 64 8 None (codes "TPIDR_EL3") hexadecimal
-    ∷ field 72 8 None (codes "TTBR0_EL3") hexadecimal
-    ∷ []
+    register_fields 8 0
+    (codes "ELR_EL3"
+    ∷ codes "ESR_EL3"
+    ∷ codes "FAR_EL3"
+    ∷ codes "MAIR_EL3"
+    ∷ codes "SCTLR_EL3"
+    ∷ codes "SP_EL3"
+    ∷ codes "SPSR_EL3"
+    ∷ codes "TCR_EL3"
+    ∷ codes "TPIDR_EL3"
+    ∷ codes "TTBR0_EL3"
+    ∷ [])
 
 abbrev pub arm_error_inside : List Inside
 arm_error_inside =
@@ -312,8 +364,8 @@ arm_error_inside =
 abbrev pub arm_context_inside : List Inside
 arm_context_inside =
     inside (codes "registers") None (number_sign 2 2 0) 8 aarch32_registers_fields
-    ∷ inside (codes "registers") None (number_sign 2 2 1) 8 context_bytes_fields
-    ∷ inside (codes "registers") None (number_sign 2 2 2) 8 context_bytes_fields
+    ∷ inside (codes "registers") None (number_sign 2 2 1) 8 aarch32_el1_fields
+    ∷ inside (codes "registers") None (number_sign 2 2 2) 8 aarch32_el2_fields
     ∷ inside (codes "registers") None (number_sign 2 2 3) 8 aarch32_secure_fields
     ∷ inside (codes "registers") None (number_sign 2 2 4) 8 aarch64_registers_fields
     ∷ inside (codes "registers") None (number_sign 2 2 5) 8 aarch64_el1_fields

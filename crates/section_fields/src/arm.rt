@@ -5,9 +5,9 @@ ghost use Rattle.field_lines.specs.Code.{structure_of};
 ghost use Rattle.section_fields.specs.Arm.{arm_processor};
 
 use crate::ia32::{PARTICIPATIONS, TRANSACTIONS};
-use crate::rows::{NO_NAMES, bits, field, name, register};
-use field_lines::Shape::{Bytes, Decimal, Flags, Hexadecimal, OneOf};
-use field_lines::{Content, Count, Field, Inner, Key, Layout, Name, Parts, Register, Shape, Size};
+use crate::rows::{NO_NAMES, bits, field, name};
+use field_lines::Shape::{Decimal, Flags, Hexadecimal, OneOf};
+use field_lines::{Content, Count, Field, Inner, Key, Layout, Name, Parts, Shape, Size};
 
 // The running states (UEFI 2.8, N.2.4.4).
 const RUNNING_STATES: [Name; 1] = [name!(0, "running")];
@@ -166,119 +166,100 @@ const ARM_CONTEXT_FIELDS: [Field; 3] = [
 ];
 
 // What stands inside: the general purpose registers of AArch32.
-const AARCH32_REGISTERS: [Register; 16] = [
-    register!("R0"),
-    register!("R1"),
-    register!("R2"),
-    register!("R3"),
-    register!("R4"),
-    register!("R5"),
-    register!("R6"),
-    register!("R7"),
-    register!("R8"),
-    register!("R9"),
-    register!("R10"),
-    register!("R11"),
-    register!("R12"),
-    register!("R13"),
-    register!("R14"),
-    register!("R15"),
+const AARCH32_REGISTERS: [&str; 16] = [
+    "R0", "R1", "R2", "R3", "R4", "R5", "R6", "R7", "R8", "R9", "R10", "R11", "R12", "R13", "R14",
+    "R15",
 ];
 
-// What stands inside: the registers of a context, as bytes.
-const CONTEXT_BYTES_FIELDS: [Field; 1] = [field!(0, 1, None, "bytes", Bytes)];
+// What stands inside: the EL1 registers of AArch32.
+const AARCH32_EL1: [&str; 24] = [
+    "DFAR", "DFSR", "IFAR", "ISR", "MAIR0", "MAIR1", "MIDR", "MPIDR", "NMRR", "PRRR", "SCTLR_NS",
+    "SPSR", "SPSR_abt", "SPSR_fiq", "SPSR_irq", "SPSR_svc", "SPSR_und", "TPIDRPRW", "TPIDRURO",
+    "TPIDRURW", "TTBCR", "TTBR0", "TTBR1", "DACR",
+];
+
+// What stands inside: the EL2 registers of AArch32.
+const AARCH32_EL2: [&str; 16] = [
+    "ELR_hyp",
+    "HAMAIR0",
+    "HAMAIR1",
+    "HCR",
+    "HCR2",
+    "HDFAR",
+    "HIFAR",
+    "HPFAR",
+    "HSR",
+    "HTCR",
+    "HTPIDR",
+    "HTTBR",
+    "SPSR_hyp",
+    "VTCR",
+    "VTTBR",
+    "DACR32_EL2",
+];
 
 // What stands inside: the secure registers of AArch32.
-const AARCH32_SECURE: [Register; 2] = [register!("SCTLR_S"), register!("SPSR_mon")];
+const AARCH32_SECURE: [&str; 2] = ["SCTLR_S", "SPSR_mon"];
 
 // What stands inside: the general purpose registers of AArch64.
-const AARCH64_REGISTERS: [Register; 32] = [
-    register!("X0"),
-    register!("X1"),
-    register!("X2"),
-    register!("X3"),
-    register!("X4"),
-    register!("X5"),
-    register!("X6"),
-    register!("X7"),
-    register!("X8"),
-    register!("X9"),
-    register!("X10"),
-    register!("X11"),
-    register!("X12"),
-    register!("X13"),
-    register!("X14"),
-    register!("X15"),
-    register!("X16"),
-    register!("X17"),
-    register!("X18"),
-    register!("X19"),
-    register!("X20"),
-    register!("X21"),
-    register!("X22"),
-    register!("X23"),
-    register!("X24"),
-    register!("X25"),
-    register!("X26"),
-    register!("X27"),
-    register!("X28"),
-    register!("X29"),
-    register!("X30"),
-    register!("SP"),
+const AARCH64_REGISTERS: [&str; 32] = [
+    "X0", "X1", "X2", "X3", "X4", "X5", "X6", "X7", "X8", "X9", "X10", "X11", "X12", "X13", "X14",
+    "X15", "X16", "X17", "X18", "X19", "X20", "X21", "X22", "X23", "X24", "X25", "X26", "X27",
+    "X28", "X29", "X30", "SP",
 ];
 
 // What stands inside: the EL1 registers of AArch64.
-const AARCH64_EL1: [Register; 17] = [
-    register!("ELR_EL1"),
-    register!("ESR_EL1"),
-    register!("FAR_EL1"),
-    register!("ISR_EL1"),
-    register!("MAIR_EL1"),
-    register!("MIDR_EL1"),
-    register!("MPIDR_EL1"),
-    register!("SCTLR_EL1"),
-    register!("SP_EL0"),
-    register!("SP_EL1"),
-    register!("SPSR_EL1"),
-    register!("TCR_EL1"),
-    register!("TPIDR_EL0"),
-    register!("TPIDR_EL1"),
-    register!("TPIDRRO_EL0"),
-    register!("TTBR0_EL1"),
-    register!("TTBR1_EL1"),
+const AARCH64_EL1: [&str; 17] = [
+    "ELR_EL1",
+    "ESR_EL1",
+    "FAR_EL1",
+    "ISR_EL1",
+    "MAIR_EL1",
+    "MIDR_EL1",
+    "MPIDR_EL1",
+    "SCTLR_EL1",
+    "SP_EL0",
+    "SP_EL1",
+    "SPSR_EL1",
+    "TCR_EL1",
+    "TPIDR_EL0",
+    "TPIDR_EL1",
+    "TPIDRRO_EL0",
+    "TTBR0_EL1",
+    "TTBR1_EL1",
 ];
 
 // What stands inside: the EL2 registers of AArch64.
-const AARCH64_EL2: [Register; 15] = [
-    register!("ELR_EL2"),
-    register!("ESR_EL2"),
-    register!("FAR_EL2"),
-    register!("HACR_EL2"),
-    register!("HCR_EL2"),
-    register!("HPFAR_EL2"),
-    register!("MAIR_EL2"),
-    register!("SCTLR_EL2"),
-    register!("SP_EL2"),
-    register!("SPSR_EL2"),
-    register!("TCR_EL2"),
-    register!("TPIDR_EL2"),
-    register!("TTBR0_EL2"),
-    register!("VTCR_EL2"),
-    register!("VTTBR_EL2"),
+const AARCH64_EL2: [&str; 15] = [
+    "ELR_EL2",
+    "ESR_EL2",
+    "FAR_EL2",
+    "HACR_EL2",
+    "HCR_EL2",
+    "HPFAR_EL2",
+    "MAIR_EL2",
+    "SCTLR_EL2",
+    "SP_EL2",
+    "SPSR_EL2",
+    "TCR_EL2",
+    "TPIDR_EL2",
+    "TTBR0_EL2",
+    "VTCR_EL2",
+    "VTTBR_EL2",
 ];
 
 // What stands inside: the EL3 registers of AArch64.
-const AARCH64_EL3: [Register; 10] = [
-    register!("ELR_EL3"),
-    register!("ESR_EL3"),
-    register!("FAR_EL3"),
-    register!("MAIR_EL3"),
-    register!("SCTLR_EL3"),
-    register!("SP_EL3"),
-    register!("SPSR_EL3"),
-    register!("TCR_EL3"),
-    register!("TPIDR_EL3"),
-    register!("TTBR0_EL3"),
+const AARCH64_EL3: [&str; 10] = [
+    "ELR_EL3",
+    "ESR_EL3",
+    "FAR_EL3",
+    "MAIR_EL3",
+    "SCTLR_EL3",
+    "SP_EL3",
+    "SPSR_EL3",
+    "TCR_EL3",
+    "TPIDR_EL3",
+    "TTBR0_EL3",
 ];
 
 const ARM_ERROR_INSIDE: [Inner; 3] = [
@@ -329,7 +310,7 @@ const ARM_CONTEXT_INSIDE: [Inner; 8] = [
         at: 8,
         content: Content::Registers {
             width: 4,
-            registers: &AARCH32_REGISTERS,
+            names: &AARCH32_REGISTERS,
         },
     },
     Inner {
@@ -341,7 +322,10 @@ const ARM_CONTEXT_INSIDE: [Inner; 8] = [
             number: 1,
         },
         at: 8,
-        content: Content::Fields(&CONTEXT_BYTES_FIELDS),
+        content: Content::Registers {
+            width: 4,
+            names: &AARCH32_EL1,
+        },
     },
     Inner {
         name: "registers",
@@ -352,7 +336,10 @@ const ARM_CONTEXT_INSIDE: [Inner; 8] = [
             number: 2,
         },
         at: 8,
-        content: Content::Fields(&CONTEXT_BYTES_FIELDS),
+        content: Content::Registers {
+            width: 4,
+            names: &AARCH32_EL2,
+        },
     },
     Inner {
         name: "registers",
@@ -365,7 +352,7 @@ const ARM_CONTEXT_INSIDE: [Inner; 8] = [
         at: 8,
         content: Content::Registers {
             width: 4,
-            registers: &AARCH32_SECURE,
+            names: &AARCH32_SECURE,
         },
     },
     Inner {
@@ -379,7 +366,7 @@ const ARM_CONTEXT_INSIDE: [Inner; 8] = [
         at: 8,
         content: Content::Registers {
             width: 8,
-            registers: &AARCH64_REGISTERS,
+            names: &AARCH64_REGISTERS,
         },
     },
     Inner {
@@ -393,7 +380,7 @@ const ARM_CONTEXT_INSIDE: [Inner; 8] = [
         at: 8,
         content: Content::Registers {
             width: 8,
-            registers: &AARCH64_EL1,
+            names: &AARCH64_EL1,
         },
     },
     Inner {
@@ -407,7 +394,7 @@ const ARM_CONTEXT_INSIDE: [Inner; 8] = [
         at: 8,
         content: Content::Registers {
             width: 8,
-            registers: &AARCH64_EL2,
+            names: &AARCH64_EL2,
         },
     },
     Inner {
@@ -421,7 +408,7 @@ const ARM_CONTEXT_INSIDE: [Inner; 8] = [
         at: 8,
         content: Content::Registers {
             width: 8,
-            registers: &AARCH64_EL3,
+            names: &AARCH64_EL3,
         },
     },
 ];

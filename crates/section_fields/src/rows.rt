@@ -38,16 +38,9 @@ macro_rules! name {
     };
 }
 
-macro_rules! register {
-    ($name:expr) => {
-        Register { name: $name }
-    };
-}
-
 pub(crate) use bits;
 pub(crate) use field;
 pub(crate) use name;
-pub(crate) use register;
 
 pub(crate) const NO_NAMES: [Name; 0] = [];
 

@@ -395,12 +395,14 @@ IA32_CONTEXTS = {
     242 2 - TR
     """),
 }
-# The contexts of EL1 and EL2 in AArch32 are shown by their bytes.
-AS_BYTES = fields("0 0 - bytes: bytes")
 ARM_CONTEXTS = {
     0: registers(4, "R0 R1 R2 R3 R4 R5 R6 R7 R8 R9 R10 R11 R12 R13 R14 R15"),
-    1: AS_BYTES,
-    2: AS_BYTES,
+    1: registers(
+        4,
+        "DFAR DFSR IFAR ISR MAIR0 MAIR1 MIDR MPIDR NMRR PRRR SCTLR_NS SPSR SPSR_abt SPSR_fiq SPSR_irq SPSR_svc SPSR_und TPIDRPRW TPIDRURO TPIDRURW"
+        " TTBCR TTBR0 TTBR1 DACR",
+    ),
+    2: registers(4, "ELR_hyp HAMAIR0 HAMAIR1 HCR HCR2 HDFAR HIFAR HPFAR HSR HTCR HTPIDR HTTBR SPSR_hyp VTCR VTTBR DACR32_EL2"),
     3: registers(4, "SCTLR_S SPSR_mon"),
     4: registers(8, " ".join(f"X{number}" for number in range(31)) + " SP"),
     5: registers(
