@@ -30,6 +30,19 @@ pub(crate) fn end_with_decimal(number: u64, out: &mut Vec<u8>) -> Result<(), All
     end_with_digits(number, out)
 }
 
+/// Appends the decimal digits of a number behind the end of a member's name.
+#[tactic(auto, using(std::proofs::lemmas::Fmt::decimal_digit))]
+pub(crate) fn decimal_member(number: u64, out: &mut Vec<u8>) -> Result<(), AllocError>
+    ensures { OnOk result (out.new.items ≡ out.old.items ++ codes "\":" ++ decimal number) }
+{
+    if number < 10 {
+        out.extend_from_slice(&[b'"', b':', b'0' + number as u8])?;
+        return Ok(());
+    }
+    out.extend_from_slice(b"\":")?;
+    out.extend_from_slice(Buffer::new().format(number).as_bytes())
+}
+
 #[tactic(auto, using(crate::proofs::NumberLemmas::few_digits))]
 fn end_with_digits(number: u64, out: &mut Vec<u8>) -> Result<(), AllocError>
     ensures { OnOk result (out.new.items ≡ out.old.items ++ decimal number ++ codes "\n") }
@@ -90,8 +103,8 @@ fn add_four_bytes(bytes: &[u8], out: &mut Vec<u8>) -> Result<(), AllocError>
 }
 
 #[inline(always)]
-fn end_with_four(a: u8, b: u8, c: u8, d: u8, out: &mut Vec<u8>) -> Result<(), AllocError>
-    ensures { OnOk result (out.new.items ≡ out.old.items ++ high_first (a ∷ b ∷ c ∷ d ∷ []) ++ codes "\n") }
+fn end_with_four(a: u8, b: u8, c: u8, d: u8, end: u8, out: &mut Vec<u8>) -> Result<(), AllocError>
+    ensures { OnOk result (out.new.items ≡ out.old.items ++ high_first (a ∷ b ∷ c ∷ d ∷ []) ++ end ∷ []) }
 {
     out.extend_from_slice(&[
         high(d),
@@ -102,7 +115,7 @@ fn end_with_four(a: u8, b: u8, c: u8, d: u8, out: &mut Vec<u8>) -> Result<(), Al
         low(b),
         high(a),
         low(a),
-        b'\n',
+        end,
     ])
 }
 
@@ -133,20 +146,28 @@ pub(crate) fn end_with_high_first(bytes: &[u8], out: &mut Vec<u8>) -> Result<(),
     ensures { OnOk result (out.new.items ≡ out.old.items ++ codes ": 0x" ++ high_first bytes.now ++ codes "\n") }
 {
     out.extend_from_slice(b": 0x")?;
-    end_with_digits_of(bytes, out)
+    end_with_digits_of(bytes, b'\n', out)
 }
 
-fn end_with_digits_of(bytes: &[u8], out: &mut Vec<u8>) -> Result<(), AllocError>
-    ensures { OnOk result (out.new.items ≡ out.old.items ++ high_first bytes.now ++ codes "\n") }
+/// The same of a member of a JSON object, behind the end of its name.
+pub(crate) fn quote_high_first(bytes: &[u8], out: &mut Vec<u8>) -> Result<(), AllocError>
+    ensures { OnOk result (out.new.items ≡ out.old.items ++ codes "\":\"0x" ++ high_first bytes.now ++ codes "\"") }
+{
+    out.extend_from_slice(b"\":\"0x")?;
+    end_with_digits_of(bytes, b'"', out)
+}
+
+fn end_with_digits_of(bytes: &[u8], end: u8, out: &mut Vec<u8>) -> Result<(), AllocError>
+    ensures { OnOk result (out.new.items ≡ out.old.items ++ high_first bytes.now ++ end ∷ []) }
 {
     if let [a, b, c, d, ref rest @ ..] = *bytes {
         if rest.len() == 4 {
             add_four_bytes(rest, out)?;
-            return end_with_four(a, b, c, d, out);
+            return end_with_four(a, b, c, d, end, out);
         }
     }
     add_high_first(bytes, out)?;
-    out.extend_from_slice(b"\n")
+    out.extend_from_slice(&[end])
 }
 
 /// Appends two digits of sixteen for each byte, those of the first byte first.

@@ -1,5 +1,5 @@
 // Fields as members of a JSON object.
-ghost use Rattle.std.specs.Prelude.{◌≡◌, ◌≤◌, ◌<◌, ◌+◌, ◌^◌, ◌++◌, length, OnOk, IsTrue};
+ghost use Rattle.std.specs.Prelude.{◌≡◌, ◌≤◌, ◌<◌, ◌+◌, ◌^◌, ◌++◌, length, codes, OnOk, IsTrue};
 ghost use Rattle.field_lines.specs.Fields.{is_sound, fits, hexadecimal, guid, stamp, all_bytes, text, all_lines};
 ghost use Rattle.field_lines.specs.Texts.{escaped, escaped_text, escaped_lines};
 ghost use Rattle.field_lines.specs.Values.{value_json, time_member, seconds_object};
@@ -7,7 +7,9 @@ ghost use Rattle.field_lines.specs.Layouts.{part_heading, inside_heading};
 ghost use Rattle.field_lines.specs.Styles.{json_member, json_heading, json_offset};
 ghost use Rattle.field_lines.specs.Code.{field_of, shown_of, heading_of};
 
-use crate::digits::{add_decimal, add_digits, add_high_first, high, low};
+use crate::digits::{
+    add_decimal, add_digits, add_high_first, decimal_member, high, low, quote_high_first,
+};
 use crate::field::{Field, Shape};
 use crate::names::{add_flags_object, add_named_object};
 use crate::number::{bits_of, number_of};
@@ -37,8 +39,7 @@ impl Style for Json {
     ) -> Result<(), AllocError> {
         out.extend_from_slice(b",\"")?;
         out.extend_from_slice(field.name.as_bytes())?;
-        out.extend_from_slice(b"\":")?;
-        add_value(&field.shape, field_bytes(field, body), out)
+        end_member(&field.shape, field_bytes(field, body), out)
     }
 
     fn mark(&self, spot: Spot, mark: &Mark, out: &mut Vec<u8>) -> Result<(), AllocError> {
@@ -84,6 +85,21 @@ fn add_offset(base: u64, out: &mut Vec<u8>) -> Result<(), AllocError>
 {
     out.extend_from_slice(b"{\"offset\":")?;
     add_decimal(base, out)
+}
+
+// Appends the end of a member's name, and what the bytes of its field say.
+fn end_member(shape: &Shape, bytes: &[u8], out: &mut Vec<u8>) -> Result<(), AllocError>
+    requires { IsTrue (fits (shown_of shape.now) (length bytes.now)) }
+    ensures { OnOk result (out.new.items ≡ out.old.items ++ codes "\":" ++ value_json (shown_of shape.now) bytes.now) }
+{
+    match *shape {
+        Shape::Decimal => decimal_member(number_of(bytes), out),
+        Shape::Hexadecimal => quote_high_first(bytes, out),
+        _ => {
+            out.extend_from_slice(b"\":")?;
+            add_value(shape, bytes, out)
+        }
+    }
 }
 
 // Appends what the bytes of a field say.
