@@ -1,7 +1,7 @@
 // A client over plain memory, by a table of the machine's shape.
 use crate::tables::{add, blank, entry};
-use apei_gas::{Place, Width};
 use apei_space::{Ram, Space, Window};
+use apei_tables::{Place, Width};
 use erst_client::Client;
 use erst_entries::{Action, Entry, ErstTable, Instruction};
 use erst_interp::Budget;

@@ -4,8 +4,8 @@ ghost use Rattle.ghes_ack.specs.Maps.{HasWindows};
 ghost use Rattle.ghes_ack.specs.Sides.{Stands};
 
 use apei_bytes::put_u32;
-use apei_gas::{Place, Register, Width};
 use apei_space::{Ram, Space, Window};
+use apei_tables::{Place, Register, Width};
 use ghes_ack::{Event, Handover, HandoverMap, Side, SubmitError};
 use std::alloc::Global;
 

@@ -3,15 +3,15 @@ ghost use Rattle.std.specs.Prelude.{◌≡◌, IfSome};
 ghost use Rattle.record_store.specs.Store.{Idle};
 
 use apei_bytes::{put_u32, put_u64};
-use apei_gas::{Place, Width};
 use apei_space::Space;
+use apei_tables::{Place, Width};
 use cper_frame::{ID_AT, LENGTH_AT};
 use erst_client::Client;
 use erst_entries::ErstTable;
-use erst_ids::RecordId;
 use erst_interp::Budget;
 use erst_machine::{Machine, SCRATCH};
 use flash_model::{Geometry, SimFlash, erased};
+use record_slots::RecordId;
 use record_store::Store;
 use std::alloc::Global;
 
@@ -89,7 +89,7 @@ fn written(alloc: Global, machine: &mut Machine<SimFlash>, times: u64) -> Option
 }
 
 /// Writes the same record as often by calls of a store.
-#[tactic(auto, unfolding(flash_words::specs::Layout::reach_of, flash_words::specs::Layout::room_of))]
+#[tactic(auto, unfolding(base_model::specs::Layout::reach_of, base_model::specs::Layout::room_of))]
 pub fn write_by_calls(alloc: Global, times: u64) -> Option<u64> {
     let mut store = store(alloc)?;
     let id = RecordId::new(ID)?;

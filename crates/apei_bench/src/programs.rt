@@ -1,7 +1,7 @@
 // Register programs over plain memory.
 use crate::tables::{add, blank, entry};
-use apei_gas::{Place, Width};
 use apei_space::{Ram, Space, Window};
+use apei_tables::{Place, Width};
 use erst_entries::{Action, Entry, ErstTable, Instruction, Program};
 use erst_interp::{Budget, RunStop, run};
 use std::alloc::Global;

@@ -1,6 +1,5 @@
 // Entries on 64-bit registers of memory, and tables of them.
-use apei_gas::Gas;
-use apei_tables::Header;
+use apei_tables::{Gas, Header};
 use erst_entries::{Action, Entry, ErstTable, Instruction};
 use std::alloc::Global;
 

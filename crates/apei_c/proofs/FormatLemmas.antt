@@ -2,8 +2,8 @@
 use Rattle.std.proofs.Common.{◌≡◌, ℕ, zero, suc, ◌+◌, ◌^◌, ◌<◌, List, [], ◌∷◌, ◌++◌, Some, subst, arith}
 use Rattle.std.specs.Prelude.{slice_get}
 use Rattle.flash_model.specs.declared.geometry.Geometry.{Geometry}
-use Rattle.erst_medium.specs.declared.format.FormatChange.{FormatChange}
-use Rattle.erst_medium.specs.Formats.{format_changes, erases_from, flash_sectors}
+use Rattle.image_survey.specs.declared.format.FormatChange.{FormatChange}
+use Rattle.image_survey.specs.Formats.{format_changes, erases_from, flash_sectors}
 
 AreFew : List FormatChange → Type 0
 AreFew [] = Unit {0}

@@ -1,9 +1,9 @@
 -- What C's calls do with a port.
 use Rattle.std.specs.Prelude.{◌≡◌, ◌⊎◌, ℕ, ◌+◌, ◌-◌, ◌^◌, ◌≤◌, Bool, true, false, List, length, Option, Some, None, Result, MatchResult}
 use Rattle.base_model.specs.Bytes.{part}
-use Rattle.apei_gas.specs.declared.widths.Width.{Width}
-use Rattle.flash_mirror.specs.declared.due.Kind.{Kind}
-use Rattle.flash_mirror.specs.declared.due.Kind.TheVariants.{Program, Erase}
+use Rattle.apei_tables.specs.declared.widths.Width.{Width}
+use Rattle.erst_port.specs.declared.due.Kind.{Kind}
+use Rattle.erst_port.specs.declared.due.Kind.TheVariants.{Program, Erase}
 use Rattle.erst_port.specs.declared.windows.Window.{Window}
 use Rattle.erst_port.specs.declared.errors.PortError.{PortError}
 use Rattle.erst_port.specs.PortState.{PortState, flash_of, IsMade}

@@ -2,11 +2,11 @@
 use Rattle.std.specs.Prelude.{◌≡◌, ◌⊎◌, ℕ, Bool, true, false, List, slice_get, Option, Some, None}
 use Rattle.flash_model.specs.declared.geometry.Geometry.{Geometry}
 use Rattle.flash_model.specs.Limits.{IsGeometry}
-use Rattle.erst_medium.specs.declared.format.FormatChange.{FormatChange}
-use Rattle.erst_medium.specs.declared.format.Content.{Content}
-use Rattle.erst_medium.specs.declared.format.Content.TheVariants.{Header, Mark, Erased}
-use Rattle.erst_medium.specs.Headers.{medium_size}
-use Rattle.erst_medium.specs.Formats.{format_changes}
+use Rattle.image_survey.specs.declared.format.FormatChange.{FormatChange}
+use Rattle.image_survey.specs.declared.format.Content.{Content}
+use Rattle.image_survey.specs.declared.format.Content.TheVariants.{Header, Mark, Erased}
+use Rattle.image_survey.specs.Headers.{medium_size}
+use Rattle.image_survey.specs.Formats.{format_changes}
 use Rattle.apei_c.specs.Buffers.{Fills}
 use Rattle.apei_c.specs.declared.status.Status.{Status}
 use Rattle.apei_c.specs.declared.status.Status.TheVariants.{Done, Nothing, Short, Geometry as BadGeometry}

@@ -8,8 +8,7 @@ use crate::numbers::{addresses_of, width_of, window_of};
 use crate::status::Status;
 use crate::structs::{MediumChange, WindowAddresses};
 use apei_space::get_part;
-use erst_port::Port;
-use flash_mirror::{Due, Kind};
+use erst_port::{Due, Kind, Port};
 
 pub fn read(port: &Port, window: u32, offset: u64, size: u32, value: &mut u64) -> Status
     ensures { ReadsNumber (window_of window) (width_of size) offset port.now value.old result value.new }

@@ -8,8 +8,8 @@ ghost use Rattle.apei_c.specs.Formats.{Divides, TellsSize, TellsNext, Formats, H
 use crate::buffers::fill;
 use crate::status::Status;
 use crate::structs::{MediumChange, MediumGeometry};
-use erst_medium::{Content, FormatChange, format_change, medium_size};
 use flash_model::Geometry;
+use image_survey::{Content, FormatChange, format_change, medium_size};
 
 /// The geometry of these numbers.
 pub fn geometry_of(numbers: &MediumGeometry) -> Option<Geometry>

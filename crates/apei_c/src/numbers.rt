@@ -3,7 +3,7 @@ ghost use Rattle.std.specs.Prelude.{◌≡◌};
 ghost use Rattle.apei_c.specs.Numbers.{window_of, width_of, item_of, addresses_of};
 
 use crate::structs::WindowAddresses;
-use apei_gas::Width;
+use apei_tables::Width;
 use erst_port::{Addresses, Window};
 use item_parts::Item;
 

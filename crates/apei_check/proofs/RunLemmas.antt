@@ -1,7 +1,7 @@
 -- Laws of a check of a script so far, and of its ends.
 use Rattle.std.proofs.Common.{◌≡◌, ℕ, ◌⊎◌, List, [], ◌∷◌, ◌++◌, refl, sym, subst}
 use Rattle.base_model.specs.Faults.{Rose}
-use Rattle.line_grammar.specs.Columns.{BreaksAt}
+use Rattle.script_lines.specs.Columns.{BreaksAt}
 use Rattle.script_text.specs.CheckGrammar.{IsCheckLine}
 use Rattle.script_text.specs.CheckText.{IsCheckText, IsCheckWritten, checked_line_of}
 use Rattle.script_text.specs.declared.check_line.CheckLine.{CheckLine}

@@ -5,7 +5,7 @@ use Rattle.erst_entries.specs.declared.entries.Entry.{Entry}
 use Rattle.hest_sources.specs.declared.sources.HestSource.{HestSource}
 use Rattle.hest_sources.specs.declared.sources.HestSource.TheVariants.{Ghes as Generic, Other}
 use Rattle.hest_sources.specs.Layout.{type_of}
-use Rattle.bert_region.specs.declared.table.Bert.{Bert}
+use Rattle.ghes_block.specs.declared.table.Bert.{Bert}
 
 -- an Error Record Serialization Table of so many bytes and entries, and the bytes behind it
 abbrev pub erst_line : ℕ → ℕ → ℕ → List ℕ

@@ -11,8 +11,8 @@ use Rattle.erst_entries.specs.Tables.{IsErst, refusal as erst_refusal}
 use Rattle.hest_sources.specs.declared.sources.HestSource.{HestSource}
 use Rattle.hest_sources.specs.declared.tables.HestError.{HestError}
 use Rattle.hest_sources.specs.Tables.{IsHest, refusal as hest_refusal}
-use Rattle.bert_region.specs.declared.table.Bert.{Bert}
-use Rattle.bert_region.specs.Table.{IsBert, signature as bert_signature}
+use Rattle.ghes_block.specs.declared.table.Bert.{Bert}
+use Rattle.ghes_block.specs.Table.{IsBert, signature as bert_signature}
 use Rattle.script_text.specs.TableWords.{words_of_table, words_of_erst, words_of_hest}
 
 -- an Error Record Serialization Table, with a line for each of its instruction entries

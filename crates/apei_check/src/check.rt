@@ -12,8 +12,7 @@ ghost use Rattle.apei_check.specs.Checks.{ChecksScript};
 use crate::item::show_line;
 use crate::text::{CheckStop, Show};
 use apei_bytes::{Sink, Source};
-use line_grammar::LONGEST_BYTES;
-use script_lines::{LineReader, ScriptEnd, lines_are_read_in_order};
+use script_lines::{LONGEST_BYTES, LineReader, ScriptEnd, lines_are_read_in_order};
 use script_text::CheckLine;
 use std::alloc::Global;
 

@@ -1,6 +1,6 @@
 // One line of a script, checked.
 ghost use Rattle.std.specs.Prelude.{◌≡◌, ◌≤◌, length, OnOk};
-ghost use Rattle.line_grammar.specs.declared.lengths.TheConstants.{LONGEST_LINE, LONGEST_BYTES};
+ghost use Rattle.script_lines.specs.declared.lengths.TheConstants.{LONGEST_LINE, LONGEST_BYTES};
 ghost use Rattle.script_text.specs.CheckGrammar.{IsValidCheck, check_text_of};
 ghost use Rattle.script_text.specs.CheckText.{checked_line_of};
 ghost use Rattle.apei_check.specs.Shown.{Shows, ShowsPart, HasStopCause};

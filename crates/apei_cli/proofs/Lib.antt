@@ -1,3 +1,8 @@
+pub mod DecimalLemmas
+pub mod CommandLemmas
+pub mod TakesLemmas
+pub mod GivenLemmas
+pub mod WordLemmas
 pub mod ToldLemmas
 pub mod RunLemmas
 pub mod WholeLemmas

@@ -6,7 +6,7 @@ use Rattle.std.proofs.lemmas.Bool.Decides.{nat_tests}
 use Rattle.std.proofs.lemmas.List.Elements.{All-weaker}
 use Rattle.hex.specs.Hex.{encode_lower, is_hex_digit, IsBytes}
 use Rattle.hex.proofs.HexLemmas.{decode_of-ok, decode_of-encode_lower}
-use Rattle.line_grammar.specs.Parts.{IsPairs}
+use Rattle.script_lines.specs.Parts.{IsPairs}
 use Rattle.std.proofs.Math.Seq.{take-append_seam, take-append-add, drop-append-add, drop-append_seam}
 use Rattle.base_model.specs.Bytes.{spelled, put_at, AreBytes}
 use Rattle.base_model.proofs.BytesLemmas.{length-spelled, AreBytes-append, AreBytes-spelled}

@@ -2,9 +2,9 @@
 use Rattle.std.proofs.Common.{◌≡◌, ℕ, Bool, false, List, [], ◌∷◌, ◌++◌, refl, sym, ap, subst, ◌∙◌, append_assoc}
 use Rattle.std.proofs.lemmas.List.{append-nil}
 use Rattle.base_model.specs.Faults.{Rose}
-use Rattle.line_grammar.specs.Columns.{BreaksAt}
+use Rattle.script_lines.specs.Columns.{BreaksAt}
 use Rattle.erst_machine.specs.MachineState.{MachineState}
-use Rattle.bridge_durability.specs.Turns.{Step}
+use Rattle.erst_bridge.specs.Turns.{Step}
 use Rattle.script_text.specs.ScriptGrammar.{Line as ScriptLine, IsLine}
 use Rattle.script_text.specs.ScriptText.{Means}
 use Rattle.apei_notify.specs.Telling.{Hearing, counts_of, wants_of}

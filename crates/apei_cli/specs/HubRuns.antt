@@ -1,7 +1,7 @@
 -- What a script of several error sources leaves.
 use Rattle.std.specs.Prelude.{◌≡◌, ◌⊎◌, ℕ, List}
 use Rattle.apei_notify.specs.Telling.{Hearing}
-use Rattle.flash_words.specs.Flash.{FlashState}
+use Rattle.base_model.specs.Flash.{FlashState}
 use Rattle.hub_script.specs.Scripts.{ServesScript}
 use Rattle.script_lines.specs.declared.ending.ScriptEnd.{ScriptEnd}
 use Rattle.script_lines.specs.declared.ending.ScriptEnd.TheVariants as ending

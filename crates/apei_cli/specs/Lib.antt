@@ -1,3 +1,6 @@
+pub mod CommandWords
+pub mod Decimals
+pub mod Plan
 pub mod Statuses
 pub mod Runs
 pub mod LineLaws

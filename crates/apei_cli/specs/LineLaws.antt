@@ -1,6 +1,6 @@
 -- What is true of lines that were played, one after another, on one machine.
 use Rattle.std.specs.Prelude.{◌≡◌, ◌≤◌, ℕ, Bool, List, None}
-use Rattle.flash_words.specs.Flash.{CrashImage, IsLater}
+use Rattle.base_model.specs.Flash.{CrashImage, IsLater}
 use Rattle.record_model.specs.Records.{Stored}
 use Rattle.erst_machine.specs.MachineState.{IsMachine, told_of}
 use Rattle.erst_machine.specs.Shown.{changes_of, shown_by}

@@ -1,8 +1,8 @@
 -- What a run does with a plan, whatever flash it is made on.
 use Rattle.std.specs.Prelude.{ℕ, Option}
 use Rattle.apei_check.specs.declared.text.show.Show.{Show}
-use Rattle.apei_words.specs.declared.job.Job.{Job}
-use Rattle.apei_words.specs.declared.job.Plan.{Plan}
+use Rattle.apei_cli.specs.declared.job.Job.{Job}
+use Rattle.apei_cli.specs.declared.job.Plan.{Plan}
 
 pub record Order : Type 0 where
   pub job : Job

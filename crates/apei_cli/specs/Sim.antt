@@ -4,9 +4,9 @@ use Rattle.flash_model.specs.Simulation.{Simulation, first_power}
 use Rattle.flash_model.specs.declared.cut.Cut.{Cut}
 use Rattle.flash_model.specs.declared.tear.Tear.{Tear}
 use Rattle.flash_model.specs.declared.tear.Tear.TheVariants.{Nothing, Whole, Zeros, Marks}
-use Rattle.apei_words.specs.declared.job.Job.{Job}
-use Rattle.apei_words.specs.declared.job.Job.TheVariants.{Sim, Gen}
-use Rattle.apei_words.specs.declared.job.Plan.{Plan}
+use Rattle.apei_cli.specs.declared.job.Job.{Job}
+use Rattle.apei_cli.specs.declared.job.Job.TheVariants.{Sim, Gen}
+use Rattle.apei_cli.specs.declared.job.Plan.{Plan}
 
 -- a job plays on a simulated flash
 abbrev pub simulates : Job → Bool

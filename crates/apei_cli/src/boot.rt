@@ -6,13 +6,13 @@ ghost use Rattle.apei_cli.specs.Orders.{order_of};
 ghost use Rattle.apei_cli.specs.LineLaws.{HaveLaws};
 ghost use Rattle.apei_cli.specs.Runs.{boot_status, IsBootOf, HasBooted, HasNotBegun, IsOnGeometry, HasFlashCause};
 
+use crate::Plan;
 use crate::status::Status;
 use apei_notify::{Chain, Listener};
 use apei_script::{
     Player, PlayerRefused, kept_blocks_have_causes, lines_are_one_list, lines_are_shown,
     lines_keep_in_step, own_client, stored_blocks_stay,
 };
-use apei_words::Plan;
 use erst_machine::{BootError, BootRefused, Machine};
 use flash_model::{Flash, Geometry};
 use std::alloc::Global;

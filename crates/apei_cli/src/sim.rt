@@ -3,8 +3,8 @@ ghost use Rattle.std.specs.Prelude.{◌≡◌, true, false, ◌*◌, [], IfOk, r
 ghost use Rattle.flash_model.specs.Limits.{IsGeometry};
 ghost use Rattle.apei_cli.specs.Sim.{simulates, tear_numbered, cut_of, failing_of, IsErasedFlash, IsEmptyFlash};
 
+use crate::{Job, Plan};
 use apei_bytes::Memory;
-use apei_words::{Job, Plan};
 use flash_model::{Cut, Geometry, SimFlash, Tear, erased};
 use std::alloc::Global;
 

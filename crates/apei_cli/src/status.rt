@@ -2,7 +2,7 @@
 ghost use Rattle.std.specs.Prelude.{◌≡◌};
 ghost use Rattle.apei_cli.specs.Statuses.{status_of};
 
-use apei_words::WordsError;
+use crate::WordsError;
 use script_lines::ScriptEnd;
 use std::fmt;
 

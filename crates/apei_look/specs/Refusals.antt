@@ -2,7 +2,7 @@
 use Rattle.std.specs.Prelude.{ℕ, ◌≡◌, ◌<◌, ◌*◌, ⊤, ◌==◌, nat_le, Bool, true, false, if◌then◌else◌, Result, Ok, Err}
 use Rattle.flash_model.specs.declared.geometry.Geometry.{Geometry}
 use Rattle.apei_look.specs.declared.status.Status.{Status}
-use Rattle.look_text.specs.declared.unread.Unread.{Unread}
+use Rattle.apei_look.specs.declared.unread.Unread.{Unread}
 use Rattle.apei_look.specs.declared.status.Status.TheVariants.{Done, File, Length, Memory}
 use Rattle.apei_look.specs.declared.status.Status.TheVariants as statuses
 

@@ -3,8 +3,8 @@ ghost use Rattle.std.specs.Prelude.{◌≡◌};
 ghost use Rattle.apei_look.specs.Numbers.{number_of};
 
 use crate::image_file::FileFault;
+use crate::unread::Unread;
 use clap_words::WordsError;
-use look_text::Unread;
 use thiserror::Error;
 
 /// How a run ended, and what is said of it.

@@ -12,7 +12,7 @@ use Rattle.ghes_ack.specs.declared.events.Event.{Event}
 use Rattle.ghes_ack.specs.declared.events.Event.TheVariants.{Idle, Fill, Publish, Free, Wait, Nothing, Found, Copied, Took, Clear, Ack}
 use Rattle.apei_notify.specs.Telling.{Hearing, counts_of}
 use Rattle.erst_client.specs.Commands.{ClientState}
-use Rattle.flash_words.proofs.CrashLemmas.{past_grows}
+use Rattle.base_model.proofs.CrashLemmas.{past_grows}
 use Rattle.record_model.specs.Records.{Stored}
 use Rattle.erst_machine.specs.MachineState.{MachineState, IsMachine, records_of, told_of}
 use Rattle.erst_machine.specs.Shown.{changes_of, shown_by}
@@ -22,15 +22,15 @@ use Rattle.erst_commands.specs.OwnPrograms.{OwnProgramsRun}
 use Rattle.erst_bridge.specs.declared.events.BridgeEvent.{BridgeEvent}
 use Rattle.erst_bridge.specs.declared.events.BridgeEvent.TheVariants.{Line as ByReader, Stored as IsStored, Kept, Out}
 use Rattle.erst_bridge.specs.Bridges.{BridgeState, Off, TurnsReader, Stores, Keeps, RunsOut}
-use Rattle.bridge_durability.specs.Turns.{last_of, BridgesMachine, Turn, OfFirmware, OfBridge, Step, IsTurn, AreTurns}
-use Rattle.bridge_durability.specs.Shown.{ShowsTurns, after_turn}
-use Rattle.bridge_durability.proofs.TrailLemmas.{turn_goes_on}
-use Rattle.bridge_durability.proofs.ShownLemmas.{turns_show}
-use Rattle.bridge_durability.proofs.PrefixLemmas.{turns_show_prefix}
-use Rattle.bridge_turns.specs.declared.made.SideTurn.{SideTurn}
-use Rattle.bridge_turns.specs.declared.made.MadeTurn.{MadeTurn}
-use Rattle.bridge_turns.specs.Made.{turn_of, told_turn, side_in, sides_in, made_by, AreCounted}
-use Rattle.bridge_turns.proofs.TurnsLemmas.{told_again, sides_more, made_more, counted_more, turns_more}
+use Rattle.erst_bridge.specs.Turns.{last_of, BridgesMachine, Turn, OfFirmware, OfBridge, Step, IsTurn, AreTurns}
+use Rattle.erst_bridge.specs.Shown.{ShowsTurns, after_turn}
+use Rattle.erst_bridge.proofs.TrailLemmas.{turn_goes_on}
+use Rattle.erst_bridge.proofs.ShownLemmas.{turns_show}
+use Rattle.erst_bridge.proofs.PrefixLemmas.{turns_show_prefix}
+use Rattle.erst_bridge.specs.declared.made.SideTurn.{SideTurn}
+use Rattle.erst_bridge.specs.declared.made.MadeTurn.{MadeTurn}
+use Rattle.erst_bridge.specs.Made.{turn_of, told_turn, side_in, sides_in, made_by, AreCounted}
+use Rattle.erst_bridge.proofs.TurnsLemmas.{told_again, sides_more, made_more, counted_more, turns_more}
 use Rattle.script_text.specs.ScriptGrammar.{Line, turns}
 use Rattle.apei_script.specs.Players.{PlayerState, budget_of}
 use Rattle.apei_script.specs.Words.{Reply, at_step, said_at, words_of_block, text_of_reply, text_of_replies, reply_at}

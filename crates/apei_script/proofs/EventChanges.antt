@@ -4,8 +4,8 @@ use Rattle.std.proofs.Common.{◌≡◌, ◌⊎◌, ℕ, ◌+◌, ◌≤◌, ◌
 use Rattle.base_model.specs.Faults.{Rose}
 use Rattle.record_store.specs.Store.{StoreView}
 use Rattle.record_store.specs.Answers.{copies_in}
-use Rattle.apei_gas.specs.declared.widths.Width.{Width}
-use Rattle.apei_gas.specs.Access.{bits}
+use Rattle.apei_tables.specs.declared.widths.Width.{Width}
+use Rattle.apei_tables.specs.Access.{bits}
 use Rattle.apei_space.specs.declared.faults.SpaceFault.{SpaceFault}
 use Rattle.apei_space.specs.Calls.{Call, Read, Write, Wait, Copy, ReadBytes, WriteBytes}
 use Rattle.apei_space.specs.Accesses.{Move, Trail}

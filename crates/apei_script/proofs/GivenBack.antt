@@ -20,10 +20,10 @@ use Rattle.erst_bridge.specs.Bridges.{BridgeState, Off, Awaits, Holds, Releases,
 use Rattle.erst_bridge.specs.InStep.{GivesBack, IsInOrder}
 use Rattle.erst_bridge.proofs.InStepLemmas.{reading_cases}
 use Rattle.erst_bridge.proofs.TurnLemmas.{reader_cases}
-use Rattle.bridge_durability.specs.Turns.{last_of, BridgesMachine, Turn, OfFirmware, OfBridge, Step, IsTurn, AreTurns}
-use Rattle.bridge_durability.specs.InStep.{StandsInStep, KeepsOrder}
-use Rattle.bridge_durability.proofs.HandoverLemmas.{firmware_same, last_same}
-use Rattle.bridge_durability.proofs.InStepLemmas.{handover_after, turn_in_step}
+use Rattle.erst_bridge.specs.Turns.{last_of, BridgesMachine, Turn, OfFirmware, OfBridge, Step, IsTurn, AreTurns}
+use Rattle.erst_bridge.specs.MachinesInStep.{StandsInStep, KeepsOrder}
+use Rattle.erst_bridge.proofs.HandoverLemmas.{firmware_same, last_same}
+use Rattle.erst_bridge.proofs.MachinesInStepLemmas.{handover_after, turn_in_step}
 use Rattle.script_text.specs.ScriptGrammar.{Line}
 use Rattle.apei_script.specs.Players.{PlayerState, budget_of}
 use Rattle.apei_script.specs.Words.{Reply}

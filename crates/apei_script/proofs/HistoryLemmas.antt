@@ -1,8 +1,8 @@
 -- Lines one after another.
 use Rattle.std.proofs.Common.{◌≡◌, ℕ, ◌≤◌, Bool, true, ◌⊎◌, List, [], ◌∷◌, ◌++◌, length, Option, Some, None, refl, sym, ap, subst, ◌∙◌, arith, inl, inr}
-use Rattle.flash_words.specs.Flash.{CrashImage, IsLater, image_at}
-use Rattle.flash_words.specs.Layout.{Layout}
-use Rattle.flash_words.proofs.CrashLemmas.{past_grows, image_at-later, image_at-now, CrashImage-earlier, CrashImage-now}
+use Rattle.base_model.specs.Flash.{CrashImage, IsLater, image_at}
+use Rattle.base_model.specs.Layout.{Layout}
+use Rattle.base_model.proofs.CrashLemmas.{past_grows, image_at-later, image_at-now, CrashImage-earlier, CrashImage-now}
 use Rattle.record_model.specs.Records.{Stored}
 use Rattle.apei_space.specs.Accesses.{Move, Trail}
 use Rattle.erst_machine.specs.MachineState.{MachineState, IsMachine, told_of}
@@ -11,11 +11,11 @@ use Rattle.erst_machine.specs.Shown.{changes_of, shown_by, made_by_event, GoesOn
 use Rattle.erst_machine.proofs.CrashTrail.{shown_alike, by_step, events_are_shown, happens_then}
 use Rattle.erst_machine.proofs.EventLemmas.{events_keep}
 use Rattle.erst_commands.specs.Attached.{own_client}
-use Rattle.erst_twins.specs.Alike.{FailedNothing}
-use Rattle.erst_twins.proofs.Dialogues.{quiet_first, quiet_second}
-use Rattle.bridge_durability.specs.Turns.{Step}
-use Rattle.bridge_durability.proofs.TrailLemmas.{own_client-same}
-use Rattle.bridge_durability.specs.Shown.{ShowsTurns}
+use Rattle.erst_commands.specs.Alike.{FailedNothing}
+use Rattle.erst_commands.proofs.Dialogues.{quiet_first, quiet_second}
+use Rattle.erst_bridge.specs.Turns.{Step}
+use Rattle.erst_bridge.proofs.TrailLemmas.{own_client-same}
+use Rattle.erst_bridge.specs.Shown.{ShowsTurns}
 use Rattle.script_text.specs.ScriptGrammar.{Line}
 use Rattle.apei_script.specs.Words.{Reply}
 use Rattle.erst_client.specs.Commands.{ClientState}

@@ -9,9 +9,9 @@ use Rattle.erst_commands.specs.Attached.{own_client}
 use Rattle.erst_commands.specs.OwnPrograms.{OwnProgramsRun}
 use Rattle.erst_bridge.specs.declared.events.BridgeEvent.TheVariants.{Line as ByReader, Stored, Kept, Out}
 use Rattle.erst_bridge.specs.Bridges.{BridgeState}
-use Rattle.bridge_durability.specs.Turns.{Turn, OfFirmware, OfBridge, Step, IsTurn, AreTurns}
-use Rattle.bridge_durability.proofs.TrailLemmas.{own_client-same, turns_trail}
-use Rattle.bridge_durability.proofs.CauseLemmas.{kept_hardware, kept_through}
+use Rattle.erst_bridge.specs.Turns.{Turn, OfFirmware, OfBridge, Step, IsTurn, AreTurns}
+use Rattle.erst_bridge.proofs.TrailLemmas.{own_client-same, turns_trail}
+use Rattle.erst_bridge.proofs.CauseLemmas.{kept_hardware, kept_through}
 use Rattle.apei_script.specs.Players.{PlayerState, budget_of}
 use Rattle.apei_script.specs.History.{Played, heard_after, Follows}
 use Rattle.apei_script.specs.KeptCauses.{HasCause, HaveCauses, AllHaveCauses}

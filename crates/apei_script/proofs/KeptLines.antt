@@ -8,8 +8,8 @@ use Rattle.std.proofs.lemmas.Bool.{cases_lt, le-leb, lt-leb, ne_eqb}
 use Rattle.std.proofs.lemmas.Bool.Decides.{nat_tests}
 use Rattle.hex.specs.Hex.{decode_of}
 use Rattle.hex.specs.declared.error.FromHexError.{FromHexError}
-use Rattle.flash_words.specs.Layout.{Layout}
-use Rattle.flash_words.proofs.CrashLemmas.{Leaves-exit, past_grows}
+use Rattle.base_model.specs.Layout.{Layout}
+use Rattle.base_model.proofs.CrashLemmas.{Leaves-exit, past_grows}
 use Rattle.record_model.specs.Records.{Stored as Records}
 use Rattle.record_model.specs.RecordMap.{Write, Clear, refusal_of, made_by, after}
 use Rattle.record_store.specs.Store.{records_of as records_in}
@@ -22,9 +22,9 @@ use Rattle.erst_commands.specs.Attached.{own_client}
 use Rattle.erst_commands.specs.OwnPrograms.{OwnProgramsRun}
 use Rattle.erst_commands.specs.Writes.{marked, id_of}
 use Rattle.erst_bridge.specs.Bridges.{BridgeState}
-use Rattle.bridge_durability.specs.Turns.{Step, AreTurns}
-use Rattle.bridge_durability.specs.Shown.{IsStoredAs}
-use Rattle.bridge_durability.proofs.RecordLemmas.{stored_after}
+use Rattle.erst_bridge.specs.Turns.{Step, AreTurns}
+use Rattle.erst_bridge.specs.Shown.{IsStoredAs}
+use Rattle.erst_bridge.proofs.KeptRecordLemmas.{stored_after}
 use Rattle.script_text.specs.ScriptGrammar.{Line, write, clear}
 use Rattle.apei_script.specs.Players.{PlayerState, client_of, budget_of, GivenNoOther}
 use Rattle.apei_script.specs.Words.{Reply}
@@ -35,7 +35,7 @@ use Rattle.apei_script.specs.History.{Played, heard_after, Follows, ShowsLine, S
 use Rattle.apei_script.specs.Spares.{Spares, SpareTurns, SpareLines, KeepsAll}
 use Rattle.apei_script.proofs.KeptTurns.{kept_turns, blocks_kept}
 use Rattle.apei_script.proofs.LineLemmas.{line_divides, line_own}
-use Rattle.bridge_durability.proofs.TrailLemmas.{own_client-same}
+use Rattle.erst_bridge.proofs.TrailLemmas.{own_client-same}
 use Rattle.apei_script.proofs.HistoryLemmas.{no_other, uses_either}
 
 -- Commands of others

@@ -2,7 +2,7 @@
 use Rattle.std.proofs.Common.{◌≡◌, ◌⊎◌, inl, inr, ℕ, ◌≤◌, nat_le, Bool, true, false, List, [], ◌∷◌, refl, sym, subst, arith}
 use Rattle.std.specs.Prelude.{MatchBool}
 use Rattle.std.proofs.lemmas.Bool.{le-leb}
-use Rattle.flash_words.proofs.CrashLemmas.{past_grows}
+use Rattle.base_model.proofs.CrashLemmas.{past_grows}
 use Rattle.record_model.specs.Records.{Stored as Records}
 use Rattle.erst_client.specs.Commands.{ClientState}
 use Rattle.erst_machine.specs.MachineState.{MachineState, IsMachine, records_of, told_of}
@@ -11,12 +11,12 @@ use Rattle.erst_commands.specs.Attached.{own_client}
 use Rattle.erst_commands.specs.OwnPrograms.{OwnProgramsRun}
 use Rattle.erst_bridge.specs.declared.events.BridgeEvent.TheVariants.{Line as ByReader, Stored as IsStored, Kept, Out}
 use Rattle.erst_bridge.specs.Bridges.{BridgeState, TurnsReader, Stores, Keeps, RunsOut}
-use Rattle.bridge_durability.specs.Turns.{Turn, OfFirmware, OfBridge, Step, IsTurn, AreTurns}
-use Rattle.bridge_durability.specs.Shown.{stored_record, ShowsTurns, IsStoredAs, after_turn}
-use Rattle.bridge_durability.proofs.TrailLemmas.{turn_keeps, turn_goes_on, own_on}
-use Rattle.bridge_durability.proofs.CrashLemmas.{turn_records}
-use Rattle.bridge_durability.proofs.RecordLemmas.{other_stays}
-use Rattle.bridge_durability.proofs.ShownLemmas.{one_of, IsBeyond, turn_beyond, stored_turn}
+use Rattle.erst_bridge.specs.Turns.{Turn, OfFirmware, OfBridge, Step, IsTurn, AreTurns}
+use Rattle.erst_bridge.specs.Shown.{stored_record, ShowsTurns, IsStoredAs, after_turn}
+use Rattle.erst_bridge.proofs.TrailLemmas.{turn_keeps, turn_goes_on, own_on}
+use Rattle.erst_bridge.proofs.CrashLemmas.{turn_records}
+use Rattle.erst_bridge.proofs.KeptRecordLemmas.{other_stays}
+use Rattle.erst_bridge.proofs.ShownLemmas.{one_of, IsBeyond, turn_beyond, stored_turn}
 use Rattle.apei_script.specs.Bridged.{KeepsBlock, KeepsBlocks}
 use Rattle.apei_script.specs.Spares.{SparesTurn, SpareTurns}
 

@@ -1,8 +1,8 @@
 -- What power lost in a line leaves of the records.
 use Rattle.std.proofs.Common.{◌≡◌, ◌⊎◌, ℕ, ◌*◌, true, List, [], Option, None, Result, Ok, Err, refl, sym, ap, subst, ◌∙◌, inl}
 use Rattle.std.specs.Prelude.{is_none, if◌then◌else◌}
-use Rattle.flash_words.specs.Flash.{Told, Leaves}
-use Rattle.flash_words.proofs.CrashLemmas.{Leaves-none, Leaves-weaker}
+use Rattle.base_model.specs.Flash.{Told, Leaves}
+use Rattle.base_model.proofs.CrashLemmas.{Leaves-none, Leaves-weaker}
 use Rattle.hex.specs.Hex.{decode_of}
 use Rattle.apei_space.specs.Calls.{ReadBytes}
 use Rattle.record_model.specs.Records.{Stored}
@@ -23,7 +23,7 @@ use Rattle.erst_commands.specs.Looks.{AsksOnce, Answers, StopsBehind, StopsAtOnc
 use Rattle.erst_commands.specs.Reads.{ReadMade, IsRead as read_made, IsRefused as read_refused, IsFailed as read_failed, ReadCommand, Answers as read_answers, StopsBehind as read_behind, StopsBefore as read_before, ReadAnswered, IsNotRead, IsNotCopied, IsCopied}
 use Rattle.erst_commands.specs.Writes.{WriteAnswered, IsNoRecord, IsWritten, marked, id_of}
 use Rattle.erst_bridge.specs.Bridges.{BridgeState}
-use Rattle.bridge_durability.specs.Turns.{Step, AreTurns}
+use Rattle.erst_bridge.specs.Turns.{Step, AreTurns}
 use Rattle.erst_shadow.specs.ShadowCommands.{pieces_in, ShadowWriteAnswered, IsNoRecord as IsNoShadowRecord, IsWritten as IsShadowWritten, ShadowReadAnswered, IsNotRead as IsNotShadowRead, IsNotCopied as IsNotShadowCopied, IsCopied as IsShadowCopied}
 use Rattle.erst_shadow.proofs.CrashLemmas.{change_crash, read_crash, dummy_store}
 use Rattle.script_text.specs.ScriptGrammar.{Line, blank, write, read, clear, count, next, dummy, own_table, shadow_table, reset, power}

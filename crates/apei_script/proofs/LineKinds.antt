@@ -1,7 +1,7 @@
 -- What was played, by the line.
 use Rattle.std.proofs.Common.{◌≡◌, ◌⊎◌, inl, inr, ℕ, Bool, true, false, List, [], ◌∷◌, ◌++◌, length, map, Option, Some, None, Result, Ok, Err, refl, sym, subst}
 use Rattle.hex.specs.Hex.{decode_of}
-use Rattle.bert_region.specs.Region.{IsLaidOut}
+use Rattle.ghes_block.specs.Region.{IsLaidOut}
 use Rattle.ghes_ack.specs.declared.events.Event.{Event as TurnEvent}
 use Rattle.erst_entries.specs.declared.tables.ErstError.{ErstError}
 use Rattle.erst_entries.specs.Layout.{Erst}
@@ -18,8 +18,8 @@ use Rattle.erst_machine.specs.MachineState.{MachineState}
 use Rattle.erst_machine.specs.Allowed.{Allows}
 use Rattle.erst_machine.specs.Events.{Event, Warms, Powers, Happens}
 use Rattle.erst_bridge.specs.Bridges.{BridgeState, Off, Awaits}
-use Rattle.bridge_durability.specs.Turns.{Step, AreTurns}
-use Rattle.bridge_turns.specs.Made.{sides_in}
+use Rattle.erst_bridge.specs.Turns.{Step, AreTurns}
+use Rattle.erst_bridge.specs.Made.{sides_in}
 use Rattle.script_text.specs.ScriptGrammar.{Line, blank, write, read, clear, count, next, dummy, action, table, own_table, shadow_table, turns, bert, reset, power, bridge}
 use Rattle.erst_shadow.specs.ShadowTables.{shadow_count}
 use Rattle.erst_shadow.specs.ShadowCommands.{shadow_client}

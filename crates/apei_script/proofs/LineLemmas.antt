@@ -8,8 +8,8 @@ use Rattle.erst_machine.specs.Events.{Warmed, Powered, Turned as OneTurn}
 use Rattle.erst_machine.proofs.CrashTrail.{events_are_shown, reached_happens}
 use Rattle.erst_machine.proofs.EventLemmas.{events_keep}
 use Rattle.erst_bridge.specs.Bridges.{BridgeState}
-use Rattle.bridge_durability.specs.Turns.{Step}
-use Rattle.bridge_durability.proofs.TrailLemmas.{HasTrail, no_moves, one_move, moves_then, turns_trail}
+use Rattle.erst_bridge.specs.Turns.{Step}
+use Rattle.erst_bridge.proofs.TrailLemmas.{HasTrail, no_moves, one_move, moves_then, turns_trail}
 use Rattle.script_text.specs.ScriptGrammar.{Line}
 use Rattle.apei_script.specs.Words.{Reply}
 use Rattle.apei_script.specs.Players.{PlayerState, budget_of}

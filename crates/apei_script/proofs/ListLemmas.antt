@@ -4,8 +4,8 @@ use Rattle.std.proofs.lemmas.List.{append-nil, map-append}
 use Rattle.std.proofs.lemmas.List.Elements.{All-head, All-tail}
 use Rattle.base_model.specs.Bytes.{part, joined}
 use Rattle.ghes_block.specs.declared.error.BlockError.{BlockError}
-use Rattle.bert_region.specs.Region.{IsOneBlock, IsLaidOut, FindsNext, next_from, zeros}
-use Rattle.bert_region.proofs.RegionLemmas.{finds_next, laid_is_list, starts}
+use Rattle.ghes_block.specs.Region.{IsOneBlock, IsLaidOut, FindsNext, next_from, zeros}
+use Rattle.ghes_block.proofs.RegionLemmas.{finds_next, laid_is_list, starts}
 use Rattle.erst_machine.specs.MachineState.{MachineState, IsMachine}
 use Rattle.script_text.specs.ScriptGrammar.{bert}
 use Rattle.apei_script.specs.Words.{Reply, at_step, said_at, words_of_block, words_of_bert, reply_at, replies_at}

@@ -1,7 +1,7 @@
 -- What turns under a bridge make of the records is what the record map has them make.
 use Rattle.std.proofs.Common.{◌≡◌, ◌∙◌, ℕ, List, [], ◌∷◌, Ok, Err, refl, sym, ap, arith}
-use Rattle.flash_words.specs.Flash.{image_at}
-use Rattle.flash_words.proofs.CrashLemmas.{image_at-later, image_at-now}
+use Rattle.base_model.specs.Flash.{image_at}
+use Rattle.base_model.proofs.CrashLemmas.{image_at-later, image_at-now}
 use Rattle.erst_client.specs.Commands.{ClientState}
 use Rattle.erst_machine.specs.MachineState.{MachineState, IsMachine, told_of}
 use Rattle.erst_machine.specs.Shown.{changes_of, shown_by}
@@ -10,9 +10,9 @@ use Rattle.erst_commands.specs.Attached.{own_client}
 use Rattle.erst_commands.specs.OwnPrograms.{OwnProgramsRun}
 use Rattle.erst_bridge.specs.BridgedRecord.{bridged}
 use Rattle.erst_bridge.specs.Bridges.{BridgeState, TurnsReader, Stores, Keeps, RunsOut}
-use Rattle.bridge_durability.specs.Turns.{Turn, OfFirmware, OfBridge, Step, IsTurn, AreTurns}
-use Rattle.bridge_durability.proofs.TrailLemmas.{turn_keeps, turn_goes_on, turns_go_on, own_on}
-use Rattle.bridge_durability.proofs.CrashLemmas.{own_write}
+use Rattle.erst_bridge.specs.Turns.{Turn, OfFirmware, OfBridge, Step, IsTurn, AreTurns}
+use Rattle.erst_bridge.proofs.TrailLemmas.{turn_keeps, turn_goes_on, turns_go_on, own_on}
+use Rattle.erst_bridge.proofs.CrashLemmas.{own_write}
 use Rattle.apei_script.specs.Bridged.{TurnIsMapped, TurnsAreMapped, ShowsEachTurn}
 
 module _ (tells : Type 0) (programs : OwnProgramsRun tells) (told : tells) (client : ClientState) (budget : ℕ) where

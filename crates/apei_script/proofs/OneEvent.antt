@@ -7,7 +7,7 @@ use Rattle.apei_space.specs.Calls.{ReadBytes}
 use Rattle.ghes_ack.specs.declared.submission.SubmitError.{SubmitError}
 use Rattle.erst_machine.specs.declared.errors.FatalError.{FatalError}
 use Rattle.erst_machine.specs.Events.{Event, Accessed, Submitted, Laid}
-use Rattle.erst_twins.specs.Alike.{bytes_shown, asked_event, answered_event}
+use Rattle.erst_commands.specs.Alike.{bytes_shown, asked_event, answered_event}
 use Rattle.script_text.specs.ScriptGrammar.{Line, error, peek, fatal}
 use Rattle.apei_script.specs.Players.{PlayerState}
 use Rattle.apei_script.specs.Words.{words_of_submission, words_of_peek, words_of_laid}

@@ -17,9 +17,9 @@ use Rattle.erst_machine.specs.Stations.{apart}
 use Rattle.erst_machine.proofs.EventLemmas.{events_keep}
 use Rattle.erst_bridge.specs.Bridges.{BridgeState, Off, Awaits, Holds, Releases}
 use Rattle.erst_bridge.specs.InStep.{IsInStep as InStepWith}
-use Rattle.bridge_durability.specs.Turns.{Step}
-use Rattle.bridge_durability.specs.InStep.{StandsInStep, KeepOrder}
-use Rattle.bridge_durability.proofs.InStepLemmas.{turns_in_step}
+use Rattle.erst_bridge.specs.Turns.{Step}
+use Rattle.erst_bridge.specs.MachinesInStep.{StandsInStep, KeepOrder}
+use Rattle.erst_bridge.proofs.MachinesInStepLemmas.{turns_in_step}
 use Rattle.script_text.specs.ScriptGrammar.{Line}
 use Rattle.apei_script.specs.Players.{PlayerState, budget_of}
 use Rattle.apei_script.specs.Words.{Reply}

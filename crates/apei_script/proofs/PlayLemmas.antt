@@ -6,7 +6,7 @@ use Rattle.erst_client.specs.Commands.{ClientState}
 use Rattle.erst_machine.specs.MachineState.{MachineState}
 use Rattle.erst_commands.specs.Attached.{own_client}
 use Rattle.erst_bridge.specs.Bridges.{BridgeState}
-use Rattle.bridge_durability.specs.Turns.{Step}
+use Rattle.erst_bridge.specs.Turns.{Step}
 use Rattle.script_text.specs.ScriptGrammar.{Line, blank, bert, heard}
 use Rattle.apei_notify.specs.Telling.{Hearing, counts_of}
 use Rattle.apei_script.specs.declared.desk.Desk.{Desk}

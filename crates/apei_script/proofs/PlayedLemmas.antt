@@ -9,7 +9,7 @@ use Rattle.erst_commands.specs.OwnPrograms.{OwnProgramsRun}
 use Rattle.erst_commands.specs.Attached.{own_client}
 use Rattle.erst_shadow.specs.ShadowCommands.{shadow_client}
 use Rattle.erst_bridge.specs.Bridges.{BridgeState}
-use Rattle.bridge_durability.specs.Turns.{Step}
+use Rattle.erst_bridge.specs.Turns.{Step}
 use Rattle.script_text.specs.ScriptGrammar.{Line, IsValid, write, read, clear, count, next as next_line, dummy}
 use Rattle.base_model.specs.Faults.{Rose}
 use Rattle.apei_script.specs.Players.{PlayerState, client_of, budget_of, UsesOwn, UsesShadow, UsesEither}

@@ -5,8 +5,8 @@ use Rattle.ghes_ack.specs.declared.events.Event.{Event}
 use Rattle.ghes_ack.specs.declared.events.Event.TheVariants.{Took}
 use Rattle.erst_machine.specs.MachineState.{MachineState}
 use Rattle.erst_machine.specs.Events.{Turns}
-use Rattle.erst_twins.specs.Alike.{MachineOutline, machine_outline, AlikeMachines}
-use Rattle.erst_twins.proofs.EventOutlines.{turns_alike}
+use Rattle.erst_commands.specs.Alike.{MachineOutline, machine_outline, AlikeMachines}
+use Rattle.erst_commands.proofs.EventOutlines.{turns_alike}
 use Rattle.apei_script.specs.Happened.{taken_by, Turned, NoTurn, OneMore}
 use Rattle.script_text.specs.Turns.{side_of}
 

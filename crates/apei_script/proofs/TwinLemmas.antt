@@ -4,8 +4,8 @@ use Rattle.std.specs.List.{flat_map}
 use Rattle.std.proofs.Common.{◌≡◌, inl, inr, ℕ, ◌+◌, ◌*◌, Bool, true, false, List, [], ◌∷◌, ◌++◌, length, map, Option, Some, None, Result, Ok, Err, refl, sym, ap, subst, ◌∙◌}
 use Rattle.std.proofs.lemmas.Option.{none-some, same_Some}
 use Rattle.base_model.specs.Faults.{Rose}
-use Rattle.flash_words.specs.Flash.{FlashState}
-use Rattle.flash_words.specs.Layout.{Layout, room_of, reach_of}
+use Rattle.base_model.specs.Flash.{FlashState}
+use Rattle.base_model.specs.Layout.{Layout, room_of, reach_of}
 use Rattle.flash_model.specs.declared.geometry.Geometry.{Geometry}
 use Rattle.flash_model.specs.Layouts.{layout_of}
 use Rattle.record_model.specs.Records.{second_copies}
@@ -13,7 +13,7 @@ use Rattle.record_store.specs.Store.{records_of as records_in}
 use Rattle.erst_device.specs.Actions.{log_range_at}
 use Rattle.erst_device.specs.Timings.{most_changes, timings_of}
 use Rattle.apei_notify.specs.Telling.{wanted}
-use Rattle.bert_region.specs.Region.{IsLaidOut}
+use Rattle.ghes_block.specs.Region.{IsLaidOut}
 use Rattle.ghes_ack.specs.declared.events.Event.{Event}
 use Rattle.erst_entries.specs.declared.tables.ErstError.{ErstError}
 use Rattle.erst_entries.specs.Layout.{Erst}
@@ -27,23 +27,23 @@ use Rattle.erst_machine.specs.MachineState.{MachineState, IsMachine}
 use Rattle.erst_machine.specs.Allowed.{Allows}
 use Rattle.erst_machine.specs.Events.{Event as MachineEvent, Warmed, Powered, Happens}
 use Rattle.erst_machine.proofs.EventLemmas.{events_keep}
-use Rattle.erst_twins.specs.Alike.{MachineOutline, machine_outline, AlikeMachines, FailedNothing, BootsFrom, asked_event, answered_event, record_in}
+use Rattle.erst_commands.specs.Alike.{MachineOutline, machine_outline, AlikeMachines, FailedNothing, BootsFrom, asked_event, answered_event, record_in}
 use Rattle.erst_machine.specs.OwnTables.{own_erst}
 use Rattle.erst_commands.specs.OwnPrograms.{with_value}
-use Rattle.erst_twins.proofs.TrailOutlines.{boots_from_alike}
-use Rattle.erst_twins.proofs.Dialogues.{quiet_first, quiet_second}
-use Rattle.erst_twins.proofs.MachineDialogues.{done_alike}
-use Rattle.erst_twins.proofs.RunDialogues.{run_of, run_held}
-use Rattle.erst_twins.proofs.ClientDialogues as dialogues
-use Rattle.erst_twins.proofs.ReadLemmas.{record_alike}
-use Rattle.erst_twins.proofs.EventOutlines.{happens_alike}
-use Rattle.erst_twins.proofs.OneLemmas.{one_list}
+use Rattle.erst_commands.proofs.TrailOutlines.{boots_from_alike}
+use Rattle.erst_commands.proofs.Dialogues.{quiet_first, quiet_second}
+use Rattle.erst_commands.proofs.MachineDialogues.{done_alike}
+use Rattle.erst_commands.proofs.RunDialogues.{run_of, run_held}
+use Rattle.erst_commands.proofs.ClientDialogues as dialogues
+use Rattle.erst_commands.proofs.ReadTwins.{record_alike}
+use Rattle.erst_commands.proofs.EventOutlines.{happens_alike}
+use Rattle.erst_commands.proofs.OneLemmas.{one_list}
 use Rattle.record_model.specs.Records.{is_reserved}
 use Rattle.ghes_ack.specs.Machine.{Situation, is_idle}
 use Rattle.erst_bridge.specs.Bridges.{BridgeState, Awaits}
-use Rattle.bridge_durability.specs.Turns.{last_of, Turn, Step, AreTurns}
-use Rattle.bridge_turns.specs.Made.{sides_in}
-use Rattle.bridge_twins.specs.AlikeSteps.{StepOutline, step_outline, AlikeSteps}
+use Rattle.erst_bridge.specs.Turns.{last_of, Turn, Step, AreTurns}
+use Rattle.erst_bridge.specs.Made.{sides_in}
+use Rattle.erst_bridge.specs.AlikeSteps.{StepOutline, step_outline, AlikeSteps}
 use Rattle.script_text.specs.ScriptGrammar.{Line, blank, write, read, clear, count, next, dummy, action, table, own_table, shadow_table, turns, bert, heard, reset, power, bridge}
 use Rattle.erst_shadow.specs.ShadowTables.{scratch_at, pieces_of, shadow_count, shadow_erst}
 use Rattle.erst_shadow.specs.ShadowCommands.{pieces_in, shadow_client}

@@ -5,7 +5,7 @@ use Rattle.erst_device.specs.Timings.{timings_of}
 use Rattle.erst_machine.specs.MachineState.{MachineState, records_of}
 use Rattle.erst_commands.specs.Attached.{own_client}
 use Rattle.erst_commands.specs.OwnPrograms.{with_value}
-use Rattle.erst_twins.specs.Alike.{AlikeMachines}
+use Rattle.erst_commands.specs.Alike.{AlikeMachines}
 use Rattle.script_text.specs.ScriptGrammar.{Line}
 use Rattle.apei_script.specs.Players.{PlayerState, player_of}
 use Rattle.apei_script.specs.Words.{Reply}

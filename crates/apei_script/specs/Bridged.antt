@@ -1,7 +1,7 @@
 -- Lines of the bridge: the one that turns it on, and turns while it is on.
 use Rattle.std.specs.Prelude.{◌≡◌, ℕ, ◌≤◌, not, if◌then◌else◌, Bool, true, false, List, [], ◌∷◌, ◌++◌, codes, decimal, map, Option, Some, None, Result, Ok, Err}
 use Rattle.std.specs.List.{flat_map}
-use Rattle.flash_words.specs.Flash.{CrashImage, image_at}
+use Rattle.base_model.specs.Flash.{CrashImage, image_at}
 use Rattle.record_model.specs.Records.{is_reserved, Stored as Records}
 use Rattle.ghes_ack.specs.declared.events.Event.TheVariants.{Took}
 use Rattle.ghes_ack.specs.Machine.{Machine as HandoverMachine, is_idle}
@@ -12,12 +12,12 @@ use Rattle.erst_commands.specs.Writes.{WriteAnswered}
 use Rattle.erst_bridge.specs.declared.events.BridgeEvent.TheVariants.{Line as ByReader, Stored, Kept, Out}
 use Rattle.erst_bridge.specs.BridgedRecord.{bridged}
 use Rattle.erst_bridge.specs.Bridges.{BridgeState, Off, Awaits, Holds, Releases}
-use Rattle.bridge_durability.specs.Turns.{last_of, Turn, OfFirmware, OfBridge, Step, AreTurns}
-use Rattle.bridge_durability.specs.Shown.{stored_record, ShowsTurns, IsStoredAs}
-use Rattle.bridge_durability.specs.InStep.{StandsInStep}
-use Rattle.bridge_durability.specs.Prefixes.{HasPrefix, bytes_in}
-use Rattle.bridge_turns.specs.declared.made.MadeTurn.{MadeTurn}
-use Rattle.bridge_turns.specs.Made.{turn_of, sides_in, AreCounted}
+use Rattle.erst_bridge.specs.Turns.{last_of, Turn, OfFirmware, OfBridge, Step, AreTurns}
+use Rattle.erst_bridge.specs.Shown.{stored_record, ShowsTurns, IsStoredAs}
+use Rattle.erst_bridge.specs.MachinesInStep.{StandsInStep}
+use Rattle.erst_bridge.specs.Prefixes.{HasPrefix, bytes_in}
+use Rattle.erst_bridge.specs.declared.made.MadeTurn.{MadeTurn}
+use Rattle.erst_bridge.specs.Made.{turn_of, sides_in, AreCounted}
 use Rattle.script_text.specs.ClientWords.{words_of_client}
 use Rattle.script_text.specs.ScriptGrammar.{Line, turns, bridge}
 use Rattle.apei_script.specs.Players.{PlayerState, budget_of}

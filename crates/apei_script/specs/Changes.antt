@@ -1,8 +1,8 @@
 -- The flash changes of whatever happens to a machine, where the flash fails nothing.
 use Rattle.std.specs.Prelude.{ℕ, ◌+◌, ◌/◌, ◌%◌, ◌^◌, List, [], ◌∷◌}
 use Rattle.record_store.specs.Answers.{copies_in}
-use Rattle.apei_gas.specs.declared.widths.Width.{Width}
-use Rattle.apei_gas.specs.Access.{bits}
+use Rattle.apei_tables.specs.declared.widths.Width.{Width}
+use Rattle.apei_tables.specs.Access.{bits}
 use Rattle.apei_space.specs.Calls.{Call, Write}
 use Rattle.apei_space.specs.Accesses.{Move}
 use Rattle.erst_entries.specs.Actions.{action_of}

@@ -2,14 +2,14 @@
 use Rattle.std.specs.Prelude.{◌≡◌, ◌⊎◌, ℕ, ◌+◌, ◌-◌, ◌^◌, ◌==◌, ◌≤◌, nat_le, min, if◌then◌else◌, Bool, true, MatchBool, List, [], ◌∷◌}
 use Rattle.std.specs.List.{flat_map}
 use Rattle.base_model.specs.Faults.{Rose}
-use Rattle.flash_words.specs.Flash.{image_at}
+use Rattle.base_model.specs.Flash.{image_at}
 use Rattle.record_model.specs.Records.{Stored}
 use Rattle.apei_notify.specs.Telling.{wanted}
 use Rattle.erst_client.specs.Timings.{enough_steps}
 use Rattle.erst_machine.specs.MachineState.{records_of, told_of}
 use Rattle.erst_machine.specs.Shown.{shown_by, changes_of}
-use Rattle.bridge_durability.specs.Turns.{Step}
-use Rattle.bridge_durability.specs.Shown.{ShowsTurns}
+use Rattle.erst_bridge.specs.Turns.{Step}
+use Rattle.erst_bridge.specs.Shown.{ShowsTurns}
 use Rattle.script_text.specs.ScriptGrammar.{Line}
 use Rattle.apei_script.specs.Players.{PlayerState, client_of, budget_of, UsesOwn, UsesShadow, UsesEither}
 use Rattle.apei_script.specs.Words.{Reply, said_at, text_of_replies}

@@ -6,7 +6,7 @@ use Rattle.erst_client.specs.Timings.{enough_steps}
 use Rattle.erst_machine.specs.MachineState.{MachineState}
 use Rattle.erst_commands.specs.Causes.{GoesThrough}
 use Rattle.erst_bridge.specs.declared.events.BridgeEvent.TheVariants.{Kept}
-use Rattle.bridge_durability.specs.Turns.{Turn, OfBridge, Step}
+use Rattle.erst_bridge.specs.Turns.{Turn, OfBridge, Step}
 use Rattle.apei_script.specs.Players.{PlayerState, budget_of}
 use Rattle.apei_script.specs.History.{Played}
 

@@ -2,7 +2,7 @@
 use Rattle.std.specs.Prelude.{◌≡◌, ◌⊎◌, ℕ, List, length, Option, is_none, if◌then◌else◌, Result, Ok, Err}
 use Rattle.hex.specs.Hex.{decode_of}
 use Rattle.hex.specs.declared.error.FromHexError.{FromHexError}
-use Rattle.flash_words.specs.Flash.{Leaves}
+use Rattle.base_model.specs.Flash.{Leaves}
 use Rattle.record_model.specs.Records.{Stored}
 use Rattle.record_model.specs.RecordMap.{Write, Clear, after}
 use Rattle.erst_client.specs.declared.errors.ClientError.{ClientError}

@@ -5,8 +5,8 @@ use Rattle.erst_machine.specs.MachineState.{MachineState}
 use Rattle.erst_bridge.specs.declared.events.BridgeEvent.TheVariants.{Line as ByReader, Stored, Kept, Out}
 use Rattle.erst_bridge.specs.Bridges.{BridgeState, Off, Awaits, Holds, Releases}
 use Rattle.erst_bridge.specs.InStep.{GivesBack}
-use Rattle.bridge_durability.specs.Turns.{last_of, Turn, OfFirmware, OfBridge, Step}
-use Rattle.bridge_durability.specs.InStep.{StandsInStep, KeepOrder}
+use Rattle.erst_bridge.specs.Turns.{last_of, Turn, OfFirmware, OfBridge, Step}
+use Rattle.erst_bridge.specs.MachinesInStep.{StandsInStep, KeepOrder}
 use Rattle.apei_script.specs.Players.{PlayerState}
 use Rattle.apei_script.specs.History.{Played}
 

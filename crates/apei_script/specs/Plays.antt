@@ -3,7 +3,7 @@ use Rattle.std.specs.Prelude.{◌≡◌, ℕ, ◌+◌, ◌≤◌, Bool, true, fa
 use Rattle.hex.specs.Hex.{decode_of}
 use Rattle.base_model.specs.Faults.{Rose}
 use Rattle.apei_space.specs.Accesses.{Move, Trail}
-use Rattle.line_grammar.specs.declared.lengths.TheConstants.{LONGEST_LINE}
+use Rattle.script_lines.specs.declared.lengths.TheConstants.{LONGEST_LINE}
 use Rattle.apei_notify.specs.Telling.{Hearing, counts_of}
 pub use Rattle.apei_notify.specs.Telling.{Told}
 use Rattle.ghes_ack.specs.declared.events.Event.{Event as TurnEvent}
@@ -19,7 +19,7 @@ use Rattle.erst_machine.specs.Shown.{IsShown, made_by_event}
 use Rattle.erst_commands.specs.Attached.{own_client}
 use Rattle.erst_bridge.specs.declared.events.BridgeEvent.TheVariants.{Line as ByReader}
 use Rattle.erst_bridge.specs.Bridges.{BridgeState, Off}
-use Rattle.bridge_durability.specs.Turns.{OfBridge, Step}
+use Rattle.erst_bridge.specs.Turns.{OfBridge, Step}
 use Rattle.script_text.specs.RunWords.{words_of_stop}
 use Rattle.script_text.specs.ScriptGrammar.{Line, IsValid, blank, comment, write, read, clear, count, next, dummy, action, table, own_table, shadow_table, error, turns, fatal, bert, heard, reset, power}
 use Rattle.apei_script.specs.declared.player.PlayStop.{PlayStop}

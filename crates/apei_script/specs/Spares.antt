@@ -6,8 +6,8 @@ use Rattle.erst_machine.specs.Shown.{changes_of}
 use Rattle.erst_commands.specs.Writes.{id_of}
 use Rattle.erst_bridge.specs.declared.events.BridgeEvent.TheVariants.{Line as ByReader, Stored, Kept, Out}
 use Rattle.erst_bridge.specs.Bridges.{BridgeState}
-use Rattle.bridge_durability.specs.Turns.{Turn, OfFirmware, OfBridge, Step}
-use Rattle.bridge_durability.specs.Prefixes.{next_id}
+use Rattle.erst_bridge.specs.Turns.{Turn, OfFirmware, OfBridge, Step}
+use Rattle.erst_bridge.specs.Prefixes.{next_id}
 use Rattle.script_text.specs.ScriptGrammar.{Line, write, clear}
 use Rattle.apei_script.specs.Players.{PlayerState}
 use Rattle.apei_script.specs.Bridged.{KeepsBlocks}

@@ -1,7 +1,7 @@
 // What a line asks of the machine itself: error status blocks, memory, and the boot error region.
 ghost use Rattle.std.specs.Prelude.{◌≡◌, ◌≤◌, ℕ, List, [], ◌∷◌, length};
-ghost use Rattle.line_grammar.specs.declared.lengths.TheConstants.{LONGEST_LINE};
-ghost use Rattle.line_grammar.specs.Parts.{IsPairs};
+ghost use Rattle.script_lines.specs.declared.lengths.TheConstants.{LONGEST_LINE};
+ghost use Rattle.script_lines.specs.Parts.{IsPairs};
 ghost use Rattle.script_text.specs.ScriptGrammar.{error, peek, fatal};
 ghost use Rattle.apei_script.specs.Words.{words_of_submission, words_of_laid};
 ghost use Rattle.apei_script.specs.Replies.{IsMade};

@@ -1,11 +1,11 @@
 // The memory in which lines are carried out.
 ghost use Rattle.std.specs.Prelude.{◌≡◌, ◌≤◌, [], vec_len, vec_capacity, IfOk};
-ghost use Rattle.line_grammar.specs.declared.lengths.TheConstants.{LONGEST_BYTES};
+ghost use Rattle.script_lines.specs.declared.lengths.TheConstants.{LONGEST_BYTES};
 
 use apei_bytes::Memory;
-use bridge_turns::MadeTurn;
+use erst_bridge::MadeTurn;
 use ghes_ack::Event;
-use line_grammar::LONGEST_BYTES;
+use script_lines::LONGEST_BYTES;
 use script_text::Reply;
 use std::alloc::Global;
 

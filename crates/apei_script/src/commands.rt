@@ -1,7 +1,7 @@
 // What a line asks of the client in use.
 ghost use Rattle.std.specs.Prelude.{◌≡◌, ◌*◌, ◌≤◌, ℕ, List, length, true, Ok};
-ghost use Rattle.line_grammar.specs.declared.lengths.TheConstants.{LONGEST_BYTES};
-ghost use Rattle.line_grammar.specs.Parts.{IsPairs};
+ghost use Rattle.script_lines.specs.declared.lengths.TheConstants.{LONGEST_BYTES};
+ghost use Rattle.script_lines.specs.Parts.{IsPairs};
 ghost use Rattle.script_text.specs.ScriptGrammar.{Line, write, read, clear, count, next, dummy, action};
 ghost use Rattle.script_text.specs.ScriptText.{line_of};
 ghost use Rattle.apei_script.specs.{Players.budget_by, Words.words_of_write, Replies.IsMade, Asked.Answers, Plays.IsPlayable, Plays.asks_client, Desks.state_of, Desks.MakesReply};

@@ -2,7 +2,7 @@
 ghost use Rattle.std.specs.Prelude.{◌≡◌, ◌≤◌, ◌++◌, ◌∷◌, [], ℕ, List, length, take, true, false, IsTrue, OnOk, OnErr, IfSome, Some, None, Ok, ◌+◌, ◌-◌, ◌<◌};
 ghost use Rattle.base_model.specs.Bytes.{part};
 ghost use Rattle.base_model.specs.Faults.{HasCause};
-ghost use Rattle.bert_region.specs.Region.{next_from};
+ghost use Rattle.ghes_block.specs.Region.{next_from};
 ghost use Rattle.ghes_ack.specs.Machine.{Fits};
 ghost use Rattle.erst_machine.specs.Events.{Turns};
 ghost use Rattle.apei_script.specs.Replies.{IsMade};

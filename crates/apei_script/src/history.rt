@@ -1,6 +1,6 @@
 // Laws on whole histories: the functions do nothing, and their clauses are the laws.
 ghost use Rattle.std.specs.Prelude.{◌≡◌, ℕ, ◌≤◌, Bool, List, Option, None};
-ghost use Rattle.flash_words.specs.Flash.{CrashImage, IsLater, FlashState};
+ghost use Rattle.base_model.specs.Flash.{CrashImage, IsLater, FlashState};
 ghost use Rattle.flash_model.specs.declared.geometry.Geometry.{Geometry as AnyGeometry};
 ghost use Rattle.flash_model.specs.Layouts.{layout_of};
 ghost use Rattle.record_model.specs.Records.{Stored, second_copies};
@@ -10,10 +10,10 @@ ghost use Rattle.erst_machine.specs.MachineState.{MachineState, IsMachine, recor
 ghost use Rattle.erst_machine.specs.Events.{Event, Happens};
 ghost use Rattle.erst_machine.specs.Shown.{IsShown, made_by_event, changes_of, shown_by};
 ghost use Rattle.erst_commands.specs.Attached.{own_client};
-ghost use Rattle.erst_twins.specs.Alike.{AlikeMachines, FailedNothing, BootsFrom};
+ghost use Rattle.erst_commands.specs.Alike.{AlikeMachines, FailedNothing, BootsFrom};
 ghost use Rattle.apei_script.specs.Players.{PlayerState, GivenNoOther};
 ghost use Rattle.script_text.specs.ScriptGrammar.{Line};
-ghost use Rattle.bridge_durability.specs.{Turns.Step, InStep.KeepOrder, Shown.IsStoredAs};
+ghost use Rattle.erst_bridge.specs.{Turns.Step, MachinesInStep.KeepOrder, Shown.IsStoredAs};
 ghost use Rattle.apei_script.specs.Words.{Reply};
 ghost use Rattle.apei_script.specs.Plays.{Plays, HasHappened};
 ghost use Rattle.apei_script.specs.KeptCauses.{AllHaveCauses};
@@ -22,7 +22,7 @@ ghost use Rattle.apei_script.specs.Spares.{SpareLines, KeepsAll};
 ghost use Rattle.apei_script.specs.Alike.{AlikePlayers, own_player, WantAlike, lines_in, PlayedAlike};
 ghost use Rattle.apei_script.specs.History.{Played, Follows, EndInOrder, ShowsLines, ShowsEachLine, AreOwnLines, AreMapped, NoneSaysHardware, AllGoThrough, AlwaysUsesEither};
 
-use bridge_twins::alike_machines_make_turns_alike;
+use erst_bridge::alike_machines_make_turns_alike;
 use erst_commands::own_programs_run_through;
 use flash_model::Flash;
 

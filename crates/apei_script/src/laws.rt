@@ -5,7 +5,7 @@ ghost use Rattle.apei_space.specs.Accesses.{Move, Trail};
 ghost use Rattle.erst_machine.specs.MachineState.{MachineState, IsMachine};
 ghost use Rattle.erst_machine.specs.Events.{Event, Happens};
 ghost use Rattle.erst_client.specs.declared.errors.ClientError.{ClientError as AnyError};
-ghost use Rattle.bridge_durability.specs.Turns.{Step};
+ghost use Rattle.erst_bridge.specs.Turns.{Step};
 ghost use Rattle.script_text.specs.ScriptGrammar.{Line, IsValid, count};
 ghost use Rattle.apei_script.specs.Players.{PlayerState};
 ghost use Rattle.apei_script.specs.Words.{Reply, said_at, words_of_count};

@@ -3,10 +3,10 @@ ghost use Rattle.std.specs.Prelude.{◌≡◌, ◌≤◌, ◌++◌, length};
 ghost use Rattle.apei_script.specs.Words.{refused, words_of_fatal};
 ghost use Rattle.apei_script.specs.Replies.{IsMade};
 
-use bert_region::RegionFull;
 use erst_machine::FatalError;
 use ghes_ack::SubmitError;
-use line_text::LineText;
+use ghes_block::RegionFull;
+use script_lines::LineText;
 use script_text::{Refusal, Reply};
 
 /// Makes it the words of a refusal.

@@ -1,7 +1,7 @@
 // Lines that say whose table is used.
 ghost use Rattle.std.specs.Prelude.{◌≡◌, ◌≤◌, length, OnOk, IfErr};
-ghost use Rattle.line_grammar.specs.declared.lengths.TheConstants.{LONGEST_LINE};
-ghost use Rattle.line_grammar.specs.Parts.{IsPairs};
+ghost use Rattle.script_lines.specs.declared.lengths.TheConstants.{LONGEST_LINE};
+ghost use Rattle.script_lines.specs.Parts.{IsPairs};
 ghost use Rattle.script_text.specs.ScriptGrammar.{table, own_table, shadow_table};
 ghost use Rattle.apei_script.specs.Plays.{Stops};
 ghost use Rattle.apei_script.specs.Desks.{state_of, MakesReply};

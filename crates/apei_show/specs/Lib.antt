@@ -1,3 +1,5 @@
+pub mod Commands
+pub mod Options
 pub mod Forms
 pub mod Names
 pub mod Numbers

@@ -4,16 +4,19 @@
 ghost use Rattle.std.specs.Prelude.{◌≡◌};
 ghost use Rattle.apei_show.specs.Forms.{shown_as};
 
+mod command;
+mod options;
 mod output;
 mod source;
 mod status;
+mod values;
 
+use crate::options::{Color, Form, Options, options_of};
 use crate::output::Output;
 use crate::source::{name_of, read_file};
 use crate::status::Status;
 use clap_words::{WordsError, end, words};
 use show_items::{Form as Shown, Manner, Pages, Sheet, Stop, show_file};
-use show_words::{Color, Form, Options, options_of};
 use std::io::IsTerminal;
 use std::process::ExitCode;
 

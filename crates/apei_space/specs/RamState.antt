@@ -1,9 +1,9 @@
 -- Plain memory: its windows, the bytes that they hold, and how long it waited.
 use Rattle.std.specs.Prelude.{◌≡◌, ℕ, ◌+◌, ◌-◌, ◌/◌, ◌^◌, min, nat_le, ◌==◌, if◌then◌else◌, List, length, Option, Some, None, Result, Ok, Err, bit_and, bit_or}
 use Rattle.base_model.specs.Bytes.{part, number_at, spelled, put_at}
-use Rattle.apei_gas.specs.declared.registers.Place.{Place}
-use Rattle.apei_gas.specs.declared.registers.Place.TheVariants.{Memory}
-use Rattle.apei_gas.specs.Access.{bits}
+use Rattle.apei_tables.specs.declared.registers.Place.{Place}
+use Rattle.apei_tables.specs.declared.registers.Place.TheVariants.{Memory}
+use Rattle.apei_tables.specs.Access.{bits}
 use Rattle.apei_space.specs.declared.faults.SpaceFault.{SpaceFault}
 use Rattle.apei_space.specs.declared.faults.SpaceFault.TheVariants.{Unmapped}
 use Rattle.apei_space.specs.declared.windows.Window.{Window}

@@ -1,8 +1,8 @@
 -- Plain memory: a fault leaves everything as it was.
 use Rattle.std.proofs.Common.{◌≡◌, ℕ, ◌/◌, List, length, Result, Ok, Err, refl, sym, subst, arith}
 use Rattle.base_model.specs.Bytes.{spelled}
-use Rattle.apei_gas.specs.declared.registers.Place.TheVariants.{Memory}
-use Rattle.apei_gas.specs.Access.{bits}
+use Rattle.apei_tables.specs.declared.registers.Place.TheVariants.{Memory}
+use Rattle.apei_tables.specs.Access.{bits}
 use Rattle.apei_space.specs.declared.faults.SpaceFault.{SpaceFault}
 use Rattle.apei_space.specs.Calls.{Call, Read, Write, Wait, Copy, ReadBytes, WriteBytes, HasReason, Leaves, fault_in, IsOfAccess, IsOfCopy}
 use Rattle.apei_space.specs.RamState.{RamState, Allows, found, refused, number_in, answer_of, stored, copied}

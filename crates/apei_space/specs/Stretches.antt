@@ -1,7 +1,7 @@
 -- Windows with the places of their bytes.
 use Rattle.std.specs.Prelude.{◌≡◌, ℕ, ◌+◌, ◌-◌, ◌<◌, ◌^◌, ◌==◌, if◌then◌else◌, List, [], ◌∷◌, All, length, take, get_or, slice_get, Option, Some, None, IfSome}
 use Rattle.std.specs.List.Sorted.{IsPermutation, IsNonDecreasingBy}
-use Rattle.apei_gas.specs.declared.registers.Place.{Place}
+use Rattle.apei_tables.specs.declared.registers.Place.{Place}
 use Rattle.apei_space.specs.declared.windows.Window.{Window}
 use Rattle.apei_space.specs.declared.windows.Stretch.{Stretch}
 use Rattle.apei_space.specs.declared.guesses.Guess.{Guess}

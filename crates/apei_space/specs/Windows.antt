@@ -1,7 +1,7 @@
 -- Windows of plain bytes.
 use Rattle.std.specs.Prelude.{ℕ, ◌+◌, ◌-◌, ◌<◌, ◌^◌, ◌⊎◌, nat_le, ◌==◌, if◌then◌else◌, List, [], ◌∷◌, Option, Some, None}
-use Rattle.apei_gas.specs.declared.registers.Place.{Place}
-use Rattle.apei_gas.specs.declared.registers.Place.TheVariants.{Memory, Io}
+use Rattle.apei_tables.specs.declared.registers.Place.{Place}
+use Rattle.apei_tables.specs.declared.registers.Place.TheVariants.{Memory, Io}
 use Rattle.apei_space.specs.declared.windows.Window.{Window}
 
 abbrev pub address_of : Place → ℕ

@@ -1,10 +1,10 @@
 // Numbers and parts in a slice of bytes.
 ghost use Rattle.std.specs.Prelude.{◌≡◌, ◌+◌, ◌/◌, ◌<◌, ◌≤◌, ◌^◌, length};
 ghost use Rattle.base_model.specs.Bytes.{part, number_at, spelled, put_at};
-ghost use Rattle.apei_gas.specs.Access.{bits};
+ghost use Rattle.apei_tables.specs.Access.{bits};
 
 use apei_bytes::{get_u16, get_u32, get_u64, put_u16, put_u32, put_u64};
-use apei_gas::Width;
+use apei_tables::Width;
 
 /// The byte at `at`.
 fn get_u8(bytes: &[u8], at: usize) -> u8

@@ -1,5 +1,5 @@
 // Why an access was refused.
-use apei_gas::Width;
+use apei_tables::Width;
 
 /// Why a space refused an access.
 #[derive(Clone, Copy, Debug, PartialEq, Eq)]

@@ -1,6 +1,6 @@
 // Laws on windows: the functions do nothing, and their clauses are the laws.
 ghost use Rattle.std.specs.Prelude.{◌≡◌, ℕ, ◌+◌, ◌<◌, ◌≤◌, ◌⊎◌, List, Ok};
-ghost use Rattle.apei_gas.specs.declared.registers.Place.{Place as AnyPlace};
+ghost use Rattle.apei_tables.specs.declared.registers.Place.{Place as AnyPlace};
 ghost use Rattle.apei_space.specs.declared.windows.Window.{Window as AnyWindow};
 ghost use Rattle.apei_space.specs.Windows.{AreApart, total};
 ghost use Rattle.apei_space.specs.RamState.{found, located};

@@ -1,7 +1,7 @@
 // Plain memory as a space.
 ghost use Rattle.std.specs.Prelude.{◌≡◌, ℕ, ◌+◌, ◌*◌, ◌/◌, ◌^◌, ◌<◌, ◌≤◌, length, replicate, IfOk, IfSome};
 ghost use Rattle.base_model.specs.Bytes.{number_at};
-ghost use Rattle.apei_gas.specs.Access.{bits};
+ghost use Rattle.apei_tables.specs.Access.{bits};
 ghost use Rattle.apei_space.specs.Calls.{Call, Read, Write, Wait, Copy, ReadBytes, WriteBytes, HasReason};
 ghost use Rattle.apei_space.specs.Windows.{total, AreApart};
 ghost use Rattle.apei_space.specs.RamState.{RamState, FillsWindows, Allows, located, number_in, answer_of, changed, filled};
@@ -11,7 +11,7 @@ use crate::faults::SpaceFault;
 use crate::spaces::Space;
 use crate::windows::{Table, Window, address, search, tabulate};
 use apei_bytes::Memory;
-use apei_gas::{Place, Width};
+use apei_tables::{Place, Width};
 use std::alloc::Global;
 use std::marker::Model;
 

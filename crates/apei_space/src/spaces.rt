@@ -1,10 +1,10 @@
 // A space: what a register program may read, write and copy.
 ghost use Rattle.std.specs.Prelude.{◌≡◌, ◌^◌, ◌<◌, ℕ, IfOk};
-ghost use Rattle.apei_gas.specs.Access.{bits};
+ghost use Rattle.apei_tables.specs.Access.{bits};
 ghost use Rattle.apei_space.specs.Calls.{Call, Read, Write, Wait, Copy, ReadBytes, WriteBytes, HasReason};
 
 use crate::faults::SpaceFault;
-use apei_gas::{Place, Width};
+use apei_tables::{Place, Width};
 
 /// Memory and I/O, with whatever devices answer there. Each call is related to the states before and after it by
 /// `allows`. The bytes of an access are counted upwards from its address.

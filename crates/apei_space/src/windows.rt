@@ -6,7 +6,7 @@ ghost use Rattle.apei_space.specs.Guesses.{all_noted, guesses_at};
 
 use crate::guesses::{Guess, Guesses, SHORT};
 use apei_bytes::Memory;
-use apei_gas::Place;
+use apei_tables::Place;
 use std::alloc::Global;
 
 /// So many plain bytes from a place on.

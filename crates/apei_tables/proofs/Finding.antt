@@ -8,7 +8,7 @@ use Rattle.std.proofs.lemmas.List.{take_at, length-take, take-append-drop}
 use Rattle.std.proofs.lemmas.Bool.{le-ltb}
 use Rattle.base_model.specs.Bytes.{part, number_at, little}
 use Rattle.base_model.proofs.BytesLemmas.{part-part, part-append_left}
-use Rattle.apei_fields.proofs.Parts.{part-take}
+use Rattle.apei_bytes.proofs.Parts.{part-take}
 use Rattle.apei_tables.specs.declared.headers.Header.{Header}
 use Rattle.apei_tables.specs.declared.headers.TableError.{TableError}
 use Rattle.apei_tables.specs.Layout.{spelling, IsHeader}

@@ -1,2 +1,3 @@
+pub mod GasSpelling
 pub mod Spelling
 pub mod Finding

@@ -3,7 +3,7 @@ use Rattle.std.proofs.Common.{◌≡◌, ℕ, ◌+◌, ◌++◌, ◌<◌, ◌≤
 use Rattle.std.proofs.lemmas.List.Sums.{sum_by-append}
 use Rattle.base_model.specs.Bytes.{part, number_at, little, spelled, joined, total, AreBytes}
 use Rattle.base_model.proofs.BytesLemmas.{spelled-number_at, little-spelled, length-spelled, length-joined}
-use Rattle.apei_fields.proofs.Parts.{parts, joined-parts, parts-joined, part-cons}
+use Rattle.apei_bytes.proofs.Parts.{parts, joined-parts, parts-joined, part-cons}
 use Rattle.apei_tables.specs.declared.headers.Header.{Header}
 use Rattle.apei_tables.specs.Layout.{fields, spelling, HasSizes, IsHeader}
 

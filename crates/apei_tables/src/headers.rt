@@ -5,8 +5,7 @@ ghost use Rattle.apei_tables.specs.Layout.{spelling, HasSizes, IsHeader};
 ghost use Rattle.apei_tables.specs.Tables.{IsTable, FindsTable, Finds, Refuses};
 
 use crate::bytes::{begins_with, sum_of};
-use apei_bytes::get_u32;
-use apei_fields::{array_at, write_array, write_u32};
+use apei_bytes::{array_at, get_u32, write_array, write_u32};
 
 /// The header of a system description table (ACPI 6.4, section 5.2.6).
 #[derive(Clone, Copy, Debug, PartialEq, Eq)]

@@ -1,6 +1,5 @@
 // Tables of instruction entries written by hand, and one that is made by calls.
-use apei_gas::Gas;
-use apei_tables::Header;
+use apei_tables::{Gas, Header};
 use erst_entries::{Action, Entry, ErstTable, Instruction};
 use std::alloc::Global;
 use std::test::Fail;

@@ -2,7 +2,7 @@
 ghost use Rattle.std.specs.Prelude.{◌≡◌};
 ghost use Rattle.hest_sources.specs.Layout.{size_of};
 
-use apei_gas::Gas;
+use apei_tables::Gas;
 use hest_sources::{Ack, Ghes, Hest, HestSource};
 use std::test::Fail;
 

@@ -1,4 +1,5 @@
-//! Tests by bytes from outside: tables, error records, error status blocks, streams, and a listener.
+//! Tests by bytes from outside: tables, error records, error status blocks, streams, and a listener; and what a listener has heard where a
+//! reply is refused, since the program shows no listener once its output is gone.
 #![tactic(auto)]
 
 #[cfg(test)]
@@ -11,5 +12,7 @@ mod hest;
 mod listeners;
 #[cfg(test)]
 mod records;
+#[cfg(test)]
+mod refused;
 #[cfg(test)]
 mod streams;

@@ -1,2 +1,4 @@
 pub mod BytesLemmas
 pub mod FaultLemmas
+pub mod CrashLemmas
+pub mod PowerLemmas

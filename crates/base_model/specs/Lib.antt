@@ -1,2 +1,4 @@
 pub mod Bytes
 pub mod Faults
+pub mod Flash
+pub mod Layout

@@ -3,7 +3,7 @@ use Rattle.std.proofs.Common.{◌≡◌, ℕ, ◌-◌, ◌≤◌, ◌^◌, List,
 use Rattle.std.proofs.lemmas.Bool.{eqb-true, ltb-false, eq-eqb, le-ltb, cond-true, cond-false}
 use Rattle.std.specs.Prelude.{◌==◌, nat_lt}
 use Rattle.base_model.specs.Bytes.{number_at}
-use Rattle.apei_fields.proofs.Tests.{ok_if, ok_unless}
+use Rattle.apei_bytes.proofs.Tests.{ok_if, ok_unless}
 use Rattle.cper_frame.specs.declared.error.FrameError.TheVariants.{Need, Start, End, Length, Limit}
 use Rattle.cper_frame.specs.Grammar.{bodies_from}
 use Rattle.cper_frame.specs.Reading.{signature, section_count, record_length, misplaced, length_if_placed, head_verdict, checked}

@@ -9,7 +9,7 @@ use Rattle.std.specs.List.{flat_map}
 use Rattle.std.proofs.lemmas.List.Elements.{All-nil, All-push, All-head, All-tail}
 use Rattle.std.proofs.Math.Seq.{take-add}
 use Rattle.base_model.specs.Bytes.{joined}
-use Rattle.apei_fields.proofs.Puts.{joined-append}
+use Rattle.apei_bytes.proofs.Puts.{joined-append}
 use Rattle.cper_frame.specs.declared.error.FrameError.{FrameError}
 use Rattle.cper_frame.specs.declared.error.FrameError.TheVariants.{Need}
 use Rattle.cper_frame.specs.declared.fed.Fed.{Fed}
@@ -19,7 +19,7 @@ use Rattle.cper_frame.specs.Reading.{record_length, checked, record_of}
 use Rattle.cper_frame.specs.Stream.{Reader, is_need, reader_holding, reader_failing, feed_result_by, feed_result_unless, feed_result, frame_by, frame_of, without_frame_by, without_frame, GetsOn, refusal, IsRecordWithin, Splits, Waits, Going, Refused}
 use Rattle.cper_frame.specs.Pieces.{Stepped, Passed as PassedPiece}
 use Rattle.cper_frame.proofs.Checks.{Passed, passed, passes}
-use Rattle.apei_fields.proofs.Parts.{number_at-front}
+use Rattle.apei_bytes.proofs.Parts.{number_at-front}
 use Rattle.cper_frame.proofs.Sound.{passed-front}
 use Rattle.cper_frame.proofs.Streams.{Missing, missing, nothing, waits, stays}
 use Rattle.cper_frame.proofs.Streams.Missing.{of_header, of_record}

@@ -6,7 +6,7 @@ use Rattle.base_model.proofs.BytesLemmas.{length-joined}
 use Rattle.cper_frame.specs.declared.heads.RecordHead.{RecordHead}
 use Rattle.cper_frame.specs.Grammar.{SectionValue, header, descriptor, IsRecordHead, IsSectionHead}
 use Rattle.cper_frame.specs.Reading.{signature, head_at, section_count, record_length, section_head_at}
-use Rattle.apei_fields.proofs.Parts.{parts, parts_of, number_of}
+use Rattle.apei_bytes.proofs.Parts.{parts, parts_of, number_of}
 
 -- how long the fields of a header and of a descriptor are
 abbrev pub header_sizes : List ℕ

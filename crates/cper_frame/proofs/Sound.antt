@@ -7,7 +7,7 @@ use Rattle.base_model.specs.Bytes.{part, number_at, spelled, joined, AreBytes}
 use Rattle.base_model.proofs.BytesLemmas.{spelled-number_at, number_at-lt, length-part, part-append, part-append_left, part-whole, AreBytes-part}
 use Rattle.cper_frame.specs.Grammar.{header, descriptor, descriptors, bodies_from, IsRecordHead, IsSectionHead, IsSectionOf, IsRecord}
 use Rattle.cper_frame.specs.Reading.{signature, head_at, section_count, record_length, section_head_at, section_in, descriptor_at, section_at, sections_from, record_of, is_misplaced, misplaced_from, misplaced}
-use Rattle.apei_fields.proofs.Parts.{parts, joined-parts, number_at-front, part-append-drop}
+use Rattle.apei_bytes.proofs.Parts.{parts, joined-parts, number_at-front, part-append-drop}
 use Rattle.cper_frame.proofs.Checks.{Passed}
 use Rattle.cper_frame.proofs.Laws.{header_sizes, descriptor_sizes}
 

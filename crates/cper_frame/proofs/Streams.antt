@@ -9,7 +9,7 @@ use Rattle.cper_frame.specs.Grammar.{bodies_from}
 use Rattle.cper_frame.specs.Reading.{signature, section_count, record_length, misplaced, length_if_placed, head_verdict, checked}
 use Rattle.cper_frame.specs.Stream.{is_need}
 use Rattle.cper_frame.proofs.Checks.{passed, header_decides}
-use Rattle.apei_fields.proofs.Parts.{number_at-front}
+use Rattle.apei_bytes.proofs.Parts.{number_at-front}
 use Rattle.cper_frame.proofs.Sound.{misplaced-front}
 
 -- whether more bytes could change the answer

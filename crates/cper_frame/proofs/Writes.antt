@@ -5,9 +5,9 @@ use Rattle.std.proofs.lemmas.List.{take-append-drop, length-take, take-take, dro
 use Rattle.std.proofs.lemmas.List.Elements.{All-nil, All-cons, All-append, All-weaker}
 use Rattle.base_model.specs.Bytes.{part, spelled, joined, SameOutside}
 use Rattle.base_model.proofs.BytesLemmas.{length-spelled, part-append, part-part, part-before, part-after, length-part, SameOutside-wider, length-joined}
-use Rattle.apei_fields.specs.Writing.{Wrote}
-use Rattle.apei_fields.proofs.Parts.{part-first, part-second, part-take}
-use Rattle.apei_fields.proofs.Puts.{wrote_there, wrote_others, joined-append}
+use Rattle.apei_bytes.specs.Writing.{Wrote}
+use Rattle.apei_bytes.proofs.Parts.{part-first, part-second, part-take}
+use Rattle.apei_bytes.proofs.Puts.{wrote_there, wrote_others, joined-append}
 use Rattle.cper_frame.specs.declared.heads.RecordHead.{RecordHead}
 use Rattle.cper_frame.specs.declared.heads.SectionHead.{SectionHead}
 use Rattle.cper_frame.specs.Grammar.{SectionValue, header_back, header, descriptor, descriptor_fields, descriptors, bodies_from, IsRecordHead, IsSectionHead, IsSectionOf}

@@ -3,8 +3,7 @@ ghost use Rattle.std.specs.Prelude.{◌≡◌, ◌≤◌, length};
 ghost use Rattle.cper_frame.specs.Reading.{head_at, section_head_at};
 
 use crate::record::ID_AT;
-use apei_bytes::{Guid, get_u16, get_u32, get_u64};
-use apei_fields::{array_at, byte_at, guid_at};
+use apei_bytes::{Guid, array_at, byte_at, get_u16, get_u32, get_u64, guid_at};
 
 /// What a record's header says (UEFI 2.8, N.2.1) apart from its counts and lengths. Severity is 0 recoverable, 1 fatal,
 /// 2 corrected, 3 informational.

@@ -11,7 +11,7 @@ mod reader;
 mod record;
 mod writer;
 
-pub use apei_fields::NoRoom;
+pub use apei_bytes::NoRoom;
 pub use error::FrameError;
 pub use fed::Fed;
 pub use heads::{RecordHead, SectionHead};

@@ -7,8 +7,7 @@ ghost use Rattle.cper_frame.specs.Sections.{value_of};
 
 use crate::error::FrameError;
 use crate::heads::{RecordHead, SectionHead};
-use apei_bytes::{get_u16, get_u32};
-use apei_fields::bytes_at;
+use apei_bytes::{bytes_at, get_u16, get_u32};
 use std::marker::Model;
 
 /// The bytes of a record's header (UEFI 2.8, N.2.1).

@@ -1,15 +1,15 @@
 // A record written section by section.
 ghost use Rattle.std.specs.Prelude.{◌≡◌, ℕ, ◌+◌, ◌*◌, ◌^◌, ◌<◌, ◌≤◌, ◌++◌, List, [], ◌∷◌, length, IfOk, OnOk, OnErr};
 ghost use Rattle.base_model.specs.Bytes.{joined};
-ghost use Rattle.apei_fields.specs.Room.{NeedsRoom};
-ghost use Rattle.apei_fields.specs.Writing.{Wrote};
+ghost use Rattle.apei_bytes.specs.Room.{NeedsRoom};
+ghost use Rattle.apei_bytes.specs.Writing.{Wrote};
 ghost use Rattle.cper_frame.specs.declared.heads.RecordHead.{RecordHead as Head};
 ghost use Rattle.cper_frame.specs.Grammar.{header_front, header_back, header, descriptor_fields, FrontFits, BackFits, IsRecordHead, IsSectionHead};
 ghost use Rattle.cper_frame.specs.Writer.{Given, written_record, room_of, used_by, announced_to, given_to, name_of, IsRecordWriter, IsUnchanged, IsWriting, IsWritten};
 
 use crate::heads::{RecordHead, SectionHead};
 use crate::record::{DESCRIPTOR, HEADER, LENGTH_AT, SIGNATURE_END};
-use apei_fields::{
+use apei_bytes::{
     NoRoom, room_for, write_array, write_bytes, write_guid, write_u8, write_u16, write_u32,
     write_u64,
 };

@@ -1,6 +1,6 @@
 -- What is seen of the driver's flash. It tells no content: that it holds what was programmed is a premise.
 use Rattle.std.specs.Prelude.{true, [], length}
-use Rattle.flash_words.specs.Flash.{FlashState}
+use Rattle.base_model.specs.Flash.{FlashState}
 use Rattle.driver_example.specs.declared.driver_flash.DriverFlash.{DriverFlash}
 
 abbrev pub state_of : DriverFlash → FlashState

@@ -3,7 +3,7 @@ ghost use Rattle.std.specs.Prelude.{◌≡◌, ◌+◌, ◌-◌, ◌*◌, ◌^�
 ghost use Rattle.base_model.specs.Bytes.{part, put_at};
 ghost use Rattle.base_model.specs.Faults.{HasCause};
 ghost use Rattle.driver_example.specs.Wear.{erased_once_more};
-ghost use Rattle.flash_words.specs.Flash.{OnlyReads, AsksChange, next_count};
+ghost use Rattle.base_model.specs.Flash.{OnlyReads, AsksChange, next_count};
 
 use crate::driver::Driver;
 use flash_model::{Flash, FlashFailed, next_count};

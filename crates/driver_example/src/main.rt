@@ -12,8 +12,8 @@ mod failure;
 use crate::driver::Driver;
 use crate::driver_flash::DriverFlash;
 use crate::failure::Failure;
-use erst_ids::RecordId;
 use flash_model::Geometry;
+use record_slots::RecordId;
 use record_store::Store;
 use std::process::ExitCode;
 

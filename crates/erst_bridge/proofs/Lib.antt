@@ -2,3 +2,16 @@ pub mod RecordLemmas
 pub mod InStepLemmas
 pub mod TurnLemmas
 pub mod IdentifierLemmas
+pub mod TrailLemmas
+pub mod HandoverLemmas
+pub mod MachinesInStepLemmas
+pub mod SumLemmas
+pub mod CrashLemmas
+pub mod KeptRecordLemmas
+pub mod ShownLemmas
+pub mod CoverLemmas
+pub mod PrefixLemmas
+pub mod CauseLemmas
+pub mod TurnsLemmas
+pub mod BridgeOutlines
+pub mod StepOutlines

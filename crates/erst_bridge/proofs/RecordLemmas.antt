@@ -6,7 +6,7 @@ use Rattle.std.proofs.lemmas.List.{append-nil, length-take-le}
 use Rattle.std.proofs.lemmas.List.Elements.{All-cons, All-nil, All-head}
 use Rattle.std.proofs.Math.Seq.{drop-append_seam}
 use Rattle.base_model.specs.Bytes.{part, number_at, joined}
-use Rattle.apei_fields.proofs.Parts.{part-second, parts, parts_of, number_of}
+use Rattle.apei_bytes.proofs.Parts.{part-second, parts, parts_of, number_of}
 use Rattle.cper_frame.specs.declared.heads.RecordHead.{RecordHead}
 use Rattle.cper_frame.specs.declared.heads.SectionHead.{SectionHead}
 use Rattle.cper_frame.specs.Grammar.{SectionValue, RecordValue, header, descriptor_fields, descriptors, IsRecordHead, IsSectionHead, IsSectionOf, IsRecord}

@@ -2,3 +2,13 @@ pub mod BridgedRecord
 pub mod Bridges
 pub mod InStep
 pub mod Causes
+pub mod Turns
+pub mod Shown
+pub mod MachinesInStep
+pub mod Sums
+pub mod Prefixes
+pub mod BridgedRuns
+pub mod BridgeTheorems
+pub mod Made
+pub mod AlikeSteps
+pub mod BridgedAlike

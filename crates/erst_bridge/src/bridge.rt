@@ -10,9 +10,9 @@ use crate::record::make_record;
 use crate::stages::Stage;
 use apei_bytes::Memory;
 use erst_client::Client;
-use erst_ids::RecordId;
 use erst_interp::Budget;
 use ghes_ack::{Event, Station};
+use record_slots::RecordId;
 use std::alloc::Global;
 use std::marker::Model;
 

@@ -1,7 +1,7 @@
 // What a turn of a bridge did.
 use erst_client::ClientError;
-use erst_ids::RecordId;
 use ghes_ack::Event;
+use record_slots::RecordId;
 
 /// What a turn of a bridge did.
 #[derive(Clone, Copy, Debug, PartialEq, Eq)]

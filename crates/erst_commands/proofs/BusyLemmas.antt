@@ -5,7 +5,7 @@ use Rattle.std.proofs.lemmas.Bool.{cond-true, cond-false, eq-eqb, ne_eqb, ltb-fa
 use Rattle.std.proofs.lemmas.Option.{same_Some}
 use Rattle.base_model.specs.Bytes.{part, number_at}
 use Rattle.base_model.proofs.BytesLemmas.{length-part}
-use Rattle.flash_words.specs.Layout.{Layout, room_of, reach_of}
+use Rattle.base_model.specs.Layout.{Layout, room_of, reach_of}
 use Rattle.record_model.specs.Records.{is_reserved}
 use Rattle.record_store.specs.Store.{StoreView, Pending, Idle, Writing, Clearing, pending_after, changes_before_gate, changes_in_all, IsBusy}
 use Rattle.record_store.specs.declared.errors.StoreError.{StoreError}

@@ -1,9 +1,9 @@
 -- A write or clear from its start to END_OPERATION.
 use Rattle.std.proofs.Common.{◌≡◌, ◌⊎◌, ℕ, suc, ◌+◌, ◌*◌, ◌<◌, ◌≤◌, max, true, false, List, Some, None, Result, Ok, Err, refl, sym, ap, subst, ◌∙◌, arith, inl, inr}
 use Rattle.base_model.specs.Faults.{Rose}
-use Rattle.flash_words.specs.Flash.{FlashState}
-use Rattle.flash_words.specs.Layout.{Layout}
-use Rattle.flash_words.proofs.CrashLemmas.{Leaves-none, Leaves-weaker, Leaves-then, Leaves-exit}
+use Rattle.base_model.specs.Flash.{FlashState}
+use Rattle.base_model.specs.Layout.{Layout}
+use Rattle.base_model.proofs.CrashLemmas.{Leaves-none, Leaves-weaker, Leaves-then, Leaves-exit}
 use Rattle.record_model.specs.Records.{Stored, is_reserved}
 use Rattle.record_model.specs.RecordMap.{Command, Refusal, refusal_of, after, changes_of}
 use Rattle.record_model.proofs.RefusalLemmas.{changes_of-refused}

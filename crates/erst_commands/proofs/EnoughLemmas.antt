@@ -1,7 +1,7 @@
 -- Steps that are enough by the machine's timings.
 use Rattle.std.proofs.Common.{◌≡◌, ℕ, ◌+◌, ◌*◌, ◌/◌, ◌≤◌, max, min, List, Result, Err, arith}
 use Rattle.std.proofs.Math.Nat.{mul_comm, mul-le-mul_left}
-use Rattle.flash_words.specs.Layout.{Layout}
+use Rattle.base_model.specs.Layout.{Layout}
 use Rattle.record_model.specs.RecordMap.{Command, changes_of}
 use Rattle.erst_entries.specs.declared.actions.Action.TheVariants.{CheckBusyStatus}
 use Rattle.erst_interp.specs.declared.stops.RunStop.TheVariants.{Budget}

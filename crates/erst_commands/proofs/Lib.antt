@@ -22,3 +22,14 @@ pub mod CallCauses
 pub mod BusyLemmas
 pub mod ThroughLemmas
 pub mod OperationLemmas
+pub mod StoreOutlines
+pub mod DeviceOutlines
+pub mod MachineOutlines
+pub mod Dialogues
+pub mod RunDialogues
+pub mod ClientDialogues
+pub mod MachineDialogues
+pub mod EventOutlines
+pub mod TrailOutlines
+pub mod ReadTwins
+pub mod OneLemmas

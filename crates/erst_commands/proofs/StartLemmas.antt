@@ -6,8 +6,8 @@ use Rattle.std.proofs.lemmas.Option.{none-some, same_Some}
 use Rattle.base_model.specs.Bytes.{part, number_at}
 use Rattle.base_model.proofs.BytesLemmas.{number_at-part}
 use Rattle.base_model.specs.Faults.{Rose}
-use Rattle.flash_words.specs.Layout.{Layout, room_of, reach_of}
-use Rattle.flash_words.proofs.CrashLemmas.{Leaves-none}
+use Rattle.base_model.specs.Layout.{Layout, room_of, reach_of}
+use Rattle.base_model.proofs.CrashLemmas.{Leaves-none}
 use Rattle.record_model.specs.Records.{Stored, is_reserved}
 use Rattle.record_model.specs.RecordMap.{Command, Write, Clear, Refusal, Failed as refused_for_good, NoSpace as no_space, NotFound as not_found, refusal_of, changes_of, made_by}
 use Rattle.record_model.proofs.MapLemmas.{after-done}

@@ -3,7 +3,7 @@ use Rattle.std.proofs.Common.{◌≡◌, ℕ, ◌+◌, ◌*◌, ◌-◌, ◌^◌
 use Rattle.std.specs.Prelude.{◌==◌}
 use Rattle.base_model.specs.Bytes.{number_at}
 use Rattle.apei_space.specs.declared.faults.SpaceFault.{SpaceFault}
-use Rattle.flash_words.specs.Layout.{Layout, room_of, reach_of}
+use Rattle.base_model.specs.Layout.{Layout, room_of, reach_of}
 use Rattle.record_store.specs.Store.{StoreView}
 use Rattle.erst_entries.specs.declared.actions.Action.{Action}
 use Rattle.erst_entries.specs.declared.actions.Action.TheVariants.{GetRecordCount, GetRecordIdentifier}

@@ -4,8 +4,8 @@ use Rattle.std.specs.Prelude.{nat_eq, is_some, min}
 use Rattle.std.specs.FinMap.{get}
 use Rattle.std.proofs.lemmas.Bool.{cases_eq, cond-true, cond-false, eq-eqb, ne_eqb}
 use Rattle.base_model.specs.Faults.{Rose}
-use Rattle.flash_words.specs.Layout.{Layout, room_of}
-use Rattle.flash_words.proofs.CrashLemmas.{Leaves-weaker, Leaves-then, Leaves-exit}
+use Rattle.base_model.specs.Layout.{Layout, room_of}
+use Rattle.base_model.proofs.CrashLemmas.{Leaves-weaker, Leaves-then, Leaves-exit}
 use Rattle.record_model.specs.Records.{Stored, parts_of}
 use Rattle.record_model.specs.RecordMap.{Write, made_by, refusal_of, changes_of, changes_of_parts}
 use Rattle.record_model.proofs.RefusalLemmas.{changes_of-new, changes_of-over}

@@ -5,8 +5,8 @@ use Rattle.std.specs.FinMap.{get}
 use Rattle.std.proofs.lemmas.Bool.{ltb-true, ltb-false}
 use Rattle.std.proofs.lemmas.List.{take_rest, drop_all, append-nil}
 use Rattle.base_model.specs.Bytes.{part}
-use Rattle.flash_words.specs.Layout.{Layout, room_of, reach_of}
-use Rattle.flash_words.proofs.CrashLemmas.{Leaves-exit}
+use Rattle.base_model.specs.Layout.{Layout, room_of, reach_of}
+use Rattle.base_model.proofs.CrashLemmas.{Leaves-exit}
 use Rattle.record_model.specs.Records.{Stored, is_reserved, parts_of}
 use Rattle.record_model.specs.RecordMap.{NotFound, Empty}
 use Rattle.record_model.proofs.RefusalLemmas.{read_taken}

@@ -2,8 +2,8 @@
 use Rattle.std.proofs.Common.{◌≡◌, ℕ, ◌+◌, ◌-◌, ◌^◌, ◌≤◌, ◌⊎◌, Bool, true, false, cond, List, Option, Some, None, Result, Ok, Err, refl, sym, ap, subst, ◌∙◌, arith, inl, inr}
 use Rattle.std.specs.Prelude.{is_some, if◌then◌else◌}
 use Rattle.base_model.specs.Faults.{Rose}
-use Rattle.flash_words.specs.Flash.{LosesOnlyByChange}
-use Rattle.flash_words.proofs.CrashLemmas.{Leaves-none, Leaves-weaker}
+use Rattle.base_model.specs.Flash.{LosesOnlyByChange}
+use Rattle.base_model.proofs.CrashLemmas.{Leaves-none, Leaves-weaker}
 use Rattle.record_model.specs.Records.{Stored}
 use Rattle.record_model.proofs.RefusalLemmas.{allowed_not_zero}
 use Rattle.record_store.specs.Store.{StoreView, Pending, Idle, Writing, Clearing, stored, map_after, doubt_after, IsBusy, DividesAlike, KeepsMap, KeepsOrMakes, abandoned}

@@ -1,7 +1,7 @@
 -- The changes of the parts of a record, one part more at a time.
 use Rattle.std.proofs.Common.{◌≡◌, ℕ, suc, ◌+◌, ◌-◌, ◌*◌, ◌/◌, ◌≤◌, ◌<◌, ◌^◌, min, ap, ◌∙◌, arith, add-one}
 use Rattle.std.proofs.Math.Nat.{add-mul}
-use Rattle.flash_words.specs.Layout.{Layout, room_of, reach_of}
+use Rattle.base_model.specs.Layout.{Layout, room_of, reach_of}
 use Rattle.record_model.specs.Records.{parts_of, part_len}
 use Rattle.record_model.specs.RecordMap.{pieces_of, pieces_of_parts, changes_of_parts}
 use Rattle.record_model.proofs.PartsLemmas.{parts_of-few}

@@ -1,7 +1,7 @@
 -- The serialization actions (ACPI 6.4, section 18.5.1.1) as the device carries them out, one case for each row of its table.
 -- `tells` says whether the flash tells its content; `range` is the log range.
 use Rattle.std.specs.Prelude.{◌≡◌, ℕ, ◌-◌, ◌^◌, ◌<◌, Bool, true, false, if◌then◌else◌, List, take, drop, ◌++◌, Option, Some, None, Result, Ok, Err}
-use Rattle.flash_words.specs.Layout.{Layout, room_of, reach_of}
+use Rattle.base_model.specs.Layout.{Layout, room_of, reach_of}
 use Rattle.record_model.specs.Records.{is_reserved}
 use Rattle.record_store.specs.Store.{StoreView, IsBusy}
 use Rattle.record_store.specs.declared.errors.StoreError.{StoreError}

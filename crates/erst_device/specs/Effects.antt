@@ -1,7 +1,7 @@
 -- What every action keeps, and how many changes of the flash it makes.
 use Rattle.std.specs.Prelude.{◌≡◌, ◌⊎◌, ℕ, ◌+◌, ◌-◌, ◌^◌, ◌≤◌, Bool, true, false, is_some, if◌then◌else◌, List, Option, Some, None}
 use Rattle.base_model.specs.Faults.{Rose}
-use Rattle.flash_words.specs.Flash.{LosesOnlyByChange}
+use Rattle.base_model.specs.Flash.{LosesOnlyByChange}
 use Rattle.record_model.specs.Records.{Stored, is_reserved}
 use Rattle.record_store.specs.Store.{map_after, DividesAlike, KeepsOrMakes}
 use Rattle.record_store.specs.Answers.{copies_of}

@@ -1,6 +1,6 @@
 -- What the device keeps beside its store.
 use Rattle.std.specs.Prelude.{◌≡◌, ℕ, ◌+◌, ◌≤◌, Bool, true, false, Option, Some, None, Result, Ok, Err}
-use Rattle.flash_words.specs.Layout.{room_of, reach_of}
+use Rattle.base_model.specs.Layout.{room_of, reach_of}
 use Rattle.std.specs.FinMap.{get}
 use Rattle.record_model.specs.Records.{Stored, is_reserved}
 use Rattle.record_store.specs.Store.{StoreView, Idle, stored, IsBusy, IsReady}

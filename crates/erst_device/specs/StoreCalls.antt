@@ -1,8 +1,8 @@
 -- What a call of the store says, all of it as one fact.
 use Rattle.std.specs.Prelude.{◌≡◌, ℕ, ◌+◌, ◌*◌, ◌≤◌, Bool, true, false, List, length, Option, Result, OnOk, IfOk}
 use Rattle.std.specs.FinMap.{len}
-use Rattle.flash_words.specs.Flash.{LosesOnlyByChange, raised}
-use Rattle.flash_words.specs.Layout.{room_of}
+use Rattle.base_model.specs.Flash.{LosesOnlyByChange, raised}
+use Rattle.base_model.specs.Layout.{room_of}
 use Rattle.record_model.specs.Records.{parts_of}
 use Rattle.record_model.specs.RecordMap.{IsNextAbove}
 use Rattle.record_store.specs.Store.{StoreView, Clearing, stored, map_after, IsReady, IsWriteOf, DividesAlike, KeepsOrMakes}

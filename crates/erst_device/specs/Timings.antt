@@ -1,6 +1,6 @@
 -- How long an execution takes.
 use Rattle.std.specs.Prelude.{ℕ, ◌+◌, ◌*◌, ◌^◌}
-use Rattle.flash_words.specs.Layout.{Layout, room_of, reach_of}
+use Rattle.base_model.specs.Layout.{Layout, room_of, reach_of}
 use Rattle.record_model.specs.Records.{parts_of}
 use Rattle.record_model.specs.RecordMap.{changes_of_parts}
 

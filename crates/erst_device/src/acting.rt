@@ -1,6 +1,6 @@
 // The serialization actions, over the registers and the store.
 ghost use Rattle.std.specs.Prelude.{◌≡◌, ℕ, ◌-◌, ◌^◌, Some, true, List, length};
-ghost use Rattle.flash_words.specs.Layout.{room_of, reach_of};
+ghost use Rattle.base_model.specs.Layout.{room_of, reach_of};
 ghost use Rattle.erst_entries.specs.declared.actions.Action.{Action};
 ghost use Rattle.erst_entries.specs.declared.actions.Action.TheVariants.{EndOperation, ExecuteOperation, GetRecordIdentifier, GetRecordCount};
 ghost use Rattle.erst_device.specs.DeviceState.{given_up, KnowsCopies};

@@ -1,7 +1,7 @@
 // The device.
 ghost use Rattle.std.specs.Prelude.{◌≡◌, ◌⊎◌, ℕ, ◌+◌, ◌*◌, ◌<◌, true, length, OnOk};
-ghost use Rattle.flash_words.specs.Flash.{StaysLit, raised};
-ghost use Rattle.flash_words.specs.Layout.{room_of, reach_of};
+ghost use Rattle.base_model.specs.Flash.{StaysLit, raised};
+ghost use Rattle.base_model.specs.Layout.{room_of, reach_of};
 ghost use Rattle.record_store.specs.Store.{Idle, IsSettled, abandoned, doubted, restarted};
 ghost use Rattle.record_store.specs.Answers.{FailsByFlash};
 ghost use Rattle.record_store.specs.Calls.{OnlyLooks};

@@ -1,6 +1,6 @@
 // The start of an execution.
 ghost use Rattle.std.specs.Prelude.{◌≡◌, ℕ, Some, true, List, length, MatchOption};
-ghost use Rattle.flash_words.specs.Layout.{room_of, reach_of};
+ghost use Rattle.base_model.specs.Layout.{room_of, reach_of};
 ghost use Rattle.record_model.specs.Records.{is_reserved};
 ghost use Rattle.record_store.specs.Store.{Idle, IsReady, stored};
 ghost use Rattle.erst_device.specs.Starts.{Starts, named};
@@ -9,8 +9,8 @@ ghost use Rattle.erst_device.specs.Registers.{seen, started, Runs, RunsAfter, Fi
 use crate::drafts::{header_at, is_beyond};
 use crate::registers::{Operation, Registers, Running};
 use crate::status::CommandStatus;
-use erst_ids::RecordId;
 use flash_model::Flash;
+use record_slots::RecordId;
 use record_store::Store;
 
 impl Registers {

@@ -1,6 +1,6 @@
 // The steps of an execution.
 ghost use Rattle.std.specs.Prelude.{◌≡◌, ℕ, Some, List, length};
-ghost use Rattle.flash_words.specs.Layout.{room_of, reach_of};
+ghost use Rattle.base_model.specs.Layout.{room_of, reach_of};
 ghost use Rattle.record_store.specs.Store.{IsBusy};
 ghost use Rattle.erst_entries.specs.declared.actions.Action.TheVariants.{CheckBusyStatus};
 ghost use Rattle.erst_device.specs.Actions.{Acts};
@@ -8,8 +8,8 @@ ghost use Rattle.erst_device.specs.Registers.{seen, Runs, IsReading};
 
 use crate::registers::{Registers, Running};
 use crate::status::CommandStatus;
-use erst_ids::RecordId;
 use flash_model::Flash;
+use record_slots::RecordId;
 use record_store::Store;
 
 impl Registers {

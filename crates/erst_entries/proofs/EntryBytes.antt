@@ -3,11 +3,11 @@ use Rattle.std.proofs.Common.{◌≡◌, ℕ, ◌+◌, ◌<◌, ◌≤◌, ◌^�
 use Rattle.std.proofs.lemmas.List.{drop_all}
 use Rattle.base_model.specs.Bytes.{part, number_at, little, put_at, joined, total, AreBytes}
 use Rattle.base_model.proofs.BytesLemmas.{spelled-number_at, little-spelled, length-spelled, part-whole, length-joined}
-use Rattle.apei_gas.specs.declared.structure.Gas.{Gas}
-use Rattle.apei_gas.specs.Layout.{spelling as gas_spelling}
-use Rattle.apei_gas.proofs.Spelling.{same_gas}
-use Rattle.apei_fields.proofs.Parts.{parts, joined-parts, parts-joined, part-cons}
-use Rattle.apei_fields.proofs.Puts.{put_fields, put_fields-joined}
+use Rattle.apei_tables.specs.declared.structure.Gas.{Gas}
+use Rattle.apei_tables.specs.GasLayout.{spelling as gas_spelling}
+use Rattle.apei_tables.proofs.GasSpelling.{same_gas}
+use Rattle.apei_bytes.proofs.Parts.{parts, joined-parts, parts-joined, part-cons}
+use Rattle.apei_bytes.proofs.Puts.{put_fields, put_fields-joined}
 use Rattle.erst_entries.specs.declared.entries.Entry.{Entry}
 use Rattle.erst_entries.specs.Layout.{entry_fields, entry_spelling, IsEntry}
 

@@ -5,7 +5,7 @@ use Rattle.base_model.specs.Bytes.{part, number_at, spelled, put_at, total}
 use Rattle.base_model.proofs.BytesLemmas.{length-spelled, part-append}
 use Rattle.apei_tables.specs.Layout.{spelling as header_spelling, HasSizes}
 use Rattle.apei_tables.specs.Tables.{IsSealed}
-use Rattle.apei_fields.proofs.Puts.{put_fields-joined}
+use Rattle.apei_bytes.proofs.Puts.{put_fields-joined}
 use Rattle.apei_tables.proofs.Spelling.{length-spelling, number_at-length, sum-checksum}
 use Rattle.erst_entries.specs.declared.entries.Entry.{Entry}
 use Rattle.erst_entries.specs.Layout.{Erst, AreEntries, IsEntry, entry_spelling, entries_spelling, front_spelling, spelling}

@@ -1,7 +1,7 @@
 -- The bytes of an Error Record Serialization Table (ACPI 6.4, section 18.5.1).
 use Rattle.std.specs.Prelude.{ℕ, ◌<◌, ◌^◌, List, [], ◌∷◌, ◌++◌, map}
 use Rattle.base_model.specs.Bytes.{spelled, joined}
-use Rattle.apei_gas.specs.Layout.{spelling as gas_spelling, IsGas}
+use Rattle.apei_tables.specs.GasLayout.{spelling as gas_spelling, IsGas}
 use Rattle.apei_tables.specs.declared.headers.Header.{Header}
 use Rattle.apei_tables.specs.Layout.{spelling as header_spelling, IsHeader}
 use Rattle.erst_entries.specs.declared.entries.Entry.{Entry}

@@ -2,9 +2,8 @@
 ghost use Rattle.std.specs.Prelude.{◌≡◌, length};
 ghost use Rattle.erst_entries.specs.Layout.{entry_spelling, IsEntry};
 
-use apei_bytes::{get_u64, put_u64};
-use apei_fields::{array_at, write_array};
-use apei_gas::Gas;
+use apei_bytes::{array_at, get_u64, put_u64, write_array};
+use apei_tables::Gas;
 
 /// The bytes of an entry.
 pub const ENTRY: usize = 32;

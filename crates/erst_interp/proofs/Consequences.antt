@@ -1,8 +1,8 @@
 -- What follows from a run of any program, under any budget: it is accesses one after another, and spends steps.
 use Rattle.std.proofs.Common.{◌≡◌, ℕ, ◌+◌, ◌<◌, ◌≤◌, ◌⊎◌, false, Some, Result, Ok, Err, OnOk, refl, ap, inl, inr, arith}
 use Rattle.base_model.specs.Faults.{Rose}
-use Rattle.apei_gas.specs.declared.registers.Register.{Register}
-use Rattle.apei_gas.specs.Fields.{stored, merged}
+use Rattle.apei_tables.specs.declared.registers.Register.{Register}
+use Rattle.apei_tables.specs.Fields.{stored, merged}
 use Rattle.apei_space.specs.declared.faults.SpaceFault.{SpaceFault}
 use Rattle.apei_space.specs.declared.faults.SpaceFault.TheVariants.{Device}
 use Rattle.apei_space.specs.Calls.{Call, Write, HasReason, fault_of}

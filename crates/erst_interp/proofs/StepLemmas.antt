@@ -2,9 +2,9 @@
 use Rattle.std.proofs.Common.{◌≡◌, ◌∙◌, ℕ, ◌<◌, ◌≤◌, true, Some, Result, Ok, Err, refl, sym, ap, subst}
 use Rattle.std.specs.Prelude.{◌==◌, ◌-◌}
 use Rattle.std.proofs.lemmas.Option.{none-some, same_Some}
-use Rattle.apei_gas.specs.declared.registers.Register.{Register}
-use Rattle.apei_gas.specs.declared.registers.BadRegister.{BadRegister}
-use Rattle.apei_gas.specs.Check.{checked}
+use Rattle.apei_tables.specs.declared.registers.Register.{Register}
+use Rattle.apei_tables.specs.declared.registers.BadRegister.{BadRegister}
+use Rattle.apei_tables.specs.Check.{checked}
 use Rattle.apei_space.specs.declared.faults.SpaceFault.{SpaceFault}
 use Rattle.apei_space.specs.Calls.{Call}
 use Rattle.erst_entries.specs.declared.instructions.Instruction.{Instruction}

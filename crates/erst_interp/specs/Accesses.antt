@@ -1,8 +1,8 @@
 -- Reads and stores of a register's field, over any space: `allows` relates the space before a call, the call with its
 -- answer, and the space after it.
 use Rattle.std.specs.Prelude.{◌≡◌, ℕ, Result, Ok, Err, bit_and}
-use Rattle.apei_gas.specs.declared.registers.Register.{Register}
-use Rattle.apei_gas.specs.Fields.{field, stored, merged}
+use Rattle.apei_tables.specs.declared.registers.Register.{Register}
+use Rattle.apei_tables.specs.Fields.{field, stored, merged}
 use Rattle.apei_space.specs.declared.faults.SpaceFault.{SpaceFault}
 use Rattle.apei_space.specs.Calls.{Call, Read, Write}
 use Rattle.erst_entries.specs.declared.entries.Entry.{Entry}

@@ -1,7 +1,7 @@
 -- What the work on a register leaves of its own refusals.
 use Rattle.std.specs.Prelude.{◌≡◌, Result, Ok, Err}
-use Rattle.apei_gas.specs.declared.registers.BadRegister.{BadRegister}
-use Rattle.apei_gas.specs.Check.{checked}
+use Rattle.apei_tables.specs.declared.registers.BadRegister.{BadRegister}
+use Rattle.apei_tables.specs.Check.{checked}
 use Rattle.apei_space.specs.declared.faults.SpaceFault.{SpaceFault}
 use Rattle.erst_interp.specs.declared.configurations.Configuration.{Configuration}
 use Rattle.erst_interp.specs.declared.configurations.Task.{Task}

@@ -1,9 +1,9 @@
 -- One instruction, over any space (ACPI 6.4, section 18.5.1.2). `allows` relates the space before a call, the call with its
 -- answer, and the space after it.
 use Rattle.std.specs.Prelude.{◌≡◌, ℕ, ◌+◌, ◌-◌, ◌/◌, ◌%◌, ◌^◌, ◌<◌, ◌≤◌, ◌==◌, true, false, None, Result, Ok, Err}
-use Rattle.apei_gas.specs.declared.registers.Register.{Register}
-use Rattle.apei_gas.specs.declared.registers.BadRegister.{BadRegister}
-use Rattle.apei_gas.specs.Check.{checked}
+use Rattle.apei_tables.specs.declared.registers.Register.{Register}
+use Rattle.apei_tables.specs.declared.registers.BadRegister.{BadRegister}
+use Rattle.apei_tables.specs.Check.{checked}
 use Rattle.apei_space.specs.declared.faults.SpaceFault.{SpaceFault}
 use Rattle.apei_space.specs.Calls.{Call, Wait, Copy}
 use Rattle.erst_entries.specs.Instructions.{instruction_of}

@@ -1,9 +1,9 @@
 -- Straight programs: each entry only takes its register's field, or only stores a value over its whole register, and goes
 -- on. So a run goes through all of them in their order, one step each, if no access is refused.
 use Rattle.std.specs.Prelude.{◌≡◌, ℕ, zero, suc, ◌+◌, ◌<◌, List, [], ◌∷◌, length, Some, unwrap_or, Result, Ok, Err, bit_and}
-use Rattle.apei_gas.specs.declared.registers.Register.{Register}
-use Rattle.apei_gas.specs.Check.{checked}
-use Rattle.apei_gas.specs.Fields.{field, stored}
+use Rattle.apei_tables.specs.declared.registers.Register.{Register}
+use Rattle.apei_tables.specs.Check.{checked}
+use Rattle.apei_tables.specs.Fields.{field, stored}
 use Rattle.apei_space.specs.declared.faults.SpaceFault.{SpaceFault}
 use Rattle.apei_space.specs.Calls.{Call, Read, Write}
 use Rattle.erst_entries.specs.declared.entries.Entry.{Entry}

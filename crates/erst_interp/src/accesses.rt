@@ -2,8 +2,8 @@
 ghost use Rattle.std.specs.Prelude.{◌≡◌, ◌<◌, ℕ, Ok};
 ghost use Rattle.erst_interp.specs.Accesses.{FieldRead, Store};
 
-use apei_gas::Register;
 use apei_space::{Space, SpaceFault};
+use apei_tables::Register;
 use erst_entries::Entry;
 
 /// The flag of a store that keeps the register's other bits.

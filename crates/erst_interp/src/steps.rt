@@ -1,6 +1,6 @@
 // One instruction: a small function for each kind of work.
 ghost use Rattle.std.specs.Prelude.{◌≡◌, ◌<◌, ◌^◌, Ok, IfOk, IfErr};
-ghost use Rattle.apei_gas.specs.Check.{checked};
+ghost use Rattle.apei_tables.specs.Check.{checked};
 ghost use Rattle.erst_interp.specs.Instructions.{StoreValue, CompareField, MoveBytes, HasWork};
 ghost use Rattle.erst_interp.specs.Works.{use_meaning};
 ghost use Rattle.erst_interp.specs.Steps.{Executes, Attempts, GoesTo, Waited};
@@ -11,8 +11,8 @@ use crate::budgets::Budget;
 use crate::configurations::{Configuration, Task};
 use crate::stops::RunStop;
 use crate::works::{Access, FieldUse, Work};
-use apei_gas::Register;
 use apei_space::{Space, SpaceFault};
+use apei_tables::Register;
 use erst_entries::Instruction;
 
 /// The longest MOVE_DATA, in bytes.

@@ -1,6 +1,6 @@
 // Why a run ended without an answer.
-use apei_gas::BadRegister;
 use apei_space::SpaceFault;
+use apei_tables::BadRegister;
 
 /// Why a run ended without an answer. `index` is the entry's place in the program. What was done before stands.
 #[derive(Clone, Copy, Debug, PartialEq, Eq)]

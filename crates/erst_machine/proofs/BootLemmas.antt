@@ -1,7 +1,7 @@
 -- The handover's windows in the machine's memory, and a machine right after its boot.
 use Rattle.std.proofs.Common.{◌≡◌, ℕ, refl, sym, ap, subst, ◌∙◌, arith, inl, lit<, lit≤}
 use Rattle.std.proofs.lemmas.List.{length-replicate}
-use Rattle.flash_words.specs.Layout.{Layout, room_of, reach_of}
+use Rattle.base_model.specs.Layout.{Layout, room_of, reach_of}
 use Rattle.apei_space.specs.RamState.{RamState, FillsWindows}
 use Rattle.ghes_ack.specs.Machine.{started}
 use Rattle.flash_model.specs.declared.geometry.Geometry.{Geometry}

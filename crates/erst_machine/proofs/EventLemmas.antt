@@ -4,12 +4,12 @@ use Rattle.std.specs.Prelude.{if◌then◌else◌}
 use Rattle.std.proofs.lemmas.Bool.Decides.{nat_tests}
 use Rattle.std.proofs.lemmas.List.{length-replicate, length-append}
 use Rattle.base_model.specs.Bytes.{joined}
-use Rattle.flash_words.specs.Layout.{Layout, room_of, reach_of}
+use Rattle.base_model.specs.Layout.{Layout, room_of, reach_of}
 use Rattle.record_store.specs.Store.{StoreView, doubted, restarted}
 use Rattle.apei_space.specs.declared.faults.SpaceFault.{SpaceFault}
 use Rattle.apei_space.specs.RamState.{RamState, located, stored}
 use Rattle.apei_space.specs.Accesses.{Move, Trail}
-use Rattle.apei_gas.specs.declared.registers.Place.TheVariants.{Memory}
+use Rattle.apei_tables.specs.declared.registers.Place.TheVariants.{Memory}
 use Rattle.base_model.specs.Bytes.{spelled}
 use Rattle.ghes_block.specs.declared.error.BlockError.{BlockError}
 use Rattle.ghes_block.specs.Reading.{checked}
@@ -21,7 +21,7 @@ use Rattle.ghes_ack.specs.declared.events.Event.TheVariants as turns
 use Rattle.ghes_ack.specs.Machine.{turned, submitted, with_status}
 use Rattle.ghes_ack.specs.Maps.{window, memory_started, memory_after, with_window, with_ack, with_address, with_set, with_clear, acknowledged, ack_read, ack_bytes}
 use Rattle.ghes_ack.specs.Handovers.{HandoverState, StandsFor}
-use Rattle.bert_region.specs.Region.{IsLaidOut, zeros as left_zeros}
+use Rattle.ghes_block.specs.Region.{IsLaidOut, zeros as left_zeros}
 use Rattle.erst_device.specs.DeviceState.{DeviceState}
 use Rattle.erst_machine.specs.declared.errors.BootError.{BootError}
 use Rattle.erst_machine.specs.declared.errors.FatalError.{FatalError}

@@ -1,8 +1,8 @@
 -- What no access lowers: the flash's count of faults.
 use Rattle.std.proofs.Common.{◌≡◌, ℕ, ◌≤◌, ◌/◌, length, Result, refl, sym, ap, subst, ◌∙◌, arith}
 use Rattle.record_store.specs.Store.{StoreView}
-use Rattle.apei_gas.specs.declared.widths.Width.{Width}
-use Rattle.apei_gas.specs.Access.{bits}
+use Rattle.apei_tables.specs.declared.widths.Width.{Width}
+use Rattle.apei_tables.specs.Access.{bits}
 use Rattle.apei_space.specs.declared.faults.SpaceFault.{SpaceFault}
 use Rattle.apei_space.specs.Calls.{Call, Read, Write, Wait, Copy, ReadBytes, WriteBytes}
 use Rattle.apei_space.specs.Accesses.{Reaches, Stays, Goes}

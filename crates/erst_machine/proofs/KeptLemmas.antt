@@ -3,13 +3,13 @@ use Rattle.std.proofs.Common.{◌≡◌, ℕ, ◌+◌, ◌-◌, ◌/◌, ◌≤�
 use Rattle.std.specs.Prelude.{unwrap_or, IfSome, IfOk, OnErr, MatchResult, nat_le, if◌then◌else◌}
 use Rattle.std.proofs.lemmas.Bool.Decides.{nat_tests}
 use Rattle.std.proofs.lemmas.List.{length-replicate}
-use Rattle.flash_words.specs.Layout.{Layout, room_of, reach_of}
+use Rattle.base_model.specs.Layout.{Layout, room_of, reach_of}
 use Rattle.base_model.specs.Bytes.{spelled, put_at, joined}
 use Rattle.base_model.proofs.BytesLemmas.{length-put_at, length-spelled, length-part-le}
-use Rattle.apei_gas.specs.declared.registers.Place.{Place}
-use Rattle.apei_gas.specs.declared.registers.Place.TheVariants.{Memory, Io}
-use Rattle.apei_gas.specs.declared.widths.Width.{Width}
-use Rattle.apei_gas.specs.Access.{bits}
+use Rattle.apei_tables.specs.declared.registers.Place.{Place}
+use Rattle.apei_tables.specs.declared.registers.Place.TheVariants.{Memory, Io}
+use Rattle.apei_tables.specs.declared.widths.Width.{Width}
+use Rattle.apei_tables.specs.Access.{bits}
 use Rattle.apei_space.specs.declared.faults.SpaceFault.{SpaceFault}
 use Rattle.apei_space.specs.Calls.{Call, Read, Write, Wait, Copy, ReadBytes, WriteBytes}
 use Rattle.apei_space.specs.RamState.{RamState}
@@ -19,7 +19,7 @@ use Rattle.ghes_ack.specs.declared.events.Event.{Event as TurnEvent}
 use Rattle.ghes_ack.specs.Machine.{Machine as HandoverMachine, turned}
 use Rattle.ghes_ack.specs.Handovers.{HandoverState, StandsFor, IsTurned}
 use Rattle.ghes_ack.specs.Sides.{Stands}
-use Rattle.bert_region.specs.Region.{IsLaidOut}
+use Rattle.ghes_block.specs.Region.{IsLaidOut}
 use Rattle.erst_device.specs.DeviceState.{DeviceState}
 use Rattle.erst_machine.specs.declared.errors.FatalError.{FatalError}
 use Rattle.erst_machine.specs.Events.{LaysFatal, fatal_refusal}

@@ -2,8 +2,8 @@
 use Rattle.std.proofs.Common.{◌≡◌, ℕ, ◌<◌, ◌≤◌, ◌^◌, List, [], ◌∷◌, ◌++◌, length, drop, refl, sym, subst, arith, lit<, lit≤, inl}
 use Rattle.std.specs.Prelude.{codes}
 use Rattle.base_model.specs.Bytes.{part, number_at, spelled}
-use Rattle.apei_gas.specs.declared.structure.Gas.{Gas}
-use Rattle.apei_gas.specs.Layout.{IsGas}
+use Rattle.apei_tables.specs.declared.structure.Gas.{Gas}
+use Rattle.apei_tables.specs.GasLayout.{IsGas}
 use Rattle.apei_tables.specs.Layout.{spelling as header_spelling, IsHeader}
 use Rattle.apei_tables.specs.Tables.{IsSealed, IsTable}
 use Rattle.erst_entries.specs.declared.actions.Action.{Action}
@@ -14,7 +14,7 @@ use Rattle.erst_entries.specs.Tables.{IsErst}
 use Rattle.hest_sources.specs.declared.sources.HestSource.TheVariants.{Ghes as Generic}
 use Rattle.hest_sources.specs.Layout.{ghes_bytes, IsGhes}
 use Rattle.hest_sources.specs.Tables.{IsHest}
-use Rattle.bert_region.specs.Table.{IsBert}
+use Rattle.ghes_block.specs.Table.{IsBert}
 use Rattle.erst_machine.specs.OwnTables.{own_header, action_register, value_register, act, give, is_one, answer, tell, told_actions, own_entries, own_size, own_checksum, own_erst, own_source, own_hest, own_bert, own_bert_bytes}
 use Rattle.erst_machine.proofs.SealLemmas.{count_is}
 

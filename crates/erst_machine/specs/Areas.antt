@@ -1,9 +1,9 @@
 -- The machine's memory map, and where an access of it stands.
 use Rattle.std.specs.Prelude.{ℕ, ◌+◌, ◌-◌, ◌≤◌, ◌==◌, ◌&&◌, nat_le, nat_lt, if◌then◌else◌, Bool, true, false, List, [], ◌∷◌, Option, Some, None, unwrap_or, Result, Ok, Err}
-use Rattle.apei_gas.specs.declared.registers.Place.{Place}
-use Rattle.apei_gas.specs.declared.registers.Place.TheVariants.{Memory, Io}
-use Rattle.apei_gas.specs.declared.widths.Width.{Width}
-use Rattle.apei_gas.specs.declared.widths.Width.TheVariants.{B8, B16, B32, B64}
+use Rattle.apei_tables.specs.declared.registers.Place.{Place}
+use Rattle.apei_tables.specs.declared.registers.Place.TheVariants.{Memory, Io}
+use Rattle.apei_tables.specs.declared.widths.Width.{Width}
+use Rattle.apei_tables.specs.declared.widths.Width.TheVariants.{B8, B16, B32, B64}
 use Rattle.apei_space.specs.declared.windows.Window.{Window}
 use Rattle.erst_device.specs.Actions.{log_range_at}
 use Rattle.erst_machine.specs.declared.areas.Area.{Area}

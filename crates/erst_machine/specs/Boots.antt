@@ -1,8 +1,8 @@
 -- The boot of a machine.
 use Rattle.std.specs.Prelude.{◌≡◌, ◌≤◌}
 use Rattle.base_model.specs.Faults.{Rose}
-use Rattle.flash_words.specs.Flash.{FlashState}
-use Rattle.flash_words.specs.Layout.{room_of, reach_of}
+use Rattle.base_model.specs.Flash.{FlashState}
+use Rattle.base_model.specs.Layout.{room_of, reach_of}
 use Rattle.flash_model.specs.declared.geometry.Geometry.{Geometry}
 use Rattle.flash_model.specs.Layouts.{layout_of, Fits}
 use Rattle.record_store.specs.Store.{IsOpened}

@@ -2,7 +2,7 @@
 use Rattle.std.specs.Prelude.{◌≡◌, ◌⊎◌, ℕ, ◌-◌, ◌*◌, ◌<◌, true, nat_lt, if◌then◌else◌, List, [], ◌∷◌, ◌++◌, length, Option, Some, None, Result, Ok, Err, IfOk, IfErr, OnOk, OnErr, MatchResult}
 use Rattle.std.specs.FinMap.{len}
 use Rattle.base_model.specs.Bytes.{joined}
-use Rattle.flash_words.specs.Flash.{StaysLit, raised}
+use Rattle.base_model.specs.Flash.{StaysLit, raised}
 use Rattle.record_store.specs.Store.{StoreView, IsSettled, doubted, restarted}
 use Rattle.record_store.specs.Calls.{OnlyLooks}
 use Rattle.record_store.specs.declared.errors.StoreError.{StoreError}
@@ -18,7 +18,7 @@ use Rattle.ghes_ack.specs.Machine.{Machine as HandoverMachine, started, submitte
 use Rattle.ghes_ack.specs.Maps.{window, memory_started, memory_after}
 use Rattle.ghes_ack.specs.Handovers.{StandsFor, IsTurned, fresh, refusal}
 use Rattle.ghes_ack.specs.Sides.{Stands}
-use Rattle.bert_region.specs.Region.{IsLaidOut}
+use Rattle.ghes_block.specs.Region.{IsLaidOut}
 use Rattle.erst_device.specs.DeviceState.{at_first, KnowsCopies}
 use Rattle.erst_machine.specs.declared.errors.BootError.{BootError}
 use Rattle.erst_machine.specs.declared.errors.BootError.TheVariants.{Flash}

@@ -1,11 +1,11 @@
 -- What is seen of the machine.
 use Rattle.std.specs.Prelude.{◌≡◌, ℕ, ◌+◌, ◌-◌, ◌^◌, length}
-use Rattle.flash_words.specs.Flash.{Told}
-use Rattle.flash_words.specs.Layout.{room_of, reach_of}
+use Rattle.base_model.specs.Flash.{Told}
+use Rattle.base_model.specs.Layout.{room_of, reach_of}
 use Rattle.record_model.specs.Records.{Stored}
-use Rattle.apei_gas.specs.declared.registers.Place.{Place}
-use Rattle.apei_gas.specs.declared.registers.Place.TheVariants.{Memory}
-use Rattle.apei_gas.specs.declared.widths.Width.TheVariants.{B64}
+use Rattle.apei_tables.specs.declared.registers.Place.{Place}
+use Rattle.apei_tables.specs.declared.registers.Place.TheVariants.{Memory}
+use Rattle.apei_tables.specs.declared.widths.Width.TheVariants.{B64}
 use Rattle.ghes_ack.specs.declared.maps.HandoverMap.{HandoverMap}
 use Rattle.ghes_ack.specs.Handovers.{HandoverState}
 use Rattle.ghes_ack.specs.Sides.{Stands}

@@ -1,10 +1,10 @@
 -- The bytes of the machine's areas but for the device's registers.
 use Rattle.std.specs.Prelude.{◌≡◌, ℕ, ◌≤◌, List, [], ◌∷◌, length}
 pub use Rattle.base_model.specs.Bytes.{zeros}
-use Rattle.apei_gas.specs.declared.registers.Place.TheVariants.{Memory}
+use Rattle.apei_tables.specs.declared.registers.Place.TheVariants.{Memory}
 use Rattle.apei_space.specs.declared.windows.Window.{Window}
 use Rattle.apei_space.specs.RamState.{RamState}
-use Rattle.bert_region.specs.Region.{IsLaidOut}
+use Rattle.ghes_block.specs.Region.{IsLaidOut}
 use Rattle.erst_machine.specs.Areas.{handover_at, scratch_len, handover_len, region_len, ports_len}
 use Rattle.erst_machine.specs.declared.areas.Area.{Area}
 use Rattle.erst_machine.specs.declared.areas.Area.TheVariants.{Device, Scratch, LogRange, Handover, BootErrors, Ports}

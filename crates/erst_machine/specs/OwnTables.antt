@@ -1,10 +1,10 @@
 -- The machine's own tables (ACPI 6.4, sections 18.5.1, 18.3.2 and 18.3.1).
 use Rattle.std.specs.Prelude.{ℕ, ◌+◌, ◌-◌, ◌*◌, ◌^◌, List, [], ◌∷◌, ◌++◌, length, codes, Some, replicate}
 use Rattle.base_model.specs.Bytes.{spelled}
-use Rattle.apei_gas.specs.declared.registers.Register.{Register}
-use Rattle.apei_gas.specs.declared.registers.Place.TheVariants.{Memory}
-use Rattle.apei_gas.specs.declared.widths.Width.TheVariants.{B32, B64}
-use Rattle.apei_gas.specs.declared.structure.Gas.{Gas}
+use Rattle.apei_tables.specs.declared.registers.Register.{Register}
+use Rattle.apei_tables.specs.declared.registers.Place.TheVariants.{Memory}
+use Rattle.apei_tables.specs.declared.widths.Width.TheVariants.{B32, B64}
+use Rattle.apei_tables.specs.declared.structure.Gas.{Gas}
 use Rattle.apei_tables.specs.declared.headers.Header.{Header}
 use Rattle.apei_tables.specs.Layout.{spelling as header_spelling}
 use Rattle.erst_entries.specs.declared.actions.Action.{Action}
@@ -15,7 +15,7 @@ use Rattle.erst_entries.specs.Layout.{Erst}
 use Rattle.hest_sources.specs.declared.sources.Ghes.{Ghes}
 use Rattle.hest_sources.specs.declared.sources.Ack.{Ack}
 use Rattle.hest_sources.specs.Layout.{ghes_bytes}
-use Rattle.bert_region.specs.declared.table.Bert.{Bert}
+use Rattle.ghes_block.specs.declared.table.Bert.{Bert}
 use Rattle.erst_machine.specs.declared.areas.Area.TheVariants.{Device, Handover, BootErrors}
 use Rattle.erst_machine.specs.Areas.{base_of, region_len}
 

@@ -1,8 +1,8 @@
 -- A fault leaves everything as it was, and none comes of the flash, whose faults are told as command statuses.
 use Rattle.std.proofs.Common.{◌≡◌, ℕ, ◌/◌, List, length, Bool, true, false, Result, Ok, Err, Option, Some, None, if◌then◌else◌, refl, sym, subst, arith}
-use Rattle.apei_gas.specs.declared.widths.Width.{Width}
-use Rattle.apei_gas.specs.declared.widths.Width.TheVariants.{B8}
-use Rattle.apei_gas.specs.Access.{bits}
+use Rattle.apei_tables.specs.declared.widths.Width.{Width}
+use Rattle.apei_tables.specs.declared.widths.Width.TheVariants.{B8}
+use Rattle.apei_tables.specs.Access.{bits}
 use Rattle.apei_space.specs.declared.faults.SpaceFault.{SpaceFault}
 use Rattle.apei_space.specs.declared.faults.SpaceFault.TheVariants.{Unmapped, BadAccess, NotMemory}
 use Rattle.apei_space.specs.Calls.{Call, Read, Write, Wait, Copy, ReadBytes, WriteBytes, HasReason, Leaves, fault_in, IsOfAccess, IsOfCopy}

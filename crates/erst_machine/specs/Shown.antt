@@ -1,11 +1,11 @@
 -- What power lost at any flash step shows, over whatever happens to a machine.
 use Rattle.std.specs.Prelude.{◌≡◌, ℕ, ◌+◌, ◌≤◌, ◌⊎◌, ◌/◌, ◌%◌, ◌^◌, nat_le, MatchBool, List, [], ◌∷◌, length}
 use Rattle.base_model.specs.Faults.{Rose}
-use Rattle.flash_words.specs.Flash.{Told, CrashImage, IsLater, Leaves, image_at}
+use Rattle.base_model.specs.Flash.{Told, CrashImage, IsLater, Leaves, image_at}
 use Rattle.record_model.specs.Records.{Stored}
 use Rattle.record_store.specs.Store.{DividesAlike, records_of as records_in}
-use Rattle.apei_gas.specs.declared.widths.Width.{Width}
-use Rattle.apei_gas.specs.Access.{bits}
+use Rattle.apei_tables.specs.declared.widths.Width.{Width}
+use Rattle.apei_tables.specs.Access.{bits}
 use Rattle.apei_space.specs.Calls.{Call, Write}
 use Rattle.apei_space.specs.Accesses.{Move}
 use Rattle.erst_entries.specs.Actions.{action_of}

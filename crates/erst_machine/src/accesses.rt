@@ -1,6 +1,6 @@
 // The accesses of the machine's areas, at a place that is found.
 ghost use Rattle.std.specs.Prelude.{◌≡◌, ℕ, ◌+◌, ◌-◌, ◌/◌, ◌^◌, ◌<◌, ◌≤◌, List, true, length, Some, None, IfOk, MatchResult};
-ghost use Rattle.apei_gas.specs.Access.{bits};
+ghost use Rattle.apei_tables.specs.Access.{bits};
 ghost use Rattle.ghes_ack.specs.Handovers.{HandoverState};
 ghost use Rattle.erst_device.specs.DeviceState.{DeviceState};
 ghost use Rattle.erst_machine.specs.Areas.{size_of, is_plain, IsPlaced};
@@ -10,8 +10,8 @@ ghost use Rattle.erst_machine.specs.Allowed.{register_read, area_read, number_re
 
 use crate::areas::{Area, Register, Spot, register_at};
 use crate::contents::Contents;
-use apei_gas::Width;
 use apei_space::SpaceFault;
+use apei_tables::Width;
 use erst_device::Device;
 use flash_model::Flash;
 

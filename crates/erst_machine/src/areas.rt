@@ -2,7 +2,7 @@
 ghost use Rattle.std.specs.Prelude.{◌≡◌, ◌+◌, ◌<◌, ◌≤◌, ◌^◌, IfSome, unwrap_or};
 ghost use Rattle.erst_machine.specs.Areas.{base_of, size_of, area_spot, memory_spot, port_spot, place_spot, IsPlaced, is_plain, register_at};
 
-use apei_gas::{Place, Width};
+use apei_tables::{Place, Width};
 use erst_device::LOG_RANGE;
 
 /// The registers ACTION and VALUE, where the device's area begins.

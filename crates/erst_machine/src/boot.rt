@@ -9,7 +9,7 @@ ghost use Rattle.erst_machine.specs.MachineState.{own_map};
 use crate::areas::{ACKNOWLEDGE, BLOCK, BLOCK_LEN, STATUS};
 use crate::contents::Contents;
 use apei_bytes::Memory;
-use apei_gas::{Place, Register, Width};
+use apei_tables::{Place, Register, Width};
 use ghes_ack::{Handover, HandoverMap};
 use std::alloc::Global;
 

@@ -1,13 +1,13 @@
 // The bytes of the machine's areas but for the device's registers.
 ghost use Rattle.std.specs.Prelude.{◌≡◌, ℕ, true, false, ◌+◌, ◌/◌, ◌<◌, ◌≤◌, ◌^◌, length, replicate, IfOk};
 ghost use Rattle.base_model.specs.Bytes.{part, number_at, spelled, put_at};
-ghost use Rattle.apei_gas.specs.Access.{bits};
+ghost use Rattle.apei_tables.specs.Access.{bits};
 ghost use Rattle.erst_machine.specs.Areas.{size_of, is_plain};
 
 use crate::areas::{Area, BOOT_ERRORS_LEN, HANDOVER_LEN, PORTS_LEN, SCRATCH_LEN, STATUS};
 use apei_bytes::Memory;
-use apei_gas::{Place, Width};
 use apei_space::{Ram, Window, copy_part, get_number, get_part, put_number, put_part};
+use apei_tables::{Place, Width};
 use std::alloc::Global;
 
 /// The bytes of the machine's areas, and whether each of the long ones was written since its bytes were zeros.

@@ -5,7 +5,7 @@ ghost use Rattle.erst_entries.specs.Actions.{plain_entry};
 ghost use Rattle.erst_machine.specs.OwnTables.{register_of, action_register, value_register, act, give, is_one, answer, tell, told_actions, own_entries};
 
 use crate::areas::{ACTION, VALUE};
-use apei_gas::Gas;
+use apei_tables::Gas;
 use erst_entries::{Action, Entry, Instruction};
 
 /// A register of so many bits in memory. The access size code is 3 for 32 bits and 4 for 64.

@@ -1,6 +1,6 @@
 // Laws on whatever happens to a machine: the functions do nothing, and their clauses are the laws.
 ghost use Rattle.std.specs.Prelude.{◌≡◌, ℕ, ◌+◌, ◌<◌, ◌≤◌, List, [], ◌∷◌, ◌++◌};
-ghost use Rattle.apei_gas.specs.declared.registers.Place.{Place as AnyPlace};
+ghost use Rattle.apei_tables.specs.declared.registers.Place.{Place as AnyPlace};
 ghost use Rattle.apei_space.specs.Mapped.{FindsBytes, further};
 ghost use Rattle.erst_machine.specs.declared.areas.Area.{Area as AnyArea};
 ghost use Rattle.erst_machine.specs.declared.areas.Spot.TheVariants.{Inside};

@@ -2,21 +2,21 @@
 ghost use Rattle.std.specs.Prelude.{◌≡◌, ◌⊎◌, ℕ, ◌+◌, ◌-◌, ◌*◌, ◌/◌, ◌<◌, ◌≤◌, ◌^◌, List, [], ◌∷◌, ◌++◌, length, IsOk, IfOk, IfErr, OnOk, OnErr, IfSome, Some, None, Ok, Err, MatchOption, MatchResult};
 ghost use Rattle.base_model.specs.Bytes.{part, joined};
 ghost use Rattle.std.specs.FinMap.{len};
-ghost use Rattle.flash_words.specs.Flash.{FlashState, LosesOnlyByChange, StaysLit, raised, next_count};
+ghost use Rattle.base_model.specs.Flash.{FlashState, LosesOnlyByChange, StaysLit, raised, next_count};
 ghost use Rattle.record_model.specs.Records.{second_copies};
 ghost use Rattle.flash_model.specs.Layouts.{Fits};
 ghost use Rattle.record_store.specs.Store.{IsReady, IsFlashOf, IsSettled, KeepsRecordsOf};
-ghost use Rattle.record_recovery.specs.Answers.{IsOneFault};
+ghost use Rattle.record_slots.specs.Answers.{IsOneFault};
 ghost use Rattle.record_store.specs.Answers.{RefusesFlash};
-ghost use Rattle.apei_gas.specs.Access.{bits};
+ghost use Rattle.apei_tables.specs.Access.{bits};
 ghost use Rattle.erst_device.specs.DeviceState.{at_first, records};
 ghost use Rattle.ghes_block.specs.Grammar.{IsBlock};
 ghost use Rattle.erst_entries.specs.Layout.{spelling, FitsErst};
 ghost use Rattle.erst_entries.specs.Tables.{IsErst};
 ghost use Rattle.hest_sources.specs.declared.sources.HestSource.TheVariants.{Ghes as Generic};
 ghost use Rattle.hest_sources.specs.Tables.{IsHest};
-ghost use Rattle.bert_region.specs.Table.{IsBert};
-ghost use Rattle.bert_region.specs.Region.{IsLaidOut, next_from};
+ghost use Rattle.ghes_block.specs.Table.{IsBert};
+ghost use Rattle.ghes_block.specs.Region.{IsLaidOut, next_from};
 ghost use Rattle.erst_machine.specs.Areas.{place_spot, IsPlaced};
 ghost use Rattle.erst_machine.specs.Memories.{IsLaid};
 ghost use Rattle.erst_machine.specs.MachineState.{MachineState, IsMachine, reach_in, spot_of};
@@ -32,8 +32,8 @@ use crate::contents::Contents;
 use crate::errors::{BootError, BootRefused, FatalError};
 use crate::tables;
 use apei_bytes::Memory;
-use apei_gas::{Place, Width};
 use apei_space::{Space, SpaceFault, address};
+use apei_tables::{Place, Width};
 use erst_device::Device;
 use erst_entries::Action;
 use flash_model::{Flash, Geometry};
@@ -235,7 +235,7 @@ impl<F: Flash> Machine<F> {
             (λ error. next_from self.now.memory.region at ≡ Err error) }
         ensures block { IfOk result (λ found. IfSome found (λ x. IsBlock x.0 (part self.now.memory.region at (x.1 - at)))) }
     {
-        bert_region::take(&self.contents.region, at)
+        ghes_block::take(&self.contents.region, at)
     }
 
     /// The flash, for good.
@@ -323,7 +323,7 @@ fn lay_block(region: &mut [u8], block: &[u8]) -> Result<u32, FatalError>
             }
         }
     }
-    match bert_region::lay(region, block) {
+    match ghes_block::lay(region, block) {
         Ok(at) => Ok(at),
         Err(full) => Err(FatalError::Region { need: full.need }),
     }

@@ -4,14 +4,13 @@ ghost use Rattle.erst_entries.specs.Layout.{spelling, FitsErst};
 ghost use Rattle.erst_entries.specs.Tables.{IsErst};
 ghost use Rattle.hest_sources.specs.declared.sources.HestSource.TheVariants.{Ghes as Generic};
 ghost use Rattle.hest_sources.specs.Tables.{IsHest};
-ghost use Rattle.bert_region.specs.Table.{IsBert};
+ghost use Rattle.ghes_block.specs.Table.{IsBert};
 ghost use Rattle.erst_machine.specs.Memories.{zeros};
 ghost use Rattle.erst_machine.specs.OwnTables.{own_header, own_source, own_size, own_erst, own_hest, own_bert, own_bert_bytes};
 
 use crate::areas::{ACKNOWLEDGE, BLOCK_LEN, BOOT_ERRORS, BOOT_ERRORS_LEN, STATUS};
 use crate::entries::{own_entries, register_of};
-use apei_bytes::{Memory, put_u32, put_u64};
-use apei_fields::write_array;
+use apei_bytes::{Memory, put_u32, put_u64, write_array};
 use apei_tables::{Header, seal};
 use erst_entries::ErstTable;
 use hest_sources::{Ack, Ghes};

@@ -1,7 +1,7 @@
 -- An action of a port.
 use Rattle.std.proofs.Common.{◌≡◌, ◌≢◌, ℕ, ◌-◌, ◌^◌, ◌≤◌, true, min, List, length, Option, Some, sym, ap, subst, ◌∙◌, arith}
 use Rattle.std.proofs.lemmas.List.{length-take}
-use Rattle.flash_words.specs.Flash.{Change, FlashState, IsLater}
+use Rattle.base_model.specs.Flash.{Change, FlashState, IsLater}
 use Rattle.erst_entries.specs.Actions.{action_of, code_of}
 use Rattle.erst_entries.specs.declared.actions.Action.TheVariants.{GetRecordIdentifier, GetErrorLogAddressRange}
 use Rattle.erst_device.specs.DeviceState.{DeviceState, KnowsCopies}

@@ -1,3 +1,8 @@
+pub mod Walks
+pub mod Puts
+pub mod Dues
+pub mod Logs
+pub mod Made
 pub mod LookLemmas
 pub mod ActLemmas
 pub mod TableLemmas

@@ -2,14 +2,14 @@
 use Rattle.std.proofs.Common.{◌≡◌, ℕ, ◌≤◌, List, length, drop, Option, Result, Ok, Err, sym, ap, subst, ◌∙◌, arith}
 use Rattle.std.specs.Prelude.{IfOk, IfErr}
 use Rattle.base_model.specs.Bytes.{number_at}
-use Rattle.flash_words.specs.Layout.{Layout}
-use Rattle.flash_words.proofs.CrashLemmas.{image_at-now, Leaves-exit}
+use Rattle.base_model.specs.Layout.{Layout}
+use Rattle.base_model.proofs.CrashLemmas.{image_at-now, Leaves-exit}
 use Rattle.flash_model.specs.declared.geometry.Geometry.{Geometry}
 use Rattle.flash_model.specs.Layouts.{layout_of}
 use Rattle.record_model.specs.Records.{second_copies}
 use Rattle.record_store.specs.Store.{StoreView, Pending, Idle, IsReady, IsSettled, records_of, stored, doubt_after, abandoned}
 use Rattle.record_store.specs.Answers.{copies_in}
-use Rattle.flash_mirror.specs.States.{first_state}
+use Rattle.erst_port.specs.States.{first_state}
 use Rattle.erst_entries.specs.Layout.{spelling}
 use Rattle.erst_device.specs.declared.registers.Operation.{Operation}
 use Rattle.erst_device.specs.declared.status.CommandStatus.{CommandStatus}

@@ -4,13 +4,13 @@ use Rattle.std.proofs.Math.Nat.{mul_comm, mul-le-mul_right}
 use Rattle.std.proofs.lemmas.Nat.{le-div}
 use Rattle.std.proofs.lemmas.List.{length_push}
 use Rattle.base_model.specs.Faults.{Rose}
-use Rattle.flash_words.specs.Flash.{Change, Told, FlashState, Changed, MayChange}
+use Rattle.base_model.specs.Flash.{Change, Told, FlashState, Changed, MayChange}
 use Rattle.flash_model.specs.declared.geometry.Geometry.{Geometry}
 use Rattle.record_model.specs.Records.{one_if, count_below, second_copies}
-use Rattle.record_recovery.specs.Recovered.{KillsBelow, NoKill, Kill}
-use Rattle.flash_mirror.specs.Dues.{IsLogged, bytes_in}
-use Rattle.flash_mirror.proofs.Logs.{bytes_in-push}
-use Rattle.erst_medium.specs.Headers.{flash_size}
+use Rattle.record_slots.specs.Recovered.{KillsBelow, NoKill, Kill}
+use Rattle.erst_port.specs.Dues.{IsLogged, bytes_in}
+use Rattle.erst_port.proofs.Logs.{bytes_in-push}
+use Rattle.image_survey.specs.Headers.{flash_size}
 
 -- at most n changes were made, and their ranges have no more bytes
 abbrev AreFew : (n : ℕ) (first last : Told) → Type 0

@@ -9,7 +9,7 @@ use Rattle.record_store.specs.Answers.{AnswersByItself}
 use Rattle.record_store.specs.declared.errors.StoreError.{StoreError}
 use Rattle.erst_entries.specs.declared.actions.Action.{Action}
 use Rattle.erst_entries.specs.declared.actions.Action.TheVariants.{ExecuteOperation, GetRecordIdentifier, GetRecordCount, GetErrorLogAddressRange}
-use Rattle.flash_words.specs.Flash.{LosesOnlyByChange}
+use Rattle.base_model.specs.Flash.{LosesOnlyByChange}
 use Rattle.erst_device.specs.declared.status.CommandStatus.TheVariants.{HardwareNotAvailable}
 use Rattle.erst_device.specs.StoreCalls.{FoundNext}
 use Rattle.erst_device.specs.DeviceState.{DeviceState, records, IsRunning, given_up}

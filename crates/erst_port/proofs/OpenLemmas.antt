@@ -2,16 +2,16 @@
 use Rattle.std.proofs.Common.{◌≡◌, ◌∙◌, ℕ, ◌-◌, ◌≤◌, true, List, length, take, drop, Result, Ok, Err, sym, ap, subst, arith}
 use Rattle.std.proofs.lemmas.List.{length-replicate, take_rest}
 use Rattle.base_model.specs.Bytes.{zeros}
-use Rattle.flash_words.specs.Layout.{Layout, room_of, reach_of}
+use Rattle.base_model.specs.Layout.{Layout, room_of, reach_of}
 use Rattle.record_store.specs.Store.{IsOpened}
-use Rattle.flash_mirror.specs.Dues.{IsLogged}
+use Rattle.erst_port.specs.Dues.{IsLogged}
 use Rattle.erst_device.specs.DeviceState.{DeviceState}
 use Rattle.erst_entries.specs.Layout.{spelling}
 use Rattle.erst_port.specs.Places.{are_apart}
 use Rattle.erst_port.specs.PortTables.{port_erst}
 use Rattle.std.specs.Prelude.{IfOk, IfErr}
 use Rattle.flash_model.specs.declared.geometry.Geometry.{Geometry}
-use Rattle.erst_medium.specs.Headers.{IsMedium}
+use Rattle.image_survey.specs.Headers.{IsMedium}
 use Rattle.erst_port.specs.declared.windows.Addresses.{Addresses}
 use Rattle.erst_port.specs.declared.errors.OpenError.{OpenError}
 use Rattle.erst_port.specs.PortState.{PortState, IsPort, state_of, table_size}

@@ -7,7 +7,7 @@ use Rattle.std.proofs.lemmas.List.{drop_at}
 use Rattle.std.proofs.lemmas.Option.{same_Some}
 use Rattle.base_model.specs.Bytes.{part, number_at, little, spelled}
 use Rattle.base_model.proofs.BytesLemmas.{little-spelled}
-use Rattle.flash_words.specs.Layout.{Layout}
+use Rattle.base_model.specs.Layout.{Layout}
 use Rattle.erst_device.specs.declared.registers.Operation.{Operation}
 use Rattle.erst_device.specs.declared.registers.Operation.TheVariants.{Write, Read, Clear, Dummy}
 use Rattle.erst_device.specs.declared.status.CommandStatus.{CommandStatus}
@@ -18,8 +18,8 @@ use Rattle.erst_device.specs.declared.registers.Running.{Running}
 use Rattle.erst_device.specs.declared.registers.Running.TheVariants.{Nothing, Reading, Changing}
 use Rattle.erst_device.specs.Registers.{reading_of, seen, Runs}
 use Rattle.erst_device.specs.DeviceState.{DeviceState, IsStill, IsRunning, Reads, Changes}
-use Rattle.apei_fields.specs.Writing.{Wrote}
-use Rattle.apei_fields.proofs.Puts.{wrote_then}
+use Rattle.apei_bytes.specs.Writing.{Wrote}
+use Rattle.apei_bytes.proofs.Puts.{wrote_then}
 use Rattle.record_store.specs.Store.{StoreView}
 use Rattle.erst_port.specs.declared.windows.Addresses.{Addresses}
 use Rattle.erst_port.specs.PortState.{PortState, IsPort, IsMade}

@@ -5,9 +5,9 @@ use Rattle.std.proofs.lemmas.List.Sums.{sum_by-append, sum_by-cons}
 use Rattle.std.proofs.lemmas.List.{append-nil, take_all, length-take-le, length-append}
 use Rattle.base_model.specs.Bytes.{part, number_at, spelled, put_at, SameOutside}
 use Rattle.base_model.proofs.BytesLemmas.{length-put_at}
-use Rattle.apei_fields.specs.Writing.{Wrote}
-use Rattle.apei_fields.proofs.Puts.{wrote_then}
-use Rattle.apei_gas.specs.Layout.{IsGas}
+use Rattle.apei_bytes.specs.Writing.{Wrote}
+use Rattle.apei_bytes.proofs.Puts.{wrote_then}
+use Rattle.apei_tables.specs.GasLayout.{IsGas}
 use Rattle.apei_tables.specs.declared.headers.Header.{Header}
 use Rattle.apei_tables.specs.Layout.{spelling as header_spelling}
 use Rattle.apei_tables.specs.Tables.{IsSealed}

@@ -2,8 +2,8 @@
 use Rattle.std.specs.Prelude.{◌≡◌, ◌≢◌, ℕ, ◌+◌, ◌-◌, ◌*◌, ◌/◌, ◌%◌, ◌^◌, ◌⊎◌, true, Some, List, length, Result, Ok, Err, OnOk}
 use Rattle.base_model.specs.Bytes.{part, number_at, spelled, put_at}
 use Rattle.base_model.specs.Faults.{Rose}
-use Rattle.apei_gas.specs.declared.widths.Width.{Width}
-use Rattle.apei_gas.specs.Access.{bits}
+use Rattle.apei_tables.specs.declared.widths.Width.{Width}
+use Rattle.apei_tables.specs.Access.{bits}
 use Rattle.record_store.specs.Store.{IsSettled, doubted}
 use Rattle.record_store.specs.Answers.{FailsByFlash}
 use Rattle.record_store.specs.Calls.{OnlyLooks}

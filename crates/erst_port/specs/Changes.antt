@@ -1,7 +1,7 @@
 -- The changes that the medium of a port has to make.
 use Rattle.std.specs.Prelude.{◌≡◌, ◌⊎◌, ℕ, ◌+◌, List, Result, Ok, Err}
-use Rattle.flash_mirror.specs.declared.due.Kind.{Kind}
-use Rattle.flash_mirror.specs.Dues.{IsDue}
+use Rattle.erst_port.specs.declared.due.Kind.{Kind}
+use Rattle.erst_port.specs.Dues.{IsDue}
 use Rattle.erst_port.specs.declared.errors.NotDue.{NotDue}
 use Rattle.erst_port.specs.PortState.{PortState, flash_of, IsMade}
 

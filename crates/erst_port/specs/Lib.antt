@@ -1,3 +1,8 @@
+pub mod Pasts
+pub mod Dues
+pub mod Contents
+pub mod Logs
+pub mod States
 pub mod Places
 pub mod PortState
 pub mod Changes

@@ -1,7 +1,7 @@
 -- A port that goes on where a saved one stopped.
 use Rattle.std.specs.Prelude.{◌≡◌, ◌≢◌, ℕ, ◌+◌, ◌≤◌, List, length, drop, Option, None}
 use Rattle.base_model.specs.Bytes.{number_at}
-use Rattle.flash_words.specs.Layout.{Layout}
+use Rattle.base_model.specs.Layout.{Layout}
 use Rattle.record_store.specs.Store.{StoreView, IsReady, IsSettled}
 use Rattle.record_store.specs.Answers.{copies_in}
 use Rattle.erst_device.specs.declared.registers.Operation.{Operation}

@@ -1,17 +1,17 @@
 -- The opening of a port.
 use Rattle.std.specs.Prelude.{◌≡◌, ◌≢◌, ℕ, ◌-◌, true, false, List, length, drop}
 use Rattle.base_model.specs.Bytes.{zeros}
-use Rattle.flash_words.specs.Layout.{reach_of}
+use Rattle.base_model.specs.Layout.{reach_of}
 use Rattle.flash_model.specs.declared.geometry.Geometry.{Geometry}
 use Rattle.record_model.specs.Records.{second_copies}
 use Rattle.record_store.specs.Store.{IsOpened, IsFlashOf, IsSettled, KeepsRecordsOf}
 use Rattle.erst_entries.specs.Layout.{spelling}
 use Rattle.erst_entries.specs.Tables.{IsErst}
 use Rattle.erst_device.specs.DeviceState.{at_first}
-use Rattle.erst_medium.specs.declared.header.MediumError.{MediumError}
-use Rattle.erst_medium.specs.declared.header.MediumError.TheVariants as media
-use Rattle.erst_medium.specs.Headers.{flash_size, IsMedium, RefusesMedium}
-use Rattle.flash_mirror.specs.States.{first_state}
+use Rattle.image_survey.specs.declared.header.MediumError.{MediumError}
+use Rattle.image_survey.specs.declared.header.MediumError.TheVariants as media
+use Rattle.image_survey.specs.Headers.{flash_size, IsMedium, RefusesMedium}
+use Rattle.erst_port.specs.States.{first_state}
 use Rattle.erst_port.specs.declared.windows.Addresses.{Addresses}
 use Rattle.erst_port.specs.declared.errors.OpenError.{OpenError}
 use Rattle.erst_port.specs.declared.errors.OpenError.TheVariants as errors

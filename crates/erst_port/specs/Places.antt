@@ -1,8 +1,8 @@
 -- Where a number or bytes stand in the two windows of a port.
 use Rattle.std.specs.Prelude.{ℕ, ◌+◌, ◌/◌, ◌^◌, ◌≤◌, ◌==◌, ◌&&◌, ◌||◌, nat_le, nat_lt, Bool, if◌then◌else◌}
-use Rattle.apei_gas.specs.declared.widths.Width.{Width}
-use Rattle.apei_gas.specs.declared.widths.Width.TheVariants.{B8, B16, B32, B64}
-use Rattle.apei_gas.specs.Access.{bits}
+use Rattle.apei_tables.specs.declared.widths.Width.{Width}
+use Rattle.apei_tables.specs.declared.widths.Width.TheVariants.{B8, B16, B32, B64}
+use Rattle.apei_tables.specs.Access.{bits}
 use Rattle.erst_port.specs.declared.windows.Window.{Window}
 use Rattle.erst_port.specs.declared.windows.Window.TheVariants.{Registers, LogRange}
 use Rattle.erst_port.specs.declared.windows.Addresses.{Addresses}

@@ -1,8 +1,8 @@
 -- What is seen of a port.
 use Rattle.std.specs.Prelude.{◌≡◌, ℕ, ◌+◌, ◌<◌, ◌≤◌, true, List, length}
-use Rattle.flash_words.specs.Flash.{FlashState}
-use Rattle.flash_words.specs.Layout.{room_of, reach_of}
-use Rattle.flash_mirror.specs.Dues.{IsLogged}
+use Rattle.base_model.specs.Flash.{FlashState}
+use Rattle.base_model.specs.Layout.{room_of, reach_of}
+use Rattle.erst_port.specs.Dues.{IsLogged}
 use Rattle.erst_entries.specs.Layout.{spelling}
 use Rattle.erst_device.specs.DeviceState.{DeviceState}
 use Rattle.erst_port.specs.declared.windows.Addresses.{Addresses}

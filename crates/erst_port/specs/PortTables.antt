@@ -1,6 +1,6 @@
 -- The table of a port (ACPI 6.4, section 18.5.1): ACTION stands where the registers' window begins, VALUE 8 bytes behind.
 use Rattle.std.specs.Prelude.{ℕ, ◌+◌, ◌-◌, ◌*◌, ◌%◌, ◌^◌, sum, List, [], ◌∷◌, codes}
-use Rattle.apei_gas.specs.declared.structure.Gas.{Gas}
+use Rattle.apei_tables.specs.declared.structure.Gas.{Gas}
 use Rattle.erst_entries.specs.declared.actions.Action.{Action}
 use Rattle.erst_entries.specs.declared.actions.Action.TheVariants.{BeginWriteOperation, BeginReadOperation, BeginClearOperation, EndOperation, SetRecordOffset, ExecuteOperation, CheckBusyStatus, GetCommandStatus, GetRecordIdentifier, SetRecordIdentifier, GetRecordCount, BeginDummyWriteOperation, GetErrorLogAddressRange, GetErrorLogAddressRangeLength, GetErrorLogAddressRangeAttributes, GetExecuteOperationTimings}
 use Rattle.erst_entries.specs.declared.entries.Entry.{Entry}

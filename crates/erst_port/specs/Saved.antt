@@ -2,7 +2,7 @@
 -- have the low byte first.
 use Rattle.std.specs.Prelude.{◌≡◌, ℕ, ◌+◌, ◌<◌, ◌≤◌, ◌^◌, List, [], ◌∷◌, ◌++◌, length, codes, Option, Some, None, Result, Ok, Err}
 use Rattle.base_model.specs.Bytes.{little, spelled, put_at, joined}
-use Rattle.flash_words.specs.Layout.{Layout}
+use Rattle.base_model.specs.Layout.{Layout}
 use Rattle.erst_device.specs.declared.registers.Operation.{Operation}
 use Rattle.erst_device.specs.declared.registers.Operation.TheVariants.{Write, Read, Clear, Dummy}
 use Rattle.erst_device.specs.Statuses.{number_of}

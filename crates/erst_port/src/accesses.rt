@@ -1,6 +1,6 @@
 // The accesses of a port.
 ghost use Rattle.std.specs.Prelude.{◌≡◌, ◌<◌, ◌≤◌, ◌^◌, length, IfOk};
-ghost use Rattle.apei_gas.specs.Access.{bits};
+ghost use Rattle.apei_tables.specs.Access.{bits};
 ghost use Rattle.erst_port.specs.Places.{range_spot, spot_of};
 ghost use Rattle.erst_port.specs.Accesses.{number_read, NumberWritten, ActionWritten, bytes_read, bytes_stored, Resets};
 
@@ -8,8 +8,8 @@ use crate::acting::{act, reset};
 use crate::errors::PortError;
 use crate::port::Port;
 use crate::windows::{Spot, Window, range_spot, spot_of};
-use apei_gas::Width;
 use apei_space::{get_number, get_part, put_number, put_part};
+use apei_tables::Width;
 
 const HALF: u64 = 1 << 32;
 

@@ -1,15 +1,15 @@
 // The actions of the device, as a port carries them out.
 ghost use Rattle.std.specs.Prelude.{◌≡◌, ◌≤◌, length, OnOk};
-ghost use Rattle.flash_words.specs.Layout.{room_of, reach_of};
+ghost use Rattle.base_model.specs.Layout.{room_of, reach_of};
 ghost use Rattle.record_store.specs.Store.{IsSettled, doubted};
 ghost use Rattle.record_store.specs.Answers.{FailsByFlash};
 ghost use Rattle.record_store.specs.Calls.{OnlyLooks};
 ghost use Rattle.erst_device.specs.DeviceState.{at_first};
 ghost use Rattle.erst_port.specs.Accesses.{Acted};
 
+use crate::MirrorFlash;
 use erst_device::Device;
 use erst_entries::Action;
-use flash_mirror::MirrorFlash;
 use flash_model::Flash;
 use record_store::StoreError;
 

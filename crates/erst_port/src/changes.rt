@@ -3,10 +3,10 @@ ghost use Rattle.std.specs.Prelude.{◌≡◌, ◌↔◌, length, IsTrue, MatchO
 ghost use Rattle.erst_port.specs.PortState.{flash_of, IsMade};
 ghost use Rattle.erst_port.specs.Changes.{IsDueOn, NotesMade};
 
+use crate::Due;
 use crate::acting::steps;
 use crate::errors::NotDue;
 use crate::port::Port;
-use flash_mirror::Due;
 use flash_model::Flash;
 
 impl Port {

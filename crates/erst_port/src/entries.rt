@@ -2,7 +2,7 @@
 ghost use Rattle.std.specs.Prelude.{◌≡◌, ◌+◌, ◌<◌, ◌^◌};
 ghost use Rattle.erst_port.specs.PortTables.{action_at, value_at, carries_out, gives, asks_for_one, takes, port_entries};
 
-use apei_gas::Gas;
+use apei_tables::Gas;
 use erst_entries::{Action, Entry, Instruction};
 use erst_machine::entries::{entry_of, register_of};
 

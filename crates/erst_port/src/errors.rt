@@ -1,5 +1,5 @@
 // Why a port is not opened, and why a call of it is refused.
-use erst_medium::MediumError;
+use image_survey::MediumError;
 
 /// Why a port is not opened: the first reason that applies.
 #[derive(Clone, Copy, Debug, PartialEq, Eq)]

@@ -4,20 +4,20 @@ ghost use Rattle.flash_model.specs.Layouts.{Fits};
 ghost use Rattle.record_model.specs.Records.{second_copies};
 ghost use Rattle.record_store.specs.Store.{IsOpened, IsFlashOf, IsSettled, KeepsRecordsOf};
 ghost use Rattle.erst_device.specs.DeviceState.{at_first};
-ghost use Rattle.flash_mirror.specs.States.{state_of, first_state};
-ghost use Rattle.flash_mirror.specs.Dues.{IsLogged};
-ghost use Rattle.erst_medium.specs.Headers.{flash_size};
+ghost use Rattle.erst_port.specs.States.{state_of, first_state};
+ghost use Rattle.erst_port.specs.Dues.{IsLogged};
+ghost use Rattle.image_survey.specs.Headers.{flash_size};
 ghost use Rattle.erst_port.specs.Openings.{OpenedAs, OpenedOn, RefusesImage, RefusesOpening};
 
+use crate::MirrorFlash;
 use crate::errors::OpenError;
 use crate::memory::{blank, copied};
 use crate::port::Port;
 use crate::table::table_at;
 use crate::windows::Addresses;
 use erst_device::Device;
-use erst_medium::geometry_of;
-use flash_mirror::MirrorFlash;
 use flash_model::Geometry;
+use image_survey::geometry_of;
 use record_store::{ScanError, Store};
 use std::alloc::{AllocError, Global};
 

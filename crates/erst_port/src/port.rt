@@ -3,9 +3,9 @@ ghost use Rattle.std.specs.Prelude.{◌≡◌, length};
 ghost use Rattle.flash_model.specs.Layouts.{layout_of};
 ghost use Rattle.erst_port.specs.PortState.{flash_of};
 
+use crate::MirrorFlash;
 use crate::windows::Addresses;
 use erst_device::Device;
-use flash_mirror::MirrorFlash;
 use flash_model::Geometry;
 use std::marker::Model;
 

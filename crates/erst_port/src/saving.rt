@@ -8,7 +8,7 @@ ghost use Rattle.erst_port.specs.Saved.{operation_number, saved_head, saved_size
 use crate::errors::SaveError;
 use crate::port::Port;
 use crate::windows::Addresses;
-use apei_fields::{write_bytes, write_u32, write_u64};
+use apei_bytes::{write_bytes, write_u32, write_u64};
 use erst_device::{Operation, Registers, Running};
 use flash_model::Geometry;
 

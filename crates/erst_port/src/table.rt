@@ -6,7 +6,7 @@ ghost use Rattle.erst_port.specs.PortTables.{port_erst, port_size};
 
 use crate::entries::port_entries;
 use crate::memory::blank;
-use apei_fields::{write_array, write_u32};
+use apei_bytes::{write_array, write_u32};
 use apei_tables::seal;
 use erst_machine::own_header;
 use std::alloc::{AllocError, Global};

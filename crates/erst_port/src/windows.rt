@@ -1,9 +1,9 @@
 // Where the registers and the log range stand.
 ghost use Rattle.std.specs.Prelude.{◌≡◌, ◌+◌, ◌/◌, ◌<◌, ◌≤◌, ◌^◌, true};
-ghost use Rattle.apei_gas.specs.Access.{bits};
+ghost use Rattle.apei_tables.specs.Access.{bits};
 ghost use Rattle.erst_port.specs.Places.{are_apart, register_spot, range_spot, spot_of, IsPlaced};
 
-use apei_gas::Width;
+use apei_tables::Width;
 
 /// A window of a port.
 #[derive(Clone, Copy, Debug, PartialEq, Eq)]

@@ -5,10 +5,10 @@ use Rattle.std.proofs.lemmas.Bool.{le-ltb}
 use Rattle.std.proofs.lemmas.Nat.{and_mask}
 use Rattle.base_model.specs.Bytes.{spelled, put_at}
 use Rattle.base_model.proofs.BytesLemmas.{length-put_at, length-spelled}
-use Rattle.apei_gas.specs.declared.registers.Register.{Register}
-use Rattle.apei_gas.specs.declared.registers.Place.TheVariants.{Memory}
-use Rattle.apei_gas.specs.declared.widths.Width.TheVariants.{B64}
-use Rattle.apei_gas.specs.Fields.{field, stored}
+use Rattle.apei_tables.specs.declared.registers.Register.{Register}
+use Rattle.apei_tables.specs.declared.registers.Place.TheVariants.{Memory}
+use Rattle.apei_tables.specs.declared.widths.Width.TheVariants.{B64}
+use Rattle.apei_tables.specs.Fields.{field, stored}
 use Rattle.apei_space.specs.declared.faults.SpaceFault.{SpaceFault}
 use Rattle.erst_entries.specs.declared.actions.Action.{Action}
 use Rattle.erst_entries.specs.declared.actions.Action.TheVariants.{GetErrorLogAddressRange, GetErrorLogAddressRangeLength, GetErrorLogAddressRangeAttributes, GetExecuteOperationTimings}
@@ -38,8 +38,8 @@ use Rattle.erst_commands.proofs.MachineSteps.{acted_is}
 use Rattle.erst_commands.proofs.OwnProgramLemmas.{StraightRuns, has_steps}
 use Rattle.erst_commands.proofs.AskLemmas.{with_answer, FirstAsked, Went, Halted, first_asked, none_asked}
 use Rattle.erst_commands.proofs.LimitLemmas.{timings-halves}
-use Rattle.erst_moves.specs.MoveEntries.{MoveRegister, Offset, Source, Length, address_of, put_number, use_register, move_entries}
-use Rattle.erst_moves.proofs.PlainLemmas.{number-put}
+use Rattle.erst_shadow.specs.MoveEntries.{MoveRegister, Offset, Source, Length, address_of, put_number, use_register, move_entries}
+use Rattle.erst_shadow.proofs.PlainLemmas.{number-put}
 use Rattle.erst_shadow.specs.ShadowTables.{scratch_at, shadow_entries, shadow_erst}
 use Rattle.erst_shadow.specs.ShadowMoves.{holding, HoldsPieces}
 use Rattle.erst_shadow.specs.ShadowCommands.{pieces_in, shadow_client, AttachesShadow}

@@ -1,7 +1,7 @@
 -- A sequence by the table says that the flash failed only where its count of faults rose.
 use Rattle.std.proofs.Common.{◌≡◌, ℕ, ◌≤◌, List, Option, Result, sym, ap, subst}
 use Rattle.base_model.specs.Faults.{Rose}
-use Rattle.flash_words.specs.Layout.{room_of, reach_of}
+use Rattle.base_model.specs.Layout.{room_of, reach_of}
 use Rattle.record_store.specs.Store.{StoreView}
 use Rattle.erst_client.specs.declared.errors.ClientError.{ClientError}
 use Rattle.erst_client.specs.Commands.{Writes, Reads}

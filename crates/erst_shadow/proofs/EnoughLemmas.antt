@@ -1,7 +1,7 @@
 -- With the steps that are enough by the machine's timings each command goes through, whatever the flash tells.
 use Rattle.std.proofs.Common.{◌≡◌, ◌∙◌, ℕ, ◌+◌, ◌*◌, ◌/◌, ◌^◌, ◌≤◌, ◌<◌, List, length, Option, Some, Result, sym, subst, arith}
 use Rattle.std.specs.Prelude.{min}
-use Rattle.flash_words.specs.Layout.{Layout, room_of, reach_of}
+use Rattle.base_model.specs.Layout.{Layout, room_of, reach_of}
 use Rattle.erst_client.specs.declared.errors.ClientError.{ClientError}
 use Rattle.erst_client.specs.declared.requests.Request.{Request}
 use Rattle.erst_client.specs.Commands.{Writes, Reads}

@@ -1,3 +1,9 @@
+pub mod EntryLemmas
+pub mod StageLemmas
+pub mod HaltLemmas
+pub mod RunLemmas
+pub mod BehindLemmas
+pub mod PlainLemmas
 pub mod TableLemmas
 pub mod MoveLemmas
 pub mod ProgramLemmas

@@ -2,14 +2,14 @@
 use Rattle.std.proofs.Common.{◌≡◌, ◌∙◌, ℕ, zero, suc, ◌+◌, ◌*◌, ◌^◌, ◌<◌, ◌≤◌, inl, inr, List, ◌++◌, length, Result, Ok, refl, sym, ap, subst, arith}
 use Rattle.base_model.specs.Bytes.{part, number_at, spelled, put_at, SameOutside}
 use Rattle.base_model.proofs.BytesLemmas.{length-spelled, length-part, part-part, part-append, part-put_at, length-put_at, SameOutside-put_at, SameOutside-refl, SameOutside-wider, is_put_at}
-use Rattle.apei_gas.specs.declared.registers.Place.TheVariants.{Memory}
-use Rattle.apei_gas.specs.declared.widths.Width.TheVariants.{B64}
+use Rattle.apei_tables.specs.declared.registers.Place.TheVariants.{Memory}
+use Rattle.apei_tables.specs.declared.widths.Width.TheVariants.{B64}
 use Rattle.apei_space.specs.declared.faults.SpaceFault.{SpaceFault}
 use Rattle.apei_space.specs.Calls.{Read, Write, Copy}
-use Rattle.erst_moves.specs.MoveEntries.{MoveRegister, Offset, Source, Target, Length, address_of}
-use Rattle.erst_moves.specs.MoveSpaces.{ServesMove, AreAddressable, after_rounds}
-use Rattle.erst_moves.specs.PlainMoves.{ShareNone}
-use Rattle.erst_moves.proofs.PlainLemmas.{part-beside, number-put, number-beside, place_in as place_behind, registers_differ}
+use Rattle.erst_shadow.specs.MoveEntries.{MoveRegister, Offset, Source, Target, Length, address_of}
+use Rattle.erst_shadow.specs.MoveSpaces.{ServesMove, AreAddressable, after_rounds}
+use Rattle.erst_shadow.specs.PlainMoves.{ShareNone}
+use Rattle.erst_shadow.proofs.PlainLemmas.{part-beside, number-put, number-beside, place_in as place_behind, registers_differ}
 use Rattle.erst_machine.specs.declared.areas.Area.TheVariants.{Scratch, LogRange}
 use Rattle.erst_machine.specs.declared.areas.Spot.{Spot}
 use Rattle.erst_machine.specs.declared.areas.Spot.TheVariants.{Inside}

@@ -10,7 +10,7 @@ use Rattle.erst_client.specs.Sequences.{dummy_requests}
 use Rattle.erst_client.specs.Steps.{steps_needed}
 use Rattle.erst_machine.specs.MachineState.{MachineState, records_of}
 use Rattle.erst_machine.specs.OwnTables.{own_entries}
-use Rattle.erst_moves.specs.MoveRuns.{move_steps}
+use Rattle.erst_shadow.specs.MoveRuns.{move_steps}
 use Rattle.erst_commands.specs.Causes.{GoesThrough}
 use Rattle.erst_commands.specs.Changes.{IsErrorOf, OfFailed, OfNoSpace, OfNotFound, OfEmpty, ChangeCommand, IsTaken, IsRefused, IsFailed, IsStopped, DummyCommand, IsPlayed, IsCut}
 use Rattle.erst_commands.specs.Reads.{ReadMade, IsRead, IsRefused as read_refused, IsFailed as read_failed, ReadCommand, Answers, StopsBehind, StopsBefore}

@@ -3,8 +3,8 @@
 use Rattle.std.proofs.Common.{◌≡◌, ℕ, zero, suc, List, [], ◌∷◌, Option, Some, Result, Err, refl, sym, subst, arith}
 use Rattle.std.specs.Prelude.{slice_get}
 use Rattle.std.proofs.lemmas.Option.{none-some, same_Some}
-use Rattle.apei_gas.specs.declared.registers.Register.{Register}
-use Rattle.apei_gas.specs.Check.{checked}
+use Rattle.apei_tables.specs.declared.registers.Register.{Register}
+use Rattle.apei_tables.specs.Check.{checked}
 use Rattle.erst_entries.specs.declared.actions.Action.{Action}
 use Rattle.erst_entries.specs.declared.actions.Action.TheVariants.{ExecuteOperation, GetCommandStatus, GetRecordIdentifier, GetRecordCount, GetErrorLogAddressRange, GetErrorLogAddressRangeLength, GetErrorLogAddressRangeAttributes}
 use Rattle.erst_entries.specs.declared.entries.Entry.{Entry}
@@ -22,14 +22,14 @@ use Rattle.erst_client.specs.Commands.{Counts, Names}
 use Rattle.erst_machine.specs.MachineState.{MachineState}
 use Rattle.erst_machine.specs.Allowed.{Allows}
 use Rattle.erst_machine.specs.OwnTables.{action_at, value_at, own_entries, act, answer}
-use Rattle.erst_moves.specs.MoveEntries.{move_entries}
-use Rattle.erst_moves.specs.MoveSpaces.{after_rounds}
-use Rattle.erst_moves.specs.MoveRuns.{move_then, MovesOn, StopsWithin}
+use Rattle.erst_shadow.specs.MoveEntries.{move_entries}
+use Rattle.erst_shadow.specs.MoveSpaces.{after_rounds}
+use Rattle.erst_shadow.specs.MoveRuns.{move_then, MovesOn, StopsWithin}
 use Rattle.erst_interp.proofs.StepLemmas.{same_register, halt_by}
 use Rattle.erst_interp.proofs.StraightLemmas.{whole_of, refused_of}
-use Rattle.erst_moves.proofs.EntryLemmas.{no_fault}
-use Rattle.erst_moves.proofs.RunLemmas.{moves_first}
-use Rattle.erst_moves.proofs.BehindLemmas.{IsOfItsOwn, StoresValue, TakesRegister, runs_behind}
+use Rattle.erst_shadow.proofs.EntryLemmas.{no_fault}
+use Rattle.erst_shadow.proofs.RunLemmas.{moves_first}
+use Rattle.erst_shadow.proofs.BehindLemmas.{IsOfItsOwn, StoresValue, TakesRegister, runs_behind}
 use Rattle.erst_device.specs.Actions.{log_range_at}
 use Rattle.erst_shadow.specs.ShadowTables.{scratch_at, shadow_entries}
 use Rattle.erst_shadow.specs.ShadowMoves.{HoldsPieces, KeepsOthers, MovesThenExecutes, ExecutesMoved, StopsMovingIn, MovesThenTells, TellsMoved, StopsMovingOut}

@@ -17,7 +17,7 @@ use Rattle.erst_machine.specs.Memories.{MemoryState}
 use Rattle.erst_machine.specs.MachineState.{MachineState}
 use Rattle.erst_machine.specs.Allowed.{Allows, ActsOn}
 use Rattle.erst_machine.specs.OwnTables.{own_entries}
-use Rattle.erst_moves.specs.MoveRuns.{move_steps}
+use Rattle.erst_shadow.specs.MoveRuns.{move_steps}
 use Rattle.erst_commands.specs.OwnPrograms.{with_value, takes_value, given_to, OwnRun, IsMade, StopsAtOnce, StopsBefore, StopsBehind, OwnProgramsRun}
 use Rattle.erst_shadow.specs.ShadowTables.{shadow_entries}
 use Rattle.erst_shadow.specs.ShadowMoves.{holding, AgreesElsewhere, HoldsPieces, MovesThenExecutes, ExecutesMoved, StopsMovingIn, MovesThenTells, TellsMoved, StopsMovingOut, range_with_record}

@@ -3,7 +3,7 @@ use Rattle.std.proofs.Common.{◌≡◌, ◌∙◌, ℕ, ◌+◌, ◌-◌, ◌*�
 use Rattle.std.specs.Prelude.{codes, sum}
 use Rattle.std.proofs.lemmas.List.Sums.{sum_by-append, sum_by-cons}
 use Rattle.base_model.specs.Bytes.{spelled}
-use Rattle.apei_gas.specs.Layout.{IsGas}
+use Rattle.apei_tables.specs.GasLayout.{IsGas}
 use Rattle.apei_tables.specs.declared.headers.Header.{Header}
 use Rattle.apei_tables.specs.Layout.{spelling as header_spelling}
 use Rattle.apei_tables.specs.Tables.{IsSealed}
@@ -15,7 +15,7 @@ use Rattle.erst_entries.specs.Tables.{IsErst, Finished}
 use Rattle.erst_device.specs.Actions.{log_range_at}
 use Rattle.erst_machine.specs.OwnTables.{own_header, tell, told_actions}
 use Rattle.erst_machine.proofs.TableLemmas.{entry_fits, act_fits, give_fits, is_one_fits, answer_fits, tell_fits}
-use Rattle.erst_moves.specs.MoveEntries.{MoveRegister, Offset, Source, Target, Length, region_of, no_region, put_number, use_register, move_entries}
+use Rattle.erst_shadow.specs.MoveEntries.{MoveRegister, Offset, Source, Target, Length, region_of, no_region, put_number, use_register, move_entries}
 use Rattle.erst_shadow.specs.ShadowTables.{scratch_at, entries_before, entries_between, entries_behind, shadow_entries, shadow_count, shadow_size, table_with, shadow_checksum, shadow_erst}
 
 -- Entries fit their fields

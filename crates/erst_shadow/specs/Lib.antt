@@ -1,3 +1,7 @@
+pub mod MoveEntries
+pub mod MoveSpaces
+pub mod MoveRuns
+pub mod PlainMoves
 pub mod ShadowTables
 pub mod ShadowMoves
 pub mod ShadowSequences

@@ -9,7 +9,7 @@ use Rattle.erst_machine.specs.Areas.{scratch_len}
 use Rattle.erst_machine.specs.MachineState.{MachineState}
 use Rattle.erst_machine.specs.Allowed.{Allows}
 use Rattle.erst_machine.specs.OwnTables.{own_entries}
-use Rattle.erst_moves.specs.MoveRuns.{move_steps}
+use Rattle.erst_shadow.specs.MoveRuns.{move_steps}
 
 -- the machine with other bytes in its log range and its scratch memory
 abbrev pub holding : (range scratch : List ℕ) → MachineState → MachineState

@@ -9,7 +9,7 @@ use Rattle.erst_machine.specs.Areas.{scratch_len}
 use Rattle.erst_machine.specs.MachineState.{MachineState}
 use Rattle.erst_machine.specs.Allowed.{Allows}
 use Rattle.erst_machine.specs.OwnTables.{own_entries}
-use Rattle.erst_moves.specs.MoveRuns.{move_steps}
+use Rattle.erst_shadow.specs.MoveRuns.{move_steps}
 use Rattle.erst_shadow.specs.ShadowMoves.{holding, AgreesElsewhere, range_with_record}
 
 -- a sequence was cut short: a program stopped, or the firmware was busy for too long

@@ -5,7 +5,7 @@ use Rattle.erst_entries.specs.declared.actions.Action.TheVariants.{BeginWriteOpe
 use Rattle.erst_entries.specs.declared.entries.Entry.{Entry}
 use Rattle.erst_entries.specs.Layout.{Erst, spelling}
 use Rattle.erst_device.specs.Actions.{log_range_at}
-use Rattle.erst_moves.specs.MoveEntries.{Offset, Source, Length, put_number, use_register, move_entries}
+use Rattle.erst_shadow.specs.MoveEntries.{Offset, Source, Length, put_number, use_register, move_entries}
 use Rattle.erst_machine.specs.declared.areas.Area.TheVariants.{Scratch}
 use Rattle.erst_machine.specs.Areas.{base_of}
 use Rattle.erst_machine.specs.OwnTables.{own_header, act, give, is_one, answer, tell, told_actions}

@@ -3,7 +3,7 @@ ghost use Rattle.std.specs.Prelude.{◌≡◌, ℕ, Some};
 ghost use Rattle.erst_entries.specs.Instructions.{instruction_of};
 ghost use Rattle.erst_machine.specs.OwnTables.{register_of};
 ghost use Rattle.erst_entries.specs.Actions.{plain_entry};
-ghost use Rattle.erst_moves.specs.MoveEntries.{move_entries};
+ghost use Rattle.erst_shadow.specs.MoveEntries.{move_entries};
 ghost use Rattle.erst_shadow.specs.ShadowTables.{entries_before, entries_between, entries_behind};
 
 use erst_entries::{Action, Entry, Instruction};
@@ -46,7 +46,7 @@ fn use_register(action: Action, instruction: Instruction, address: u64) -> Entry
 }
 
 /// What moves so many bytes, a multiple of 128, from one address to another.
-#[tactic(auto, unfolding(erst_moves::specs::MoveEntries::move_entries))]
+#[tactic(auto, unfolding(crate::specs::MoveEntries::move_entries))]
 pub fn move_entries(action: Action, from: u64, target: u64, size: u64) -> [Entry; 13]
     ensures { result ≡ move_entries action from target size }
 {

@@ -4,6 +4,7 @@
 
 mod entries;
 mod laws;
+mod moves;
 mod tables;
 
 pub use laws::{
@@ -13,4 +14,5 @@ pub use laws::{
     enough_steps_are_enough, enough_steps_go_through, hardware_has_its_cause,
     power_lost_leaves_one_of_two,
 };
+pub use moves::a_move_copies;
 pub use tables::shadow_table;

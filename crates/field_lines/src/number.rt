@@ -3,8 +3,7 @@ ghost use Rattle.std.specs.Prelude.{◌≡◌, ◌≤◌, ◌<◌, ◌+◌, ◌*
 ghost use Rattle.base_model.specs.Bytes.{little};
 ghost use Rattle.field_lines.specs.Numbers.{has_bit, bits_of, number_in};
 
-use apei_bytes::get_u64;
-use apei_fields::bytes_at;
+use apei_bytes::{bytes_at, get_u64};
 
 /// The number that bytes stand for.
 #[tactic(auto, using(crate::proofs::NumberLemmas::whole_number))]

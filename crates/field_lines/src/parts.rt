@@ -11,7 +11,7 @@ use crate::layout::{Content, Inner, Key, Layout, Parts, Size};
 use crate::number::{bits_of, number_in};
 use crate::style::{Mark, Spot, Style};
 use crate::walk::{add_fields, add_registers, is_valid, validation};
-use apei_fields::{bytes_at, guid_at};
+use apei_bytes::{bytes_at, guid_at};
 use std::alloc::AllocError;
 
 /// Appends the fields of a body that begins at a place, and then its parts, as many as it says and as are within it, as a style writes them. Where

@@ -9,7 +9,7 @@ use crate::digits::add_decimal;
 use crate::field::{Field, Shape};
 use crate::style::{Mark, Spot, Style};
 use crate::value::end_with_value;
-use apei_fields::bytes_at;
+use apei_bytes::bytes_at;
 use std::alloc::AllocError;
 
 /// A line for each field: `name: value`.

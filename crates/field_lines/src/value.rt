@@ -14,7 +14,7 @@ use crate::names::{add_flags, add_named};
 use crate::number::{bits_of, number_of};
 use crate::register::add_register;
 use crate::time::{YEAR_10000, add_date, add_stamp};
-use apei_fields::guid_at;
+use apei_bytes::guid_at;
 use std::alloc::AllocError;
 
 /// Appends what the bytes of a field say, behind a colon, and the end of the line. Most fields are numbers, which take one move or two.

@@ -5,7 +5,7 @@ use Rattle.std.proofs.lemmas.List.{length-replicate}
 use Rattle.base_model.specs.Bytes.{put_at, SameOutside}
 use Rattle.base_model.specs.Faults.{Rose}
 use Rattle.base_model.proofs.BytesLemmas.{SameOutside-refl, SameOutside-put_at}
-use Rattle.flash_words.specs.Flash.{Told, Changed, MayChange, AsksChange, LosesOnlyByChange, next_count, dark_after}
+use Rattle.base_model.specs.Flash.{Told, Changed, MayChange, AsksChange, LosesOnlyByChange, next_count, dark_after}
 use Rattle.flash_model.specs.declared.tear.Tear.{Tear}
 use Rattle.flash_model.specs.declared.tear.Tear.TheVariants.{Nothing, Whole, Zeros, Marks}
 use Rattle.flash_model.specs.declared.power.Power.{Power}

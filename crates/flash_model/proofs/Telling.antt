@@ -4,7 +4,7 @@ use Rattle.std.proofs.lemmas.List.{drop-drop}
 use borrow.Rule.Slice.PartMut.{put_mid}
 use Rattle.base_model.specs.Bytes.{part, put_at, SameOutside}
 use Rattle.base_model.proofs.BytesLemmas.{length-part, is_put_at}
-use Rattle.flash_words.specs.Flash.{Told}
+use Rattle.base_model.specs.Flash.{Told}
 use Rattle.flash_model.specs.Journal.{Noted, put_back, undone, noted_at, first_changes, told_by, AreBelow}
 use Rattle.flash_model.specs.Simulation.{with_change}
 

@@ -1,7 +1,7 @@
 -- The layout of a store of a geometry, and the flash that one fits.
 use Rattle.std.specs.Prelude.{◌≡◌, ◌*◌}
-use Rattle.flash_words.specs.Flash.{FlashState}
-use Rattle.flash_words.specs.Layout.{Layout}
+use Rattle.base_model.specs.Flash.{FlashState}
+use Rattle.base_model.specs.Layout.{Layout}
 use Rattle.flash_model.specs.declared.geometry.Geometry.{Geometry}
 
 abbrev pub layout_of : Geometry → Layout

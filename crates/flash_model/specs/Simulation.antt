@@ -2,7 +2,7 @@
 use Rattle.std.specs.Prelude.{◌≡◌, ◌⊎◌, ℕ, ◌+◌, ◌-◌, ◌^◌, ◌<◌, Bool, true, false, ◌==◌, if◌then◌else◌, List, [], ◌∷◌, ◌++◌, length, replicate, Contains, find, Option, Some, None}
 use Rattle.std.specs.Option.{option_map}
 use Rattle.base_model.specs.Bytes.{put_at}
-use Rattle.flash_words.specs.Flash.{Told, FlashState, next_count, dark_after}
+use Rattle.base_model.specs.Flash.{Told, FlashState, next_count, dark_after}
 use Rattle.flash_model.specs.declared.cut.Cut.{Cut}
 use Rattle.flash_model.specs.declared.tear.Tear.{Tear}
 use Rattle.flash_model.specs.declared.tear.Tear.TheVariants.{Nothing, Whole, Zeros, Marks}

@@ -1,6 +1,6 @@
 // Counts that stand still at the last value of their type.
 ghost use Rattle.std.specs.Prelude.{◌≡◌};
-ghost use Rattle.flash_words.specs.Flash.{next_count};
+ghost use Rattle.base_model.specs.Flash.{next_count};
 
 /// One more than a count, which stands still at the last value of its type.
 pub fn next_count(count: u64) -> u64

@@ -1,7 +1,7 @@
 // The trait of a flash.
 ghost use Rattle.std.specs.Prelude.{true, ◌≡◌, ◌↔◌, ℕ, ◌+◌, ◌*◌, ◌<◌, ◌≤◌, length, replicate, Result, OnOk, IsErr};
 ghost use Rattle.base_model.specs.Bytes.{part, put_at};
-ghost use Rattle.flash_words.specs.Flash.{FlashState, OnlyReads, AsksChange, IsErased, restart, next_count, dark_after};
+ghost use Rattle.base_model.specs.Flash.{FlashState, OnlyReads, AsksChange, IsErased, restart, next_count, dark_after};
 
 /// The flash failed.
 #[derive(Clone, Copy, Debug, PartialEq, Eq)]

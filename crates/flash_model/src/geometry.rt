@@ -1,6 +1,6 @@
 // The geometry of a store, and the bytes of an erased one.
 ghost use Rattle.std.specs.Prelude.{◌≡◌, ◌↔◌, ℕ, ◌+◌, ◌-◌, ◌*◌, ◌^◌, ◌≤◌, replicate, IsTrue, IsOk, IfOk};
-ghost use Rattle.flash_words.specs.Layout.{reach_of};
+ghost use Rattle.base_model.specs.Layout.{reach_of};
 ghost use Rattle.flash_model.specs.Limits.{IsGeometry, IsSectorSize};
 
 use std::alloc::{AllocError, Global};
@@ -121,7 +121,7 @@ impl Geometry {
     }
 
     /// The greatest length of a record in bytes: it may take up to four slots.
-    #[tactic(auto, unfolding(flash_words::specs::Layout::reach_of))]
+    #[tactic(auto, unfolding(base_model::specs::Layout::reach_of))]
     pub fn reach(&self) -> u64
         ensures { result ≡ reach_of (self.now.slot_size - 64) }
     {

@@ -1,6 +1,6 @@
 // The power of a simulated flash.
 ghost use Rattle.std.specs.Prelude.{◌≡◌, ◌↔◌, if◌then◌else◌, IsTrue};
-ghost use Rattle.flash_words.specs.Flash.{next_count};
+ghost use Rattle.base_model.specs.Flash.{next_count};
 
 use crate::counts::next_count;
 use crate::tear::listed_tear;

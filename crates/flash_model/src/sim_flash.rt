@@ -1,7 +1,7 @@
 // A flash in memory.
 ghost use Rattle.std.specs.Prelude.{true, ◌≡◌, ◌↔◌, ℕ, ◌+◌, ◌*◌, ◌^◌, ◌<◌, ◌≤◌, [], ◌∷◌, ◌++◌, length, replicate, Contains, Result, OnOk, OnErr, is_err, IsErr, IsTrue};
 ghost use Rattle.base_model.specs.Bytes.{part, put_at};
-ghost use Rattle.flash_words.specs.Flash.{FlashState, OnlyReads, AsksChange, IsErased, restart, next_count, dark_after};
+ghost use Rattle.base_model.specs.Flash.{FlashState, OnlyReads, AsksChange, IsErased, restart, next_count, dark_after};
 
 use crate::content::Content;
 use crate::counts::next_count;

@@ -7,7 +7,7 @@ use Rattle.apei_space.specs.declared.windows.Window.{Window}
 use Rattle.apei_space.specs.Windows.{AreApart, total}
 use Rattle.apei_space.specs.RamState.{RamState}
 use Rattle.apei_space.specs.Mapped.{AreMapped}
-use Rattle.apei_gas.specs.declared.registers.Place.TheVariants.{Memory}
+use Rattle.apei_tables.specs.declared.registers.Place.TheVariants.{Memory}
 use Rattle.ghes_ack.specs.declared.maps.HandoverMap.{HandoverMap}
 use Rattle.ghes_ack.specs.declared.events.Side.{Side}
 use Rattle.ghes_ack.specs.declared.events.Event.{Event}

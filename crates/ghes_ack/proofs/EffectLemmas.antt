@@ -1,7 +1,7 @@
 -- What the calls of the two sides leave in memory.
 use Rattle.std.proofs.Common.{◌≡◌, ◌∙◌, ℕ, ◌<◌, ◌≤◌, ◌^◌, List, length, take, Result, IfOk, refl, sym, ap, subst, arith, bit_and}
 use Rattle.std.specs.Result.{result_unwrap_or}
-use Rattle.apei_gas.specs.Access.{bits}
+use Rattle.apei_tables.specs.Access.{bits}
 use Rattle.apei_space.specs.declared.faults.SpaceFault.{SpaceFault}
 use Rattle.base_model.specs.Bytes.{number_at, spelled, put_at, AreBytes}
 use Rattle.base_model.proofs.BytesLemmas.{length-spelled, spelled-number_at}
@@ -10,8 +10,8 @@ use Rattle.ghes_ack.specs.declared.maps.HandoverMap.{HandoverMap}
 use Rattle.ghes_ack.specs.Machine.{with_status}
 use Rattle.ghes_ack.specs.Maps.{HasWindows, IsSet, IsClear, ack_bytes, ack_read, ack_mask, with_ack, with_window, with_address, window, window_of, with_set, with_clear, memory_started}
 use Rattle.ghes_ack.specs.Publications.{ClearsThenShows}
-use Rattle.ghes_window.proofs.PieceLemmas.{part-front}
-use Rattle.ghes_window.proofs.WindowLemmas.{status_write_is, length-status as length-status_in}
+use Rattle.ghes_ack.proofs.PieceLemmas.{part-front}
+use Rattle.ghes_ack.proofs.WindowLemmas.{status_write_is, length-status as length-status_in}
 use Rattle.ghes_ack.proofs.MemoryLemmas.{has_block, number_read, number_small, clear_bits, window-with_ack, window-with_address, ack-with_window, ack-with_address, HasWindows-with_window, HasWindows-with_ack, HasWindows-with_address}
 
 pub windows_address : (map : HandoverMap) (ram new : RamState) → new ≡ with_address map ram → HasWindows map ram → HasWindows map new

@@ -3,8 +3,8 @@ use Rattle.std.proofs.Common.{◌≡◌, ◌∙◌, ℕ, ◌<◌, ◌≤◌, ◌
 use Rattle.std.proofs.lemmas.Bool.{cases_lt}
 use Rattle.base_model.specs.Bytes.{part, spelled, put_at}
 use Rattle.base_model.proofs.BytesLemmas.{length-spelled, length-put_at}
-use Rattle.apei_gas.specs.declared.registers.Place.{Place}
-use Rattle.apei_gas.specs.declared.registers.Place.TheVariants.{Memory}
+use Rattle.apei_tables.specs.declared.registers.Place.{Place}
+use Rattle.apei_tables.specs.declared.registers.Place.TheVariants.{Memory}
 use Rattle.apei_space.specs.declared.faults.SpaceFault.{SpaceFault}
 use Rattle.apei_space.specs.RamState.{RamState, FillsWindows, located, stored}
 use Rattle.apei_space.specs.Mapped.{AreDisjoint}
@@ -15,7 +15,7 @@ use Rattle.ghes_ack.specs.declared.events.Event.TheVariants.{Idle, Fill, Publish
 use Rattle.ghes_ack.specs.Machine.{with_status}
 use Rattle.ghes_ack.specs.Maps.{HasWindows, ack_bytes, bytes_in, bytes_at, window, ack_read, with_window, with_ack, with_address, with_set, with_clear, acknowledged, memory_started, memory_after}
 use Rattle.ghes_ack.specs.Elsewhere.{IsOffBlock, IsOffMap, SameWhere}
-use Rattle.ghes_window.proofs.PlacedLemmas.{fits_in, stored_placed, bytes-stored_apart, disjoint_sym}
+use Rattle.ghes_ack.proofs.PlacedLemmas.{fits_in, stored_placed, bytes-stored_apart, disjoint_sym}
 use Rattle.ghes_ack.proofs.MemoryLemmas.{ack_some, block_some, block_placed, ack_placed, status_placed, length-window, HasWindows-with_ack, HasWindows-with_address}
 use Rattle.ghes_ack.proofs.EffectLemmas.{length-status}
 

@@ -1,3 +1,9 @@
+pub mod PieceLemmas
+pub mod PlacedLemmas
+pub mod WindowLemmas
+pub mod WriteLemmas
+pub mod RoomLemmas
+pub mod AddressLemmas
 pub mod MemoryLemmas
 pub mod StepLemmas
 pub mod TakenLemmas

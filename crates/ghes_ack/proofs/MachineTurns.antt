@@ -4,7 +4,7 @@ use Rattle.std.proofs.lemmas.List.{drop-drop, get_or-drop}
 use Rattle.std.proofs.lemmas.Bool.Decides.{nat_tests}
 use Rattle.base_model.specs.Bytes.{part, number_at, spelled, put_at}
 use Rattle.base_model.proofs.BytesLemmas.{part-part, length-part, SameOutside-refl, is_put_at}
-use Rattle.ghes_window.proofs.PieceLemmas.{number_at-take, part-front}
+use Rattle.ghes_ack.proofs.PieceLemmas.{number_at-take, part-front}
 use Rattle.ghes_ack.specs.declared.events.Side.{Side}
 use Rattle.ghes_ack.specs.declared.events.Side.TheVariants.{Firmware, Reader}
 use Rattle.ghes_ack.specs.declared.events.Event.{Event}

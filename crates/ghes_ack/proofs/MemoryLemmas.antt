@@ -6,19 +6,19 @@ use Rattle.std.proofs.Math.Nat.{mod-eq_of_lt, mul-mod_left, mul_assoc}
 use Rattle.std.proofs.lemmas.Grind.{and-not_self}
 use Rattle.base_model.specs.Bytes.{little, number_at, spelled}
 use Rattle.base_model.proofs.BytesLemmas.{length-spelled, little-spelled, length-put_at}
-use Rattle.apei_gas.specs.declared.registers.Place.{Place}
-use Rattle.apei_gas.specs.declared.registers.Place.TheVariants.{Memory}
-use Rattle.apei_gas.specs.declared.widths.Width.{Width}
-use Rattle.apei_gas.specs.declared.widths.Width.TheVariants.{B8, B16, B32, B64}
-use Rattle.apei_gas.specs.Access.{bits}
+use Rattle.apei_tables.specs.declared.registers.Place.{Place}
+use Rattle.apei_tables.specs.declared.registers.Place.TheVariants.{Memory}
+use Rattle.apei_tables.specs.declared.widths.Width.{Width}
+use Rattle.apei_tables.specs.declared.widths.Width.TheVariants.{B8, B16, B32, B64}
+use Rattle.apei_tables.specs.Access.{bits}
 use Rattle.apei_space.specs.declared.faults.SpaceFault.{SpaceFault}
 use Rattle.apei_space.specs.RamState.{RamState, located, stored, changed, number_in}
 use Rattle.apei_space.proofs.Placed.{IsPlaced, placed}
-use Rattle.ghes_window.specs.declared.window.BlockWindow.{BlockWindow}
-use Rattle.ghes_window.specs.Windows.{HasBlock, HasAddressed, block_bytes, with_block}
-use Rattle.ghes_window.proofs.AddressLemmas as address
-use Rattle.ghes_window.proofs.PlacedLemmas.{stored_placed, fits_in, mapped_back, mapped_apart, disjoint_sym}
-use Rattle.ghes_window.proofs.WindowLemmas.{length-block}
+use Rattle.ghes_ack.specs.declared.window.BlockWindow.{BlockWindow}
+use Rattle.ghes_ack.specs.Windows.{HasBlock, HasAddressed, block_bytes, with_block}
+use Rattle.ghes_ack.proofs.AddressLemmas as address
+use Rattle.ghes_ack.proofs.PlacedLemmas.{stored_placed, fits_in, mapped_back, mapped_apart, disjoint_sym}
+use Rattle.ghes_ack.proofs.WindowLemmas.{length-block}
 use Rattle.ghes_ack.specs.declared.maps.HandoverMap.{HandoverMap}
 use Rattle.ghes_ack.specs.Maps.{HasAckBits, HasWindows, ack_bytes, ack_mask, kept_mask, bytes_in, address_in, window, window_of, ack_read, with_window, with_ack, with_address, IsSet, IsClear, with_set, with_clear, acknowledged}
 

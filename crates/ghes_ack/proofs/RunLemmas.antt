@@ -13,8 +13,8 @@ use Rattle.ghes_ack.specs.Elsewhere.{SameWhere, IsOffBlock}
 use Rattle.ghes_ack.specs.Handovers.{HandoverState, kept, StandsFor, AreTurned}
 use Rattle.ghes_ack.specs.Sides.{Turns, Runs, MakesTurns}
 use Rattle.ghes_ack.proofs.MemoryLemmas.{has_block, length-window, window-with_window}
-use Rattle.ghes_window.proofs.PieceLemmas.{length-with_piece}
-use Rattle.ghes_window.proofs.WriteLemmas.{block_twice, length-with_pieces, pieces_next}
+use Rattle.ghes_ack.proofs.PieceLemmas.{length-with_piece}
+use Rattle.ghes_ack.proofs.WriteLemmas.{block_twice, length-with_pieces, pieces_next}
 use Rattle.ghes_ack.proofs.TurnLemmas.{next_fits, written_only, fills, copies_more, copies_last}
 use Rattle.ghes_ack.proofs.ElsewhereLemmas.{SameWhere-refl, SameWhere-then, elsewhere_left}
 

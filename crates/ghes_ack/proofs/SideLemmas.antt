@@ -12,9 +12,9 @@ use Rattle.ghes_ack.specs.declared.ends.FirmwareEnd.{FirmwareEnd}
 use Rattle.ghes_ack.specs.declared.ends.FirmwareEnd.TheVariants.{Writes}
 use Rattle.ghes_ack.specs.declared.ends.MayWrite.{MayWrite}
 use Rattle.ghes_ack.specs.declared.events.Event.TheVariants.{Idle, Fill, Publish, Copied, Took, Clear}
-use Rattle.ghes_window.specs.declared.window.BlockWindow.{BlockWindow}
-use Rattle.ghes_window.specs.declared.blocks.Blocks.{Blocks as BlocksOver}
-use Rattle.ghes_window.specs.Queues.{held_of, HoldsNone, TakesOut}
+use Rattle.ghes_ack.specs.declared.window.BlockWindow.{BlockWindow}
+use Rattle.ghes_ack.specs.declared.window_blocks.Blocks.{Blocks as BlocksOver}
+use Rattle.ghes_ack.specs.WindowQueues.{held_of, HoldsNone, TakesOut}
 use Rattle.ghes_ack.specs.Queues.{Blocks}
 use Rattle.ghes_ack.specs.Machine.{Situation, Filling, Published, Reading, Cleared, Fits, with_piece, with_pieces, with_status}
 use Rattle.ghes_ack.specs.Maps.{window, window_of, ack_read, with_window, with_ack, with_clear, IsClear}

@@ -10,9 +10,9 @@ use Rattle.apei_space.specs.RamState.{RamState}
 use Rattle.ghes_block.specs.declared.error.BlockError.{BlockError}
 use Rattle.ghes_block.specs.Reading.{checked, head_verdict, status_at}
 use Rattle.ghes_ack.specs.declared.maps.HandoverMap.{HandoverMap}
-use Rattle.ghes_window.specs.declared.window.BlockWindow.{BlockWindow}
-use Rattle.ghes_window.specs.declared.blocks.Blocks.{Blocks as BlocksOver}
-use Rattle.ghes_window.specs.Queues.{IsEmpty, Adds}
+use Rattle.ghes_ack.specs.declared.window.BlockWindow.{BlockWindow}
+use Rattle.ghes_ack.specs.declared.window_blocks.Blocks.{Blocks as BlocksOver}
+use Rattle.ghes_ack.specs.WindowQueues.{IsEmpty, Adds}
 use Rattle.ghes_ack.specs.Queues.{Blocks}
 use Rattle.ghes_ack.specs.Machine.{Machine, Situation, Filling, Published, Reading, Cleared, Acknowledged, Fits, with_status, started, submitted, waiting_in, InSituation, IsState}
 use Rattle.ghes_ack.specs.Maps.{HasAckBits, HasWindows, address_in, ack_read, window, with_ack, with_address, with_set, memory_started, IsSet}

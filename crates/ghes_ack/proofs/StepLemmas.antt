@@ -9,8 +9,8 @@ use Rattle.base_model.proofs.BytesLemmas.{length-spelled}
 use Rattle.ghes_ack.specs.declared.events.Side.{Side}
 use Rattle.ghes_ack.specs.declared.events.Side.TheVariants.{Firmware, Reader}
 use Rattle.ghes_ack.specs.Machine.{Machine, Situation, Filling, Published, Reading, Cleared, Acknowledged, Fits, at_work, pieces, hidden, with_piece, with_status, filling, offered, reading, firmware_turn, reader_turn, turned, started, submitted, IsFilling, IsWhole, IsEmptied, IsReading, InSituation, IsState}
-use Rattle.ghes_window.proofs.RoomLemmas.{All-one}
-use Rattle.ghes_window.proofs.PieceLemmas.{length-hidden, next_bytes, published_whole, number_at-take, status-cleared, status-hidden, length-with_piece, length-with_status}
+use Rattle.ghes_ack.proofs.RoomLemmas.{All-one}
+use Rattle.ghes_ack.proofs.PieceLemmas.{length-hidden, next_bytes, published_whole, number_at-take, status-cleared, status-hidden, length-with_piece, length-with_status}
 
 pub fits_at_work : (len : ℕ) (m : Machine) → All (Fits len) m.blocks → m.acknowledged < length m.blocks → Fits len (at_work m)
 fits_at_work len m all there = All-get_or (Fits len) m.blocks m.acknowledged [] there all

@@ -1,7 +1,7 @@
 -- Memory outside the windows of a handover.
 use Rattle.std.specs.Prelude.{◌≡◌, ℕ, length}
-use Rattle.apei_gas.specs.declared.registers.Place.{Place}
-use Rattle.apei_gas.specs.declared.registers.Place.TheVariants.{Memory}
+use Rattle.apei_tables.specs.declared.registers.Place.{Place}
+use Rattle.apei_tables.specs.declared.registers.Place.TheVariants.{Memory}
 use Rattle.apei_space.specs.RamState.{RamState}
 use Rattle.apei_space.specs.Mapped.{AreDisjoint}
 use Rattle.ghes_ack.specs.declared.maps.HandoverMap.{HandoverMap}

@@ -1,3 +1,7 @@
+pub mod Pieces
+pub mod Places
+pub mod Windows
+pub mod WindowQueues
 pub mod Machine
 pub mod Maps
 pub mod Publications

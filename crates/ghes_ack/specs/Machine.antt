@@ -1,7 +1,7 @@
 -- The handover as a machine: blocks, pieces of 64 bytes and five situations.
 use Rattle.std.specs.Prelude.{◌≡◌, ℕ, zero, suc, ◌+◌, ◌-◌, ◌*◌, ◌<◌, ◌≤◌, ◌⊎◌, Bool, true, false, nat_lt, ◌==◌, if◌then◌else◌, List, [], ◌∷◌, ◌++◌, length, take, drop, get_or, All}
 use Rattle.base_model.specs.Bytes.{spelled, number_at}
-pub use Rattle.ghes_window.specs.Pieces.{pieces, zeros, hidden, with_piece, with_pieces, with_status}
+pub use Rattle.ghes_ack.specs.Pieces.{pieces, zeros, hidden, with_piece, with_pieces, with_status}
 use Rattle.ghes_ack.specs.declared.events.Side.{Side}
 use Rattle.ghes_ack.specs.declared.events.Side.TheVariants.{Firmware, Reader}
 use Rattle.ghes_ack.specs.declared.events.Event.{Event}

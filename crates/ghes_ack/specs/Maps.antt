@@ -1,12 +1,12 @@
 -- The three windows of a handover in memory: the block's address, the acknowledge register and the block.
 use Rattle.std.specs.Prelude.{◌≡◌, ℕ, ◌-◌, ◌*◌, ◌/◌, ◌%◌, ◌^◌, ◌<◌, ◌≤◌, List, [], ◌∷◌, bit_and, bit_or}
 use Rattle.base_model.specs.Bytes.{little, number_at, spelled}
-use Rattle.apei_gas.specs.declared.registers.Place.TheVariants.{Memory}
-use Rattle.apei_gas.specs.Access.{bits}
+use Rattle.apei_tables.specs.declared.registers.Place.TheVariants.{Memory}
+use Rattle.apei_tables.specs.Access.{bits}
 use Rattle.apei_space.specs.RamState.{RamState, FillsWindows, located, stored}
 use Rattle.apei_space.specs.Mapped.{AreMapped, AreDisjoint}
-use Rattle.ghes_window.specs.declared.window.BlockWindow.{BlockWindow}
-pub use Rattle.ghes_window.specs.Places.{bytes_in, bytes_at}
+use Rattle.ghes_ack.specs.declared.window.BlockWindow.{BlockWindow}
+pub use Rattle.ghes_ack.specs.Places.{bytes_in, bytes_at}
 use Rattle.ghes_ack.specs.declared.maps.HandoverMap.{HandoverMap}
 use Rattle.ghes_ack.specs.declared.events.Event.{Event}
 use Rattle.ghes_ack.specs.declared.events.Event.TheVariants.{Fill, Publish, Clear, Ack}

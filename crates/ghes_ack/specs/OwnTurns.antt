@@ -1,7 +1,7 @@
 -- The turns of one side, by its own end of the handover, the blocks and the memory alone: nothing here knows the other side.
 use Rattle.std.specs.Prelude.{◌≡◌, ℕ, suc, ◌+◌, ◌*◌, ◌<◌, ◌≤◌, ◌^◌, List, [], ◌∷◌, ◌++◌, length, take, replicate, All, Some}
 use Rattle.base_model.specs.Bytes.{spelled}
-use Rattle.ghes_window.specs.Pieces.{read_over as pieces_over}
+use Rattle.ghes_ack.specs.Pieces.{read_over as pieces_over}
 use Rattle.apei_space.specs.RamState.{RamState}
 use Rattle.ghes_ack.specs.declared.maps.HandoverMap.{HandoverMap}
 use Rattle.ghes_ack.specs.declared.events.Side.{Side}
@@ -13,7 +13,7 @@ use Rattle.ghes_ack.specs.declared.ends.FirmwareEnd.{FirmwareEnd}
 use Rattle.ghes_ack.specs.declared.ends.FirmwareEnd.TheVariants.{Writes, Waits}
 use Rattle.ghes_ack.specs.declared.ends.ReaderEnd.{ReaderEnd}
 use Rattle.ghes_ack.specs.declared.ends.ReaderEnd.TheVariants.{Looks, Reads, Acknowledges}
-use Rattle.ghes_window.specs.Queues.{held_of}
+use Rattle.ghes_ack.specs.WindowQueues.{held_of}
 use Rattle.ghes_ack.specs.Queues.{Blocks, HasRoom}
 use Rattle.ghes_ack.specs.Machine.{Situation, Filling, Published, Reading, Cleared, Acknowledged, Fits, with_pieces, with_status}
 use Rattle.ghes_ack.specs.Maps.{HasAckBits, HasWindows, IsSet, IsClear, ack_read, window, status_word, with_window, with_ack, with_clear, acknowledged}

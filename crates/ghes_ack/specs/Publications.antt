@@ -1,9 +1,9 @@
 -- The order of a publication, in any space.
 use Rattle.std.specs.Prelude.{ℕ, ◌<◌, ◌^◌, [], ◌∷◌, Result, IfOk}
 use Rattle.std.specs.Result.{result_unwrap_or}
-use Rattle.apei_gas.specs.declared.registers.Place.TheVariants.{Memory}
-use Rattle.apei_gas.specs.declared.widths.Width.TheVariants.{B32}
-use Rattle.apei_gas.specs.Access.{bits}
+use Rattle.apei_tables.specs.declared.registers.Place.TheVariants.{Memory}
+use Rattle.apei_tables.specs.declared.widths.Width.TheVariants.{B32}
+use Rattle.apei_tables.specs.Access.{bits}
 use Rattle.apei_space.specs.declared.faults.SpaceFault.{SpaceFault}
 use Rattle.apei_space.specs.Calls.{Call, Read, Write}
 use Rattle.apei_space.specs.Accesses.{Trail}

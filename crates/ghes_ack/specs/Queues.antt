@@ -1,7 +1,7 @@
 -- The blocks of a handover.
 use Rattle.std.specs.Prelude.{ℕ}
-use Rattle.ghes_window.specs.declared.blocks.Blocks.{Blocks as BlocksOver}
-use Rattle.ghes_window.specs.Queues.{HasRoom as HasRoomOver}
+use Rattle.ghes_ack.specs.declared.window_blocks.Blocks.{Blocks as BlocksOver}
+use Rattle.ghes_ack.specs.WindowQueues.{HasRoom as HasRoomOver}
 use Rattle.ghes_ack.specs.declared.maps.HandoverMap.{HandoverMap}
 use Rattle.ghes_ack.specs.Maps.{window_of}
 

@@ -11,8 +11,8 @@ use Rattle.ghes_ack.specs.declared.ends.FirmwareEnd.{FirmwareEnd}
 use Rattle.ghes_ack.specs.declared.ends.FirmwareEnd.TheVariants.{Writes, Waits}
 use Rattle.ghes_ack.specs.declared.ends.ReaderEnd.{ReaderEnd}
 use Rattle.ghes_ack.specs.declared.ends.ReaderEnd.TheVariants.{Looks, Reads, Acknowledges}
-use Rattle.ghes_window.specs.declared.blocks.Blocks.{Blocks as BlocksOver}
-use Rattle.ghes_window.specs.Queues.{bytes_of}
+use Rattle.ghes_ack.specs.declared.window_blocks.Blocks.{Blocks as BlocksOver}
+use Rattle.ghes_ack.specs.WindowQueues.{bytes_of}
 use Rattle.ghes_ack.specs.Queues.{Blocks, HasRoom}
 use Rattle.ghes_ack.specs.Machine.{Machine, Situation, Filling, Published, Reading, Cleared, Acknowledged}
 use Rattle.ghes_ack.specs.Maps.{HasAckBits, window, memory_after, AreLeft}

@@ -6,4 +6,4 @@ use crate::maps::HandoverMap;
 pub use firmware::{fill_in_place, firmware_run};
 pub use reader::{copy_in_place, reader_run};
 
-pub type Blocks = ghes_window::Blocks<HandoverMap>;
+pub type Blocks = crate::Blocks<HandoverMap>;

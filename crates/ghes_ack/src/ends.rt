@@ -2,16 +2,16 @@
 // made by an access of the memory in which the two sides meet.
 ghost use Rattle.std.specs.Prelude.{◌≡◌, ◌+◌, ◌-◌, ◌*◌, ◌<◌, ◌≤◌, min, length, take, MatchResult, Some, None};
 ghost use Rattle.base_model.specs.Bytes.{part, put_at, spelled};
-ghost use Rattle.ghes_window.specs.Windows.{HasBlock, block_bytes, block_status, with_block};
+ghost use Rattle.ghes_ack.specs.Windows.{HasBlock, block_bytes, block_status, with_block};
 ghost use Rattle.ghes_ack.specs.declared.ends.FirmwareEnd.TheVariants.{Writes};
 ghost use Rattle.ghes_ack.specs.declared.ends.ReaderEnd.TheVariants.{Looks};
 ghost use Rattle.ghes_ack.specs.Machine.{with_piece, with_pieces, with_status};
 ghost use Rattle.ghes_ack.specs.Maps.{HasAckBits, HasWindows, IsSet, IsClear, ack_read, window, with_window, with_ack, with_clear, acknowledged, memory_started};
 
 use crate::maps::HandoverMap;
+use crate::{HasWindow, PIECE};
 use apei_bytes::get_u32;
 use apei_space::Ram;
-use ghes_window::{HasWindow, PIECE};
 
 /// The firmware may write the block.
 pub struct MayWrite {

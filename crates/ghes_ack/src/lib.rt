@@ -1,4 +1,4 @@
-//! The handover of error status blocks through one buffer in memory, with a read acknowledgement (ACPI 6.4, 18.3.2.8).
+//! The handover of error status blocks from firmware to operating system: the windows of memory that a block lies in, and both sides.
 #![tactic(auto)]
 
 mod blocks;
@@ -7,10 +7,14 @@ mod events;
 mod handover;
 mod laws;
 mod maps;
+mod pieces;
 mod states;
 mod station;
 mod submission;
 mod turns;
+mod window;
+mod window_blocks;
+mod window_maps;
 
 pub use ends::{
     Ends, FirmwareEnd, MayRead, MayWrite, MustAcknowledge, MustLook, MustWait, ReaderEnd, begin,
@@ -22,6 +26,10 @@ pub use laws::{
     others_may_write_elsewhere,
 };
 pub use maps::HandoverMap;
+pub use pieces::PIECE;
 pub use states::{AwaitAck, Cleared, FirmBlock, OsBlock, OsIdle, start, stop};
 pub use station::Station;
 pub use submission::{SubmitError, check_block};
+pub use window::BlockWindow;
+pub use window_blocks::{Blocks, WAITING};
+pub use window_maps::HasWindow;

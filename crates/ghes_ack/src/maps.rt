@@ -1,14 +1,14 @@
 // The windows of a handover in memory.
 ghost use Rattle.std.specs.Prelude.{◌≡◌, ◌*◌, ◌%◌, ◌^◌, ◌<◌, ◌≤◌, length, IsTrue, ◌↔◌, bit_and, bit_or};
 ghost use Rattle.base_model.specs.Bytes.{number_at};
-ghost use Rattle.apei_gas.specs.Access.{bits};
+ghost use Rattle.apei_tables.specs.Access.{bits};
 ghost use Rattle.ghes_ack.specs.Maps.{HasAckBits, HasWindows, IsSet, ack_mask, kept_mask, ack_read, with_ack, with_address, with_set, acknowledged};
 ghost use Rattle.ghes_ack.specs.Publications.{ClearsThenShows};
 
+use crate::{BlockWindow, HasWindow};
 use apei_bytes::get_u32;
-use apei_gas::{Place, Register, Width};
 use apei_space::{Ram, Space};
-use ghes_window::{BlockWindow, HasWindow};
+use apei_tables::{Place, Register, Width};
 
 /// Where the two sides meet (ACPI 6.4, 18.3.2.8): the 8 bytes at `status` hold the block's address, the register `ack`
 /// acknowledges a block by its bits `write` and keeps its bits `preserve`, and the block's window has `len` bytes at `block`.

@@ -3,8 +3,8 @@ ghost use Rattle.std.specs.Prelude.{◌≡◌, ◌<◌, OnOk, MatchResult, Some,
 ghost use Rattle.ghes_ack.specs.Machine.{Fits};
 ghost use Rattle.ghes_ack.specs.Submissions.{refusal_of};
 
+use crate::WAITING;
 use ghes_block::{Block, BlockError};
-use ghes_window::WAITING;
 
 /// Why a block is refused, the first reason that applies.
 #[derive(Clone, Copy, Debug, PartialEq, Eq)]

@@ -5,8 +5,8 @@ use Rattle.std.proofs.lemmas.Bool.{cases_Bool, eqb-true, eqb-false, ltb-false, e
 use Rattle.std.proofs.lemmas.List.{nil_from_length}
 use Rattle.base_model.specs.Bytes.{part, number_at, spelled, joined, total, AreBytes}
 use Rattle.base_model.proofs.BytesLemmas.{spelled-number_at, number_at-lt, length-part, length-part-le, part-append, part-append_left, AreBytes-part, length-joined}
-use Rattle.apei_fields.proofs.Parts.{parts, joined-parts, parts_of, number_of, part-second, number_at-front, part-append-drop}
-use Rattle.apei_fields.proofs.Tests.{ok_unless}
+use Rattle.apei_bytes.proofs.Parts.{parts, joined-parts, parts_of, number_of, part-second, number_at-front, part-append-drop}
+use Rattle.apei_bytes.proofs.Tests.{ok_unless}
 use Rattle.ghes_block.specs.declared.error.BlockError.{BlockError}
 use Rattle.ghes_block.specs.declared.error.BlockError.TheVariants.{Need, NotPublished, RawOffset}
 use Rattle.ghes_block.specs.Grammar.{BlockValue, entries_bytes, block_head, RawIs, IsBlock}

@@ -3,7 +3,7 @@ use Rattle.std.proofs.Common.{◌≡◌, ℕ, ◌+◌, ◌<◌, ◌≤◌, ◌^�
 use Rattle.std.proofs.lemmas.List.{append-nil}
 use Rattle.base_model.specs.Bytes.{part, number_at, spelled, joined, total, AreBytes}
 use Rattle.base_model.proofs.BytesLemmas.{length-spelled, spelled-number_at, number_at-lt, length-part, part-append, part-append_left, part-append_right, length-joined}
-use Rattle.apei_fields.proofs.Parts.{parts, joined-parts, parts_of, number_of, part-first, part-second}
+use Rattle.apei_bytes.proofs.Parts.{parts, joined-parts, parts_of, number_of, part-first, part-second}
 use Rattle.ghes_block.specs.declared.entry.EntryHead.{EntryHead}
 use Rattle.ghes_block.specs.Grammar.{EntryValue, is_stamped, entry_front, stamp_bytes, entry_bytes, IsEntryHead, IsEntry}
 use Rattle.ghes_block.specs.Reading.{entry_size, stamp_at, entry_head_at, first_entry}

@@ -3,3 +3,5 @@ pub mod Walks
 pub mod Blocks
 pub mod Whole
 pub mod Writes
+pub mod TableLemmas
+pub mod RegionLemmas

@@ -5,9 +5,9 @@ use Rattle.std.proofs.lemmas.Bool.{eqb-true, eq-eqb, ne_eqb, ltb-false, le-ltb, 
 use Rattle.std.proofs.lemmas.List.{nil_from_length, drop_at, drop-drop}
 use Rattle.std.proofs.lemmas.List.Elements.{All-nil, All-cons, All-head, All-tail}
 use Rattle.base_model.specs.Bytes.{part, AreBytes}
-use Rattle.apei_fields.specs.Walk.{AreItems, item_count}
-use Rattle.apei_fields.proofs.Tests.{ok_unless}
-use Rattle.apei_fields.proofs.Walks.{GetsOn, IsFaithful, count_on, counts as items_counted, counts_again as items_again}
+use Rattle.apei_bytes.specs.Walk.{AreItems, item_count}
+use Rattle.apei_bytes.proofs.Tests.{ok_unless}
+use Rattle.apei_bytes.proofs.Walks.{GetsOn, IsFaithful, count_on, counts as items_counted, counts_again as items_again}
 use Rattle.ghes_block.specs.declared.error.BlockError.TheVariants.{Entry, Rest}
 use Rattle.ghes_block.specs.Grammar.{EntryValue, entry_bytes, entries_bytes, IsEntry}
 use Rattle.ghes_block.specs.Reading.{entry_size, first_entry, whole_entry_size, entry_walk, entries_in, count_in}

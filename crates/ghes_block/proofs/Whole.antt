@@ -7,7 +7,7 @@ use Rattle.std.proofs.lemmas.List.{take-append-drop, length-take, take_all}
 use Rattle.std.proofs.lemmas.List.Elements.{All-drop, All-head}
 use Rattle.base_model.specs.Bytes.{part, number_at, AreBytes}
 use Rattle.base_model.proofs.BytesLemmas.{length-part, part-part, AreBytes-part, AreBytes-take}
-use Rattle.apei_fields.proofs.Parts.{part-second, number_at-front}
+use Rattle.apei_bytes.proofs.Parts.{part-second, number_at-front}
 use Rattle.ghes_block.specs.declared.entry.EntryHead.{EntryHead}
 use Rattle.ghes_block.specs.declared.error.BlockError.{BlockError}
 use Rattle.ghes_block.specs.declared.error.BlockError.TheVariants.{Need, NotPublished, RawOffset}

@@ -6,9 +6,9 @@ use Rattle.std.proofs.lemmas.List.{length-take, drop-drop, append-nil}
 use Rattle.std.proofs.lemmas.List.Elements.{All-nil, All-push}
 use Rattle.base_model.specs.Bytes.{part, spelled, joined, SameOutside}
 use Rattle.base_model.proofs.BytesLemmas.{part-append, part-part, part-before, part-after}
-use Rattle.apei_fields.specs.Writing.{Wrote}
-use Rattle.apei_fields.proofs.Parts.{parts, parts-joined, number_of, part-take}
-use Rattle.apei_fields.proofs.Puts.{wrote_there, wrote_others, wrote_then}
+use Rattle.apei_bytes.specs.Writing.{Wrote}
+use Rattle.apei_bytes.proofs.Parts.{parts, parts-joined, number_of, part-take}
+use Rattle.apei_bytes.proofs.Puts.{wrote_there, wrote_others, wrote_then}
 use Rattle.ghes_block.specs.declared.entry.EntryHead.{EntryHead}
 use Rattle.ghes_block.specs.Grammar.{EntryValue, is_stamped, entry_front, stamp_bytes, entry_bytes, entries_bytes, block_head, RawIs, IsEntry}
 use Rattle.ghes_block.specs.Writer.{entry_length, offset_for, Writing, IsWritten}

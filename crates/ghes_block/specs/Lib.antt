@@ -3,3 +3,5 @@ pub mod Reading
 pub mod Entries
 pub mod Writer
 pub mod Names
+pub mod Table
+pub mod Region

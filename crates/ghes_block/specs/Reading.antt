@@ -1,7 +1,7 @@
 -- What is read at the front of bytes, and why nothing is.
 use Rattle.std.specs.Prelude.{◌≡◌, ℕ, ◌+◌, ◌-◌, List, length, Bool, ◌==◌, nat_lt, if◌then◌else◌, Result, Ok, Err}
 use Rattle.base_model.specs.Bytes.{part, number_at, AreBytes}
-use Rattle.apei_fields.specs.Walk.{Walk, items_in, item_count}
+use Rattle.apei_bytes.specs.Walk.{Walk, items_in, item_count}
 use Rattle.ghes_block.specs.declared.entry.EntryHead.{EntryHead}
 use Rattle.ghes_block.specs.declared.error.BlockError.{BlockError}
 use Rattle.ghes_block.specs.declared.error.BlockError.TheVariants.{Need, NotPublished, RawOffset, Entry, Rest}

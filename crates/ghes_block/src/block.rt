@@ -7,8 +7,7 @@ ghost use Rattle.ghes_block.specs.Entries.{value_of, place_of, HasHead, IsPlace,
 
 use crate::entry::{DataEntry, HEAD, size_of_entry};
 use crate::error::BlockError;
-use apei_bytes::get_u32;
-use apei_fields::bytes_at;
+use apei_bytes::{bytes_at, get_u32};
 use std::marker::Model;
 
 /// The bytes of a block's head.

@@ -4,8 +4,7 @@ ghost use Rattle.base_model.specs.Bytes.{number_at};
 ghost use Rattle.ghes_block.specs.Reading.{entry_head_at, head_size, entry_size, stamp_at, is_stamped, first_entry};
 ghost use Rattle.ghes_block.specs.Entries.{value_of};
 
-use apei_bytes::{Guid, get_u16, get_u32, get_u64};
-use apei_fields::{array_at, byte_at, bytes_at, guid_at};
+use apei_bytes::{Guid, array_at, byte_at, bytes_at, get_u16, get_u32, get_u64, guid_at};
 
 /// The bytes of an entry's head without a timestamp, and with one.
 pub(crate) const HEAD: usize = 64;

@@ -1,14 +1,14 @@
 // A block written entry by entry.
 ghost use Rattle.std.specs.Prelude.{◌≡◌, ℕ, ◌+◌, ◌^◌, ◌<◌, ◌≤◌, ◌++◌, List, [], ◌∷◌, false, length, IfOk, OnOk, OnErr};
 ghost use Rattle.base_model.specs.Bytes.{joined};
-ghost use Rattle.apei_fields.specs.Room.{NeedsRoom};
-ghost use Rattle.apei_fields.specs.Writing.{Wrote};
+ghost use Rattle.apei_bytes.specs.Room.{NeedsRoom};
+ghost use Rattle.apei_bytes.specs.Writing.{Wrote};
 ghost use Rattle.ghes_block.specs.Grammar.{EntryValue, is_stamped, entry_front, stamp_bytes, entry_bytes, block_head, FrontFits, IsEntryHead};
 ghost use Rattle.ghes_block.specs.Writer.{room_of, used_by, status_of, severity_of, name_of, entry_length, stamp_size, IsBlockWriter, IsUnchanged, IsWriting, IsWritten, written_block, offset_for};
 
 use crate::block::HEADER;
 use crate::entry::{EntryHead, HEAD, STAMPED_HEAD, has_stamp};
-use apei_fields::{
+use apei_bytes::{
     NoRoom, room_for, write_array, write_bytes, write_guid, write_u8, write_u16, write_u32,
     write_u64,
 };

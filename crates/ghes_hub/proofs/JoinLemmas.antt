@@ -2,12 +2,12 @@
 use Rattle.std.proofs.Common.{◌≡◌, ◌∙◌, ℕ, ◌+◌, ◌<◌, ◌≤◌, ◌⊎◌, inl, inr, Bool, true, false, cond, List, [], ◌∷◌, ◌++◌, length, take, drop, get_or, refl, sym, ap, subst, arith}
 use Rattle.std.proofs.lemmas.List.{take_more, drop_more}
 use Rattle.std.proofs.lemmas.Bool.Decides.{nat_tests}
-use Rattle.apei_gas.specs.declared.registers.Place.{Place}
-use Rattle.apei_gas.specs.declared.registers.Place.TheVariants.{Memory, Io}
+use Rattle.apei_tables.specs.declared.registers.Place.{Place}
+use Rattle.apei_tables.specs.declared.registers.Place.TheVariants.{Memory, Io}
 use Rattle.apei_space.specs.declared.windows.Window.{Window}
 use Rattle.apei_space.specs.Windows.{EndsBelow, IsApart, IsApartFrom, AreApart, total}
 use Rattle.apei_space.specs.Mapped.{Holds, IsMapped, AreDisjoint}
-use Rattle.ghes_window.proofs.PlacedLemmas.{disjoint_sym}
+use Rattle.ghes_ack.proofs.PlacedLemmas.{disjoint_sym}
 use Rattle.ghes_hub.specs.Places.{IsOff}
 use Rattle.ghes_hub.specs.Joins.{follows_at, follows, both, joins, AreFree, MayJoin, AreJoined}
 

@@ -9,8 +9,8 @@ use Rattle.ghes_ack.specs.declared.events.Side.TheVariants.{Firmware, Reader}
 use Rattle.ghes_ack.specs.declared.events.Event.TheVariants.{Idle, Fill, Publish, Free, Found, Copied, Took, Clear}
 use Rattle.ghes_ack.specs.Machine.{Machine, Filling, Published, Reading, Acknowledged, Fits, with_piece, with_status}
 use Rattle.ghes_hub.specs.declared.plain.map.PlainMap.{PlainMap}
-use Rattle.ghes_window.specs.declared.blocks.Blocks.{Blocks}
-use Rattle.ghes_window.specs.Queues.{TakesOut, HoldsNone, count_of}
+use Rattle.ghes_ack.specs.declared.window_blocks.Blocks.{Blocks}
+use Rattle.ghes_ack.specs.WindowQueues.{TakesOut, HoldsNone, count_of}
 use Rattle.ghes_hub.specs.Plain.{HasPlainWindows, plain_window, plain_window_of, with_plain_window, PlainState, PlainStands}
 use Rattle.ghes_hub.specs.PlainSides.{Turns, Stands, with_next_piece, ReaderMakes, Copies, Takes, Clears}
 use Rattle.ghes_ack.specs.Sides.{state_of, in_work, IsCopiedSoFar}

@@ -13,9 +13,9 @@ use Rattle.ghes_ack.specs.declared.ends.FirmwareEnd.{FirmwareEnd}
 use Rattle.ghes_ack.specs.declared.ends.FirmwareEnd.TheVariants.{Writes, Waits}
 use Rattle.ghes_ack.specs.declared.ends.ReaderEnd.{ReaderEnd}
 use Rattle.ghes_ack.specs.declared.ends.ReaderEnd.TheVariants.{Looks, Reads, Acknowledges}
-use Rattle.ghes_window.specs.declared.blocks.Blocks.{Blocks}
-use Rattle.ghes_window.specs.Queues.{count_of}
-use Rattle.ghes_window.proofs.RoomLemmas.{room_with}
+use Rattle.ghes_ack.specs.declared.window_blocks.Blocks.{Blocks}
+use Rattle.ghes_ack.specs.WindowQueues.{count_of}
+use Rattle.ghes_ack.proofs.RoomLemmas.{room_with}
 use Rattle.ghes_hub.specs.declared.plain.map.PlainMap.{PlainMap}
 use Rattle.ghes_hub.specs.Plain.{plain_status, PlainState, PlainStands}
 use Rattle.ghes_hub.specs.PlainSides.{IsSound, IsConsistent, AreConsistent, Stands, Turns, SideDone, FirmwareIsAble, FirmwareTurns, ReaderIsAble, ReaderTurns, SideIsAble, SideTurns}

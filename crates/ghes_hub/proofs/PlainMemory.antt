@@ -2,16 +2,16 @@
 use Rattle.std.proofs.Common.{◌≡◌, ◌∙◌, ℕ, List, length, refl, sym, ap, subst, arith}
 use Rattle.base_model.specs.Bytes.{part, spelled, put_at}
 use Rattle.base_model.proofs.BytesLemmas.{length-spelled, length-part, length-put_at, SameOutside-refl, is_put_at}
-use Rattle.apei_gas.specs.declared.registers.Place.{Place}
-use Rattle.apei_gas.specs.declared.registers.Place.TheVariants.{Memory}
+use Rattle.apei_tables.specs.declared.registers.Place.{Place}
+use Rattle.apei_tables.specs.declared.registers.Place.TheVariants.{Memory}
 use Rattle.apei_space.specs.declared.windows.Window.{Window}
 use Rattle.apei_space.specs.Windows.{AreApart, total}
 use Rattle.apei_space.specs.Mapped.{AreMapped}
 use Rattle.apei_space.specs.RamState.{RamState, located, stored}
 use Rattle.apei_space.proofs.Placed.{IsPlaced}
-use Rattle.ghes_window.proofs.AddressLemmas.{has_block, block_placed, status_placed}
-use Rattle.ghes_window.proofs.PlacedLemmas.{bytes_placed, stored_placed, fits_in}
-use Rattle.ghes_window.proofs.WindowLemmas.{length-status}
+use Rattle.ghes_ack.proofs.AddressLemmas.{has_block, block_placed, status_placed}
+use Rattle.ghes_ack.proofs.PlacedLemmas.{bytes_placed, stored_placed, fits_in}
+use Rattle.ghes_ack.proofs.WindowLemmas.{length-status}
 use Rattle.ghes_ack.specs.Machine.{with_status}
 use Rattle.ghes_hub.specs.declared.plain.map.PlainMap.{PlainMap}
 use Rattle.ghes_hub.specs.Plain.{HasPlainWindows, plain_window, plain_window_of, with_plain_window, with_plain_address}

@@ -4,10 +4,10 @@ use Rattle.std.specs.VecDeque.{deque_len}
 use Rattle.std.proofs.lemmas.List.{length-map}
 use Rattle.base_model.specs.Bytes.{spelled, put_at}
 use Rattle.base_model.proofs.BytesLemmas.{length-spelled}
-use Rattle.apei_gas.specs.declared.registers.Place.TheVariants.{Memory}
+use Rattle.apei_tables.specs.declared.registers.Place.TheVariants.{Memory}
 use Rattle.apei_space.specs.RamState.{RamState}
-use Rattle.ghes_window.specs.declared.blocks.Blocks.{Blocks}
-use Rattle.ghes_window.specs.Queues.{IsEmpty}
+use Rattle.ghes_ack.specs.declared.window_blocks.Blocks.{Blocks}
+use Rattle.ghes_ack.specs.WindowQueues.{IsEmpty}
 use Rattle.ghes_ack.specs.declared.events.Side.{Side}
 use Rattle.ghes_ack.specs.declared.events.Event.{Event}
 use Rattle.ghes_ack.specs.Machine.{Machine, Filling, Fits, with_status, started, submitted}
@@ -21,7 +21,7 @@ use Rattle.ghes_hub.specs.Places.{IsOff, plain_places_of}
 use Rattle.ghes_hub.specs.Plain.{HasPlainWindows, plain_window, plain_address, with_plain_window, with_plain_address, plain_started, PlainState, PlainStands}
 use Rattle.ghes_ack.specs.Handovers.{fresh}
 use Rattle.ghes_hub.specs.PlainSides.{Turns, AreConsistent}
-use Rattle.ghes_window.proofs.AddressLemmas.{length-window, block_some, block_placed, status_placed, window-with_window, address-with_window, window-with_address, address-with_address}
+use Rattle.ghes_ack.proofs.AddressLemmas.{length-window, block_some, block_placed, status_placed, window-with_window, address-with_window, window-with_address, address-with_address}
 use Rattle.ghes_hub.proofs.PlainMemory.{windows_window, HasPlain-with_address, length-plain_status}
 use Rattle.ghes_hub.proofs.PlainTurns.{kept_now, stands_by}
 

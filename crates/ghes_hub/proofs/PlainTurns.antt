@@ -4,7 +4,7 @@ use Rattle.std.proofs.lemmas.List.{length-take}
 use Rattle.base_model.specs.Bytes.{part, spelled, put_at}
 use Rattle.base_model.proofs.BytesLemmas.{length-spelled}
 use Rattle.apei_space.specs.RamState.{RamState}
-use Rattle.ghes_window.proofs.PieceLemmas.{length-with_piece}
+use Rattle.ghes_ack.proofs.PieceLemmas.{length-with_piece}
 use Rattle.ghes_ack.specs.declared.events.Side.{Side}
 use Rattle.ghes_ack.specs.declared.events.Side.TheVariants.{Firmware, Reader}
 use Rattle.ghes_ack.specs.declared.events.Event.{Event}
@@ -18,7 +18,7 @@ use Rattle.ghes_hub.specs.Kinds.{ByStatus, settled, plainly, turned_by, Occurs}
 use Rattle.ghes_hub.specs.Plain.{HasPlainWindows, plain_window, plain_status, plain_address, with_plain_window, PlainState, PlainStands}
 use Rattle.ghes_ack.specs.Handovers.{kept}
 use Rattle.ghes_hub.specs.PlainSides.{Turns, Stands, with_next_piece, ReaderMakes, Copies, Takes, Clears}
-use Rattle.ghes_window.proofs.AddressLemmas.{length-window, window-with_window, address-with_window}
+use Rattle.ghes_ack.proofs.AddressLemmas.{length-window, window-with_window, address-with_window}
 use Rattle.ghes_hub.proofs.PlainMemory.{windows_window, length-plain_status, unchanged}
 
 -- what it keeps, with other bytes in its window

@@ -8,9 +8,9 @@ use Rattle.apei_space.specs.declared.windows.Window.{Window}
 use Rattle.ghes_hub.specs.declared.layouts.Layout.{Layout}
 use Rattle.ghes_hub.specs.Layouts.{layout_windows}
 use Rattle.ghes_hub.specs.Refusals.{all_windows}
-use Rattle.apei_gas.specs.declared.widths.Width.{Width}
-use Rattle.apei_gas.specs.declared.widths.Width.TheVariants.{B8, B16, B32, B64}
-use Rattle.apei_gas.specs.Access.{bits}
+use Rattle.apei_tables.specs.declared.widths.Width.{Width}
+use Rattle.apei_tables.specs.declared.widths.Width.TheVariants.{B8, B16, B32, B64}
+use Rattle.apei_tables.specs.Access.{bits}
 
 pub shifted : (write x offset y : ℕ) → x ≡ write → y ≡ offset → offset < 64 → write < 2 ^ 64 → x * 2 ^ y % 2 ^ 128 ≡ write * 2 ^ offset
 shifted write x offset y is_x is_y low small =

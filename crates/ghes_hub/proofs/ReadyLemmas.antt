@@ -1,14 +1,14 @@
 -- Layouts of checked sources lie in a memory of their windows.
 use Rattle.std.proofs.Common.{◌≡◌, ◌≢◌, ℕ, zero, suc, ◌<◌, ◌≤◌, inl, inr, List, [], ◌∷◌, ◌++◌, Some, slice_get, subst, arith}
 use Rattle.std.proofs.lemmas.Bool.{cases_lt}
-use Rattle.apei_gas.specs.declared.registers.Place.{Place}
-use Rattle.apei_gas.specs.declared.registers.Place.TheVariants.{Memory, Io}
+use Rattle.apei_tables.specs.declared.registers.Place.{Place}
+use Rattle.apei_tables.specs.declared.registers.Place.TheVariants.{Memory, Io}
 use Rattle.apei_space.specs.declared.windows.Window.{Window}
 use Rattle.apei_space.specs.RamState.{RamState, FillsWindows}
 use Rattle.apei_space.specs.Mapped.{Holds, IsMapped, further}
 use Rattle.ghes_ack.specs.declared.maps.HandoverMap.{HandoverMap}
 use Rattle.ghes_ack.specs.Maps.{HasWindows, ack_bytes}
-use Rattle.ghes_window.proofs.PlacedLemmas.{disjoint_sym}
+use Rattle.ghes_ack.proofs.PlacedLemmas.{disjoint_sym}
 use Rattle.ghes_hub.specs.declared.layouts.Layout.{Layout}
 use Rattle.ghes_hub.specs.declared.layouts.Layout.TheVariants.{Acknowledged, Plain}
 use Rattle.ghes_hub.specs.declared.plain.map.PlainMap.{PlainMap}

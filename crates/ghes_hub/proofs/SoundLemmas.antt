@@ -6,27 +6,27 @@ use Rattle.std.proofs.lemmas.Option.{slice_get_within}
 use Rattle.std.proofs.Math.Nat.{mod-eq_of_lt}
 use Rattle.std.proofs.lemmas.Nat.{pow_pos}
 use Rattle.base_model.specs.Bytes.{part}
-use Rattle.apei_gas.specs.declared.structure.Gas.{Gas}
-use Rattle.apei_gas.specs.declared.registers.Place.TheVariants.{Memory}
-use Rattle.apei_gas.specs.declared.registers.Register.{Register}
-use Rattle.apei_gas.specs.declared.registers.BadRegister.{BadRegister}
-use Rattle.apei_gas.specs.declared.registers.BadRegister.TheVariants.{Space, Access, Bits}
-use Rattle.apei_gas.specs.declared.widths.Width.{Width}
-use Rattle.apei_gas.specs.declared.widths.Width.TheVariants.{B8, B16, B32, B64}
-use Rattle.apei_gas.specs.Access.{bits}
-use Rattle.apei_gas.specs.Check.{checked, register_of}
+use Rattle.apei_tables.specs.declared.structure.Gas.{Gas}
+use Rattle.apei_tables.specs.declared.registers.Place.TheVariants.{Memory}
+use Rattle.apei_tables.specs.declared.registers.Register.{Register}
+use Rattle.apei_tables.specs.declared.registers.BadRegister.{BadRegister}
+use Rattle.apei_tables.specs.declared.registers.BadRegister.TheVariants.{Space, Access, Bits}
+use Rattle.apei_tables.specs.declared.widths.Width.{Width}
+use Rattle.apei_tables.specs.declared.widths.Width.TheVariants.{B8, B16, B32, B64}
+use Rattle.apei_tables.specs.Access.{bits}
+use Rattle.apei_tables.specs.Check.{checked, register_of}
 use Rattle.apei_space.specs.declared.windows.Window.{Window}
 use Rattle.apei_space.specs.Windows.{AreApart, total}
 use Rattle.apei_space.specs.RamState.{RamState, FillsWindows}
 use Rattle.apei_space.specs.Mapped.{IsMapped, AreMapped}
-use Rattle.apei_gas.specs.declared.registers.Place.{Place}
+use Rattle.apei_tables.specs.declared.registers.Place.{Place}
 use Rattle.apei_space.proofs.Placed.{placed, placed_fits}
 use Rattle.hest_sources.specs.declared.sources.Ghes.{Ghes}
 use Rattle.hest_sources.specs.declared.sources.Ack.{Ack}
 use Rattle.hest_sources.specs.declared.sources.HestSource.{HestSource}
 use Rattle.ghes_ack.specs.Machine.{zeros, started}
 use Rattle.ghes_ack.specs.Maps.{bytes_at}
-use Rattle.ghes_window.proofs.PlacedLemmas.{bytes_placed}
+use Rattle.ghes_ack.proofs.PlacedLemmas.{bytes_placed}
 use Rattle.ghes_hub.specs.declared.errors.HubError.{HubError}
 use Rattle.ghes_hub.specs.declared.errors.HubError.TheVariants.{BlockLen, Status, Ack as BadAck, Clash}
 use Rattle.ghes_hub.specs.declared.layouts.Layout.{Layout}

@@ -1,7 +1,7 @@
 -- The bytes of a source, as windows, and bytes that have none in common with them.
 use Rattle.std.specs.Prelude.{ℕ, List, [], ◌∷◌}
-use Rattle.apei_gas.specs.declared.registers.Place.{Place}
-use Rattle.apei_gas.specs.declared.registers.Place.TheVariants.{Memory}
+use Rattle.apei_tables.specs.declared.registers.Place.{Place}
+use Rattle.apei_tables.specs.declared.registers.Place.TheVariants.{Memory}
 use Rattle.apei_space.specs.declared.windows.Window.{Window}
 use Rattle.apei_space.specs.Mapped.{AreDisjoint}
 use Rattle.ghes_ack.specs.declared.maps.HandoverMap.{HandoverMap}

@@ -6,8 +6,8 @@ use Rattle.ghes_ack.specs.declared.submission.SubmitError.{SubmitError}
 use Rattle.ghes_ack.specs.Machine.{Machine, with_status}
 use Rattle.ghes_ack.specs.Handovers.{HandoverOver}
 use Rattle.ghes_ack.specs.Kept.{Agrees, kept_over}
-use Rattle.ghes_window.specs.declared.window.BlockWindow.{BlockWindow}
-use Rattle.ghes_window.specs.Windows.{HasAddressed, block_bytes, block_status, with_block, address_at, with_address_at}
+use Rattle.ghes_ack.specs.declared.window.BlockWindow.{BlockWindow}
+use Rattle.ghes_ack.specs.Windows.{HasAddressed, block_bytes, block_status, with_block, address_at, with_address_at}
 use Rattle.ghes_ack.specs.Submissions.{refusal_of}
 use Rattle.ghes_hub.specs.declared.plain.map.PlainMap.{PlainMap}
 use Rattle.ghes_hub.specs.Kinds.{ByStatus, Occurs}

@@ -8,9 +8,9 @@ use Rattle.ghes_ack.specs.declared.events.Event.{Event}
 use Rattle.ghes_ack.specs.declared.events.Event.TheVariants.{Free, Wait, Nothing, Found, Copied, Took, Clear}
 use Rattle.ghes_ack.specs.Machine.{Machine, Situation, Filling, Published, Reading, Cleared, Acknowledged, with_status}
 use Rattle.ghes_ack.specs.Sides.{IsCopiedSoFar, AreApart, situation_of, state_of, handover_of}
-use Rattle.ghes_window.specs.declared.blocks.Blocks.{Blocks}
-use Rattle.ghes_window.specs.Queues.{HasRoom, count_of}
-use Rattle.ghes_window.specs.Pieces.{read_over}
+use Rattle.ghes_ack.specs.declared.window_blocks.Blocks.{Blocks}
+use Rattle.ghes_ack.specs.WindowQueues.{HasRoom, count_of}
+use Rattle.ghes_ack.specs.Pieces.{read_over}
 use Rattle.ghes_hub.specs.declared.plain.map.PlainMap.{PlainMap}
 use Rattle.ghes_ack.specs.declared.ends.Ends.{Ends}
 use Rattle.ghes_ack.specs.declared.ends.FirmwareEnd.{FirmwareEnd}

@@ -1,11 +1,11 @@
 // Whether an error source may be served.
 ghost use Rattle.std.specs.Prelude.{◌≡◌, ◌*◌, ◌^◌, ◌<◌, ◌&&◌, nat_lt, Some, Ok};
-ghost use Rattle.apei_gas.specs.Access.{bits};
-ghost use Rattle.apei_gas.specs.Check.{checked};
+ghost use Rattle.apei_tables.specs.Access.{bits};
+ghost use Rattle.apei_tables.specs.Check.{checked};
 ghost use Rattle.ghes_hub.specs.Refusals.{is_status, has_ack, checked_source};
 
 use crate::errors::HubError;
-use apei_gas::{Gas, Place, Width};
+use apei_tables::{Gas, Place, Width};
 use hest_sources::{Ack, Ghes};
 
 /// Whether a source may be served: a block of 20 to 4,096 bytes, and registers as they must be.

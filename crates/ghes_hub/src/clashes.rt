@@ -4,8 +4,8 @@ ghost use Rattle.ghes_hub.specs.Layouts.{layout_windows};
 ghost use Rattle.ghes_hub.specs.Refusals.{overlap_at, overlaps, is_late, clashes};
 
 use crate::layouts::Layout;
-use apei_gas::Place;
 use apei_space::Window;
+use apei_tables::Place;
 
 /// Puts the windows of a layout behind others.
 pub fn put_all(layout: &Layout, windows: &mut Vec<Window>) -> bool

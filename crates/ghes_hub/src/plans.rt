@@ -10,8 +10,7 @@ use crate::errors::HubError;
 use crate::layouts::Layout;
 use crate::plain::PlainMap;
 use apei_space::Window;
-use ghes_ack::HandoverMap;
-use ghes_window::BlockWindow;
+use ghes_ack::{BlockWindow, HandoverMap};
 use hest_sources::{Ghes, HestSource};
 
 /// Where the block of the first source lies, and how far behind it each further one.

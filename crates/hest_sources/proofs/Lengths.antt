@@ -4,8 +4,8 @@ use Rattle.std.specs.Prelude.{◌==◌, ◌||◌, nat_le, nat_lt}
 use Rattle.std.proofs.lemmas.Bool.{cases_Bool, eqb-true, leb-false, ltb-false, ne_eqb, le-ltb, lt-leb, cond-true, cond-false, or_cases}
 use Rattle.std.proofs.lemmas.List.{length-take, take-append-drop}
 use Rattle.base_model.specs.Bytes.{part, number_at, AreBytes}
-use Rattle.apei_fields.proofs.Parts.{number_at-front}
-use Rattle.apei_fields.proofs.Tests.{ok_unless}
+use Rattle.apei_bytes.proofs.Parts.{number_at-front}
+use Rattle.apei_bytes.proofs.Tests.{ok_unless}
 use Rattle.hest_sources.specs.declared.sources.Ghes.{Ghes}
 use Rattle.hest_sources.specs.declared.sources.Ack.{Ack}
 use Rattle.hest_sources.specs.declared.sources.HestSource.{HestSource}

@@ -3,11 +3,11 @@ use Rattle.std.proofs.Common.{◌≡◌, ℕ, ◌+◌, ◌<◌, ◌≤◌, ◌^�
 use Rattle.std.proofs.lemmas.List.{append-nil}
 use Rattle.base_model.specs.Bytes.{part, number_at, spelled, joined, total, AreBytes}
 use Rattle.base_model.proofs.BytesLemmas.{spelled-number_at, number_at-lt, length-part, part-part, part-append, part-append_right, part-whole, length-joined, AreBytes-part}
-use Rattle.apei_fields.proofs.Parts.{parts, joined-parts, parts_of, number_of, part-first}
-use Rattle.apei_fields.specs.Writing.{Wrote}
-use Rattle.apei_fields.proofs.Puts.{spelled-one, wrote_then}
-use Rattle.apei_gas.specs.declared.structure.Gas.{Gas}
-use Rattle.apei_gas.specs.Layout.{spelling, IsGas}
+use Rattle.apei_bytes.proofs.Parts.{parts, joined-parts, parts_of, number_of, part-first}
+use Rattle.apei_bytes.specs.Writing.{Wrote}
+use Rattle.apei_bytes.proofs.Puts.{spelled-one, wrote_then}
+use Rattle.apei_tables.specs.declared.structure.Gas.{Gas}
+use Rattle.apei_tables.specs.GasLayout.{spelling, IsGas}
 use Rattle.hest_sources.specs.declared.sources.Ghes.{Ghes}
 use Rattle.hest_sources.specs.declared.sources.Ack.{Ack}
 use Rattle.hest_sources.specs.Layout.{type_of, size_of, ghes_fields, ack_fields, ack_bytes, ghes_bytes, IsAck, AckFits, IsGhes, gas_at, ack_at, ack_by_type, front_at}

@@ -4,8 +4,8 @@ use Rattle.std.proofs.lemmas.Bool.{eqb-true, eq-eqb, ne_eqb}
 use Rattle.std.proofs.lemmas.List.{nil_from_length}
 use Rattle.base_model.specs.Bytes.{number_at, AreBytes}
 use Rattle.base_model.proofs.BytesLemmas.{AreBytes-drop}
-use Rattle.apei_fields.specs.Walk.{item_count}
-use Rattle.apei_fields.proofs.Walks.{GetsOn, IsFaithful, counts as items_counted, counts_again as items_again}
+use Rattle.apei_bytes.specs.Walk.{item_count}
+use Rattle.apei_bytes.proofs.Walks.{GetsOn, IsFaithful, counts as items_counted, counts_again as items_again}
 use Rattle.hest_sources.specs.declared.sources.HestSource.{HestSource}
 use Rattle.hest_sources.specs.Layout.{AreSources, IsSource}
 use Rattle.hest_sources.specs.Walk.{structure_walk, sources_in, source_count}

@@ -1,9 +1,9 @@
 -- The bytes of error source structures (ACPI 6.4, 18.3.2).
 use Rattle.std.specs.Prelude.{◌≡◌, ℕ, ◌+◌, ◌*◌, ◌^◌, ◌<◌, ◌≤◌, List, [], ◌∷◌, ◌++◌, length, Option, Some, None, false, ◌==◌, ◌||◌, nat_le, nat_lt, if◌then◌else◌, Result, Ok, Err}
 use Rattle.base_model.specs.Bytes.{part, number_at, spelled, joined}
-use Rattle.apei_fields.specs.Walk.{AreItems}
-use Rattle.apei_gas.specs.declared.structure.Gas.{Gas}
-use Rattle.apei_gas.specs.Layout.{spelling, IsGas}
+use Rattle.apei_bytes.specs.Walk.{AreItems}
+use Rattle.apei_tables.specs.declared.structure.Gas.{Gas}
+use Rattle.apei_tables.specs.GasLayout.{spelling, IsGas}
 use Rattle.hest_sources.specs.declared.sources.Ghes.{Ghes}
 use Rattle.hest_sources.specs.declared.sources.Ack.{Ack}
 use Rattle.hest_sources.specs.declared.sources.HestSource.{HestSource}

@@ -1,6 +1,6 @@
 -- The walk over a table's structures, to its end.
 use Rattle.std.specs.Prelude.{ℕ, List, length, drop, ◌==◌, Result}
-use Rattle.apei_fields.specs.Walk.{Walk, items_in, item_count}
+use Rattle.apei_bytes.specs.Walk.{Walk, items_in, item_count}
 use Rattle.hest_sources.specs.declared.sources.HestSource.{HestSource}
 use Rattle.hest_sources.specs.declared.tables.HestError.{HestError}
 use Rattle.hest_sources.specs.Layout.{source_at, structure_length}

@@ -1,15 +1,17 @@
 // One error source structure.
 ghost use Rattle.std.specs.Prelude.{◌≡◌, ◌+◌, ◌≤◌, ◌<◌, length, Ok, IfOk, IfErr};
 ghost use Rattle.base_model.specs.Bytes.{part, joined};
-ghost use Rattle.apei_fields.specs.Writing.{Wrote};
-ghost use Rattle.apei_gas.specs.Layout.{spelling};
+ghost use Rattle.apei_bytes.specs.Writing.{Wrote};
+ghost use Rattle.apei_tables.specs.GasLayout.{spelling};
 ghost use Rattle.hest_sources.specs.Tables.{IsMalformed};
 ghost use Rattle.hest_sources.specs.Layout.{type_of, size_of, ghes_fields, ack_fields, ghes_bytes, length_with_banks, length_by_type, gas_at, ack_at, front_at, source_at, structure_length};
 
 use crate::tables::HestError;
-use apei_bytes::{get_u16, get_u32, get_u64};
-use apei_fields::{array_at, byte_at, write_array, write_u8, write_u16, write_u32, write_u64};
-use apei_gas::Gas;
+use apei_bytes::{
+    array_at, byte_at, get_u16, get_u32, get_u64, write_array, write_u8, write_u16, write_u32,
+    write_u64,
+};
+use apei_tables::Gas;
 
 /// A generic hardware error source (ACPI 6.4, 18.3.2.7), and where it has a read acknowledgement, of version 2
 /// (18.3.2.8).

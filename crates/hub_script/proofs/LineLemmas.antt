@@ -1,10 +1,10 @@
 -- The lines are a language of keywords.
 use Rattle.std.proofs.Common.{◌≡◌, ℕ, zero, suc, ◌<◌, ◌⊎◌, inl, inr, List, [], ◌∷◌, ◌++◌, get_or, refl, ap, ◌∙◌, arith}
 use Rattle.std.specs.Prelude.{IsTrue, decimal, codes}
-use Rattle.line_grammar.specs.Columns.{Begins}
-use Rattle.line_grammar.proofs.BehindLemmas.{IsBehind, IsOne, IsAlone}
-use Rattle.line_grammar.proofs.KeywordLemmas.{IsLanguage, one_of_all, language}
-use Rattle.line_grammar.proofs.PairLemmas.{one_pair}
+use Rattle.script_lines.specs.Columns.{Begins}
+use Rattle.script_lines.proofs.BehindLemmas.{IsBehind, IsOne, IsAlone}
+use Rattle.script_lines.proofs.KeywordLemmas.{IsLanguage, one_of_all, language}
+use Rattle.script_lines.proofs.PairLemmas.{one_pair}
 use Rattle.hub_script.specs.Turns.{may_stand, AreTurns}
 use Rattle.hub_script.specs.HubGrammar.{Line, IsLine, IsValid, text_of, blank, comment, hest, error, turns, heard, removal}
 use Rattle.hub_script.specs.HubWords.{codes_of, all_words, Follows}

@@ -3,11 +3,11 @@ use Rattle.std.proofs.Common.{◌≡◌, ◌∙◌, ℕ, ◌+◌, ◌-◌, ◌^�
 use Rattle.std.specs.Prelude.{decimal}
 use Rattle.std.proofs.lemmas.Bool.{cases_lt}
 use Rattle.std.proofs.lemmas.List.{append-nil, take_all, length-take-le}
-use Rattle.line_grammar.specs.Columns.{Begins, Breaks}
-use Rattle.line_grammar.specs.Parts.{IsNumber, IsNumberThen, IsPairs, IsLongestNumber}
-use Rattle.line_grammar.proofs.NumberLemmas.{front_number, IsFront}
-use Rattle.line_grammar.proofs.NumberThenLemmas.{then_stops, then_goes}
-use Rattle.line_grammar.proofs.PairLemmas.{one_pair}
+use Rattle.script_lines.specs.Columns.{Begins, Breaks}
+use Rattle.script_lines.specs.Parts.{IsNumber, IsNumberThen, IsPairs, IsLongestNumber}
+use Rattle.script_lines.proofs.NumberLemmas.{front_number, IsFront}
+use Rattle.script_lines.proofs.NumberThenLemmas.{then_stops, then_goes}
+use Rattle.script_lines.proofs.PairLemmas.{one_pair}
 
 longest_of : (text : List ℕ) (value len : ℕ) → Breaks (IsNumber 0 (2 ^ 64 - 1)) text len → (0 < len → (take len text ≡ decimal value) × (0 ≤ value) × (value ≤ 2 ^ 64 - 1)) → IsLongestNumber 0 (2 ^ 64 - 1) text value len
 longest_of text value len b number = record {

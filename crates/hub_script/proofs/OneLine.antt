@@ -2,7 +2,7 @@
 use Rattle.std.proofs.Common.{◌≡◌, ℕ, ◌^◌, ◌<◌, ◌⊎◌, inl, inr, List, ◌∷◌, ◌++◌, refl, sym, ap, ◌∙◌, arith}
 use Rattle.std.specs.Prelude.{decimal}
 use Rattle.std.proofs.lemmas.Fmt.{decimal_injective}
-use Rattle.line_grammar.proofs.OneLine.{IsReading as IsReadingOf, one_line as one_line_of, same_then}
+use Rattle.script_lines.proofs.OneLine.{IsReading as IsReadingOf, one_line as one_line_of, same_then}
 use Rattle.hub_script.specs.HubGrammar.{Line, IsValid, text_of, blank, comment, hest, error, turns, heard, removal}
 use Rattle.hub_script.specs.HubWords.{codes_of, all_words}
 use Rattle.hub_script.specs.declared.hub_line.HubWord.{HubWord}

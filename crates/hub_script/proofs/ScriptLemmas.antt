@@ -3,8 +3,8 @@ use Rattle.std.proofs.Common.{◌≡◌, ℕ, ◌≤◌, ◌⊎◌, inl, inr, Li
 use Rattle.std.proofs.lemmas.Bool.{cases_lt}
 use Rattle.std.proofs.lemmas.List.{append-nil}
 use Rattle.base_model.specs.Faults.{Rose}
-use Rattle.line_grammar.specs.Columns.{BreaksAt}
-use Rattle.line_grammar.specs.declared.lengths.TheConstants.{LONGEST_LINE}
+use Rattle.script_lines.specs.Columns.{BreaksAt}
+use Rattle.script_lines.specs.declared.lengths.TheConstants.{LONGEST_LINE}
 use Rattle.apei_notify.specs.Telling.{Hearing}
 use Rattle.script_lines.specs.Causes.{HasSourceCause, HasSinkCause}
 use Rattle.script_lines.specs.Lines.{Line as TextLine, Reading, lines_of, IsTooLong, IsNextLine}

@@ -4,7 +4,7 @@ use Rattle.std.specs.Prelude.{IsTrue}
 use Rattle.std.proofs.lemmas.Bool.{cases_lt}
 use Rattle.std.proofs.lemmas.Bool.Decides.{nat_tests}
 use Rattle.std.proofs.lemmas.List.{length-take-le, length-append, get_or-take, get_or_append_left, get_or_at}
-use Rattle.line_grammar.specs.Columns.{Begins, Breaks}
+use Rattle.script_lines.specs.Columns.{Begins, Breaks}
 use Rattle.hub_script.specs.Turns.{is_source, is_side, may_stand, AreTurns}
 
 -- bytes that may stand where they stand

@@ -1,6 +1,6 @@
 -- The keywords of the lines, and what may follow each.
 use Rattle.std.specs.Prelude.{ℕ, ◌-◌, ◌^◌, List, [], ◌∷◌, codes}
-use Rattle.line_grammar.specs.Parts.{IsPairs, IsNumber, AreTwoNumbers, IsNumberThen}
+use Rattle.script_lines.specs.Parts.{IsPairs, IsNumber, AreTwoNumbers, IsNumberThen}
 use Rattle.hub_script.specs.Turns.{AreTurns}
 use Rattle.hub_script.specs.declared.hub_line.HubWord.{HubWord}
 use Rattle.hub_script.specs.declared.hub_line.HubWord.TheVariants.{Comment, Hest, Error, Turns, Heard, Drop}

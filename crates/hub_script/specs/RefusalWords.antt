@@ -1,6 +1,6 @@
 -- The words of refusals.
 use Rattle.std.specs.Prelude.{ℕ, List, [], ◌++◌, codes}
-use Rattle.line_text.specs.Words.{word_and_number, word_and_two_numbers}
+use Rattle.script_lines.specs.Words.{word_and_number, word_and_two_numbers}
 use Rattle.ghes_hub.specs.declared.errors.HubError.{HubError}
 use Rattle.ghes_hub.specs.declared.errors.HubError.TheVariants.{NoSource, Many, BlockLen, Status, Ack, Clash, Memory}
 use Rattle.script_text.specs.SubmitWords.{words_of_submit}

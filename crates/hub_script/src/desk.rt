@@ -1,9 +1,9 @@
 // The memory in which lines are played.
 ghost use Rattle.std.specs.Prelude.{◌≡◌, [], vec_len, IfOk};
-ghost use Rattle.line_grammar.specs.declared.lengths.TheConstants.{LONGEST_BYTES};
+ghost use Rattle.script_lines.specs.declared.lengths.TheConstants.{LONGEST_BYTES};
 
 use apei_bytes::Memory;
-use line_grammar::LONGEST_BYTES;
+use script_lines::LONGEST_BYTES;
 use script_text::Reply;
 use std::alloc::Global;
 

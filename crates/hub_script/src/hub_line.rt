@@ -1,13 +1,13 @@
 // A line of a script of several error sources.
 ghost use Rattle.std.specs.Prelude.{◌+◌, ◌≤◌, length, MatchResult};
-ghost use Rattle.line_grammar.specs.Columns.{Breaks, BreaksAt};
-ghost use Rattle.line_grammar.specs.declared.lengths.TheConstants.{LONGEST_LINE};
+ghost use Rattle.script_lines.specs.Columns.{Breaks, BreaksAt};
+ghost use Rattle.script_lines.specs.declared.lengths.TheConstants.{LONGEST_LINE};
 ghost use Rattle.hub_script.specs.HubGrammar.{IsLine};
 ghost use Rattle.hub_script.specs.HubText.{IsText, IsTextBehind};
 ghost use Rattle.hub_script.specs.HubWords.{codes_of, Follows};
 
 use crate::parts::{number_and_pairs, turns};
-use line_grammar::{Keyword, keyword_of, number, pairs, two_numbers};
+use script_lines::{Keyword, keyword_of, number, pairs, two_numbers};
 
 /// A line of a script of several error sources. Hexadecimal digits and turns are parts of its text as they stand.
 #[derive(Clone, Copy, Debug, PartialEq, Eq)]

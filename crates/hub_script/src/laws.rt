@@ -1,6 +1,6 @@
 // Laws on lines: the functions do nothing, and their clauses are the laws.
 ghost use Rattle.std.specs.Prelude.{◌≡◌, ℕ, List};
-ghost use Rattle.line_grammar.specs.Columns.{BreaksAt};
+ghost use Rattle.script_lines.specs.Columns.{BreaksAt};
 ghost use Rattle.hub_script.specs.HubGrammar.{Line, IsLine, IsValid, text_of};
 
 /// Lines with one text are one line.

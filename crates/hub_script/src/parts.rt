@@ -1,10 +1,10 @@
 // What may follow a keyword.
 ghost use Rattle.std.specs.Prelude.{◌≡◌, ◌-◌, ◌^◌, ◌++◌, ◌∷◌, decimal, MatchResult};
-ghost use Rattle.line_grammar.specs.Columns.{Breaks};
-ghost use Rattle.line_grammar.specs.Parts.{IsPairs, IsNumberThen};
+ghost use Rattle.script_lines.specs.Columns.{Breaks};
+ghost use Rattle.script_lines.specs.Parts.{IsPairs, IsNumberThen};
 ghost use Rattle.hub_script.specs.Turns.{AreTurns, is_source, is_side, may_stand};
 
-use line_grammar::{number, pairs};
+use script_lines::{number, pairs};
 
 /// The most bytes of the turns of a line.
 const MAX_TURNS: usize = 4096;

@@ -1,9 +1,9 @@
 // The player of a script of several error sources.
 ghost use Rattle.std.specs.Prelude.{◌≡◌, ◌≢◌, ⊤, ◌+◌, ◌<◌, ◌≤◌, ℕ, length, Ok, Err, None, OnOk, OnErr, IfOk, IfErr};
 ghost use Rattle.base_model.specs.Faults.{Rose, HasCause};
-ghost use Rattle.line_grammar.specs.Columns.{BreaksAt};
-ghost use Rattle.line_grammar.specs.Parts.{IsPairs};
-ghost use Rattle.line_grammar.specs.declared.lengths.TheConstants.{LONGEST_LINE};
+ghost use Rattle.script_lines.specs.Columns.{BreaksAt};
+ghost use Rattle.script_lines.specs.Parts.{IsPairs};
+ghost use Rattle.script_lines.specs.declared.lengths.TheConstants.{LONGEST_LINE};
 ghost use Rattle.hub_script.specs.declared.player.HubStop.TheVariants.{SinkFault as TheSinkFault};
 ghost use Rattle.hub_script.specs.HubGrammar.{IsLine, IsValid, text_of, hest, error, turns, heard, removal};
 ghost use Rattle.hub_script.specs.HubText.{line_of};

@@ -5,7 +5,7 @@ ghost use Rattle.hub_script.specs.RefusalWords.{words_of_refusal, words_of_hub, 
 use ghes_ack::SubmitError;
 use ghes_hub::HubError;
 use hest_sources::HestError;
-use line_text::LineText;
+use script_lines::LineText;
 use script_text::Refusal;
 
 /// Why a line is refused, the first reason that applies.

@@ -7,7 +7,7 @@ ghost use Rattle.hub_script.specs.Replies.{refused, reply_line};
 
 use crate::refusals::HubRefusal;
 use apei_bytes::{Sink, SinkFault, write_all};
-use line_text::LineText;
+use script_lines::LineText;
 use script_text::{Refusal, Reply};
 
 /// Ends the line of a reply.

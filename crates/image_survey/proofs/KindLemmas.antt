@@ -7,16 +7,16 @@ use Rattle.record_model.specs.Records.{Head, Entry, slot_at, is_upright, is_up, 
 use Rattle.record_model.proofs.ChosenLemmas.{chosen_or_none, get-no_slot}
 use Rattle.record_model.proofs.FirstLemmas.{chosen-is_first, is_first-chosen}
 use Rattle.record_model.proofs.LiveLemmas.{live_record, up_entry}
-use Rattle.record_recovery.specs.Listed.{first_records}
+use Rattle.record_slots.specs.Listed.{first_records}
 use Rattle.record_slots.specs.Slots.{numbers_of}
 use Rattle.image_survey.specs.declared.kinds.SlotKind.{SlotKind}
 use Rattle.image_survey.specs.declared.kinds.SlotKind.TheVariants.{First, Orphan, Filling, Killed, Unknown}
-use Rattle.record_recovery.specs.declared.found.Look.{Look}
-use Rattle.record_recovery.specs.Looks.{IsSeen}
+use Rattle.record_slots.specs.declared.found.Look.{Look}
+use Rattle.record_slots.specs.Looks.{IsSeen}
 use Rattle.image_survey.specs.Kinds.{kind_by, is_erased, kind_at}
 use Rattle.image_survey.specs.Counts.{is_record, is_second_copy}
 use Rattle.image_survey.specs.Shown.{IsFirstOf}
-use Rattle.record_recovery.proofs.LookLemmas.{NamesParts, seen_up, names_parts}
+use Rattle.record_slots.proofs.LookLemmas.{NamesParts, seen_up, names_parts}
 
 -- a test that fails of each kind which marks tell
 choice_fails : (test : SlotKind → Bool) → test Unknown ≡ false → test Killed ≡ false → test Orphan ≡ false → test Filling ≡ false → (a b c d e : Bool)

@@ -1,3 +1,8 @@
+pub mod SumLemmas
+pub mod HeaderLemmas
+pub mod ChangeLemmas
+pub mod ImageLemmas
+pub mod CutLemmas
 pub mod LookLemmas
 pub mod SlotLemmas
 pub mod KindLemmas

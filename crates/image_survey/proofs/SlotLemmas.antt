@@ -6,11 +6,11 @@ use Rattle.std.proofs.lemmas.Bool.{cases_eq, both_ways, false_from_ne_true, lt-l
 use Rattle.record_model.specs.Records.{Head, Slot, Entry, is_upright, is_up, are_parts, further_of, is_live, entry_of, record_of, goes_before, is_behind, is_first, leads, holds, is_taken, parts_of}
 use Rattle.record_model.proofs.LiveLemmas.{live_parts, entry_live, entry_dead, live_entry}
 use Rattle.record_model.proofs.FirstLemmas.{is_first-chosen}
-use Rattle.record_recovery.specs.Listed.{first_records}
+use Rattle.record_slots.specs.Listed.{first_records}
 use Rattle.record_slots.specs.Slots.{numbers_of}
-use Rattle.record_recovery.specs.declared.found.Look.{Look}
-use Rattle.record_recovery.specs.Looks.{IsSeen}
-use Rattle.record_recovery.proofs.LookLemmas.{seen_up}
+use Rattle.record_slots.specs.declared.found.Look.{Look}
+use Rattle.record_slots.specs.Looks.{IsSeen}
+use Rattle.record_slots.proofs.LookLemmas.{seen_up}
 
 three_tests : (p q r : Bool) → p ≡ true → q ≡ true → (p && q && r) ≡ r
 three_tests p q r h i = ap (λ (b : Bool). b && q && r) h ∙ ap (λ (b : Bool). b && r) i

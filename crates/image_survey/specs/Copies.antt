@@ -4,10 +4,10 @@ use Rattle.std.specs.declared.alloc.Global.{Global}
 use Rattle.std.specs.declared.vec.Vec.{Vec}
 use Rattle.base_model.specs.Faults.{Rose}
 use Rattle.flash_model.specs.declared.geometry.Geometry.{Geometry}
-use Rattle.flash_words.specs.Flash.{FlashState, StaysLit, next_count}
+use Rattle.base_model.specs.Flash.{FlashState, StaysLit, next_count}
 use Rattle.record_slots.specs.Slots.{Fits}
-use Rattle.record_recovery.specs.declared.scanning.ScanError.{ScanError}
-use Rattle.record_recovery.specs.declared.scanning.ScanError.TheVariants.{Size, Flash, Memory}
+use Rattle.record_slots.specs.declared.scanning.ScanError.{ScanError}
+use Rattle.record_slots.specs.declared.scanning.ScanError.TheVariants.{Size, Flash, Memory}
 
 -- no change was made and none was asked for: the content, the size, the count of changes and the power are as before
 pub record LeavesAlone (tells : Type 0) (old new : FlashState) : Type 0 where

@@ -3,7 +3,7 @@ use Rattle.std.specs.Prelude.{ℕ, ◌-◌, ◌*◌, Bool, ◌==◌, ◌&&◌, i
 use Rattle.std.specs.List.{list_all}
 use Rattle.base_model.specs.Bytes.{part}
 use Rattle.record_model.specs.Records.{Head, slot_at, is_up, entry_at, is_first, is_taken, gate_open, gate_closed, gate_further, not_killed, tail_mark}
-use Rattle.record_recovery.specs.Listed.{first_records}
+use Rattle.record_slots.specs.Listed.{first_records}
 use Rattle.image_survey.specs.declared.kinds.SlotKind.{SlotKind}
 use Rattle.image_survey.specs.declared.kinds.SlotKind.TheVariants.{First, Further, SecondCopy, Orphan, Filling, Killed, Erased, Unknown}
 

@@ -1,3 +1,6 @@
+pub mod Checksums
+pub mod Headers
+pub mod Formats
 pub mod Kinds
 pub mod Shown
 pub mod Reading

@@ -1,7 +1,7 @@
 -- What is shown of an image's slots.
 use Rattle.std.specs.Prelude.{◌≡◌, ℕ, ◌<◌, List, slice_index_or}
 use Rattle.record_model.specs.Records.{slot_at}
-use Rattle.record_recovery.specs.Looks.{IsSeen}
+use Rattle.record_slots.specs.Looks.{IsSeen}
 use Rattle.image_survey.specs.Kinds.{kind_at}
 use Rattle.image_survey.specs.declared.kinds.SlotKind.TheVariants.{First}
 use Rattle.image_survey.specs.declared.survey.SlotView.{SlotView}

@@ -1,7 +1,7 @@
 // Which slots are the first slots of their identifiers' records.
 ghost use Rattle.std.specs.Prelude.{◌≡◌, ℕ, ◌-◌, ◌<◌, ◌==◌, ◌&&◌, ◌||◌, nat_lt, length, IfOk};
 ghost use Rattle.record_model.specs.Records.{Slot, is_live, entry_of, record_of, goes_before, is_first};
-ghost use Rattle.record_recovery.specs.Looks.{AreSeen, AreMarked};
+ghost use Rattle.record_slots.specs.Looks.{AreSeen, AreMarked};
 
 use crate::Look;
 use crate::lives::live_slots;

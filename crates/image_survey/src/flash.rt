@@ -3,7 +3,7 @@ ghost use Rattle.std.specs.Prelude.{◌≡◌, ◌*◌, length, IfOk};
 ghost use Rattle.image_survey.specs.Copies.{IsAnswer, LeavesAlone};
 
 use flash_model::{Flash, Geometry, erased};
-use record_recovery::ScanError;
+use record_slots::ScanError;
 use std::alloc::Global;
 
 /// All bytes of a flash, by one read of it.

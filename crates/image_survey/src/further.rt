@@ -2,9 +2,9 @@
 ghost use Rattle.std.specs.Prelude.{◌≡◌, ℕ, ◌-◌, ◌<◌, ◌==◌, ◌||◌, ◌&&◌, nat_lt, length, slice_index};
 ghost use Rattle.std.specs.List.{list_any};
 ghost use Rattle.record_model.specs.Records.{Slot, entry_of, is_first, is_taken, further_of};
-ghost use Rattle.record_recovery.specs.Listed.{first_records};
+ghost use Rattle.record_slots.specs.Listed.{first_records};
 ghost use Rattle.record_slots.specs.Slots.{numbers_of};
-ghost use Rattle.record_recovery.specs.Looks.{AreSeen, AreMarked};
+ghost use Rattle.record_slots.specs.Looks.{AreSeen, AreMarked};
 
 use crate::Look;
 use flash_model::Geometry;

@@ -1,12 +1,11 @@
 // Which slots are live: upright, with the further parts of their records.
 ghost use Rattle.std.specs.Prelude.{◌≡◌, ℕ, ◌-◌, ◌<◌, length, IfOk};
 ghost use Rattle.record_model.specs.Records.{Slot, is_live};
-ghost use Rattle.record_recovery.specs.Looks.{AreSeen, AreMarked};
+ghost use Rattle.record_slots.specs.Looks.{AreSeen, AreMarked};
 
 use crate::Look;
 use flash_model::Geometry;
-use record_recovery::has_parts;
-use record_slots::is_upright;
+use record_slots::{has_parts, is_upright};
 use std::alloc::{AllocError, Global};
 
 /// A mark for each slot, set where it is live.

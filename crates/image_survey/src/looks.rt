@@ -1,7 +1,7 @@
 // The heads and the tail marks of an image's slots.
 ghost use Rattle.std.specs.Prelude.{◌≡◌, ◌+◌, ◌*◌, ◌<◌, ◌≤◌, length, IfOk};
 ghost use Rattle.record_model.specs.Records.{slot_at};
-ghost use Rattle.record_recovery.specs.Looks.{IsSeen, AreSeen};
+ghost use Rattle.record_slots.specs.Looks.{IsSeen, AreSeen};
 
 use crate::Look;
 use flash_model::Geometry;

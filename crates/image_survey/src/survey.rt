@@ -4,7 +4,7 @@ ghost use Rattle.std.specs.List.{list_all};
 ghost use Rattle.std.specs.Str.{bytes_eq};
 ghost use Rattle.record_model.specs.Records.{slot_at, entry_of, is_first};
 ghost use Rattle.image_survey.specs.Kinds.{is_erased};
-ghost use Rattle.record_recovery.specs.Looks.{AreSeen, AreMarked};
+ghost use Rattle.record_slots.specs.Looks.{AreSeen, AreMarked};
 ghost use Rattle.image_survey.specs.Shown.{IsShown, AreShown};
 
 use crate::firsts::first_slots;

@@ -6,8 +6,8 @@ use Rattle.erst_entries.specs.Tables.{IsErst, refusal as erst_refusal}
 use Rattle.hest_sources.specs.declared.sources.HestSource.{HestSource}
 use Rattle.hest_sources.specs.declared.tables.HestError.TheVariants.{Memory}
 use Rattle.hest_sources.specs.Tables.{IsHest, IsRefusal}
-use Rattle.bert_region.specs.declared.table.Bert.{Bert as BertValue}
-use Rattle.bert_region.specs.Table.{IsBert, signature as bert_signature}
+use Rattle.ghes_block.specs.declared.table.Bert.{Bert as BertValue}
+use Rattle.ghes_block.specs.Table.{IsBert, signature as bert_signature}
 use Rattle.cper_frame.specs.Grammar.{RecordValue, IsRecord}
 use Rattle.cper_frame.specs.Reading.{checked as record_checked}
 use Rattle.ghes_block.specs.Grammar.{BlockValue, IsBlock}

@@ -5,7 +5,7 @@ ghost use Rattle.item_parts.specs.Items.{BertParts, Counts, Tells, FindsCount, F
 use crate::faults::ItemError;
 use crate::items::Item;
 use crate::parts::Part;
-use bert_region::Bert;
+use ghes_block::Bert;
 
 /// No parts, where the bytes begin with such a table.
 pub fn count(bytes: &[u8]) -> Result<u32, ItemError>

@@ -6,7 +6,7 @@ use Rattle.std.proofs.Math.Seq.{take-add}
 use Rattle.std.proofs.lemmas.List.{take_all, take-take, length-take}
 use Rattle.base_model.specs.Bytes.{SameOutside, number_at, part, spelled}
 use Rattle.base_model.proofs.BytesLemmas.{part-before, part-after, part-append, number_at-part, number_at-after, little-spelled}
-use Rattle.flash_words.specs.Flash.{IsErased}
+use Rattle.base_model.specs.Flash.{IsErased}
 use Rattle.record_model.specs.Records.{Head, head_at, tail_at, slot_at, is_part, part_len, first_head, HasPart, gate_open, tail_mark, gate_closed, not_killed}
 use Rattle.record_model.specs.Filling.{StaysDown, Target, first_target, part_target, IsBegun, IsFilled}
 use Rattle.record_model.proofs.SlotLemmas.{head_at-before, tail_at-after, erased_byte, IsErased-within, IsErased-after}

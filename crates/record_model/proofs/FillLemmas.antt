@@ -5,8 +5,8 @@ use Rattle.std.proofs.lemmas.Bool.{cases_eq}
 use Rattle.std.proofs.Math.Nat.{add-mul, mul-le-mul_right, mul_comm}
 use Rattle.base_model.specs.Bytes.{SameOutside, number_at}
 use Rattle.base_model.proofs.BytesLemmas.{number_at-before}
-use Rattle.flash_words.specs.Flash.{IsErased}
-use Rattle.flash_words.specs.Layout.{Layout}
+use Rattle.base_model.specs.Flash.{IsErased}
+use Rattle.base_model.specs.Layout.{Layout}
 use Rattle.record_model.specs.Records.{tail_at, slot_at, is_up, gate_open, tail_mark}
 use Rattle.record_model.specs.Filling.{StaysDown, IsCleanFromHead, IsCleanFromTail}
 use Rattle.record_model.proofs.SlotLemmas.{head_at-before, tail_at-after, down_by_gate, down_by_tail, down_by_head, erased_byte, IsErased-before, IsErased-after, IsErased-append}

@@ -1,12 +1,12 @@
 -- What power lost in each change of a write, a replacement and a clear leaves on a flash.
 use Rattle.std.proofs.Common.{◌≡◌, ◌⊎◌, ℕ, ◌+◌, ◌-◌, ◌*◌, ◌<◌, ◌≤◌, true, length, Option, Some, ap, inl, inr}
 use Rattle.std.specs.FinMap.{insert, remove}
-use Rattle.flash_words.specs.Flash.{Told, Leaves, MayChange}
-use Rattle.flash_words.specs.Layout.{Layout}
+use Rattle.base_model.specs.Flash.{Told, Leaves, MayChange}
+use Rattle.base_model.specs.Layout.{Layout}
 use Rattle.record_model.specs.Records.{slot_at, is_up, Entry, entry_at, selected, stored_in, IsChosen, OnlyFirstUp}
 use Rattle.record_model.specs.Filling.{Step, IsStep, place_of, len_of}
 use Rattle.record_model.specs.Plan.{Plan, IsPlan, Fill, Gate, target_of, KnowsPlan, StandsAtStage}
-use Rattle.flash_words.proofs.CrashLemmas.{Leaves-change}
+use Rattle.base_model.proofs.CrashLemmas.{Leaves-change}
 use Rattle.record_model.proofs.PlanLemmas.{StaysKnown, gate_torn}
 use Rattle.record_model.proofs.StepLemmas.{step_torn}
 use Rattle.record_model.proofs.KillLemmas.{scan_kill, clear_kill}

@@ -3,7 +3,7 @@ use Rattle.std.proofs.Common.{◌≡◌, ℕ, zero, suc, ◌+◌, ◌-◌, ◌*�
 use Rattle.std.specs.Prelude.{nat_lt}
 use Rattle.std.proofs.lemmas.Bool.{ltb-false}
 use Rattle.std.proofs.Math.Nat.{add-mul}
-use Rattle.flash_words.specs.Layout.{Layout, room_of}
+use Rattle.base_model.specs.Layout.{Layout, room_of}
 use Rattle.record_model.specs.Records.{part_len, parts_of}
 use Rattle.record_model.specs.RecordMap.{pieces_of, pieces_of_parts, changes_of_parts}
 use Rattle.record_model.specs.Filling.{Step, EraseFromHead, EraseFromTail, PutHead, Piece, TailMark, IsStep}

@@ -6,7 +6,7 @@ use Rattle.std.specs.FinMap.{insert}
 use Rattle.std.proofs.lemmas.Bool.{cases_eq, cases_Bool, eq-eqb, eqb-true, or_parts, or_from, or_cases, both_ways, false_from_ne_true}
 use Rattle.base_model.specs.Bytes.{SameOutside, number_at}
 use Rattle.base_model.proofs.BytesLemmas.{SameOutside-wider}
-use Rattle.flash_words.specs.Layout.{Layout}
+use Rattle.base_model.specs.Layout.{Layout}
 use Rattle.record_model.specs.Records.{Slot, slot_at, Entry, entry_at, stored_in, is_taken, OnlyFirstUp, NearlyOnlyFirstUp, HasPart, HaveParts, AreDistinct, DiffersInFreeSlot, gate_open, tail_mark}
 use Rattle.record_model.specs.Filling.{Step, IsFilled}
 use Rattle.record_model.specs.Plan.{Plan, IsPlan, Fill, Gate, target_of, further_done, slots_ahead, PartsStand, KnowsPlan, StandsAtStage}

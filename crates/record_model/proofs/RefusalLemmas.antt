@@ -3,7 +3,7 @@ use Rattle.std.proofs.Common.{◌≡◌, ◌≢◌, ℕ, ◌+◌, ◌-◌, ◌<�
 use Rattle.std.specs.Prelude.{nat_lt, is_none, is_some, ◌||◌}
 use Rattle.std.specs.FinMap.{get, len}
 use Rattle.std.proofs.lemmas.Bool.{lt-ltb, le-ltb, eq-eqb, ne_eqb}
-use Rattle.flash_words.specs.Layout.{Layout, room_of}
+use Rattle.base_model.specs.Layout.{Layout, room_of}
 use Rattle.record_model.specs.Records.{Stored, is_reserved, parts_of, parts_in}
 use Rattle.record_model.specs.RecordMap.{free_by, changes_of_parts, Command, Write, Clear, Read, Refusal, Failed, NoSpace, NotFound, Empty, LAST_GENERATION, is_last_generation, slots_wanted, changes_of_write, changes_made, changes_of, refusal_of}
 use Rattle.record_model.proofs.MapLemmas.{refusal_of-new}

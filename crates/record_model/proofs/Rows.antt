@@ -1,6 +1,6 @@
 -- The numbers of changes of some writes, on slots of two sectors of 4,096 bytes.
 use Rattle.std.proofs.Common.{◌≡◌, Some, None, refl, arith, []}
-use Rattle.flash_words.specs.Layout.{Layout, reach_of}
+use Rattle.base_model.specs.Layout.{Layout, reach_of}
 use Rattle.record_model.specs.Records.{parts_of, part_len}
 use Rattle.record_model.specs.RecordMap.{pieces_of_parts, changes_of_write}
 

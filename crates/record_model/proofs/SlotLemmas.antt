@@ -6,7 +6,7 @@ use Rattle.std.proofs.lemmas.List.{take-replicate, drop-replicate, replicate-app
 use Rattle.std.proofs.lemmas.Bool.{cases_eq, cases_order, eqb-true, and_parts, both_ways, false_from_ne_true}
 use Rattle.base_model.specs.Bytes.{part, little, number_at, SameOutside}
 use Rattle.base_model.proofs.BytesLemmas.{part-before, part-after, number_at-before, number_at-after, part-part, part-append, SameOutside-wider}
-use Rattle.flash_words.specs.Flash.{IsErased}
+use Rattle.base_model.specs.Flash.{IsErased}
 use Rattle.record_model.specs.Records.{Head, Slot, head_at, tail_at, is_upright, slot_at, is_up, Entry, entry_at, selected, stored_in, is_taken, OnlyFirstUp, DiffersInFreeSlot, gate_open, tail_mark, not_killed}
 use Rattle.record_model.proofs.LiveLemmas.{law_entries, law_only, IsKilled}
 

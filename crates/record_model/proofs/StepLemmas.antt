@@ -7,8 +7,8 @@ use Rattle.std.proofs.lemmas.Option.{none-some}
 use Rattle.std.proofs.Math.Nat.{add-mul, mul-le-mul_right}
 use Rattle.base_model.specs.Bytes.{SameOutside, part, spelled}
 use Rattle.base_model.proofs.BytesLemmas.{SameOutside-wider}
-use Rattle.flash_words.specs.Flash.{IsErased}
-use Rattle.flash_words.specs.Layout.{Layout, reach_of}
+use Rattle.base_model.specs.Flash.{IsErased}
+use Rattle.base_model.specs.Layout.{Layout, reach_of}
 use Rattle.record_model.specs.Records.{slot_at, head_fields, head_bytes, tail_at, is_up, entry_of, entry_at, is_taken, OnlyFirstUp, part_len, named, AreBelow, gate_further, gate_open, tail_mark, not_killed}
 use Rattle.record_model.specs.Filling.{Target, first_target, StaysDown, IsCleanFromHead, IsCleanFromTail, IsBegun, IsFilled, Step, EraseFromHead, EraseFromTail, PutHead, Piece, TailMark, StandsAt, IsStep, place_of, len_of, IsWritten}
 use Rattle.record_model.specs.Plan.{Plan, IsPlan, Stage, Fill, target_of, slots_ahead, PartsStand, KnowsPlan, StandsAtStage, first_step, after_part, stage_after}

@@ -1,8 +1,8 @@
 -- What stands in a slot while a part of a record is written into it.
 use Rattle.std.specs.Prelude.{◌≡◌, ◌≢◌, ℕ, zero, suc, ◌+◌, ◌-◌, ◌*◌, ◌<◌, min, false, List, [], ◌∷◌, length, take, drop}
 use Rattle.base_model.specs.Bytes.{SameOutside, part}
-use Rattle.flash_words.specs.Flash.{IsErased}
-use Rattle.flash_words.specs.Layout.{Layout}
+use Rattle.base_model.specs.Flash.{IsErased}
+use Rattle.base_model.specs.Layout.{Layout}
 use Rattle.record_model.specs.Records.{Head, head_at, head_fields, head_bytes, tail_at, slot_at, is_up, part_len, named, gate_further, tail_mark, gate_closed, not_killed}
 
 -- whatever stands in the range, the slot is not upright

@@ -1,7 +1,7 @@
 -- The further slots of a record that is written.
 use Rattle.std.specs.Prelude.{◌≡◌, ℕ, ◌+◌, ◌-◌, ◌*◌, ◌<◌, ◌≤◌, true, false, ◌==◌, List, [], ◌∷◌, ◌++◌, length, take, replicate}
 use Rattle.std.specs.List.{list_any}
-use Rattle.flash_words.specs.Layout.{reach_of}
+use Rattle.base_model.specs.Layout.{reach_of}
 use Rattle.base_model.specs.Bytes.{part}
 use Rattle.record_model.specs.Heads.{Head, gate_open, not_killed}
 use Rattle.record_model.specs.Slots.{parts_of, part_len, Slot}

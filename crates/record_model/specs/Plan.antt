@@ -1,7 +1,7 @@
 -- A record that is being written into several slots: which slot is filled, and what is known of the others.
 use Rattle.std.specs.Prelude.{◌≡◌, ℕ, zero, suc, ◌+◌, ◌-◌, ◌*◌, ◌^◌, ◌<◌, ◌==◌, nat_lt, if◌then◌else◌, Bool, true, false, List, [], ◌∷◌, ◌++◌, length, take, drop, slice_index, Some}
 use Rattle.std.specs.List.{list_any}
-use Rattle.flash_words.specs.Layout.{Layout}
+use Rattle.base_model.specs.Layout.{Layout}
 use Rattle.record_model.specs.Records.{slot_at, is_reserved, Entry, entry_at, is_taken, OnlyFirstUp, HaveParts, part_len, AreDistinct, NamesAll, tail_mark}
 use Rattle.record_model.specs.RecordMap.{pieces_of}
 use Rattle.record_model.specs.Filling.{Target, first_target, part_target, Step, EraseFromHead, EraseFromTail, PutHead, Piece, TailMark, StandsAt, IsFilled}

@@ -1,7 +1,7 @@
 -- The record map: what the commands on records make of it, and when each is refused. It knows no flash.
 use Rattle.std.specs.Prelude.{◌≡◌, ℕ, zero, suc, ◌+◌, ◌-◌, ◌*◌, ◌/◌, ◌^◌, ◌<◌, ◌≤◌, Bool, false, ◌==◌, ◌||◌, nat_lt, if◌then◌else◌, List, length, Option, Some, None, is_none, is_some, IsSome}
 use Rattle.std.specs.FinMap.{get, insert, remove, len}
-use Rattle.flash_words.specs.Layout.{Layout, room_of}
+use Rattle.base_model.specs.Layout.{Layout, room_of}
 use Rattle.record_model.specs.Records.{Stored, is_reserved, parts_of, part_len, parts_in}
 
 -- a command. An oversize write is one of a record of so many bytes, which is longer than the longest record

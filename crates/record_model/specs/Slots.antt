@@ -2,7 +2,7 @@
 -- on, and the tail mark as the last byte.
 use Rattle.std.specs.Prelude.{ℕ, ◌+◌, ◌-◌, ◌*◌, ◌/◌, min, Bool, ◌==◌, ◌&&◌, ◌||◌, not, nat_lt, nat_le, List, take, drop}
 use Rattle.std.specs.List.{list_all}
-use Rattle.flash_words.specs.Layout.{reach_of}
+use Rattle.base_model.specs.Layout.{reach_of}
 use Rattle.base_model.specs.Bytes.{part}
 use Rattle.record_model.specs.Heads.{Head, head_at, tail_at, is_reserved, gate_open, tail_mark, not_killed}
 

@@ -6,7 +6,7 @@ use Rattle.std.proofs.lemmas.Result.{on_ok_weaker}
 use Rattle.base_model.specs.Bytes.{part, little, number_at, put_at, spelled}
 use Rattle.base_model.proofs.BytesLemmas.{part-put_at}
 use Rattle.record_slots.proofs.Heads.{three_fields}
-use Rattle.flash_words.specs.Flash.{IsErased}
+use Rattle.base_model.specs.Flash.{IsErased}
 use Rattle.record_model.specs.Records.{Head, head_fields}
 
 -- bytes of this many stand at their place

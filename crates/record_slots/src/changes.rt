@@ -1,7 +1,7 @@
 // The changes of a slot, one a call. Each makes at most the one change of the range that its clauses name.
 ghost use Rattle.std.specs.Prelude.{◌≡◌, ◌+◌, ◌-◌, ◌*◌, ◌<◌, ◌≤◌, [], ◌∷◌, length, take, replicate, OnOk};
 ghost use Rattle.base_model.specs.Bytes.{number_at, part, put_at};
-ghost use Rattle.flash_words.specs.Flash.{AsksChange, IsErased};
+ghost use Rattle.base_model.specs.Flash.{AsksChange, IsErased};
 ghost use Rattle.record_model.specs.Records.{head_fields, head_bytes, tail_at, gate_open, kill_mark, tail_mark};
 ghost use Rattle.record_slots.specs.Parts.{part_numbers};
 ghost use Rattle.record_slots.specs.Slots.{Fits, numbers_of};

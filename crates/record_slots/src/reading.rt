@@ -1,7 +1,7 @@
 // The look at a slot, and the reading of its body.
 ghost use Rattle.std.specs.Prelude.{◌≡◌, ◌+◌, ◌-◌, ◌*◌, ◌<◌, ◌≤◌, length, IfOk, OnOk};
 ghost use Rattle.base_model.specs.Bytes.{part};
-ghost use Rattle.flash_words.specs.Flash.{OnlyReads};
+ghost use Rattle.base_model.specs.Flash.{OnlyReads};
 ghost use Rattle.record_model.specs.Records.{head_at, tail_at};
 ghost use Rattle.record_slots.specs.Slots.{Fits, numbers_of};
 

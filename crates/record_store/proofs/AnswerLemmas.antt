@@ -4,15 +4,15 @@ use Rattle.std.specs.Prelude.{Contains, is_some, IsSome}
 use Rattle.std.specs.FinMap.{get, len}
 use Rattle.std.proofs.lemmas.List.{get_or_default}
 use Rattle.std.proofs.lemmas.Option.{none-some}
-use Rattle.erst_ids.specs.Next.{IsNextAfter}
-use Rattle.flash_words.specs.Layout.{Layout}
+use Rattle.record_slots.specs.Next.{IsNextAfter}
+use Rattle.base_model.specs.Layout.{Layout}
 use Rattle.record_model.specs.Records.{Entry, Stored, entry_at, selected}
 use Rattle.record_model.specs.RecordMap.{IsNextAbove}
 use Rattle.record_model.proofs.ChosenLemmas.{chosen_or_none, get-chosen, get-no_slot}
-use Rattle.record_recovery.specs.declared.found.Found.{Found}
-use Rattle.record_recovery.specs.declared.found.SlotOf.{SlotOf}
-use Rattle.record_recovery.specs.Listed.{IsPlaceOf, AreListed, IsListed}
-use Rattle.record_recovery.proofs.ListedLemmas.{get-listed, get-unlisted}
+use Rattle.record_slots.specs.declared.found.Found.{Found}
+use Rattle.record_slots.specs.declared.found.SlotOf.{SlotOf}
+use Rattle.record_slots.specs.Listed.{IsPlaceOf, AreListed, IsListed}
+use Rattle.record_slots.proofs.ListedLemmas.{get-listed, get-unlisted}
 use Rattle.record_store.specs.Index.{IsListOf, IsPlaceFound, IsStoredAt}
 use Rattle.record_store.specs.Store.{StoreView, stored}
 use Rattle.record_store.proofs.CountLemmas.{len_stored}

@@ -6,20 +6,20 @@ use Rattle.std.specs.FinMap.{get}
 use Rattle.std.proofs.lemmas.List.{take_all, take-append-le}
 use Rattle.flash_model.specs.declared.geometry.Geometry.{Geometry}
 use Rattle.flash_model.specs.Layouts.{layout_of}
-use Rattle.flash_words.specs.Flash.{FlashState, Told}
-use Rattle.flash_words.specs.Layout.{reach_of}
+use Rattle.base_model.specs.Flash.{FlashState, Told}
+use Rattle.base_model.specs.Layout.{reach_of}
 use Rattle.record_model.specs.Records.{entry_at, parts_of, NearlyOnlyFirstUp}
 use Rattle.record_model.specs.RecordMap.{next_generation}
 use Rattle.record_model.specs.Plan.{StandsAtStage, made_at}
 use Rattle.record_model.proofs.StepLemmas.{first_stage}
-use Rattle.record_draft.specs.Drafts.{IsDraft, IsStage, plan_of, stage_of}
-use Rattle.record_draft.specs.declared.draft.Draft.{Draft}
-use Rattle.record_draft.specs.declared.draft.Stage.{Stage}
-use Rattle.record_recovery.specs.declared.found.Found.{Found}
-use Rattle.record_recovery.specs.declared.found.SlotOf.{SlotOf}
-use Rattle.record_recovery.specs.Listed.{free_slots, first_records}
-use Rattle.record_recovery.proofs.FirstRecords.{free_slots-only}
-use Rattle.record_recovery.proofs.TakenLemmas.{least_free}
+use Rattle.record_store.specs.Drafts.{IsDraft, IsStage, plan_of, stage_of}
+use Rattle.record_store.specs.declared.draft.Draft.{Draft}
+use Rattle.record_store.specs.declared.draft.Stage.{Stage}
+use Rattle.record_slots.specs.declared.found.Found.{Found}
+use Rattle.record_slots.specs.declared.found.SlotOf.{SlotOf}
+use Rattle.record_slots.specs.Listed.{free_slots, first_records}
+use Rattle.record_slots.proofs.FirstRecords.{free_slots-only}
+use Rattle.record_slots.proofs.TakenLemmas.{least_free}
 use Rattle.record_store.specs.Index.{IsListing, IsPlaceFound}
 use Rattle.record_store.specs.Store.{StoreView, Pending, Idle, Writing, records_of, slots_for, IsReady}
 use Rattle.record_store.specs.Answers.{StartsWrite, RefusesWrite, ReadsExactly, HasDoubtAtStart, HasFaultsOf, EndsCopies, copies_of, is_flash}

@@ -4,17 +4,17 @@ use Rattle.std.specs.Prelude.{nat_lt}
 use Rattle.std.proofs.lemmas.Bool.{le-ltb, lt-ltb}
 use Rattle.flash_model.specs.declared.geometry.Geometry.{Geometry}
 use Rattle.flash_model.specs.Layouts.{layout_of}
-use Rattle.flash_words.specs.Flash.{FlashState}
+use Rattle.base_model.specs.Flash.{FlashState}
 use Rattle.record_model.specs.Records.{second_copies}
 use Rattle.record_model.specs.Plan.{made_at}
 use Rattle.record_model.proofs.MadeLemmas.{made_before_gate}
 use Rattle.record_model.proofs.SpareLemmas.{second_copies-none, second_copies-few, second_copies-some}
-use Rattle.record_draft.specs.Drafts.{IsDraft, IsStage, plan_of, step_of, stage_of}
-use Rattle.record_draft.specs.declared.draft.Draft.{Draft}
-use Rattle.record_draft.specs.declared.draft.Stage.{Stage}
-use Rattle.record_draft.specs.declared.draft.Stage.TheVariants.{Fill, Gate}
-use Rattle.record_draft.proofs.Next.{number_low}
-use Rattle.record_recovery.specs.declared.found.Found.{Found}
+use Rattle.record_store.specs.Drafts.{IsDraft, IsStage, plan_of, step_of, stage_of}
+use Rattle.record_store.specs.declared.draft.Draft.{Draft}
+use Rattle.record_store.specs.declared.draft.Stage.{Stage}
+use Rattle.record_store.specs.declared.draft.Stage.TheVariants.{Fill, Gate}
+use Rattle.record_store.proofs.Next.{number_low}
+use Rattle.record_slots.specs.declared.found.Found.{Found}
 use Rattle.record_store.specs.Store.{StoreView, changes_before_gate}
 use Rattle.record_store.specs.Answers.{copies_in, copies_pending}
 use Rattle.record_store.specs.Kept.{IsStore, IsWork, Knows, view_of, pending_of}

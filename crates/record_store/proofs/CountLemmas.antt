@@ -10,11 +10,11 @@ use Rattle.std.proofs.lemmas.Bool.Decides.{nat_tests}
 use Rattle.record_model.specs.Records.{Entry, Stored, selected, stored_in, entry_at, parts_in, is_taken, free_among, count_below, one_if, empty_among, one_if_none, OnlyFirstUp}
 use Rattle.record_model.proofs.PartsLemmas.{free_of_image}
 use Rattle.record_model.proofs.SizeLemmas.{empty_among-len_at_most, len-removed, len_none}
-use Rattle.record_recovery.specs.declared.found.Found.{Found}
-use Rattle.record_recovery.specs.declared.found.SlotOf.{SlotOf}
-use Rattle.record_recovery.specs.Listed.{IsListed, AreListed, with_number, list_below, free_slots}
-use Rattle.record_recovery.proofs.ListedLemmas.{get-listed, get-unlisted}
-use Rattle.record_recovery.proofs.FreeLemmas.{rising-tail, listed-cons, listed_above}
+use Rattle.record_slots.specs.declared.found.Found.{Found}
+use Rattle.record_slots.specs.declared.found.SlotOf.{SlotOf}
+use Rattle.record_slots.specs.Listed.{IsListed, AreListed, with_number, list_below, free_slots}
+use Rattle.record_slots.proofs.ListedLemmas.{get-listed, get-unlisted}
+use Rattle.record_slots.proofs.FreeLemmas.{rising-tail, listed-cons, listed_above}
 use Rattle.record_store.specs.Index.{IsListing, IsListOf}
 
 -- what is left of a map without an identifier

@@ -1,7 +1,7 @@
 -- Calls that end at their first fault, one after another.
 use Rattle.std.proofs.Common.{◌≡◌, ℕ, ◌≤◌, Bool, cond, Result, Ok, Err, refl, sym, ap, subst, ◌∙◌, arith, inl, inr}
-use Rattle.flash_words.specs.Flash.{FlashState, IsOneChange, AsksChange, LosesOnlyByChange, StaysLit, next_count}
-use Rattle.flash_words.proofs.PowerLemmas.{lit_none, lit_then}
+use Rattle.base_model.specs.Flash.{FlashState, IsOneChange, AsksChange, LosesOnlyByChange, StaysLit, next_count}
+use Rattle.base_model.proofs.PowerLemmas.{lit_none, lit_then}
 use Rattle.record_store.specs.Answers.{EndsAtFault, FailsOnce, UnlessFlash}
 use Rattle.record_store.specs.Start.{ReadsTimes}
 use Rattle.record_store.specs.declared.errors.StoreError.{StoreError}

@@ -7,13 +7,13 @@ use Rattle.std.proofs.lemmas.Bool.{cases_Bool, eqb-true, eq-eqb, or_cases, both_
 use Rattle.std.proofs.lemmas.List.Edits.{length-insert}
 use Rattle.std.proofs.lemmas.List.Sorted.{searched}
 use Rattle.std.specs.List.Sorted.{IsStrictlyIncreasing, IsBinarySearchResult}
-use Rattle.erst_ids.proofs.RisingLemmas.{rising_le}
+use Rattle.record_slots.proofs.RisingLemmas.{rising_le}
 use Rattle.record_model.specs.Records.{Entry, is_taken}
-use Rattle.record_recovery.specs.declared.found.Found.{Found}
-use Rattle.record_recovery.specs.declared.found.SlotOf.{SlotOf}
-use Rattle.record_recovery.specs.Listed.{IsListed, AreSlots, free_slots}
-use Rattle.record_recovery.proofs.ListedLemmas.{rising-insert, IsListed-insert, IsListed-inserted}
-use Rattle.record_recovery.proofs.FreeLemmas.{rising-tail, insert_listed, length-rising, list_below-are, list_below-all, are_below}
+use Rattle.record_slots.specs.declared.found.Found.{Found}
+use Rattle.record_slots.specs.declared.found.SlotOf.{SlotOf}
+use Rattle.record_slots.specs.Listed.{IsListed, AreSlots, free_slots}
+use Rattle.record_slots.proofs.ListedLemmas.{rising-insert, IsListed-insert, IsListed-inserted}
+use Rattle.record_slots.proofs.FreeLemmas.{rising-tail, insert_listed, length-rising, list_below-are, list_below-all, are_below}
 use Rattle.record_store.specs.Index.{Frees, Gains}
 
 -- one number is among one

@@ -8,15 +8,15 @@ use Rattle.std.proofs.lemmas.Bool.{lt-ltb}
 use Rattle.std.proofs.lemmas.Option.{same_Some}
 use Rattle.record_model.specs.Records.{Entry, parts_of, is_taken, holds}
 use Rattle.record_model.proofs.ChosenLemmas.{IsChosen-unique}
-use Rattle.record_recovery.specs.declared.found.Found.{Found}
-use Rattle.record_recovery.specs.declared.found.SlotOf.{SlotOf}
-use Rattle.record_recovery.specs.Listed.{AreListed, AreSlots, IsIndex, IsWithin, free_slots}
-use Rattle.record_recovery.specs.Listing.{IsNewlyListed, IsListedAgain}
-use Rattle.record_recovery.proofs.ListedLemmas.{IsPlaceIn}
-use Rattle.record_recovery.proofs.PutLemmas.{IsIndex-put}
-use Rattle.record_recovery.proofs.OpenedLemmas.{AreListed-opened, AreListed-replaced, AreListed-cleared}
-use Rattle.record_recovery.proofs.SettledLemmas.{listed_without}
-use Rattle.record_recovery.proofs.TakenLemmas.{free_slots-gate, taken_gains}
+use Rattle.record_slots.specs.declared.found.Found.{Found}
+use Rattle.record_slots.specs.declared.found.SlotOf.{SlotOf}
+use Rattle.record_slots.specs.Listed.{AreListed, AreSlots, IsIndex, IsWithin, free_slots}
+use Rattle.record_slots.specs.Listing.{IsNewlyListed, IsListedAgain}
+use Rattle.record_slots.proofs.ListedLemmas.{IsPlaceIn}
+use Rattle.record_slots.proofs.PutLemmas.{IsIndex-put}
+use Rattle.record_slots.proofs.OpenedLemmas.{AreListed-opened, AreListed-replaced, AreListed-cleared}
+use Rattle.record_slots.proofs.SettledLemmas.{listed_without}
+use Rattle.record_slots.proofs.TakenLemmas.{free_slots-gate, taken_gains}
 use Rattle.record_store.specs.Index.{IsListing, IsListOf, HasItsParts, HasOpened, HasLost, IsEntryOf, IsOlderCopy, IsOnlyCopy, Gains, slots_at}
 use Rattle.record_store.proofs.FreeListLemmas.{free_gained}
 use Rattle.record_store.proofs.CountLemmas.{fewer_ids}

@@ -1,3 +1,5 @@
+pub mod Here
+pub mod Next
 pub mod WalkLemmas
 pub mod FreeListLemmas
 pub mod CountLemmas

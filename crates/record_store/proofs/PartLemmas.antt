@@ -7,12 +7,12 @@ use Rattle.std.proofs.lemmas.Slice.{take-put_mid}
 use borrow.Rule.Slice.PartMut.{put_mid}
 use Rattle.std.proofs.lemmas.List.{length-take, take_all, take_more}
 use Rattle.flash_model.specs.declared.geometry.Geometry.{Geometry}
-use Rattle.flash_words.specs.Flash.{FlashState}
-use Rattle.flash_words.specs.Layout.{reach_of}
+use Rattle.base_model.specs.Flash.{FlashState}
+use Rattle.base_model.specs.Layout.{reach_of}
 use Rattle.record_model.specs.Records.{Entry, Slot, slot_at, entry_at, record_of, parts_of, part_len, parts_joined}
 use Rattle.record_model.proofs.LiveLemmas.{live_record}
 use Rattle.record_model.proofs.PartsLemmas.{parts_of-few, parts_of-some, parts_of-enough, parts_joined-push, entry_len}
-use Rattle.record_recovery.specs.declared.found.SlotOf.{SlotOf}
+use Rattle.record_slots.specs.declared.found.SlotOf.{SlotOf}
 use Rattle.record_store.specs.Index.{IsEntryOf, slots_at}
 use Rattle.record_store.specs.Reading.{slot_of_part, bytes_at}
 use Rattle.record_store.proofs.IndexLemmas.{slots_of_entry}

@@ -1,8 +1,8 @@
 -- Reads of a flash, one after another.
 use Rattle.std.proofs.Common.{◌≡◌, ℕ, ◌+◌, ◌-◌, ◌^◌, ◌<◌, min, Ok, refl, ap, ◌∙◌, arith, inl, inr}
 use Rattle.std.proofs.lemmas.Bool.{cases_eq}
-use Rattle.flash_words.specs.Flash.{FlashState, OnlyReads, StaysLit, raised}
-use Rattle.flash_words.proofs.PowerLemmas.{lit_none, lit_then}
+use Rattle.base_model.specs.Flash.{FlashState, OnlyReads, StaysLit, raised}
+use Rattle.base_model.proofs.PowerLemmas.{lit_none, lit_then}
 use Rattle.record_store.specs.Start.{ReadsTimes}
 
 -- a flash was read so many times, and failed in none

@@ -2,12 +2,12 @@
 use Rattle.std.proofs.Common.{◌≡◌, ℕ, ◌≤◌, length, arith}
 use Rattle.std.specs.Prelude.{vec_capacity}
 use Rattle.std.specs.VecDeque.{deque_capacity}
-use Rattle.flash_words.specs.Flash.{FlashState}
-use Rattle.flash_words.specs.Layout.{Layout}
-use Rattle.record_recovery.specs.declared.found.Found.{Found}
-use Rattle.record_recovery.specs.Listed.{AreSlots, IsIndex}
-use Rattle.record_recovery.specs.Recovered.{IsRecovered}
-use Rattle.record_recovery.specs.Rooms.{HasRoom, SameRoom}
+use Rattle.base_model.specs.Flash.{FlashState}
+use Rattle.base_model.specs.Layout.{Layout}
+use Rattle.record_slots.specs.declared.found.Found.{Found}
+use Rattle.record_slots.specs.Listed.{AreSlots, IsIndex}
+use Rattle.record_slots.specs.Recovered.{IsRecovered}
+use Rattle.record_slots.specs.Rooms.{HasRoom, SameRoom}
 use Rattle.record_store.specs.Index.{IsListing}
 use Rattle.record_store.specs.Kept.{KnowsSlots}
 

@@ -10,20 +10,20 @@ use Rattle.std.specs.Prelude.{nat_lt}
 use Rattle.std.proofs.lemmas.Bool.{ne_eqb, cond-true, cond-false, eq-eqb, both_ways, ltb-false}
 use Rattle.flash_model.specs.declared.geometry.Geometry.{Geometry}
 use Rattle.flash_model.specs.Layouts.{layout_of}
-use Rattle.flash_words.specs.Flash.{FlashState}
-use Rattle.flash_words.specs.Layout.{Layout, room_of, reach_of}
+use Rattle.base_model.specs.Flash.{FlashState}
+use Rattle.base_model.specs.Layout.{Layout, room_of, reach_of}
 use Rattle.record_model.specs.Records.{Entry, Stored, slot_at, tail_at, entry_at, parts_of, part_len, parts_in, is_reserved, AreDistinct, AreBelow, tail_mark}
 use Rattle.record_model.specs.RecordMap.{Write, Failed, NoSpace as no_space, LAST_GENERATION, refusal_of, next_generation}
 use Rattle.record_model.specs.Plan as planned
 use Rattle.record_model.specs.Plan.{Plan, StandsAtStage, made_at, made_in_slot, made_in_further, first_step}
 use Rattle.record_model.proofs.RefusalLemmas.{write_at_last, write_new_no_space, write_new_taken, write_over_no_space, write_over_taken}
 use Rattle.record_model.proofs.StepLemmas.{first_stage, first_stage_stands}
-use Rattle.record_draft.specs.Drafts.{IsDraft, plan_of, marked_in}
-use Rattle.record_draft.specs.declared.draft.Draft.{Draft}
-use Rattle.record_draft.proofs.Next.{plan_slots}
-use Rattle.record_recovery.specs.declared.found.Found.{Found}
-use Rattle.record_recovery.specs.declared.found.SlotOf.{SlotOf}
-use Rattle.record_recovery.proofs.TakenLemmas.{rising_distinct, distinct_take}
+use Rattle.record_store.specs.Drafts.{IsDraft, plan_of, marked_in}
+use Rattle.record_store.specs.declared.draft.Draft.{Draft}
+use Rattle.record_store.proofs.Next.{plan_slots}
+use Rattle.record_slots.specs.declared.found.Found.{Found}
+use Rattle.record_slots.specs.declared.found.SlotOf.{SlotOf}
+use Rattle.record_slots.proofs.TakenLemmas.{rising_distinct, distinct_take}
 use Rattle.record_store.specs.Index.{IsListing, IsPlaceFound}
 use Rattle.record_store.specs.Store.{records_of}
 use Rattle.record_store.specs.Kept.{KnowsSlots, TakesFree}

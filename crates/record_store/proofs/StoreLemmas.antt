@@ -4,17 +4,17 @@ use Rattle.std.specs.Prelude.{is_some}
 use Rattle.std.specs.FinMap.{get}
 use Rattle.flash_model.specs.declared.geometry.Geometry.{Geometry}
 use Rattle.flash_model.specs.Layouts.{layout_of}
-use Rattle.flash_words.specs.Flash.{Told, FlashState, Leaves, LosesOnlyByChange, StaysLit, restart, raised, next_count}
-use Rattle.flash_words.specs.Layout.{Layout, room_of}
-use Rattle.flash_words.proofs.CrashLemmas.{Leaves-none, Leaves-exit}
+use Rattle.base_model.specs.Flash.{Told, FlashState, Leaves, LosesOnlyByChange, StaysLit, restart, raised, next_count}
+use Rattle.base_model.specs.Layout.{Layout, room_of}
+use Rattle.base_model.proofs.CrashLemmas.{Leaves-none, Leaves-exit}
 use Rattle.base_model.specs.Faults.{Rose}
 use Rattle.record_model.specs.Records.{Entry, Stored, entry_at, selected, stored_in, parts_of, parts_in, NearlyOnlyFirstUp, second_copies}
 use Rattle.record_model.proofs.SpareLemmas.{second_copies-few}
-use Rattle.record_recovery.specs.declared.found.Found.{Found}
-use Rattle.record_recovery.specs.declared.found.SlotOf.{SlotOf}
-use Rattle.record_recovery.specs.Listed.{IsWithin, free_slots, first_records}
-use Rattle.record_recovery.specs.Recovered.{IsRecovered, KeepsRecords, StaysNearly, ChangesFew}
-use Rattle.record_recovery.proofs.FirstRecords.{free_slots-only}
+use Rattle.record_slots.specs.declared.found.Found.{Found}
+use Rattle.record_slots.specs.declared.found.SlotOf.{SlotOf}
+use Rattle.record_slots.specs.Listed.{IsWithin, free_slots, first_records}
+use Rattle.record_slots.specs.Recovered.{IsRecovered, KeepsRecords, StaysNearly, ChangesFew}
+use Rattle.record_slots.proofs.FirstRecords.{free_slots-only}
 use Rattle.record_store.specs.Index.{IsListing, IsListOf, IsPlaceFound}
 use Rattle.record_store.specs.Store.{StoreView, Pending, Idle, Writing, stored, records_of, free_in, slots_for, map_after, IsReady, IsInDoubt, KeepsMap, DividesAlike, doubted, restarted}
 use Rattle.record_model.specs.RecordMap.{Write, Failed, NoSpace as no_space, LAST_GENERATION, refusal_of}

@@ -3,12 +3,12 @@ use Rattle.std.proofs.Common.{◌≡◌, ℕ, ◌+◌, ◌-◌, ◌*◌, ◌≤�
 use Rattle.std.specs.FinMap.{get}
 use Rattle.std.proofs.Math.Nat.{add-mul}
 use Rattle.std.proofs.lemmas.List.{length-take}
-use Rattle.flash_words.specs.Layout.{Layout, room_of, reach_of}
+use Rattle.base_model.specs.Layout.{Layout, room_of, reach_of}
 use Rattle.record_model.specs.Records.{Head, Slot, Entry, is_reserved, is_up, slot_at, part_len, further_of, parts_joined, record_of, entry_of, entry_at, stored_in}
 use Rattle.record_model.proofs.SelectionLemmas.{get-selected, best_from}
 use Rattle.record_model.proofs.LiveLemmas.{up_entry, live_record}
 use Rattle.record_model.proofs.PartsLemmas.{up_form}
-use Rattle.record_recovery.proofs.LookLemmas.{upright_id, len_reach}
+use Rattle.record_slots.proofs.LookLemmas.{upright_id, len_reach}
 use Rattle.record_store.specs.Store.{records_of}
 
 -- what an upright slot says

@@ -5,12 +5,12 @@ use Rattle.std.specs.FinMap.{get}
 use Rattle.std.specs.List.Sorted.{IsStrictlyIncreasing}
 use Rattle.std.proofs.lemmas.Bool.{cases_eq}
 use Rattle.std.proofs.lemmas.List.{get_or_default}
-use Rattle.flash_words.specs.Layout.{Layout}
+use Rattle.base_model.specs.Layout.{Layout}
 use Rattle.record_model.specs.Records.{Stored}
 use Rattle.record_model.specs.RecordMap.{Command, Write, Clear, Read, Count, Next}
 use Rattle.record_model.specs.History.{Answer, Done, Counted, Found, Refused, Hardware, Played, IsAnswered, AreAnswered, cursor_after, left_by}
-use Rattle.record_recovery.specs.Listed.{IsListed}
-use Rattle.record_recovery.proofs.FreeLemmas.{listed-cons}
+use Rattle.record_slots.specs.Listed.{IsListed}
+use Rattle.record_slots.proofs.FreeLemmas.{listed-cons}
 use Rattle.record_store.specs.Walk.{with_found, found_by, IsNoRead, EndsOr, IsWalk, StaysStored}
 
 -- the identifiers that are found above a cursor: in rising order, and each of some

@@ -9,9 +9,9 @@ use Rattle.base_model.specs.Bytes.{SameOutside, number_at}
 use Rattle.base_model.proofs.BytesLemmas.{SameOutside-wider, SameOutside-refl, SameOutside-none}
 use Rattle.flash_model.specs.declared.geometry.Geometry.{Geometry}
 use Rattle.flash_model.specs.Layouts.{layout_of}
-use Rattle.flash_words.specs.Flash.{Told, Leaves, MayChange, IsErased}
-use Rattle.flash_words.specs.Layout.{Layout, reach_of}
-use Rattle.flash_words.proofs.CrashLemmas.{Leaves-weaker, Leaves-exit}
+use Rattle.base_model.specs.Flash.{Told, Leaves, MayChange, IsErased}
+use Rattle.base_model.specs.Layout.{Layout, reach_of}
+use Rattle.base_model.proofs.CrashLemmas.{Leaves-weaker, Leaves-exit}
 use Rattle.record_model.specs.Records.{Entry, Stored, entry_at, entry_of, slot_at, head_at, is_up, stored_in, parts_of, part_len, is_taken, holds, IsChosen, OnlyFirstUp, NearlyOnlyFirstUp, DiffersInFreeSlot, gate_open, kill_mark}
 use Rattle.record_model.proofs.MarkLemmas.{killed_is_not_erased}
 use Rattle.record_model.specs.RecordMap.{Write as write, Clear as clear, made_by, next_generation, pieces_of}
@@ -27,18 +27,18 @@ use Rattle.record_model.proofs.LeavesLemmas.{old_copy_leaves, clear_leaves}
 use Rattle.record_model.proofs.ChosenLemmas.{IsChosen-unique, IsChosen-without}
 use Rattle.record_model.proofs.PartsLemmas.{entry_len}
 use Rattle.record_model.proofs.SlotLemmas.{slot_at-other, kill_byte, down_by_kill, down_by_gate, differs_only}
-use Rattle.record_draft.proofs.Here.{four_of}
-use Rattle.record_draft.specs.Drafts.{IsDraft, IsStage, plan_of, step_of, stage_of}
-use Rattle.record_draft.specs.declared.draft.Draft.{Draft}
-use Rattle.record_draft.specs.declared.draft.Step.{Step}
-use Rattle.record_draft.specs.declared.draft.Stage.{Stage}
-use Rattle.record_draft.specs.declared.draft.Stage.TheVariants.{Fill, Gate}
-use Rattle.record_draft.proofs.Next.{number_low}
-use Rattle.record_recovery.specs.declared.found.Found.{Found}
-use Rattle.record_recovery.specs.declared.found.SlotOf.{SlotOf}
-use Rattle.record_recovery.specs.Listed.{IsWithin}
-use Rattle.record_recovery.proofs.OpenedLemmas.{IsChosen-opened}
-use Rattle.record_recovery.proofs.SettledLemmas.{kill_can}
+use Rattle.record_store.proofs.Here.{four_of}
+use Rattle.record_store.specs.Drafts.{IsDraft, IsStage, plan_of, step_of, stage_of}
+use Rattle.record_store.specs.declared.draft.Draft.{Draft}
+use Rattle.record_store.specs.declared.draft.Step.{Step}
+use Rattle.record_store.specs.declared.draft.Stage.{Stage}
+use Rattle.record_store.specs.declared.draft.Stage.TheVariants.{Fill, Gate}
+use Rattle.record_store.proofs.Next.{number_low}
+use Rattle.record_slots.specs.declared.found.Found.{Found}
+use Rattle.record_slots.specs.declared.found.SlotOf.{SlotOf}
+use Rattle.record_slots.specs.Listed.{IsWithin}
+use Rattle.record_slots.proofs.OpenedLemmas.{IsChosen-opened}
+use Rattle.record_slots.proofs.SettledLemmas.{kill_can}
 use Rattle.record_store.specs.Index.{IsListOf, HasOpened, HasLost, HasItsParts, IsEntryOf, IsOlderCopy, IsOnlyCopy, IsPlaceFound}
 use Rattle.record_store.specs.Store.{Pending, Idle, Writing, records_of, IsAt, map_after, pending_after, changes_before_gate, changes_in_all}
 use Rattle.record_store.specs.Kept.{KnowsDraft, KnowsOldCopy, KnowsCleared, IsWrite, MayMake, HasMade, pending_of, work_after, slots_in, further_in, opened_place}

@@ -3,13 +3,13 @@ use Rattle.std.specs.Prelude.{◌≡◌, ℕ, ◌+◌, ◌*◌, ◌<◌, ◌≤�
 use Rattle.std.specs.FinMap.{get}
 use Rattle.base_model.specs.Faults.{Rose}
 use Rattle.flash_model.specs.declared.geometry.Geometry.{Geometry}
-use Rattle.flash_words.specs.Flash.{FlashState, StaysLit, raised, next_count}
-use Rattle.flash_words.specs.Layout.{Layout, room_of}
+use Rattle.base_model.specs.Flash.{FlashState, StaysLit, raised, next_count}
+use Rattle.base_model.specs.Layout.{Layout, room_of}
 use Rattle.record_model.specs.Records.{second_copies, parts_in}
 use Rattle.record_model.specs.RecordMap.{Command, Write, Clear, Read, Failed, NoSpace as no_space, NotFound as not_found, Empty as empty, LAST_GENERATION, refusal_of, after, changes_of}
 use Rattle.record_slots.specs.Slots.{Fits}
-use Rattle.record_recovery.specs.declared.scanning.ScanError.{ScanError}
-use Rattle.record_recovery.specs.declared.scanning.ScanError.TheVariants.{Size, Flash as flash_failed, Memory}
+use Rattle.record_slots.specs.declared.scanning.ScanError.{ScanError}
+use Rattle.record_slots.specs.declared.scanning.ScanError.TheVariants.{Size, Flash as flash_failed, Memory}
 use Rattle.record_store.specs.Store.{StoreView, Pending, Idle, Writing, Clearing, stored, slots_for, changes_before_gate, map_after, pending_after, IsReady, IsInDoubt}
 use Rattle.record_store.specs.declared.errors.StoreError.{StoreError}
 use Rattle.record_store.specs.declared.errors.StoreError.TheVariants.{NoSpace, LastGeneration, NotFound, Empty, Flash, Small}

@@ -1,6 +1,6 @@
 -- What each kind of call leaves of a store and of its flash, whatever it answers.
 use Rattle.std.specs.Prelude.{◌≡◌, ◌+◌, ◌≤◌, true, Result, OnOk}
-use Rattle.flash_words.specs.Flash.{LosesOnlyByChange}
+use Rattle.base_model.specs.Flash.{LosesOnlyByChange}
 use Rattle.record_model.specs.RecordMap.{Command, changes_of}
 use Rattle.record_store.specs.Store.{StoreView, Idle, stored, KeepsMap, DividesAlike, IsBeforeOrAfter}
 use Rattle.record_store.specs.Answers.{HasFaultsOf, HasDoubtOf, HasDoubtAtStart, EndsAtFault, EndsCopies, TakesExactly, copies_of}

@@ -1,7 +1,7 @@
 -- What is left of a command that is pending.
 use Rattle.std.specs.Prelude.{◌≡◌, ℕ, ◌+◌, ◌-◌, ◌<◌, ◌≤◌, nat_le, if◌then◌else◌, List, Result, OnOk}
-use Rattle.flash_words.specs.Flash.{StaysLit}
-use Rattle.flash_words.specs.Layout.{Layout}
+use Rattle.base_model.specs.Flash.{StaysLit}
+use Rattle.base_model.specs.Layout.{Layout}
 use Rattle.record_model.specs.Records.{Stored}
 use Rattle.record_model.specs.RecordMap.{Write, Clear, made_by}
 use Rattle.record_store.specs.Store.{StoreView, Pending, Idle, Writing, Clearing, stored, changes_before_gate, changes_in_all, StandsIn, KeepsOrMakes, DividesAlike}

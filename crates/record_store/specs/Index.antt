@@ -4,10 +4,10 @@ use Rattle.std.specs.List.{list_any}
 use Rattle.std.specs.FinMap.{get}
 use Rattle.std.specs.VecDeque.{deque_capacity}
 use Rattle.record_model.specs.Records.{Entry, IsChosen, selected, parts_of, is_taken, holds}
-use Rattle.record_recovery.specs.declared.found.Found.{Found}
-use Rattle.record_recovery.specs.declared.found.SlotOf.{SlotOf}
-use Rattle.record_recovery.specs.Listed.{AreListed, IsPlaceOf, IsListed, IsIndex, AreSlots, free_slots}
-use Rattle.record_recovery.specs.Rooms.{HasRoom}
+use Rattle.record_slots.specs.declared.found.Found.{Found}
+use Rattle.record_slots.specs.declared.found.SlotOf.{SlotOf}
+use Rattle.record_slots.specs.Listed.{AreListed, IsPlaceOf, IsListed, IsIndex, AreSlots, free_slots}
+use Rattle.record_slots.specs.Rooms.{HasRoom}
 
 -- the lists are of a form that every look-up needs, whatever the flash holds
 pub record IsListing (slots slot_size : ℕ) (found : Found) : Type 0 where

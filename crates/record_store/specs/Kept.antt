@@ -3,18 +3,18 @@ use Rattle.std.specs.Prelude.{◌≡◌, ◌≢◌, ◌⊎◌, ℕ, ◌+◌, ◌
 use Rattle.std.specs.FinMap.{get}
 use Rattle.flash_model.specs.declared.geometry.Geometry.{Geometry}
 use Rattle.flash_model.specs.Layouts.{layout_of}
-use Rattle.flash_words.specs.Flash.{Told, FlashState, Leaves}
-use Rattle.flash_words.specs.Layout.{Layout, reach_of}
+use Rattle.base_model.specs.Flash.{Told, FlashState, Leaves}
+use Rattle.base_model.specs.Layout.{Layout, reach_of}
 use Rattle.record_model.specs.Records.{Entry, entry_at, slot_at, is_up, IsChosen, OnlyFirstUp, NearlyOnlyFirstUp}
 use Rattle.record_model.specs.RecordMap.{next_generation}
 use Rattle.record_model.specs.Plan.{KnowsPlan, StandsAtStage, made_at}
 use Rattle.record_slots.specs.Slots.{Fits}
-use Rattle.record_draft.specs.Drafts.{IsDraft, IsStage, plan_of, stage_of}
-use Rattle.record_draft.specs.declared.draft.Draft.{Draft}
-use Rattle.record_draft.specs.declared.draft.Stage.{Stage}
-use Rattle.record_recovery.specs.declared.found.Found.{Found}
-use Rattle.record_recovery.specs.declared.found.SlotOf.{SlotOf}
-use Rattle.record_recovery.specs.Listed.{IsPlaceOf, IsWithin}
+use Rattle.record_store.specs.Drafts.{IsDraft, IsStage, plan_of, stage_of}
+use Rattle.record_store.specs.declared.draft.Draft.{Draft}
+use Rattle.record_store.specs.declared.draft.Stage.{Stage}
+use Rattle.record_slots.specs.declared.found.Found.{Found}
+use Rattle.record_slots.specs.declared.found.SlotOf.{SlotOf}
+use Rattle.record_slots.specs.Listed.{IsPlaceOf, IsWithin}
 use Rattle.record_store.specs.Index.{IsListing, IsListOf, IsEntryOf, IsPlaceFound}
 use Rattle.record_store.specs.Store.{StoreView, Pending, Idle, Writing, Clearing, records_of, IsAt, map_after, pending_after, changes_before_gate, PlacedAfter}
 use Rattle.record_store.specs.declared.work.Work.{Work}

@@ -1,3 +1,4 @@
+pub mod Drafts
 pub mod Store
 pub mod Answers
 pub mod Calls

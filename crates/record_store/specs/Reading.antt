@@ -1,7 +1,7 @@
 -- The bytes that a record is read from.
 use Rattle.std.specs.Prelude.{ℕ, zero, suc, ◌-◌, List, slice_index}
 use Rattle.record_model.specs.Records.{slot_at, parts_joined}
-use Rattle.record_recovery.specs.declared.found.SlotOf.{SlotOf}
+use Rattle.record_slots.specs.declared.found.SlotOf.{SlotOf}
 use Rattle.record_store.specs.Index.{slots_at}
 
 -- the slot of a part

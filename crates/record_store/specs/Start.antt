@@ -2,13 +2,13 @@
 use Rattle.std.specs.Prelude.{◌≡◌, ◌≢◌, ℕ, ◌+◌, ◌*◌, ◌-◌, ◌^◌, ◌<◌, ◌≤◌, ◌==◌, Bool, false, List, length, slice_index, slice_index_or, Option, Some, None, IfSome, Result, Ok, Err, OnOk, OnErr}
 use Rattle.base_model.specs.Faults.{HasCause}
 use Rattle.flash_model.specs.declared.geometry.Geometry.{Geometry}
-use Rattle.flash_words.specs.Flash.{FlashState, StaysLit, raised, next_count}
+use Rattle.base_model.specs.Flash.{FlashState, StaysLit, raised, next_count}
 use Rattle.record_model.specs.Records.{Entry, parts_of, tail_at, is_reserved, tail_mark}
 use Rattle.record_model.specs.RecordMap.{LAST_GENERATION}
-use Rattle.record_draft.specs.declared.draft.Draft.{Draft}
-use Rattle.record_recovery.specs.declared.found.Found.{Found}
-use Rattle.record_recovery.specs.declared.found.SlotOf.{SlotOf}
-use Rattle.record_recovery.specs.Listed.{IsWithin}
+use Rattle.record_store.specs.declared.draft.Draft.{Draft}
+use Rattle.record_slots.specs.declared.found.Found.{Found}
+use Rattle.record_slots.specs.declared.found.SlotOf.{SlotOf}
+use Rattle.record_slots.specs.Listed.{IsWithin}
 use Rattle.record_store.specs.Index.{IsListOf, IsPlaceFound}
 use Rattle.record_store.specs.declared.errors.StoreError.{StoreError}
 use Rattle.record_store.specs.declared.errors.StoreError.TheVariants.{NoSpace, LastGeneration, NotFound, Empty, Flash, Small}

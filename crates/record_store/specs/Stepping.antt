@@ -3,9 +3,9 @@ use Rattle.std.specs.Prelude.{ℕ, List, Result, IfOk}
 use Rattle.flash_model.specs.declared.flash.FlashFailed.{FlashFailed}
 use Rattle.flash_model.specs.declared.geometry.Geometry.{Geometry}
 use Rattle.flash_model.specs.Layouts.{layout_of}
-use Rattle.flash_words.specs.Flash.{FlashState, IsOneChange, StaysLit}
+use Rattle.base_model.specs.Flash.{FlashState, IsOneChange, StaysLit}
 use Rattle.record_model.specs.Records.{NearlyOnlyFirstUp}
-use Rattle.record_recovery.specs.declared.found.Found.{Found}
+use Rattle.record_slots.specs.declared.found.Found.{Found}
 use Rattle.record_store.specs.Kept.{HasMade, MayMake, pending_of}
 use Rattle.record_store.specs.declared.work.Work.{Work}
 

@@ -3,11 +3,11 @@
 use Rattle.std.specs.Prelude.{◌≡◌, ℕ, ◌+◌, ◌≤◌, ◌⊎◌, Bool, true, false, ◌==◌, if◌then◌else◌, List, [], ◌∷◌, length, take}
 use Rattle.flash_model.specs.declared.geometry.Geometry.{Geometry}
 use Rattle.flash_model.specs.Layouts.{layout_of}
-use Rattle.flash_words.specs.Flash.{FlashState, Leaves, restart}
-use Rattle.flash_words.specs.Layout.{Layout, room_of}
+use Rattle.base_model.specs.Flash.{FlashState, Leaves, restart}
+use Rattle.base_model.specs.Layout.{Layout, room_of}
 use Rattle.record_model.specs.Records.{Stored, Entry, entry_at, stored_in, parts_of, IsChosen, OnlyFirstUp}
 use Rattle.record_model.specs.RecordMap.{Command, Write, Clear, changes_of_parts, made_by, after}
-use Rattle.record_recovery.specs.Listed.{free_slots, first_records}
+use Rattle.record_slots.specs.Listed.{free_slots, first_records}
 
 -- what a store has begun: nothing, the write of a record into these slots, of whose flash changes so many are made and
 -- which takes the place of an older record or not, or the clearing of an identifier

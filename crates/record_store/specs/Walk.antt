@@ -1,7 +1,7 @@
 -- A walk over the stored identifiers, by one next after another, with other commands between them.
 use Rattle.std.specs.Prelude.{◌≡◌, ℕ, List, [], ◌∷◌, Some, None, IsSome}
 use Rattle.std.specs.FinMap.{get}
-use Rattle.flash_words.specs.Layout.{Layout}
+use Rattle.base_model.specs.Layout.{Layout}
 use Rattle.record_model.specs.Records.{Stored}
 use Rattle.record_model.specs.RecordMap.{Command, Read}
 use Rattle.record_model.specs.History.{Answer, Found, Played, left_by}

@@ -3,7 +3,7 @@ ghost use Rattle.std.specs.Prelude.{◌≡◌};
 ghost use Rattle.record_store.specs.declared.errors.StoreError.TheVariants.{Flash};
 
 use flash_model::FlashFailed;
-use record_recovery::ScanError;
+use record_slots::ScanError;
 
 /// A flash that is refused, handed back.
 #[derive(Drop)]

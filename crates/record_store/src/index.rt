@@ -2,17 +2,15 @@
 ghost use Rattle.std.specs.Prelude.{◌≡◌, ◌⊎◌, ℕ, ◌+◌, ◌-◌, ◌<◌, ◌≤◌, List, false, [], ◌∷◌, length, take, drop, Option, IfSome};
 ghost use Rattle.std.specs.List.Sorted.{IsStrictlyIncreasing};
 ghost use Rattle.std.specs.VecDeque.{deque_capacity};
-ghost use Rattle.erst_ids.specs.Next.{IsNextAfter};
+ghost use Rattle.record_slots.specs.Next.{IsNextAfter};
 ghost use Rattle.record_model.specs.Records.{Entry, selected, is_reserved};
 ghost use Rattle.record_model.specs.RecordMap.{IsNextAbove};
-ghost use Rattle.record_recovery.specs.Listed.{AreSlots, IsIndex, IsWithin};
-ghost use Rattle.record_recovery.specs.Listing.{IsNewlyListed, IsListedAgain};
+ghost use Rattle.record_slots.specs.Listed.{AreSlots, IsIndex, IsWithin};
+ghost use Rattle.record_slots.specs.Listing.{IsNewlyListed, IsListedAgain};
 ghost use Rattle.record_store.specs.Index.{IsListing, IsListOf, HasItsParts, HasOpened, HasLost, IsEntryOf, IsOlderCopy, IsOnlyCopy, IsPlaceFound, IsPlaceAt, Frees, slots_at};
 
-use erst_ids::{RecordId, next_after, position_of};
 use flash_model::Geometry;
-use record_recovery::{Found, SlotOf, list_record};
-use record_slots::parts_of;
+use record_slots::{Found, RecordId, SlotOf, list_record, next_after, parts_of, position_of};
 
 /// Where the record of an identifier is.
 pub fn place_of(found: &Found, id: RecordId) -> Option<SlotOf>

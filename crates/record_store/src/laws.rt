@@ -1,7 +1,7 @@
 // Laws on the commands of a store, for the crates above: a function does nothing, and its clauses are the laws.
 ghost use Rattle.std.specs.Prelude.{◌<◌, ℕ, List, Contains};
 ghost use Rattle.std.specs.List.Sorted.{IsStrictlyIncreasing};
-ghost use Rattle.flash_words.specs.Layout.{Layout};
+ghost use Rattle.base_model.specs.Layout.{Layout};
 ghost use Rattle.record_model.specs.Records.{Stored};
 ghost use Rattle.record_model.specs.History.{Played, AreAnswered};
 ghost use Rattle.record_store.specs.Walk.{IsWalk, StaysStored, found_by};

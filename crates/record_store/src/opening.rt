@@ -1,11 +1,11 @@
 // The opening of a flash: all memory of a store, and a look at each slot.
 ghost use Rattle.std.specs.Prelude.{◌≡◌, ◌+◌, ◌*◌, ◌≤◌, ◌-◌, length, OnOk, IfOk, IfErr};
-ghost use Rattle.flash_words.specs.Flash.{LosesOnlyByChange, StaysLit, raised};
-ghost use Rattle.flash_words.specs.Layout.{reach_of};
+ghost use Rattle.base_model.specs.Flash.{LosesOnlyByChange, StaysLit, raised};
+ghost use Rattle.base_model.specs.Layout.{reach_of};
 ghost use Rattle.flash_model.specs.Layouts.{layout_of};
 ghost use Rattle.record_slots.specs.Slots.{Fits};
-ghost use Rattle.record_recovery.specs.Answers.{IsOneFault};
-ghost use Rattle.record_recovery.specs.Recovered.{KillsBelow};
+ghost use Rattle.record_slots.specs.Answers.{IsOneFault};
+ghost use Rattle.record_slots.specs.Recovered.{KillsBelow};
 ghost use Rattle.record_store.specs.Answers.{OpensOn};
 ghost use Rattle.record_store.specs.Index.{IsListing};
 ghost use Rattle.record_store.specs.Kept.{KnowsSlots};
@@ -13,7 +13,7 @@ ghost use Rattle.record_store.specs.Store.{KeepsRecordsOf};
 ghost use Rattle.record_model.specs.Records.{second_copies};
 
 use flash_model::{Flash, Geometry};
-use record_recovery::{Found, ScanError, scan};
+use record_slots::{Found, ScanError, scan};
 use std::alloc::Global;
 
 /// The lists of a flash of the geometry's size, and memory for a record.

@@ -1,16 +1,15 @@
 // The reading of a record, part by part.
 ghost use Rattle.std.specs.Prelude.{◌≡◌, ◌+◌, ◌-◌, ◌*◌, ◌<◌, ◌≤◌, ◌++◌, length, take, drop, OnOk, OnErr};
-ghost use Rattle.flash_words.specs.Flash.{OnlyReads};
+ghost use Rattle.base_model.specs.Flash.{OnlyReads};
 ghost use Rattle.record_model.specs.Records.{slot_at, parts_of, part_len};
-ghost use Rattle.record_recovery.specs.Listed.{IsWithin};
+ghost use Rattle.record_slots.specs.Listed.{IsWithin};
 ghost use Rattle.record_slots.specs.Slots.{Fits};
 ghost use Rattle.record_store.specs.Reading.{slot_of_part, bytes_at};
 ghost use Rattle.record_store.specs.Start.{ReadsTimes};
 
 use crate::starting::put_front;
 use flash_model::{Flash, FlashFailed, Geometry};
-use record_recovery::SlotOf;
-use record_slots::{part_len, parts_of, read_body};
+use record_slots::{SlotOf, part_len, parts_of, read_body};
 
 /// Reads the record at a place, by way of a buffer, to the start of `out`, which stays as it is where the flash fails.
 pub fn read_record<F: Flash>(

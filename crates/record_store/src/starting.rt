@@ -1,20 +1,18 @@
 // What a write begins with: the slots that the record is written into, and the generation that it gets.
 ghost use Rattle.std.specs.Prelude.{◌≡◌, ◌≢◌, ℕ, ◌+◌, ◌-◌, ◌*◌, ◌<◌, ◌≤◌, ◌==◌, ◌++◌, length, drop, slice_index, slice_index_or, Option, IfSome, IfOk, IfErr, OnOk, OnErr};
-ghost use Rattle.flash_words.specs.Layout.{reach_of};
+ghost use Rattle.base_model.specs.Layout.{reach_of};
 ghost use Rattle.record_model.specs.Records.{Entry, parts_of, tail_at, tail_mark};
 ghost use Rattle.record_model.specs.RecordMap.{LAST_GENERATION};
-ghost use Rattle.record_recovery.specs.Listed.{AreSlots};
+ghost use Rattle.record_slots.specs.Listed.{AreSlots};
 ghost use Rattle.record_slots.specs.Slots.{Fits};
 ghost use Rattle.record_store.specs.Index.{IsListing, IsListOf, IsPlaceFound};
 ghost use Rattle.record_store.specs.Start.{AreMarks, IsOver, IsPlanned, IsRefusedBy, IsLast, ReadsTimes, ReadsToPlan, generation_over, slots_needed};
 
+use crate::Draft;
 use crate::errors::StoreError;
 use crate::index::place_of;
-use erst_ids::RecordId;
 use flash_model::{Flash, FlashFailed, Geometry};
-use record_draft::Draft;
-use record_recovery::{Found, SlotOf};
-use record_slots::{TAIL_MARK, look, parts_of};
+use record_slots::{Found, RecordId, SlotOf, TAIL_MARK, look, parts_of};
 
 const FIRST_GENERATION: u32 = 1;
 

@@ -1,11 +1,11 @@
 // The next change of what is pending, one a call. After it the lists are those of the slots as they are then.
 ghost use Rattle.std.specs.Prelude.{◌≡◌, ℕ, ◌-◌, ◌<◌, ◌≤◌, List, length, take, IfOk};
-ghost use Rattle.flash_words.specs.Flash.{AsksChange};
-ghost use Rattle.flash_words.specs.Layout.{reach_of};
+ghost use Rattle.base_model.specs.Flash.{AsksChange};
+ghost use Rattle.base_model.specs.Layout.{reach_of};
 ghost use Rattle.flash_model.specs.Layouts.{layout_of};
-ghost use Rattle.record_draft.specs.Drafts.{step_of};
+ghost use Rattle.record_store.specs.Drafts.{step_of};
 ghost use Rattle.record_model.specs.Records.{NearlyOnlyFirstUp};
-ghost use Rattle.record_recovery.specs.Listed.{IsWithin};
+ghost use Rattle.record_slots.specs.Listed.{IsWithin};
 ghost use Rattle.record_slots.specs.Slots.{Fits};
 ghost use Rattle.record_store.specs.Index.{IsListing};
 ghost use Rattle.record_store.specs.Kept.{IsWork, IsWrite, IsUnderWay, KnowsDraft, KnowsOldCopy, KnowsCleared, Knows, work_after, opened_place};
@@ -13,11 +13,9 @@ ghost use Rattle.record_store.specs.Stepping.{MakesChange};
 
 use crate::index::{copy_killed, record_cleared, record_opened};
 use crate::work::Work;
-use erst_ids::RecordId;
+use crate::{Draft, Stage, Step, prepare, publish};
 use flash_model::{Flash, FlashFailed, Geometry};
-use record_draft::{Draft, Stage, Step, prepare, publish};
-use record_recovery::{Found, SlotOf};
-use record_slots::kill;
+use record_slots::{Found, RecordId, SlotOf, kill};
 
 /// Makes the next change of what is pending, and answers what is pending then. The record stands at the start of a buffer.
 pub fn make_change<F: Flash>(

@@ -1,30 +1,29 @@
 // The store.
 ghost use Rattle.std.specs.Prelude.{◌≡◌, ◌↔◌, ◌⊎◌, ℕ, ◌+◌, ◌-◌, ◌*◌, ◌<◌, ◌≤◌, List, true, false, length, IsOk, OnOk, OnErr, IfOk, IfErr};
 ghost use Rattle.std.specs.FinMap.{len};
-ghost use Rattle.flash_words.specs.Flash.{LosesOnlyByChange, StaysLit, raised, next_count};
-ghost use Rattle.flash_words.specs.Layout.{room_of, reach_of};
+ghost use Rattle.base_model.specs.Flash.{LosesOnlyByChange, StaysLit, raised, next_count};
+ghost use Rattle.base_model.specs.Layout.{room_of, reach_of};
 ghost use Rattle.flash_model.specs.Layouts.{layout_of};
 ghost use Rattle.record_model.specs.Records.{second_copies, parts_of};
 ghost use Rattle.record_model.specs.RecordMap.{Write, Clear, Read, IsNextAbove};
 ghost use Rattle.record_slots.specs.Slots.{Fits};
-ghost use Rattle.record_recovery.specs.Answers.{IsOneFault};
-ghost use Rattle.record_recovery.specs.Recovered.{KillsBelow};
+ghost use Rattle.record_slots.specs.Answers.{IsOneFault};
+ghost use Rattle.record_slots.specs.Recovered.{KillsBelow};
 ghost use Rattle.record_store.specs.Store.{Idle, Clearing, stored, free_in, slots_for, map_after, IsBusy, IsWriteOf, IsSettled, IsReady, IsOpened, IsFlashOf, StandsIn, PlacedAfter, DividesAlike, KeepsMap, KeepsOrMakes, KeepsRecordsOf, abandoned, doubted, restarted};
 ghost use Rattle.record_store.specs.Finish.{IsUnfinished, IsFinished};
 ghost use Rattle.record_store.specs.Answers.{HasFaultsOf, EndsAtFault, StartsWrite, StartsClear, IsStep, HasStepped, AnswersWrite, AnswersClear, AnswersRead, AnswersLength, FailsByFlash, RefusesFlash, ReadsExactly, StartsByItself, AnswersByItself, HasLooked, TakesReads, copies_in, copies_pending};
 ghost use Rattle.record_store.specs.Calls.{OnlyLooks, OnlyStarts, Changes};
 
 use crate::errors::{StoreError, StoreRefused};
+use crate::first_stage;
 use crate::index::{next_id, place_of};
 use crate::opening::open;
 use crate::reading::read_record;
 use crate::starting::{plan_write, put_front};
 use crate::stepping::make_change;
 use crate::work::Work;
-use erst_ids::RecordId;
 use flash_model::{Flash, FlashFailed, Geometry};
-use record_draft::first_stage;
-use record_recovery::{Found, ScanError, rescan};
+use record_slots::{Found, RecordId, ScanError, rescan};
 use std::alloc::Global;
 use std::marker::Model;
 

@@ -1,9 +1,8 @@
 // What a store has begun: the state between two changes of a write or a clear.
 ghost use Rattle.std.specs.Prelude.{◌≡◌};
 
-use erst_ids::RecordId;
-use record_draft::{Draft, Stage};
-use record_recovery::SlotOf;
+use crate::{Draft, Stage};
+use record_slots::{RecordId, SlotOf};
 
 /// What is pending.
 #[derive(Clone, Copy, Debug, PartialEq, Eq)]

@@ -1,3 +1,12 @@
+pub mod BehindLemmas
+pub mod ColumnLemmas
+pub mod CommonLemmas
+pub mod KeywordLemmas
+pub mod NumberLemmas
+pub mod NumberThenLemmas
+pub mod OneKeyword
+pub mod OneLine
+pub mod PairLemmas
 pub mod EndLemmas
 pub mod LineLemmas
 pub mod ReadLemmas

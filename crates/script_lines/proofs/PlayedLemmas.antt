@@ -1,7 +1,7 @@
 -- Laws of lines that were played one after another, and of the end of their script.
 use Rattle.std.proofs.Common.{◌≡◌, ℕ, ◌⊎◌, inl, inr, List, [], ◌∷◌, ◌++◌, refl, sym, subst, ◌∙◌, append_assoc, ◌+◌}
 use Rattle.base_model.specs.Faults.{Rose}
-use Rattle.line_grammar.specs.Columns.{BreaksAt}
+use Rattle.script_lines.specs.Columns.{BreaksAt}
 use Rattle.script_lines.specs.Causes.{HasSourceCause, HasSinkCause}
 use Rattle.script_lines.specs.Ends.{IsBadFrom, EndsReading, fault_of}
 use Rattle.script_lines.specs.Lines.{Line, Reading, lines_of, IsTooLong, IsNextLine}

@@ -3,7 +3,7 @@ use Rattle.std.proofs.Common.{◌≡◌, ℕ, ◌+◌, ◌^◌, ◌<◌, ◌≤�
 use Rattle.std.proofs.lemmas.List.{append-nil, length-take, take_at}
 use Rattle.script_lines.specs.declared.lines.LineStop.{LineStop}
 use Rattle.script_lines.specs.declared.lines.LineStop.TheVariants.{TooLong}
-use Rattle.line_grammar.specs.declared.lengths.TheConstants.{LONGEST_LINE}
+use Rattle.script_lines.specs.declared.lengths.TheConstants.{LONGEST_LINE}
 use Rattle.script_lines.specs.Lines.{Line, Reading, lines_of, lines_ahead, IsOneLine, IsFirstLine, TakesMore, TakesLine, SamePlace, PastLimits, IsTooLong, with_newline, last_one, IsNextLine, IsAtEnd, NextIsTooLong}
 use Rattle.script_lines.proofs.LineLemmas.{lines_of-newline, lines_of-begin, BeginsWith}
 

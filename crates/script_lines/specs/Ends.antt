@@ -1,6 +1,6 @@
 -- How a script that is read line by line ends.
 use Rattle.std.specs.Prelude.{◌≡◌, ℕ, ◌+◌, List}
-use Rattle.line_grammar.specs.Columns.{BreaksAt}
+use Rattle.script_lines.specs.Columns.{BreaksAt}
 use Rattle.script_lines.specs.Causes.{Fault, OfSource, OfSink, NoFault}
 use Rattle.script_lines.specs.Lines.{Line, Reading, IsTooLong, IsAtEnd, NextIsTooLong, HasNoLine}
 use Rattle.script_lines.specs.declared.ending.ScriptEnd.{ScriptEnd}

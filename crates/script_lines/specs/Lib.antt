@@ -1,3 +1,7 @@
+pub mod Columns
+pub mod Keywords
+pub mod Parts
+pub mod Words
 pub mod Causes
 pub mod Ends
 pub mod Lines

@@ -1,7 +1,7 @@
 -- The lines of a script, and where each of them ends.
 use Rattle.std.specs.Prelude.{◌≡◌, ℕ, ◌+◌, ◌^◌, ◌<◌, ◌⊎◌, Bool, true, false, ◌==◌, List, [], ◌∷◌, ◌++◌, length, take, drop}
 use Rattle.std.specs.List.{slice_split}
-use Rattle.line_grammar.specs.declared.lengths.TheConstants.{LONGEST_LINE}
+use Rattle.script_lines.specs.declared.lengths.TheConstants.{LONGEST_LINE}
 
 -- a line: its text, and where it ends in the script, its newline counted where it has one
 pub record Line : Type 0 where

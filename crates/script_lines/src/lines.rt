@@ -5,9 +5,9 @@ ghost use Rattle.script_lines.specs.Causes.{HasSourceCause};
 ghost use Rattle.script_lines.specs.Ends.{EndsReading, fault_of};
 ghost use Rattle.script_lines.specs.Lines.{Line, Reading, lines_of, ended_lines_of, lines_ahead, IsNextLine, IsAtEnd, NextIsTooLong, HasNoLine, IsOneLine, IsFirstLine, StaysAt, TakesMore, TakesLine, SamePlace, PastLimits, IsTooLong};
 
+use crate::LONGEST_LINE;
 use crate::ending::ScriptEnd;
 use apei_bytes::{Memory, ReadFailed, Source};
-use line_grammar::LONGEST_LINE;
 use memchr::memchr;
 use std::alloc::Global;
 use std::marker::Model;

@@ -1,6 +1,6 @@
 -- Check lines with one text are one line.
 use Rattle.std.proofs.Common.{◌≡◌, ℕ, ◌⊎◌, inl, inr, List, refl, sym, ◌∙◌, arith}
-use Rattle.line_grammar.proofs.OneLine.{IsReading, one_line}
+use Rattle.script_lines.proofs.OneLine.{IsReading, one_line}
 use Rattle.script_text.specs.CheckGrammar.{CheckedLine, blank, comment, erst, hest, bert, one_record, block, IsValidCheck, check_text_of}
 use Rattle.script_text.specs.CheckWords.{check_codes_of, all_check_words}
 use Rattle.script_text.specs.declared.check_line.CheckWord.{CheckWord}

@@ -1,6 +1,6 @@
 -- Lines with one text are one line.
 use Rattle.std.proofs.Common.{◌≡◌, ℕ, ◌⊎◌, inl, inr, List, refl, sym, ◌∙◌, arith}
-use Rattle.line_grammar.proofs.OneLine.{IsReading as IsReadingOf, one_line as one_line_of}
+use Rattle.script_lines.proofs.OneLine.{IsReading as IsReadingOf, one_line as one_line_of}
 use Rattle.script_text.specs.ScriptGrammar.{Line, IsValid, text_of, blank}
 use Rattle.script_text.specs.ScriptText.{codes_of, all_words, Follows}
 use Rattle.script_text.specs.declared.script_line.ScriptWord.{ScriptWord}

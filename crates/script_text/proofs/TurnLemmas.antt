@@ -3,8 +3,8 @@ use Rattle.std.proofs.Common.{◌≡◌, ℕ, ◌+◌, ◌<◌, ◌≤◌, List,
 use Rattle.std.specs.Prelude.{All, IsTrue, ◌==◌, ◌||◌}
 use Rattle.std.proofs.lemmas.List.{length-take-le, length-append, append-nil}
 use Rattle.std.proofs.lemmas.List.Elements.{All-append, All-get_or, All-cons, All-nil}
-use Rattle.line_grammar.specs.Columns.{Begins, Breaks}
-use Rattle.line_grammar.proofs.PairLemmas.{at_front}
+use Rattle.script_lines.specs.Columns.{Begins, Breaks}
+use Rattle.script_lines.proofs.PairLemmas.{at_front}
 use Rattle.script_text.specs.Turns.{IsTurns}
 
 -- letters go on with one more where there is room

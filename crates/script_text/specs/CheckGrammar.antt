@@ -1,6 +1,6 @@
 -- The lines that are checked, and how each is written.
 use Rattle.std.specs.Prelude.{◌≡◌, ℕ, List, [], ◌++◌, codes}
-use Rattle.line_grammar.specs.Parts.{IsPairs}
+use Rattle.script_lines.specs.Parts.{IsPairs}
 
 -- a line, with what stands in it
 pub data CheckedLine : Type 0 where

@@ -1,6 +1,6 @@
 -- The keywords of the lines that are checked, and what may follow each.
 use Rattle.std.specs.Prelude.{ℕ, List, [], ◌∷◌, codes}
-use Rattle.line_grammar.specs.Parts.{IsPairs}
+use Rattle.script_lines.specs.Parts.{IsPairs}
 use Rattle.script_text.specs.declared.check_line.CheckWord.{CheckWord}
 use Rattle.script_text.specs.declared.check_line.CheckWord.TheVariants.{Comment, Erst, Hest, Bert, Record, Block}
 

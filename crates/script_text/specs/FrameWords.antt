@@ -1,6 +1,6 @@
 -- The words of records and of status blocks that are refused.
 use Rattle.std.specs.Prelude.{ℕ, List, codes}
-use Rattle.line_text.specs.Words.{word_and_number, word_and_two_numbers}
+use Rattle.script_lines.specs.Words.{word_and_number, word_and_two_numbers}
 use Rattle.cper_frame.specs.declared.error.FrameError.{FrameError}
 use Rattle.cper_frame.specs.declared.error.FrameError.TheVariants.{Need, Start, End, Length, Section, Limit}
 use Rattle.ghes_block.specs.declared.error.BlockError.{BlockError}

@@ -1,6 +1,6 @@
 -- The words of what stops a run of an action's program.
 use Rattle.std.specs.Prelude.{ℕ, List, ◌++◌, codes}
-use Rattle.line_text.specs.Words.{word_and_number, word_and_two_numbers}
+use Rattle.script_lines.specs.Words.{word_and_number, word_and_two_numbers}
 use Rattle.apei_space.specs.declared.faults.SpaceFault.{SpaceFault}
 use Rattle.apei_space.specs.declared.faults.SpaceFault.TheVariants.{Unmapped, BadAccess, NotMemory, Device}
 use Rattle.erst_interp.specs.declared.stops.RunStop.{RunStop}

@@ -1,6 +1,6 @@
 -- The lines of a script, and how each is written.
 use Rattle.std.specs.Prelude.{◌≡◌, ℕ, ◌^◌, ◌<◌, ◌≤◌, List, [], ◌++◌, codes, decimal}
-use Rattle.line_grammar.specs.Parts.{IsPairs}
+use Rattle.script_lines.specs.Parts.{IsPairs}
 use Rattle.script_text.specs.Turns.{IsTurns}
 
 -- a line, with what stands in it

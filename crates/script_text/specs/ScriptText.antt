@@ -1,6 +1,6 @@
 -- What a text is read as: the keywords of script lines, what may follow each, and the lines that are read.
 use Rattle.std.specs.Prelude.{◌≡◌, ℕ, ◌⊎◌, List, [], ◌∷◌, ◌++◌, codes}
-use Rattle.line_grammar.specs.Parts.{IsEnd, IsPairs, IsNumber, AreTwoNumbers}
+use Rattle.script_lines.specs.Parts.{IsEnd, IsPairs, IsNumber, AreTwoNumbers}
 use Rattle.script_text.specs.Turns.{IsTurns}
 use Rattle.script_text.specs.ScriptGrammar.{Line, IsValid, text_of, blank, comment, write, read, clear, count, next, dummy, action, table, own_table, shadow_table, error, turns, peek, fatal, bert, heard, reset, power, bridge}
 use Rattle.script_text.specs.declared.script_line.ScriptLine.{ScriptLine}

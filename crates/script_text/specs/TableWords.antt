@@ -1,6 +1,6 @@
 -- The words of tables that are refused.
 use Rattle.std.specs.Prelude.{ℕ, List, [], codes}
-use Rattle.line_text.specs.Words.{word_and_number, word_and_two_numbers}
+use Rattle.script_lines.specs.Words.{word_and_number, word_and_two_numbers}
 use Rattle.apei_tables.specs.declared.headers.TableError.{TableError}
 use Rattle.apei_tables.specs.declared.headers.TableError.TheVariants.{Short, Signature, Length, Sum}
 use Rattle.erst_entries.specs.declared.tables.ErstError.{ErstError}

@@ -1,13 +1,13 @@
 // A line of what is checked.
 ghost use Rattle.std.specs.Prelude.{◌≡◌, ℕ, ◌+◌, ◌≤◌, ◌++◌, length, MatchResult};
-ghost use Rattle.line_grammar.specs.Columns.{Breaks, BreaksAt};
-ghost use Rattle.line_grammar.specs.declared.lengths.TheConstants.{LONGEST_LINE};
+ghost use Rattle.script_lines.specs.Columns.{Breaks, BreaksAt};
+ghost use Rattle.script_lines.specs.declared.lengths.TheConstants.{LONGEST_LINE};
 ghost use Rattle.script_text.specs.CheckGrammar.{IsCheckLine};
 ghost use Rattle.script_text.specs.CheckText.{IsCheckText, IsCheckTextBehind};
 ghost use Rattle.script_text.specs.CheckWords.{check_codes_of, CheckFollows};
 
 use crate::script_line::BadLine;
-use line_grammar::{Keyword, keyword_of, pairs};
+use script_lines::{Keyword, keyword_of, pairs};
 
 /// A line that gives a table, a record or a block to be checked, in hexadecimal digits that are a part of its text.
 #[derive(Clone, Copy, Debug, PartialEq, Eq)]

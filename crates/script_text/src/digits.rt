@@ -1,7 +1,7 @@
 // Bytes that a line gives in hexadecimal digits.
 ghost use Rattle.std.specs.Prelude.{◌≡◌, ◌*◌, ◌<◌, ◌≤◌, true, Some, Ok, length, take, vec_len};
-ghost use Rattle.line_grammar.specs.declared.lengths.TheConstants.{LONGEST_LINE, LONGEST_BYTES};
-ghost use Rattle.line_grammar.specs.Parts.{IsPairs};
+ghost use Rattle.script_lines.specs.declared.lengths.TheConstants.{LONGEST_LINE, LONGEST_BYTES};
+ghost use Rattle.script_lines.specs.Parts.{IsPairs};
 ghost use Rattle.hex.specs.Hex.{decode_of, hex_digit_value, is_hex_digit};
 
 use hex::FromHex;

@@ -1,6 +1,6 @@
 // Laws on lines: the functions do nothing, and their clauses are the laws.
 ghost use Rattle.std.specs.Prelude.{◌≡◌, ℕ, List, ◌++◌, codes, decimal};
-ghost use Rattle.line_grammar.specs.Columns.{BreaksAt};
+ghost use Rattle.script_lines.specs.Columns.{BreaksAt};
 ghost use Rattle.erst_interp.specs.declared.stops.RunStop.{RunStop as AnyStop};
 ghost use Rattle.erst_client.specs.declared.errors.ClientError.{ClientError as AnyError};
 ghost use Rattle.erst_client.specs.declared.errors.ClientError.TheVariants.{Hardware, Stopped, Late};

@@ -3,7 +3,7 @@ ghost use Rattle.std.specs.Prelude.{◌≡◌, ℕ, ◌+◌, ◌≤◌, List, �
 ghost use Rattle.base_model.specs.Faults.{HasCause};
 
 use apei_bytes::{Sink, SinkFault, write_all};
-use line_text::LineText;
+use script_lines::LineText;
 
 /// A refusal, which has words in a reply. Want of memory is no refusal, and has none.
 pub trait Refusal {

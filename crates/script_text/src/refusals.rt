@@ -9,15 +9,14 @@ ghost use Rattle.script_text.specs.SubmitWords.{words_of_region, words_of_submit
 use crate::refusal::Refusal;
 use apei_space::SpaceFault;
 use apei_tables::TableError;
-use bert_region::RegionFull;
 use cper_frame::FrameError;
 use erst_client::{AttachError, ClientError};
 use erst_entries::ErstError;
 use erst_interp::RunStop;
 use ghes_ack::SubmitError;
-use ghes_block::BlockError;
+use ghes_block::{BlockError, RegionFull};
 use hest_sources::HestError;
-use line_text::LineText;
+use script_lines::LineText;
 
 impl Refusal for TableError {
     ghost words = { words_of_table };

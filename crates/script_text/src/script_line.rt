@@ -1,13 +1,13 @@
 // A line of a script.
 ghost use Rattle.std.specs.Prelude.{◌≡◌, ℕ, ◌+◌, ◌<◌, ◌≤◌, ◌++◌, length, decimal, MatchResult};
-ghost use Rattle.line_grammar.specs.Columns.{Breaks, BreaksAt};
-ghost use Rattle.line_grammar.specs.declared.lengths.TheConstants.{LONGEST_LINE};
-ghost use Rattle.line_grammar.specs.Parts.{IsEnd, IsNumber};
+ghost use Rattle.script_lines.specs.Columns.{Breaks, BreaksAt};
+ghost use Rattle.script_lines.specs.declared.lengths.TheConstants.{LONGEST_LINE};
+ghost use Rattle.script_lines.specs.Parts.{IsEnd, IsNumber};
 ghost use Rattle.script_text.specs.ScriptGrammar.{IsLine};
 ghost use Rattle.script_text.specs.ScriptText.{IsText, IsTextBehind, Follows, IsTable, codes_of};
 
 use crate::turns::turns;
-use line_grammar::{Keyword, common_len, end, keyword_of, number, pairs, two_numbers};
+use script_lines::{Keyword, common_len, end, keyword_of, number, pairs, two_numbers};
 
 /// A line of a script. Hexadecimal digits and letters are parts of its text as they stand.
 #[derive(Clone, Copy, Debug, PartialEq, Eq)]

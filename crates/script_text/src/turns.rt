@@ -1,6 +1,6 @@
 // The letters of a `turns` line.
 ghost use Rattle.std.specs.Prelude.{◌≡◌, ◌==◌, ◌||◌, MatchResult};
-ghost use Rattle.line_grammar.specs.Columns.{Breaks};
+ghost use Rattle.script_lines.specs.Columns.{Breaks};
 ghost use Rattle.script_text.specs.Turns.{IsTurns, side_of};
 
 use ghes_ack::Side;

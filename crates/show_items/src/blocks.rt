@@ -5,11 +5,10 @@ use crate::groups::Group;
 use crate::pages::{Pages, Stop};
 use crate::records::add_section;
 use crate::sheet::{Form, Item, Sheet};
-use apei_fields::guid_at;
+use apei_bytes::guid_at;
 use item_parts::Item as Decoded;
-use section_fields::{block_status, data_entry};
-use show_places::{DataEntry, data_entry_at, seen_at, seen_u16, seen_u32};
-use show_sentences::{add_block, fault_of};
+use show_findings::{DataEntry, add_block, data_entry_at, fault_of, seen_at, seen_u16, seen_u32};
+use standard_fields::{block_status, data_entry};
 use std::alloc::AllocError;
 
 // The bytes of a block's head.

@@ -5,7 +5,7 @@ use crate::pages::{Pages, Stop};
 use crate::sequences::show_sequence;
 use crate::sheet::Sheet;
 use crate::singles::{show_dmesg, show_empty, show_machine_check, show_packed};
-use show_kinds::{FileKind, kind_of};
+use show_findings::{FileKind, kind_of};
 
 /// Shows what a file of this name holds: each item on the sheet, which goes to the pages as it grows.
 pub fn show_file<P: Pages>(

@@ -7,7 +7,7 @@ use crate::sheet::{Form, Sheet};
 use crate::text::{add, add_hex, add_number, add_string};
 use apei_bytes::Guid;
 use field_lines::{Json, Layout, Plain, add_layout};
-use show_sentences::section_title;
+use show_findings::section_title;
 use std::alloc::AllocError;
 
 /// A group: its name, its number where there are several, the type of a section, and where it begins in its item.

@@ -9,12 +9,10 @@ use crate::headers::{medium_header, qemu_header};
 use crate::pages::{Pages, Stop};
 use crate::records::show_record;
 use crate::sheet::{Item, Sheet};
-use erst_medium::{MediumError, geometry_of};
 use field_lines::Layout;
 use flash_model::Geometry;
-use image_survey::{SlotView, count_slots, record_at, survey_slots};
-use show_places::{Item as Kind, item_len, seen_at, seen_u32, seen_u64};
-use show_sentences::Fault;
+use image_survey::{MediumError, SlotView, count_slots, geometry_of, record_at, survey_slots};
+use show_findings::{Fault, Item as Kind, item_len, seen_at, seen_u32, seen_u64};
 use std::alloc::AllocError;
 
 /// Shows the records of the flash of a record store.

@@ -4,12 +4,10 @@ ghost use Rattle.std.specs.Prelude.{◌<◌, ◌^◌, ◌+◌, length};
 use crate::groups::Group;
 use crate::pages::{Pages, Stop};
 use crate::sheet::{Form, Item, Sheet};
-use apei_bytes::Guid;
-use apei_fields::guid_at;
+use apei_bytes::{Guid, guid_at};
 use item_parts::Item as Decoded;
-use section_fields::{record_header, section_descriptor, section_layout};
-use show_places::{Section, section_at, seen_at, seen_u16};
-use show_sentences::{add_record, fault_of, is_of_linux};
+use show_findings::{Section, add_record, fault_of, is_of_linux, section_at, seen_at, seen_u16};
+use standard_fields::{record_header, section_descriptor, section_layout};
 use std::alloc::AllocError;
 
 // The bytes of a header.

@@ -1,6 +1,6 @@
 // Items one after another.
 ghost use Rattle.std.specs.Prelude.{◌≡◌, ◌≤◌, ◌<◌, length, IfOk};
-ghost use Rattle.show_kinds.specs.Kinds.{kind_behind};
+ghost use Rattle.show_findings.specs.Kinds.{kind_behind};
 ghost use Rattle.show_items.specs.Sequences.{len_of};
 
 use crate::blocks::show_block;
@@ -9,8 +9,7 @@ use crate::records::show_record;
 use crate::sheet::Sheet;
 use crate::singles::{show_blank, show_unknown};
 use crate::tables::show_table;
-use show_kinds::{FileKind, kind_behind};
-use show_places::{Item, item_len};
+use show_findings::{FileKind, Item, item_len, kind_behind};
 
 /// Shows the items that stand one after another, each of the kind that it begins with. Bytes that hold nothing behind the last one are no item.
 pub(crate) fn show_sequence<P: Pages>(

@@ -1,7 +1,7 @@
 // The sheet on which the items of a file are shown.
 use crate::pages::{Pages, Stop};
 use crate::text::{add, add_number, add_string};
-use show_sentences::Fault;
+use show_findings::Fault;
 use std::alloc::{AllocError, Global};
 
 /// In which form an item is shown.

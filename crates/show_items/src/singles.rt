@@ -3,8 +3,7 @@ use crate::groups::Group;
 use crate::records::add_section;
 use crate::sheet::{Item, Sheet};
 use apei_bytes::Guid;
-use show_places::seen_at;
-use show_sentences::{add_dmesg, add_machine_check};
+use show_findings::{add_dmesg, add_machine_check, seen_at};
 use std::alloc::AllocError;
 
 // The types of the sections whose bodies Linux shows in pstore.

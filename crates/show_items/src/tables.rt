@@ -8,12 +8,13 @@ use crate::pages::{Pages, Stop};
 use crate::sheet::{Form, Item, Sheet};
 use field_lines::Layout;
 use item_parts::Item as Decoded;
-use show_places::{Source, instruction_at, seen_at, seen_u32, source_at};
-use show_sentences::{Fault, add_table, fault_of};
-use std::alloc::AllocError;
-use table_fields::{
+use show_findings::{
+    Fault, Source, add_table, fault_of, instruction_at, seen_at, seen_u32, source_at,
+};
+use standard_fields::{
     bert_fields, erst_entry, erst_header, hest_header, source_layout, table_header,
 };
+use std::alloc::AllocError;
 
 // The bytes of a header, and of the fixed parts of an ERST, a HEST and a BERT.
 const HEADER: usize = 36;

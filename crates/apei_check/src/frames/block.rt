@@ -9,7 +9,7 @@ ghost use Rattle.apei_check.specs.Frames.{AreBlockLines, block_line, entry_line,
 use crate::text::{CheckStop, Parts, Show, write_line, write_refused};
 use apei_bytes::{Sink, SinkFault};
 use ghes_block::{Block, DataEntry};
-use line_text::LineText;
+use script_lines::LineText;
 
 /// Where the first entry of a block begins.
 const FIRST: u64 = 20;

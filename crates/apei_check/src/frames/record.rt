@@ -8,7 +8,7 @@ ghost use Rattle.apei_check.specs.Frames.{AreRecordLines, record_line, section_l
 use crate::text::{CheckStop, InOrder, Numbered, Show, write_refused};
 use apei_bytes::{Sink, SinkFault};
 use cper_frame::{Record, Section};
-use line_text::LineText;
+use script_lines::LineText;
 
 /// The line of a section.
 #[tactic(auto, unfolding(crate::specs::Frames::section_line))]

@@ -6,8 +6,8 @@ ghost use Rattle.apei_check.specs.Tables.{AreBertLines};
 
 use crate::text::{CheckStop, Show, write_refused};
 use apei_bytes::Sink;
-use bert_region::Bert;
-use line_text::LineText;
+use ghes_block::Bert;
+use script_lines::LineText;
 
 /// Shows the Boot Error Record Table that the bytes begin with, by one line. Where they begin with none, a line says why.
 pub fn check_bert<O: Sink>(bytes: &[u8], show: Show, out: &mut O) -> Result<(), CheckStop>

@@ -8,7 +8,7 @@ ghost use Rattle.erst_entries.specs.Tables.{refusal};
 use crate::text::{CheckStop, InOrder, Numbered, Show, write_refused};
 use apei_bytes::Sink;
 use erst_entries::{Entry, ErstError, ErstTable};
-use line_text::LineText;
+use script_lines::LineText;
 use std::alloc::Global;
 
 /// Shows the Error Record Serialization Table that the bytes begin with: a line on the table, and one for each instruction entry. Where

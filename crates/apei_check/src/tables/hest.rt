@@ -10,7 +10,7 @@ ghost use Rattle.hest_sources.specs.Tables.{refusal};
 use crate::text::{CheckStop, InOrder, Numbered, Show, write_refused};
 use apei_bytes::Sink;
 use hest_sources::{Ghes, Hest, HestError, HestSource};
-use line_text::LineText;
+use script_lines::LineText;
 use std::alloc::Global;
 
 /// Shows the Hardware Error Source Table that the bytes begin with: a line on the table, and one for each error source. Where they begin

@@ -5,7 +5,7 @@ ghost use Rattle.apei_check.specs.Written.{Writes, WritesPart, head_shown};
 
 use crate::text::{Show, write_line};
 use apei_bytes::{Sink, SinkFault};
-use line_text::LineText;
+use script_lines::LineText;
 
 impl Show {
     /// Writes the line on the whole item, where it is asked for.

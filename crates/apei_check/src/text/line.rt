@@ -6,7 +6,7 @@ ghost use Rattle.apei_check.specs.declared.text.stop.CheckStop.TheVariants.{Sink
 
 use crate::text::CheckStop;
 use apei_bytes::{Sink, SinkFault, write_all};
-use line_text::LineText;
+use script_lines::LineText;
 
 impl From<SinkFault> for CheckStop {
     ghost from_gives = { λ _ stop. stop ≡ TheSinkFault };

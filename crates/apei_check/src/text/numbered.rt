@@ -3,7 +3,7 @@ ghost use Rattle.std.specs.Prelude.{ℕ, ◌≡◌, ◌≤◌, ◌<◌, List, []
 
 use crate::text::{Parts, write_line};
 use apei_bytes::{Sink, SinkFault};
-use line_text::LineText;
+use script_lines::LineText;
 
 /// An item each of whose parts is found by its number.
 pub(crate) trait Numbered {

@@ -6,7 +6,7 @@ ghost use Rattle.apei_check.specs.Written.{Writes, WritesPart};
 
 use crate::text::Show;
 use apei_bytes::{Sink, SinkFault};
-use line_text::LineText;
+use script_lines::LineText;
 
 /// An item whose parts have a line each.
 pub(crate) trait Parts {

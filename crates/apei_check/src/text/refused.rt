@@ -5,7 +5,7 @@ ghost use Rattle.apei_check.specs.Written.{Writes, WritesPart};
 
 use crate::text::write_line;
 use apei_bytes::{Sink, SinkFault};
-use line_text::LineText;
+use script_lines::LineText;
 use script_text::Refusal;
 
 /// Writes the one line of an item that is refused, whatever is to be shown: what it begins with, and the words of the refusal.

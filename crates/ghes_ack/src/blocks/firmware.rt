@@ -7,11 +7,11 @@ ghost use Rattle.ghes_ack.specs.Queues.{HasRoom};
 ghost use Rattle.ghes_ack.specs.Sides.{state_of};
 ghost use Rattle.ghes_ack.specs.OwnTurns.{IsAble, IsCount, FirmwareMakes, FirmwareRuns};
 
+use crate::PIECE;
 use crate::blocks::Blocks;
 use crate::ends::{FirmwareEnd, MayWrite, MustWait};
 use crate::events::{Event, note};
 use apei_space::Ram;
-use ghes_window::PIECE;
 
 /// The next turns of the firmware: all that fill pieces of one block, or else one. It answers how many, and writes their events.
 pub fn firmware_run(

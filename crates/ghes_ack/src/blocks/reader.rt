@@ -9,12 +9,12 @@ ghost use Rattle.ghes_ack.specs.Queues.{HasRoom};
 ghost use Rattle.ghes_ack.specs.Sides.{IsFar, state_of};
 ghost use Rattle.ghes_ack.specs.OwnTurns.{IsAble, IsCount, GoesOn, ReaderMakes, ReaderRuns};
 
+use crate::PIECE;
 use crate::blocks::Blocks;
 use crate::ends::{MayRead, MustLook, ReaderEnd};
 use crate::events::{Event, note};
 use crate::maps::HandoverMap;
 use apei_space::Ram;
-use ghes_window::PIECE;
 
 /// The next turns of the reader: all that copy pieces, or else one. It answers how many, and writes their events.
 pub fn reader_run(

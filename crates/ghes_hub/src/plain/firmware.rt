@@ -8,8 +8,7 @@ ghost use Rattle.ghes_ack.specs.Sides.{state_of};
 
 use crate::plain::map::PlainMap;
 use apei_space::Ram;
-use ghes_ack::{Event, FirmwareEnd, MayWrite, MustWait};
-use ghes_window::{Blocks, PIECE};
+use ghes_ack::{Blocks, Event, FirmwareEnd, MayWrite, MustWait, PIECE};
 
 /// One turn of the firmware.
 pub fn firmware_turn(

@@ -10,8 +10,7 @@ use crate::plain::map::PlainMap;
 use crate::plain::turns::one_turn;
 use apei_bytes::Memory;
 use apei_space::Ram;
-use ghes_ack::{Ends, Event, Side, SubmitError, check_block};
-use ghes_window::Blocks;
+use ghes_ack::{Blocks, Ends, Event, Side, SubmitError, check_block};
 use std::alloc::Global;
 use std::marker::Model;
 

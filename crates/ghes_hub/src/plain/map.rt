@@ -2,10 +2,9 @@
 ghost use Rattle.std.specs.Prelude.{◌≡◌};
 ghost use Rattle.ghes_hub.specs.Plain.{HasPlainWindows, with_plain_address, plain_started};
 
-use apei_gas::{Place, Width};
 use apei_space::{Ram, Space};
-use ghes_ack::{MayWrite, MustLook, begin};
-use ghes_window::{BlockWindow, HasWindow};
+use apei_tables::{Place, Width};
+use ghes_ack::{BlockWindow, HasWindow, MayWrite, MustLook, begin};
 
 /// The 8 bytes at `status` hold the address of the block's window.
 #[derive(Clone, Copy, Debug, PartialEq, Eq)]

@@ -8,8 +8,7 @@ ghost use Rattle.ghes_ack.specs.Sides.{state_of};
 
 use crate::plain::map::PlainMap;
 use apei_space::Ram;
-use ghes_ack::{Event, MayRead, MustLook, ReaderEnd};
-use ghes_window::{Blocks, PIECE};
+use ghes_ack::{Blocks, Event, MayRead, MustLook, PIECE, ReaderEnd};
 
 /// One turn of the reader.
 pub fn reader_turn(

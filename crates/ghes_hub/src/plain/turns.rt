@@ -5,8 +5,7 @@ use crate::plain::firmware::firmware_turn;
 use crate::plain::map::PlainMap;
 use crate::plain::reader::reader_turn;
 use apei_space::Ram;
-use ghes_ack::{Ends, Event, Side};
-use ghes_window::Blocks;
+use ghes_ack::{Blocks, Ends, Event, Side};
 
 /// One turn of a side, which knows of the other one what the memory shows.
 pub fn one_turn(

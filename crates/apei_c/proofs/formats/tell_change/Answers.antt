@@ -1,5 +1,5 @@
 use Rattle.std.proofs.Common.{Option, refl, sym, subst, inl}
-use Rattle.erst_medium.specs.declared.format.FormatChange.{FormatChange}
+use Rattle.image_survey.specs.declared.format.FormatChange.{FormatChange}
 use Rattle.apei_c.specs.declared.status.Status.TheVariants.{Nothing}
 use Rattle.apei_c.specs.Formats.{TellsNext}
 use Rattle.apei_c.proofs.FormatLemmas.{few_bytes}

@@ -1,5 +1,5 @@
 use Rattle.std.proofs.Common.{◌≡◌, ◌-◌, ◌^◌, true, [], length}
-use Rattle.line_grammar.specs.declared.lengths.TheConstants.{LONGEST_BYTES}
+use Rattle.script_lines.specs.declared.lengths.TheConstants.{LONGEST_BYTES}
 use Rattle.apei_check.proofs.RunLemmas.{SoFar}
 use Rattle.apei_check.proofs.check.check_lines.Given as goal
 

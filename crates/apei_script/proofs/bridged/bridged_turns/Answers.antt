@@ -1,7 +1,7 @@
 use Rattle.std.proofs.Common.{◌≡◌, ◌∙◌, ℕ, ◌+◌, List, [], ◌∷◌, ◌++◌, take, refl, sym, ap, arith, Vec, Global, vec_len}
 use Rattle.std.proofs.lemmas.Result.{on_ok_weaker, on_err_weaker}
-use Rattle.bridge_turns.specs.declared.made.MadeTurn.{MadeTurn}
-use Rattle.bridge_turns.specs.Made.{turn_of}
+use Rattle.erst_bridge.specs.declared.made.MadeTurn.{MadeTurn}
+use Rattle.erst_bridge.specs.Made.{turn_of}
 use Rattle.apei_script.specs.Bridged.{words_of_made}
 use Rattle.apei_script.specs.Words.{reply_at}
 use Rattle.apei_script.specs.Desks.{state_of, SameClients}

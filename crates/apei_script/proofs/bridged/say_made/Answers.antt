@@ -2,7 +2,7 @@ use Rattle.std.proofs.Common.{◌≡◌, ◌∙◌, ℕ, ◌+◌, List, [], ◌�
 use Rattle.std.specs.Prelude.{codes, decimal}
 use Rattle.std.proofs.lemmas.List.{append-nil, length-append, take_all}
 use Rattle.std.proofs.lemmas.Result.{on_err_weaker}
-use Rattle.bridge_turns.specs.Made.{turn_of}
+use Rattle.erst_bridge.specs.Made.{turn_of}
 use Rattle.apei_script.specs.Bridged.{words_of_turn, words_of_made}
 use Rattle.base_model.proofs.FaultLemmas.{on_err}
 use Rattle.script_text.proofs.ShownLemmas.{shown_then, shown_more, shown_part}

@@ -2,7 +2,7 @@ use Rattle.std.proofs.Common.{◌∙◌, All, get_or, rules, sym, subst, arith}
 use Rattle.std.proofs.lemmas.List.{get_or_default}
 use Rattle.std.proofs.lemmas.List.Elements.{All-push}
 use Rattle.std.proofs.lemmas.List.Sorted.{All-permutation, IsNonDecreasingBy-from_sort_by_key}
-use Rattle.apei_gas.specs.declared.registers.Place.TheVariants.{Memory}
+use Rattle.apei_tables.specs.declared.registers.Place.TheVariants.{Memory}
 use Rattle.apei_space.specs.declared.windows.Window.{Window}
 use Rattle.apei_space.specs.Windows.{address_of}
 use Rattle.apei_space.specs.Stretches.{IsStretch}

@@ -1,7 +1,7 @@
 use Rattle.std.proofs.Common.{ℕ, subst, arith}
 use Rattle.base_model.specs.Bytes.{joined}
-use Rattle.apei_fields.specs.Writing.{Wrote}
-use Rattle.apei_fields.proofs.Puts.{◌▸◌, no_field}
+use Rattle.apei_bytes.specs.Writing.{Wrote}
+use Rattle.apei_bytes.proofs.Puts.{◌▸◌, no_field}
 use Rattle.cper_frame.specs.Grammar.{descriptor_fields}
 use Rattle.cper_frame.proofs.writer.put_descriptor.Goals as goal
 

@@ -1,6 +1,6 @@
 use Rattle.std.proofs.Common.{subst, sym}
-use Rattle.apei_fields.specs.Writing.{Wrote}
-use Rattle.apei_fields.proofs.Puts.{wrote_then, joined-append}
+use Rattle.apei_bytes.specs.Writing.{Wrote}
+use Rattle.apei_bytes.proofs.Puts.{wrote_then, joined-append}
 use Rattle.cper_frame.specs.Grammar.{header_front, header_back}
 use Rattle.cper_frame.proofs.writer.put_header.Goals as goal
 

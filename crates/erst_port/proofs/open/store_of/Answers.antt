@@ -1,9 +1,9 @@
 use Rattle.std.proofs.Common.{◌∙◌, ap, subst}
-use Rattle.flash_words.specs.Flash.{FlashState}
-use Rattle.record_recovery.specs.declared.scanning.ScanError.{ScanError}
-use Rattle.record_recovery.specs.declared.scanning.ScanError.TheVariants.{Flash}
+use Rattle.base_model.specs.Flash.{FlashState}
+use Rattle.record_slots.specs.declared.scanning.ScanError.{ScanError}
+use Rattle.record_slots.specs.declared.scanning.ScanError.TheVariants.{Flash}
 use Rattle.record_store.specs.Answers.{RefusesFlash}
-use Rattle.flash_mirror.specs.States.{state_of}
+use Rattle.erst_port.specs.States.{state_of}
 use Rattle.erst_port.proofs.LogLemmas.{opening_is_logged, opening_fails_nothing}
 use Rattle.erst_port.proofs.open.store_of.Goals as goal
 

@@ -1,8 +1,8 @@
 use Rattle.std.proofs.Common.{◌≡◌, ◌∙◌, List, [], ◌∷◌, ℕ, length, ap, replicate, lit≤}
 use Rattle.base_model.specs.Bytes.{joined, spelled}
-use Rattle.apei_fields.proofs.Puts.{◌▸◌, no_field}
+use Rattle.apei_bytes.proofs.Puts.{◌▸◌, no_field}
 use Rattle.flash_model.specs.Layouts.{layout_of}
-use Rattle.erst_medium.proofs.HeaderLemmas.{put_at-whole}
+use Rattle.image_survey.proofs.HeaderLemmas.{put_at-whole}
 use Rattle.erst_device.specs.Registers.{seen}
 use Rattle.erst_port.specs.Saved.{signature, saved_head}
 use Rattle.erst_port.proofs.SavedLemmas.{length-saved_head}

@@ -1,5 +1,5 @@
 use Rattle.std.proofs.Common.{◌≡◌, ◌++◌, take}
-use Rattle.apei_fields.specs.Writing.{Wrote}
+use Rattle.apei_bytes.specs.Writing.{Wrote}
 use Rattle.erst_entries.specs.Layout.{front_spelling, entries_spelling}
 use Rattle.erst_port.specs.PortTables.{port_entries, table_with}
 use Rattle.erst_port.proofs.table.put_table.Given as goal

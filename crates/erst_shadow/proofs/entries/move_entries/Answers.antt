@@ -1,5 +1,5 @@
 use Rattle.std.proofs.Common.{refl}
-use Rattle.erst_moves.specs.MoveEntries.{move_entries}
+use Rattle.erst_shadow.specs.MoveEntries.{move_entries}
 use Rattle.erst_shadow.proofs.entries.move_entries.Goals as goal
 
 pub returns : goal.returns

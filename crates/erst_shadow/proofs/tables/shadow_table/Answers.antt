@@ -2,7 +2,7 @@ use Rattle.std.proofs.Common.{◌≡◌, ◌∙◌, ◌*◌, ℕ, [], ap, arith}
 use Rattle.apei_tables.specs.declared.headers.Header.{Header}
 use Rattle.erst_entries.specs.declared.actions.Action.TheVariants.{ExecuteOperation, GetCommandStatus}
 use Rattle.erst_device.specs.Actions.{log_range_at}
-use Rattle.erst_moves.specs.MoveEntries.{move_entries}
+use Rattle.erst_shadow.specs.MoveEntries.{move_entries}
 use Rattle.erst_shadow.specs.ShadowTables.{scratch_at, entries_behind, pieces_of}
 use Rattle.erst_shadow.proofs.TableLemmas.{blank_with, put_behind, all_entries, erst_fits, IsShadow, is_shadow}
 use Rattle.erst_shadow.proofs.tables.shadow_table.Goals as goal

@@ -3,7 +3,7 @@ use Rattle.std.specs.Prelude.{◌==◌}
 use Rattle.std.proofs.lemmas.Bool.{ne_eqb, eq-eqb}
 use Rattle.std.proofs.lemmas.List.{take_rest}
 use Rattle.std.proofs.lemmas.Result.{err_from_is_err_and}
-use Rattle.apei_fields.proofs.Walks.{count_done, count_fault}
+use Rattle.apei_bytes.proofs.Walks.{count_done, count_fault}
 use Rattle.ghes_block.specs.declared.error.BlockError.{BlockError}
 use Rattle.ghes_block.specs.Reading.{whole_entry_size, entry_walk}
 use Rattle.ghes_block.proofs.Walks.{gets_on, count_more}

@@ -1,5 +1,5 @@
 use Rattle.std.proofs.Common.{◌≡◌, ◌+◌, ◌-◌, ◌*◌, ◌≤◌, length, drop}
-use Rattle.apei_fields.specs.Walk.{item_count}
+use Rattle.apei_bytes.specs.Walk.{item_count}
 use Rattle.ghes_block.specs.Reading.{entry_walk, count_in}
 use Rattle.ghes_block.proofs.block.count_entries.Given as goal
 

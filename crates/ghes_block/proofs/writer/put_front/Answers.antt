@@ -1,7 +1,7 @@
 use Rattle.std.proofs.Common.{ℕ, subst, arith}
 use Rattle.base_model.specs.Bytes.{joined}
-use Rattle.apei_fields.specs.Writing.{Wrote}
-use Rattle.apei_fields.proofs.Puts.{no_field, next_field}
+use Rattle.apei_bytes.specs.Writing.{Wrote}
+use Rattle.apei_bytes.proofs.Puts.{no_field, next_field}
 use Rattle.ghes_block.specs.Grammar.{entry_front}
 use Rattle.ghes_block.proofs.writer.put_front.Goals as goal
 

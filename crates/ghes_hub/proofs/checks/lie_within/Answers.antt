@@ -1,6 +1,6 @@
 use Rattle.std.proofs.Common.{◌≡◌, ◌∙◌, ℕ, ◌*◌, ◌%◌, ◌^◌, nat_lt, ◌&&◌, Bool, true, sym, ap, arith}
 use Rattle.std.proofs.lemmas.Bool.Decides.{nat_tests}
-use Rattle.apei_gas.specs.Access.{bits}
+use Rattle.apei_tables.specs.Access.{bits}
 use Rattle.ghes_hub.proofs.PlanLemmas.{shifted, one_shifted}
 use Rattle.ghes_hub.proofs.checks.lie_within.Goals as goal
 

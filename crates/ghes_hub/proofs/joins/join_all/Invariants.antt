@@ -1,5 +1,5 @@
 use Rattle.std.proofs.Common.{◌≡◌, ◌-◌, ◌+◌, ◌≤◌, List, length, take, drop, vec_capacity}
-use Rattle.apei_gas.specs.declared.registers.Place.{Place}
+use Rattle.apei_tables.specs.declared.registers.Place.{Place}
 use Rattle.apei_space.specs.declared.windows.Window.{Window}
 use Rattle.apei_space.specs.Mapped.{IsMapped}
 use Rattle.apei_space.specs.Windows.{total}

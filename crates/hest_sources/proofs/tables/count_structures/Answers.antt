@@ -3,8 +3,8 @@ use Rattle.std.specs.Prelude.{◌==◌}
 use Rattle.std.proofs.lemmas.Bool.{ne_eqb, eq-eqb}
 use Rattle.std.proofs.lemmas.List.{take_rest, drop-drop}
 use Rattle.std.proofs.lemmas.Result.{err_from_is_err_and}
-use Rattle.apei_fields.specs.Walk.{item_count}
-use Rattle.apei_fields.proofs.Walks.{count_done, count_fault, count_on}
+use Rattle.apei_bytes.specs.Walk.{item_count}
+use Rattle.apei_bytes.proofs.Walks.{count_done, count_fault, count_on}
 use Rattle.hest_sources.specs.declared.tables.HestError.{HestError}
 use Rattle.hest_sources.specs.Layout.{structure_length}
 use Rattle.hest_sources.specs.Walk.{structure_walk}

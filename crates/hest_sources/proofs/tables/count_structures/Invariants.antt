@@ -1,5 +1,5 @@
 use Rattle.std.proofs.Common.{◌≡◌, ◌-◌, ◌≤◌, length, drop}
-use Rattle.apei_fields.specs.Walk.{item_count}
+use Rattle.apei_bytes.specs.Walk.{item_count}
 use Rattle.hest_sources.specs.Walk.{structure_walk, source_count}
 use Rattle.hest_sources.proofs.tables.count_structures.Given as goal
 

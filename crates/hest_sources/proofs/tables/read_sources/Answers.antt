@@ -4,8 +4,8 @@ use Rattle.std.proofs.lemmas.Bool.{ne_eqb, eq-eqb}
 use Rattle.std.proofs.lemmas.List.{take_rest, drop-drop}
 use Rattle.base_model.specs.Bytes.{AreBytes}
 use Rattle.base_model.proofs.BytesLemmas.{AreBytes-each, AreBytes-drop}
-use Rattle.apei_fields.specs.Walk.{item_count, items_in}
-use Rattle.apei_fields.proofs.Walks.{count_fault, count_on, items_on, items_done}
+use Rattle.apei_bytes.specs.Walk.{item_count, items_in}
+use Rattle.apei_bytes.proofs.Walks.{count_fault, count_on, items_on, items_done}
 use Rattle.hest_sources.specs.declared.sources.HestSource.{HestSource}
 use Rattle.hest_sources.specs.declared.tables.HestError.{HestError}
 use Rattle.hest_sources.specs.Layout.{source_at, structure_length}

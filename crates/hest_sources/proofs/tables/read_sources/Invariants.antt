@@ -1,6 +1,6 @@
 use Rattle.std.proofs.Common.{◌≡◌, ◌-◌, ◌≤◌, ◌++◌, length, drop, Ok}
 use Rattle.std.specs.Prelude.{vec_capacity}
-use Rattle.apei_fields.specs.Walk.{items_in, item_count}
+use Rattle.apei_bytes.specs.Walk.{items_in, item_count}
 use Rattle.hest_sources.specs.Walk.{structure_walk, sources_in}
 use Rattle.hest_sources.proofs.tables.read_sources.Given as goal
 

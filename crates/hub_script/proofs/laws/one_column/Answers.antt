@@ -1,4 +1,4 @@
-use Rattle.line_grammar.proofs.ColumnLemmas.{same_column}
+use Rattle.script_lines.proofs.ColumnLemmas.{same_column}
 use Rattle.hub_script.specs.HubGrammar.{IsLine}
 use Rattle.hub_script.proofs.laws.one_column.Goals as goal
 

@@ -1,8 +1,8 @@
 use Rattle.std.proofs.Common.{arith, inl, inr, subst, ℕ, List}
 use Rattle.std.proofs.lemmas.Fmt.{decimal_nonempty}
 use Rattle.std.proofs.lemmas.Slice.{between_to_end}
-use Rattle.line_grammar.specs.Columns.{Breaks}
-use Rattle.line_grammar.specs.Parts.{IsPairs}
+use Rattle.script_lines.specs.Columns.{Breaks}
+use Rattle.script_lines.specs.Parts.{IsPairs}
 use Rattle.hub_script.proofs.NumberLemmas.{number_alone, no_number, number_stops, number_goes}
 use Rattle.hub_script.proofs.parts.number_and_pairs.Goals.{then-len-text-via-then-len-text, then-len-text-via-else-len-text+then-text-len-ne32}
 use Rattle.hub_script.proofs.parts.number_and_pairs.Goals as goal

@@ -1,7 +1,7 @@
 use Rattle.std.proofs.Common.{arith, sym, ◌∙◌, ◌≡◌, ℕ, ◌/◌, subst, length}
 use Rattle.std.proofs.lemmas.Bool.{eqb-true, eqb-false}
 use Rattle.hub_script.specs.Turns.{AreTurns}
-use Rattle.line_grammar.specs.Columns.{Breaks}
+use Rattle.script_lines.specs.Columns.{Breaks}
 use Rattle.hub_script.proofs.TurnLemmas.{AreGood, good_more, turns_at, turns_full, turns_end}
 use Rattle.hub_script.proofs.parts.turns.Goals.{then-is_empty-via-then-is_empty, then-is_empty-via-else-is_empty+then-text-eq1, then-i-eq-MAX_TURNS-via-then-i-eq-MAX_TURNS, then-i-eq-MAX_TURNS-via-else-i-eq-MAX_TURNS+then-not-may_stand}
 use Rattle.hub_script.proofs.parts.turns.Goals as goal

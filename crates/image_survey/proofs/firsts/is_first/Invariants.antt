@@ -1,6 +1,6 @@
 use Rattle.std.proofs.Common.{◌≡◌, ℕ, ◌-◌, false}
 use Rattle.record_model.specs.Records.{Slot, is_live, entry_of, record_of, is_behind}
-use Rattle.record_recovery.specs.Looks.{AreSeen, AreMarked}
+use Rattle.record_slots.specs.Looks.{AreSeen, AreMarked}
 use Rattle.image_survey.proofs.firsts.is_first.Given as goal
 
 abbrev pub invariant-loop-at : goal.invariant-loop-at

@@ -1,6 +1,6 @@
 use Rattle.std.proofs.Common.{◌-◌, ◌<◌, true, false, sym, ◌∙◌, arith}
 use Rattle.record_model.specs.Records.{entry_of}
-use Rattle.record_recovery.specs.Listed.{first_records}
+use Rattle.record_slots.specs.Listed.{first_records}
 use Rattle.image_survey.proofs.SlotLemmas.{taken_none, taken_more, taken_here, first_holds, later_holds}
 use Rattle.image_survey.proofs.further.is_taken.Goals as goal
 use Rattle.image_survey.proofs.further.is_taken.Goals.{else-firsts-first-via-then-firsts-first+else-has_slot, else-firsts-first-via-else-firsts-first}

@@ -1,7 +1,7 @@
 use Rattle.std.proofs.Common.{◌≡◌, ℕ, ◌-◌, false}
 use Rattle.record_model.specs.Records.{Slot, entry_of, is_first, is_taken}
-use Rattle.record_recovery.specs.Listed.{first_records}
-use Rattle.record_recovery.specs.Looks.{AreSeen, AreMarked}
+use Rattle.record_slots.specs.Listed.{first_records}
+use Rattle.record_slots.specs.Looks.{AreSeen, AreMarked}
 use Rattle.image_survey.proofs.further.is_taken.Given as goal
 
 abbrev pub invariant-loop-first : goal.invariant-loop-first

@@ -1,6 +1,6 @@
 use Rattle.std.proofs.Common.{◌≡◌, ℕ, ◌-◌, length}
 use Rattle.record_model.specs.Records.{Slot, is_live}
-use Rattle.record_recovery.specs.Looks.{AreSeen, AreMarked}
+use Rattle.record_slots.specs.Looks.{AreSeen, AreMarked}
 use Rattle.image_survey.proofs.lives.live_slots.Given as goal
 
 abbrev pub invariant-loop-slot : goal.invariant-loop-slot

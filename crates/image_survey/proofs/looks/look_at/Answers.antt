@@ -3,7 +3,7 @@ use Rattle.base_model.specs.Bytes.{part}
 use Rattle.flash_model.proofs.Telling.{part-range}
 use Rattle.record_model.specs.Records.{head_at, tail_at}
 use Rattle.record_slots.proofs.Heads.{head_at-part}
-use Rattle.record_recovery.proofs.LookLemmas.{seen_here}
+use Rattle.record_slots.proofs.LookLemmas.{seen_here}
 use Rattle.image_survey.proofs.LookLemmas.{tail_at-byte}
 use Rattle.image_survey.proofs.looks.look_at.Goals as goal
 

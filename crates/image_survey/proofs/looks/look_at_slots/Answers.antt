@@ -1,7 +1,7 @@
 use Rattle.std.proofs.Common.{ℕ}
 use Rattle.record_model.specs.Records.{slot_at}
-use Rattle.record_recovery.specs.declared.found.Look.{Look}
-use Rattle.record_recovery.specs.Looks.{IsSeen}
+use Rattle.record_slots.specs.declared.found.Look.{Look}
+use Rattle.record_slots.specs.Looks.{IsSeen}
 use Rattle.image_survey.proofs.LookLemmas.{pushed}
 use Rattle.image_survey.proofs.looks.look_at_slots.Goals as goal
 

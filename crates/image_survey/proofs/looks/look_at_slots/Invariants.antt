@@ -1,6 +1,6 @@
 use Rattle.std.proofs.Common.{◌≡◌, length}
 use Rattle.record_model.specs.Records.{slot_at}
-use Rattle.record_recovery.specs.Looks.{AreSeen}
+use Rattle.record_slots.specs.Looks.{AreSeen}
 use Rattle.image_survey.proofs.looks.look_at_slots.Given as goal
 
 abbrev pub invariant-loop-slot : goal.invariant-loop-slot

@@ -5,7 +5,7 @@ use Rattle.record_model.specs.Records.{part_len, slot_at}
 use Rattle.record_model.proofs.PartsLemmas.{seen_part}
 use Rattle.record_slots.specs.Slots.{numbers_of}
 use Rattle.image_survey.specs.Reading.{slot_of_part}
-use Rattle.record_recovery.proofs.LookLemmas.{names_parts}
+use Rattle.record_slots.proofs.LookLemmas.{names_parts}
 use Rattle.image_survey.proofs.ReadLemmas.{part_short}
 use Rattle.image_survey.proofs.reading.add_part.Goals as goal
 

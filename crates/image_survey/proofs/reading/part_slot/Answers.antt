@@ -1,6 +1,6 @@
 use Rattle.std.proofs.Common.{◌≡◌, ◌-◌, ◌<◌, length, get_or, arith}
 use Rattle.record_slots.specs.Slots.{numbers_of}
-use Rattle.record_recovery.proofs.LookLemmas.{names_parts}
+use Rattle.record_slots.proofs.LookLemmas.{names_parts}
 use Rattle.image_survey.proofs.reading.part_slot.Goals as goal
 
 pub bounds-head-number : goal.bounds-head-number

@@ -1,7 +1,7 @@
 use Rattle.std.proofs.Common.{◌≡◌, ℕ, ◌+◌, ◌*◌, ◌≤◌, List, length, take, ◌∙◌, ap, subst, arith, refl}
 use Rattle.std.proofs.lemmas.Result.{on_ok_weaker}
 use Rattle.base_model.specs.Bytes.{put_at, spelled}
-use Rattle.flash_words.specs.Flash.{AsksChange}
+use Rattle.base_model.specs.Flash.{AsksChange}
 use Rattle.record_model.specs.Records.{head_bytes, head_fields}
 use Rattle.record_slots.specs.Parts.{part_numbers}
 use Rattle.record_slots.specs.declared.head.PartHead.{PartHead}

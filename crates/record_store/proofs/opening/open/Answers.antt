@@ -1,6 +1,6 @@
 use Rattle.flash_model.specs.Layouts.{layout_of}
-use Rattle.record_recovery.specs.Recovered.{NoKill}
-use Rattle.record_recovery.proofs.SettledLemmas.{KeepsRecords-none}
+use Rattle.record_slots.specs.Recovered.{NoKill}
+use Rattle.record_slots.proofs.SettledLemmas.{KeepsRecords-none}
 use Rattle.record_store.proofs.ScanLemmas.{KnowsSlots-recovered}
 use Rattle.record_store.proofs.opening.open.Goals as goal
 

@@ -1,5 +1,5 @@
 use Rattle.std.proofs.Common.{◌≡◌, ◌-◌, ◌*◌, ◌<◌, ℕ, List, ◌++◌, length, take, ap, sym, ◌∙◌, arith}
-use Rattle.flash_words.specs.Flash.{Told}
+use Rattle.base_model.specs.Flash.{Told}
 use Rattle.record_model.specs.Records.{slot_at, part_len, parts_of}
 use Rattle.record_store.specs.Index.{slots_at}
 use Rattle.record_store.specs.Reading.{slot_of_part}

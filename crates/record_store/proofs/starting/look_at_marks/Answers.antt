@@ -1,7 +1,7 @@
 use Rattle.std.proofs.Common.{◌≡◌, ◌+◌, ◌*◌, ◌<◌, ℕ, length, refl, ap, subst, ◌∙◌, arith}
 use Rattle.std.specs.Prelude.{◌==◌}
 use Rattle.std.proofs.Math.ListN.{length-set}
-use Rattle.flash_words.specs.Flash.{Told}
+use Rattle.base_model.specs.Flash.{Told}
 use Rattle.record_model.specs.Records.{tail_at, tail_mark}
 use Rattle.record_store.proofs.StartLemmas.{marks_more}
 use Rattle.record_store.proofs.ReadLemmas.{HasRead, reads_none, reads_more, reads_ok}

@@ -1,6 +1,6 @@
 use Rattle.std.proofs.Common.{rules}
 use Rattle.flash_model.specs.Layouts.{layout_of}
-use Rattle.record_draft.specs.declared.draft.Stage.TheVariants.{Fill}
+use Rattle.record_store.specs.declared.draft.Stage.TheVariants.{Fill}
 use Rattle.record_model.specs.Records.{NearlyOnlyFirstUp}
 use Rattle.record_store.specs.Kept.{MayMake, pending_of}
 use Rattle.record_store.specs.declared.work.Work.TheVariants.{Write}

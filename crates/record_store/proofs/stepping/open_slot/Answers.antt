@@ -1,14 +1,14 @@
 use Rattle.std.proofs.Common.{◌*◌, ◌∙◌, ◌∷◌, take, get_or, ap, sym, subst, rules}
 use Rattle.record_model.specs.Records.{entry_at}
 use Rattle.record_model.proofs.PlanLemmas.{record_for}
-use Rattle.record_draft.specs.Drafts.{plan_of}
-use Rattle.record_recovery.specs.declared.found.SlotOf.{SlotOf}
-use Rattle.record_recovery.specs.Listed.{IsWithin}
+use Rattle.record_store.specs.Drafts.{plan_of}
+use Rattle.record_slots.specs.declared.found.SlotOf.{SlotOf}
+use Rattle.record_slots.specs.Listed.{IsWithin}
 use Rattle.record_store.specs.Index.{HasOpened, IsEntryOf}
 use Rattle.record_store.specs.Kept.{HasMade, further_in}
 use Rattle.record_store.specs.declared.work.Work.{Work}
 use Rattle.record_store.specs.declared.work.Work.TheVariants.{Write}
-use Rattle.record_draft.specs.declared.draft.Stage.TheVariants.{Gate}
+use Rattle.record_store.specs.declared.draft.Stage.TheVariants.{Gate}
 use Rattle.record_store.proofs.FaultLemmas.{asks_lit, one_change}
 use Rattle.record_store.proofs.WorkLemmas.{gate_may, gate_made, gate_nearly_only, has_opened, opened_entry_of, opened_within, MayChange-same}
 use Rattle.record_store.proofs.stepping.open_slot.Goals as goal

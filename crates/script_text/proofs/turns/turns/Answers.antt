@@ -4,7 +4,7 @@ use Rattle.std.proofs.lemmas.Bool.{eqb-true, eqb-false}
 use Rattle.std.proofs.lemmas.List.{take_all}
 use Rattle.std.proofs.lemmas.List.Elements.{All-more}
 use Rattle.script_text.specs.Turns.{IsTurns}
-use Rattle.line_grammar.specs.Columns.{Breaks}
+use Rattle.script_lines.specs.Columns.{Breaks}
 use Rattle.script_text.proofs.TurnLemmas.{turns_at, turns_full, turns_none}
 use Rattle.script_text.proofs.turns.turns.Goals.{then-i-eq-MAX_TURNS-via-then-i-eq-MAX_TURNS, then-i-eq-MAX_TURNS-via-else-i-eq-MAX_TURNS+then-not-is_turn}
 use Rattle.script_text.proofs.turns.turns.Goals as goal

@@ -1,5 +1,5 @@
 use Rattle.std.proofs.Common.{arith}
-use Rattle.apei_fields.proofs.Puts.{◌▸◌, no_field}
+use Rattle.apei_bytes.proofs.Puts.{◌▸◌, no_field}
 use Rattle.apei_tables.specs.Layout.{spelling}
 use Rattle.apei_tables.proofs.headers.Header.put.Goals as goal
 

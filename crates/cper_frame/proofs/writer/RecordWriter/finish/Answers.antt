@@ -1,6 +1,6 @@
 use Rattle.std.proofs.Common.{◌≡◌, ℕ, ◌<◌, ◌^◌, length, sym, subst, ◌∙◌, arith}
 use Rattle.base_model.specs.Bytes.{spelled}
-use Rattle.apei_fields.specs.Writing.{Wrote}
+use Rattle.apei_bytes.specs.Writing.{Wrote}
 use Rattle.cper_frame.specs.Writer.{Writing}
 use Rattle.cper_frame.proofs.Writes.{ends}
 use Rattle.cper_frame.proofs.writer.RecordWriter.finish.Goals as goal

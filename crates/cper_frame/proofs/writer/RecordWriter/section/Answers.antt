@@ -1,6 +1,6 @@
 use Rattle.std.proofs.Common.{◌≡◌, ℕ, ◌+◌, ◌*◌, [], ◌∷◌, length, subst, arith, length-append}
 use Rattle.base_model.specs.Bytes.{joined}
-use Rattle.apei_fields.specs.Writing.{Wrote}
+use Rattle.apei_bytes.specs.Writing.{Wrote}
 use Rattle.cper_frame.specs.Grammar.{descriptor_fields}
 use Rattle.cper_frame.specs.Writer.{Given}
 use Rattle.cper_frame.proofs.Writes.{goes_on, PutSection}

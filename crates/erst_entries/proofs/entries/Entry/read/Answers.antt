@@ -1,6 +1,6 @@
 use Rattle.std.proofs.Common.{◌∙◌, ◌≡◌, sym, arith}
 use Rattle.base_model.proofs.BytesLemmas.{AreBytes-each}
-use Rattle.apei_gas.specs.Layout.{spelling}
+use Rattle.apei_tables.specs.GasLayout.{spelling}
 use Rattle.base_model.specs.Bytes.{part}
 use Rattle.erst_entries.proofs.EntryBytes.{read-spelling}
 use Rattle.erst_entries.proofs.entries.Entry.read.Goals as goal

@@ -1,5 +1,5 @@
 use Rattle.std.proofs.Common.{◌+◌, length, ap, ◌∙◌}
-use Rattle.apei_gas.specs.declared.registers.Place.TheVariants.{Memory}
+use Rattle.apei_tables.specs.declared.registers.Place.TheVariants.{Memory}
 use Rattle.apei_space.specs.RamState.{located, filled}
 use Rattle.erst_machine.proofs.AreaLemmas.{shared_filled}
 use Rattle.erst_machine.proofs.contents.Contents.shared_part.Goals as goal

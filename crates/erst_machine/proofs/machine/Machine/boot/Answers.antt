@@ -1,5 +1,5 @@
 use Rattle.std.proofs.Common.{◌≤◌, ℕ, subst, sym, refl}
-use Rattle.flash_words.proofs.CrashLemmas.{Leaves-none}
+use Rattle.base_model.proofs.CrashLemmas.{Leaves-none}
 use Rattle.erst_machine.proofs.BootLemmas.{is_booted}
 use Rattle.erst_machine.proofs.KeptLemmas.{reach_small}
 use Rattle.erst_machine.proofs.machine.Machine.boot.Goals as goal

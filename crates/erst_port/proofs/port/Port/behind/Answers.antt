@@ -1,6 +1,6 @@
 use Rattle.std.proofs.Common.{◌∙◌, ap, refl, arith}
 use Rattle.base_model.specs.Bytes.{zeros}
-use Rattle.flash_words.specs.Layout.{reach_of}
+use Rattle.base_model.specs.Layout.{reach_of}
 use Rattle.erst_port.proofs.OpenLemmas.{is_port}
 use Rattle.erst_port.proofs.port.Port.behind.Goals as goal
 

@@ -1,7 +1,7 @@
 use Rattle.std.proofs.Common.{◌∙◌, ◌+◌, ℕ, ap, subst, arith}
-use Rattle.flash_words.specs.Flash.{FlashState}
+use Rattle.base_model.specs.Flash.{FlashState}
 use Rattle.record_store.specs.Store.{StoreView}
-use Rattle.flash_mirror.specs.Dues.{IsDue}
+use Rattle.erst_port.specs.Dues.{IsDue}
 use Rattle.erst_port.specs.PortState.{PortState, flash_of}
 use Rattle.erst_port.proofs.port.Port.next_due.Goals as goal
 

@@ -1,5 +1,5 @@
 use Rattle.std.proofs.Common.{◌∙◌, Ok, sym, ap, subst, refl}
-use Rattle.apei_fields.specs.Writing.{Wrote}
+use Rattle.apei_bytes.specs.Writing.{Wrote}
 use Rattle.flash_model.specs.Layouts.{layout_of}
 use Rattle.erst_device.specs.DeviceState.{IsRunning}
 use Rattle.erst_port.specs.PortState.{PortState, state_of, IsMade}

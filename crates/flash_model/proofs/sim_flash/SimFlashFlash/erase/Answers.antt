@@ -1,6 +1,6 @@
 use Rattle.std.proofs.Common.{ℕ, ◌+◌, ◌*◌, ◌≤◌, length, replicate, ap, subst}
 use Rattle.std.proofs.lemmas.List.{length-replicate}
-use Rattle.flash_words.specs.Flash.{AsksChange}
+use Rattle.base_model.specs.Flash.{AsksChange}
 use Rattle.flash_model.specs.Simulation.{Simulation, state_of}
 use Rattle.flash_model.proofs.Changes.{AsksChange-follows, image-follows}
 use Rattle.flash_model.proofs.sim_flash.SimFlashFlash.erase.Goals as goal

@@ -1,6 +1,6 @@
 use Rattle.std.proofs.Common.{◌*◌, refl}
 use Rattle.ghes_ack.specs.Maps.{window}
-use Rattle.ghes_window.proofs.WriteLemmas.{piece_is}
+use Rattle.ghes_ack.proofs.WriteLemmas.{piece_is}
 use Rattle.ghes_ack.proofs.blocks.reader.copy_pieces.Goals as goal
 
 pub returns : goal.returns

@@ -1,6 +1,6 @@
 use Rattle.std.proofs.Common.{◌*◌, refl}
-use Rattle.ghes_window.specs.Windows.{block_bytes}
-use Rattle.ghes_window.proofs.WriteLemmas.{piece_is}
+use Rattle.ghes_ack.specs.Windows.{block_bytes}
+use Rattle.ghes_ack.proofs.WriteLemmas.{piece_is}
 use Rattle.ghes_ack.proofs.ends.MayRead.copy_piece.Goals as goal
 
 pub returns : goal.returns

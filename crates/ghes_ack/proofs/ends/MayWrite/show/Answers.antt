@@ -1,8 +1,8 @@
 use Rattle.std.proofs.Common.{◌≡◌, ◌∙◌, ℕ, List, take, ap, arith}
 use Rattle.base_model.specs.Bytes.{spelled}
 use Rattle.base_model.proofs.BytesLemmas.{spelled-number_at, AreBytes-each}
-use Rattle.ghes_window.specs.Windows.{block_bytes, with_block}
-use Rattle.ghes_window.proofs.PieceLemmas.{part-front}
+use Rattle.ghes_ack.specs.Windows.{block_bytes, with_block}
+use Rattle.ghes_ack.proofs.PieceLemmas.{part-front}
 use Rattle.ghes_ack.specs.Machine.{with_status}
 use Rattle.ghes_ack.proofs.ends.MayWrite.show.Goals as goal
 

@@ -1,6 +1,6 @@
 use Rattle.std.proofs.Common.{◌∙◌, ℕ, ◌<◌, ◌^◌, Result, IfOk, subst}
 use Rattle.apei_space.specs.declared.faults.SpaceFault.{SpaceFault}
-use Rattle.apei_gas.specs.Access.{bits}
+use Rattle.apei_tables.specs.Access.{bits}
 use Rattle.apei_space.specs.RamState.{located}
 use Rattle.ghes_ack.specs.Maps.{ack_bytes}
 use Rattle.ghes_ack.proofs.MemoryLemmas.{change_stored, number_small}

@@ -1,7 +1,7 @@
 use Rattle.std.proofs.Common.{◌≡◌, ◌∙◌, ℕ, ◌-◌, ◌^◌, bit_and, refl, ap, subst}
 use Rattle.std.specs.Result.{result_unwrap_or}
-use Rattle.apei_gas.specs.declared.registers.Place.TheVariants.{Memory}
-use Rattle.apei_gas.specs.declared.widths.Width.TheVariants.{B32}
+use Rattle.apei_tables.specs.declared.registers.Place.TheVariants.{Memory}
+use Rattle.apei_tables.specs.declared.widths.Width.TheVariants.{B32}
 use Rattle.apei_space.specs.Calls.{Write}
 use Rattle.ghes_ack.specs.Maps.{with_clear}
 use Rattle.ghes_ack.proofs.maps.HandoverMap.publish.Goals as goal

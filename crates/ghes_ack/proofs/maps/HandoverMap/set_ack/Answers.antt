@@ -1,5 +1,5 @@
 use Rattle.std.proofs.Common.{◌≡◌, ℕ, ◌<◌, ◌^◌, sym, subst, rules}
-use Rattle.apei_gas.specs.Access.{bits}
+use Rattle.apei_tables.specs.Access.{bits}
 use Rattle.ghes_ack.specs.Maps.{IsSet, ack_read, with_ack, with_set}
 use Rattle.ghes_ack.proofs.MemoryLemmas.{set_bits}
 use Rattle.ghes_ack.proofs.maps.HandoverMap.set_ack.Goals as goal

@@ -1,5 +1,5 @@
 use Rattle.std.proofs.Common.{◌≡◌, ℕ, ◌+◌, length, sym, subst, ap, ◌∙◌}
-use Rattle.apei_fields.specs.Writing.{Wrote}
+use Rattle.apei_bytes.specs.Writing.{Wrote}
 use Rattle.ghes_block.specs.Grammar.{EntryValue, entry_bytes}
 use Rattle.ghes_block.proofs.Writes.{goes_on, short_body}
 use Rattle.ghes_block.proofs.writer.BlockWriter.entry.Goals as goal

@@ -1,7 +1,7 @@
 use Rattle.std.proofs.Common.{ℕ, subst, arith}
 use Rattle.base_model.specs.Bytes.{joined}
-use Rattle.apei_fields.specs.Writing.{Wrote}
-use Rattle.apei_fields.proofs.Puts.{◌▸◌, no_field}
+use Rattle.apei_bytes.specs.Writing.{Wrote}
+use Rattle.apei_bytes.proofs.Puts.{◌▸◌, no_field}
 use Rattle.hest_sources.specs.Layout.{ack_fields}
 use Rattle.hest_sources.proofs.sources.Ack.put.Goals as goal
 

@@ -3,7 +3,7 @@ use Rattle.std.proofs.lemmas.Slice.{between_to_end}
 use Rattle.hub_script.specs.HubGrammar.{IsLine}
 use Rattle.hub_script.specs.HubWords.{codes_of, all_words, Follows}
 use Rattle.hub_script.proofs.LineLemmas.{hubs}
-use Rattle.line_grammar.proofs.KeywordLemmas.{behind_breaks, passed_all}
+use Rattle.script_lines.proofs.KeywordLemmas.{behind_breaks, passed_all}
 use Rattle.hub_script.proofs.hub_line.HubLine.from_text.Goals as goal
 
 pub returns-in-Err-from_parts : goal.returns-in-Err-from_parts

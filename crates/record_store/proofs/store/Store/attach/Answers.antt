@@ -1,5 +1,5 @@
 use Rattle.std.proofs.Common.{rules}
-use Rattle.record_recovery.proofs.SettledLemmas.{KeepsRecords-none}
+use Rattle.record_slots.proofs.SettledLemmas.{KeepsRecords-none}
 use Rattle.record_store.proofs.WorkLemmas.{nearly_of_only}
 use Rattle.record_store.proofs.store.Store.attach.Goals as goal
 

@@ -1,12 +1,12 @@
 use Rattle.std.proofs.Common.{◌≡◌, ◌≤◌, ◌-◌, ◌*◌, ℕ, List, Option, length, drop, refl, sym, ap, subst, ◌∙◌, Ok, arith}
 use Rattle.std.specs.Prelude.{is_some}
 use Rattle.flash_model.specs.Layouts.{layout_of}
-use Rattle.flash_words.specs.Layout.{room_of, reach_of}
+use Rattle.base_model.specs.Layout.{room_of, reach_of}
 use Rattle.record_model.specs.Records.{parts_of}
 use Rattle.record_store.specs.Store.{StoreView, Idle, free_in}
 use Rattle.record_store.specs.Kept.{IsStore, pending_of, view_of, slots_in}
-use Rattle.record_draft.specs.declared.draft.Draft.{Draft}
-use Rattle.record_recovery.specs.declared.found.SlotOf.{SlotOf}
+use Rattle.record_store.specs.declared.draft.Draft.{Draft}
+use Rattle.record_slots.specs.declared.found.SlotOf.{SlotOf}
 use Rattle.record_store.specs.declared.work.Work.TheVariants.{Write}
 use Rattle.record_store.specs.Answers.{StartsWrite}
 use Rattle.record_store.proofs.BeginLemmas.{Begins, RefusedStart, written_back, new_length, front_is, begun_store, begun_pending, begun_answer, begun_starts, refused_start, refused_store}

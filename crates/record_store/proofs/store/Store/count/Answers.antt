@@ -1,5 +1,5 @@
 use Rattle.std.proofs.Common.{◌≡◌, ◌≤◌, length, sym, subst, ◌∙◌, arith}
-use Rattle.flash_words.specs.Layout.{Layout}
+use Rattle.base_model.specs.Layout.{Layout}
 use Rattle.record_store.proofs.AnswerLemmas.{count_before}
 use Rattle.record_store.proofs.StoreLemmas.{looked}
 use Rattle.record_store.proofs.store.Store.count.Goals as goal

@@ -1,4 +1,4 @@
-use Rattle.flash_words.specs.Layout.{Layout}
+use Rattle.base_model.specs.Layout.{Layout}
 use Rattle.record_model.specs.Records.{Stored, entry_at}
 use Rattle.record_model.specs.RecordMap.{IsNextAbove}
 use Rattle.record_store.proofs.StoreLemmas.{looked, of_old}

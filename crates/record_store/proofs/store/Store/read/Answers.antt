@@ -2,7 +2,7 @@ use Rattle.std.proofs.Common.{◌≡◌, ℕ, ◌-◌, ◌<◌, ◌≤◌, true,
 use Rattle.std.specs.Prelude.{vec_len}
 use Rattle.std.specs.FinMap.{get, len}
 use Rattle.std.proofs.lemmas.Bool.{eqb-true, eqb-false}
-use Rattle.flash_words.specs.Layout.{Layout, reach_of}
+use Rattle.base_model.specs.Layout.{Layout, reach_of}
 use Rattle.record_model.specs.Records.{Stored, entry_at}
 use Rattle.record_model.proofs.RefusalLemmas.{read_empty, read_missing}
 use Rattle.record_store.specs.Index.{IsStoredAt}

@@ -1,7 +1,7 @@
 use Rattle.std.proofs.Common.{◌*◌, length, subst, ◌∙◌}
 use Rattle.std.proofs.lemmas.Result.{on_ok_weaker}
-use Rattle.flash_words.specs.Flash.{raised}
-use Rattle.flash_words.specs.Layout.{Layout, room_of}
+use Rattle.base_model.specs.Flash.{raised}
+use Rattle.base_model.specs.Layout.{Layout, room_of}
 use Rattle.record_model.specs.Records.{parts_of}
 use Rattle.record_store.specs.Answers.{TakesReads}
 use Rattle.record_store.proofs.StoreLemmas.{kept_map, starts_then, start_from, same_slots_for, start_reads}

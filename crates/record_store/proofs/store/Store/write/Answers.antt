@@ -1,6 +1,6 @@
 use Rattle.std.proofs.Common.{◌*◌, length}
-use Rattle.flash_words.specs.Flash.{raised}
-use Rattle.flash_words.specs.Layout.{room_of}
+use Rattle.base_model.specs.Flash.{raised}
+use Rattle.base_model.specs.Layout.{room_of}
 use Rattle.record_model.specs.Records.{parts_of}
 use Rattle.record_store.proofs.FinishLemmas.{write_made, write_refused, finish_reads}
 use Rattle.record_store.proofs.store.Store.write.Goals as goal

@@ -3,7 +3,7 @@ use Rattle.std.proofs.lemmas.Slice.{between_to_end}
 use Rattle.script_text.specs.CheckGrammar.{IsCheckLine}
 use Rattle.script_text.specs.CheckWords.{check_codes_of, all_check_words, CheckFollows}
 use Rattle.script_text.proofs.CheckLemmas.{checks}
-use Rattle.line_grammar.proofs.KeywordLemmas.{behind_breaks, passed_all}
+use Rattle.script_lines.proofs.KeywordLemmas.{behind_breaks, passed_all}
 use Rattle.script_text.proofs.check_line.CheckLine.from_text.Goals as goal
 
 pub returns-in-Err-from_parts : goal.returns-in-Err-from_parts

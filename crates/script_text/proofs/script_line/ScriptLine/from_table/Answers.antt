@@ -2,11 +2,11 @@ use Rattle.std.proofs.Common.{ℕ, subst, sym, ap, ◌∙◌, ◌≡◌, ◌⊎�
 use Rattle.std.specs.Prelude.{max, codes}
 use Rattle.std.proofs.lemmas.Bool.Decides.{Decides-eqb}
 use Rattle.std.proofs.lemmas.Slice.Eq.{slice_eq-Decides}
-use Rattle.line_grammar.specs.Parts.{IsPairs}
-use Rattle.line_grammar.specs.Columns.{Breaks}
+use Rattle.script_lines.specs.Parts.{IsPairs}
+use Rattle.script_lines.specs.Columns.{Breaks}
 use Rattle.script_text.specs.ScriptText.{IsTable}
-use Rattle.line_grammar.specs.Keywords.{common_length}
-use Rattle.line_grammar.proofs.CommonLemmas.{word_breaks, either_breaks}
+use Rattle.script_lines.specs.Keywords.{common_length}
+use Rattle.script_lines.proofs.CommonLemmas.{word_breaks, either_breaks}
 use Rattle.script_text.proofs.script_line.ScriptLine.from_table.Goals as goal
 
 pub returns : goal.returns

@@ -3,7 +3,7 @@ use Rattle.std.proofs.lemmas.Slice.{between_to_end}
 use Rattle.script_text.specs.ScriptGrammar.{IsLine}
 use Rattle.script_text.specs.ScriptText.{codes_of, all_words, Follows}
 use Rattle.script_text.proofs.ScriptLemmas.{script}
-use Rattle.line_grammar.proofs.KeywordLemmas.{behind_breaks, passed_all}
+use Rattle.script_lines.proofs.KeywordLemmas.{behind_breaks, passed_all}
 use Rattle.script_text.proofs.script_line.ScriptLine.from_text.Goals as goal
 
 pub returns-in-Err-from_parts : goal.returns-in-Err-from_parts

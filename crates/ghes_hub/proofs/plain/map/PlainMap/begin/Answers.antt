@@ -1,7 +1,7 @@
 use Rattle.std.proofs.Common.{subst, sym}
 use Rattle.ghes_hub.specs.Plain.{HasPlainWindows}
 use Rattle.ghes_hub.proofs.PlainMemory.{HasPlain-with_address}
-use Rattle.ghes_window.proofs.AddressLemmas.{has_block}
+use Rattle.ghes_ack.proofs.AddressLemmas.{has_block}
 use Rattle.ghes_hub.proofs.PlainStart.{started_is}
 use Rattle.ghes_hub.proofs.plain.map.PlainMap.begin.Goals as goal
 

@@ -1,0 +1,5 @@
+use Rattle.apei_bytes.proofs.Puts.{wrote_number}
+use Rattle.apei_bytes.proofs.write.write_u32.Goals as goal
+
+pub returns-clause-wrote : goal.returns-clause-wrote
+returns-clause-wrote c = wrote_number c.args.out.now _ c.args.at 4 c.args.value c.requires c.put_u32.ensures.written

@@ -1,0 +1,91 @@
+-- The plan that a command line makes.
+use Rattle.std.specs.Prelude.{◌≡◌, ◌||◌, ℕ, ⊤, ◌^◌, ◌-◌, ◌<◌, ◌≤◌, Bool, true, false, not, List, length, Option, Some, None, is_some, option_and_then, String, string_bytes, Ok, codes}
+use Rattle.std.specs.List.{AllPass}
+use Rattle.std.specs.declared.alloc.Global.{Global}
+use Rattle.bitflags.specs.Text.{name_piece, read_text}
+use Rattle.apei_check.specs.Shown.{shown_flags}
+use Rattle.apei_check.specs.declared.text.show.Show.{Show}
+use Rattle.clap.specs.Words.{Row, Text, first_of, matches_of, takes}
+use Rattle.clap_words.specs.Commands.{texts_of}
+use Rattle.apei_cli.specs.CommandWords.{belongs, is, job_of, name_of, settings, the_command}
+use Rattle.apei_cli.specs.Decimals.{IsNumber}
+use Rattle.apei_cli.specs.declared.job.Job.{Job}
+use Rattle.apei_cli.specs.declared.job.Plan.{Plan}
+use Rattle.apei_cli.specs.declared.job.Job.TheVariants.{Play, Gen}
+use Rattle.apei_cli.specs.declared.setting.Setting.{Setting}
+use Rattle.apei_cli.specs.declared.setting.Setting.TheVariants.{Image, Sector, PerSlot, Slots, Steps, Cut, Fail, FailRead, Torn, Count, Seed, Show as TheShow}
+
+-- the text that an option was given
+abbrev pub given : Setting → List Row → Option Text
+given setting rows = first_of (name_of setting) rows
+
+-- the job that the positional names
+abbrev pub job_in : List Row → Option Job
+job_in rows = option_and_then job_of (first_of (codes "job") rows)
+
+-- an option that was given belongs to the job
+abbrev pub is_own : List Row → Job → Setting → Bool
+is_own rows job setting = not (is_some (given setting rows)) || belongs setting job
+
+-- a text is a number of at most `most`
+abbrev pub IsNumberUpTo : ℕ → Text → ℕ → Type 0
+IsNumberUpTo most text n = IsNumber text n × (n ≤ most)
+
+-- the number that an option was given, or none where it was not given
+abbrev pub IsGiven : ℕ → Option Text → Option ℕ → Type 0
+IsGiven most None None = ⊤
+IsGiven most None (Some n) = ⊥
+IsGiven most (Some text) None = ⊥
+IsGiven most (Some text) (Some n) = IsNumberUpTo most text n
+
+-- the number that an option was given, or its default
+abbrev pub IsGivenOr : ℕ → ℕ → Option Text → ℕ → Type 0
+IsGivenOr default most None n = n ≡ default
+IsGivenOr default most (Some text) n = IsNumberUpTo most text n
+
+-- the greatest number
+abbrev pub greatest : ℕ
+greatest = 2 ^ 64 - 1
+
+-- the path of the image, which is not empty, and which the job `play` has to be given
+abbrev pub IsImage : Job → Option Text → Option (String Global) → Type 0
+IsImage job None None = is Play job ≡ false
+IsImage job None (Some image) = ⊥
+IsImage job (Some path) None = ⊥
+IsImage job (Some path) (Some image) = (string_bytes image ≡ path) × (0 < length path)
+
+-- the count, which the job `gen` has to be given
+abbrev pub IsCount : Job → Option Text → ℕ → Type 0
+IsCount job None n = (is Gen job ≡ false) × (n ≡ 0)
+IsCount job (Some text) n = IsNumberUpTo 100000 text n
+
+-- the flags of which the text has the names, as `bitflags` reads them strictly; the heads alone where none was given
+abbrev pub IsShow : Option Text → Show → Type 0
+IsShow None show = show.0 ≡ 1
+IsShow (Some text) show = read_text (name_piece shown_flags) text ≡ Ok show.0
+
+-- the plan has the job, and the value of each option or its default
+pub record IsPlanIn (rows : List Row) (plan : Plan) : Type 0 where
+  pub job : job_in rows ≡ Some plan.job
+  pub own : AllPass (is_own rows plan.job) settings
+  pub image : IsImage plan.job (given Image rows) plan.image
+  pub sector : IsGivenOr 4096 greatest (given Sector rows) plan.sector
+  pub per_slot : IsGivenOr 2 greatest (given PerSlot rows) plan.per_slot
+  pub slots : IsGivenOr 32 greatest (given Slots rows) plan.slots
+  pub steps : IsGiven 4294967295 (given Steps rows) plan.steps
+  pub cut : IsGiven greatest (given Cut rows) plan.cut
+  pub fail : IsGiven greatest (given Fail rows) plan.fail
+  pub fail_read : IsGiven greatest (given FailRead rows) plan.fail_read
+  pub torn : IsGivenOr 0 3 (given Torn rows) plan.torn
+  pub count : IsCount plan.job (given Count rows) plan.count
+  pub seed : IsGivenOr 0 greatest (given Seed rows) plan.seed
+  pub show : IsShow (given TheShow rows) plan.show
+
+-- clap's rule takes the words for the command, and the plan is what it then reads of them
+pub record IsPlanOf (words : List (String Global)) (plan : Plan) : Type 0 where
+  pub taken : takes the_command (texts_of words) ≡ true
+  pub values : IsPlanIn (matches_of the_command (texts_of words)) plan
+
+-- the words are no command line of the program
+abbrev pub AreBad : List (String Global) → Type 0
+AreBad words = (plan : Plan) → ¬ IsPlanOf words plan

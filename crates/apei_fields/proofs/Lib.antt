@@ -1,4 +1,0 @@
-pub mod Parts
-pub mod Puts
-pub mod Walks
-pub mod Tests

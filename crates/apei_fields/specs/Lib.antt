@@ -1,3 +1,0 @@
-pub mod Writing
-pub mod Walk
-pub mod Room

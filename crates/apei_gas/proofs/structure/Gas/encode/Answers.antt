@@ -1,6 +1,0 @@
-use Rattle.std.proofs.Common.{refl, ◌∙◌}
-use Rattle.apei_gas.proofs.Spelling.{put_behind}
-use Rattle.apei_gas.proofs.structure.Gas.encode.Goals as goal
-
-pub returns : goal.returns
-returns c = c.put_u64.ensures.written ∙ put_behind _ _ _ _ _ _ refl

@@ -1,4 +1,0 @@
-pub mod Access
-pub mod Fields
-pub mod Layout
-pub mod Check

@@ -1,0 +1,62 @@
+// A medium whose slots are not shown.
+ghost use Rattle.std.specs.Prelude.{◌≡◌, ◌++◌, IfOk, OnOk, string_bytes};
+ghost use Rattle.apei_look.specs.Texts.{IsLine, unread_object, version_json};
+ghost use Rattle.apei_look.specs.Words.{unread_word_of};
+
+use std::alloc::{AllocError, Global};
+use thiserror::Error;
+
+/// Why the slots of a medium are not shown.
+#[derive(Clone, Copy, Debug, PartialEq, Eq, Error)]
+pub enum Unread {
+    /// Its first sector is of another version.
+    #[error("a medium of the library, version {0}: version 1 is the only one that is shown")]
+    Version(u32),
+    /// Its first sector has the signature, and is no header that a format made.
+    #[error("a medium of the library whose first sector is damaged: its geometry is not known")]
+    Damaged,
+}
+
+/// The text of such a medium: one line.
+pub fn unread_text(alloc: Global, unread: Unread) -> Result<String, AllocError>
+    ensures { IfOk result (λ text. IsLine (string_bytes text)) }
+{
+    let mut out = String::new(alloc);
+    write!(out, "{unread}")?;
+    out.push_str("\n")?;
+    Ok(out)
+}
+
+/// The same as one JSON object on one line, with the bytes that the file has.
+pub fn unread_json(alloc: Global, unread: Unread, held: u64) -> Result<String, AllocError>
+    ensures { IfOk result (λ text. string_bytes text ≡ unread_object unread held) }
+{
+    let mut out = String::new(alloc);
+    let word = unread_word(unread);
+    write!(
+        out,
+        "{{\"held\":{held},\"file\":\"{word}\",\"medium\":{{\"version\":"
+    )?;
+    add_version(&mut out, unread)?;
+    out.push_str("}}\n")?;
+    Ok(out)
+}
+
+fn add_version(out: &mut String, unread: Unread) -> Result<(), AllocError>
+    ensures { OnOk result (string_bytes out.new ≡ string_bytes out.old ++ version_json unread) }
+{
+    match unread {
+        Unread::Version(found) => write!(out, "{found}"),
+        Unread::Damaged => out.push_str("null"),
+    }
+}
+
+// The word of its kind of file.
+fn unread_word<'a>(unread: Unread) -> &'a str
+    ensures { result.now ≡ unread_word_of unread }
+{
+    match unread {
+        Unread::Version(_) => "other-version",
+        Unread::Damaged => "damaged-medium",
+    }
+}

@@ -1,5 +1,0 @@
-use Rattle.bert_region.proofs.RegionLemmas.{laid_is_list}
-use Rattle.bert_region.proofs.region.what_is_laid_is_the_list.Goals as goal
-
-pub returns : goal.returns
-returns c = laid_is_list

@@ -1,5 +1,0 @@
-use Rattle.bridge_durability.proofs.TrailLemmas.{turns_trail}
-use Rattle.bridge_durability.proofs.laws.bridged_turns_are_one_list.Goals as goal
-
-pub returns : goal.returns
-returns g c = λ run. turns_trail g.F.Flash.tells run.client run.budget run.bridge run.first run.steps run.next run.last

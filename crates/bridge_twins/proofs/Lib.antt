@@ -1,2 +1,0 @@
-pub mod BridgeOutlines
-pub mod StepOutlines

@@ -1,2 +1,0 @@
-pub mod AlikeSteps
-pub mod BridgedAlike

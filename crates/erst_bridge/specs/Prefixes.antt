@@ -1,0 +1,47 @@
+-- The blocks that the turns of a bridge may store, and the records with some first of them.
+use Rattle.std.specs.Prelude.{◌≡◌, ℕ, ◌+◌, ◌==◌, if◌then◌else◌, List, [], ◌∷◌, take, drop, Option, Some, None}
+use Rattle.std.specs.FinMap.{get}
+use Rattle.record_model.specs.Records.{Stored}
+use Rattle.ghes_ack.specs.Machine.{Machine}
+use Rattle.erst_bridge.specs.Bridges.{BridgeState, Off, Awaits, Holds, Releases}
+use Rattle.erst_bridge.specs.Shown.{stored_record}
+
+-- the bytes of a record without its generation: a record that is written again, since its write failed at its end, has the next one
+abbrev pub bytes_only : Option (List ℕ × ℕ) → Option (List ℕ)
+bytes_only None = None
+bytes_only (Some record_and_generation) = Some record_and_generation.0
+
+-- what each identifier has
+abbrev pub Contents : Type 0
+Contents = ℕ → Option (List ℕ)
+
+abbrev pub bytes_in : Stored → Contents
+bytes_in stored id = bytes_only (get stored id)
+
+-- with the record of one block more
+abbrev pub with_block : ℕ → List ℕ → Contents → Contents
+with_block id block contents other = if other == id then Some (stored_record block id) else contents other
+
+-- and of several, under identifiers one after another
+abbrev pub with_blocks : ℕ → List (List ℕ) → Contents → Contents
+with_blocks id [] contents = contents
+with_blocks id (block ∷ blocks) contents = with_blocks (id + 1) blocks (with_block id block contents)
+
+-- the identifier of the next block that is stored
+abbrev pub next_id : BridgeState → ℕ
+next_id Off = 0
+next_id (Awaits id) = id
+next_id (Holds id block) = id
+next_id (Releases id) = id
+
+-- the blocks that are held, or submitted and not yet taken, in order
+abbrev pub to_come : BridgeState → Machine → List (List ℕ)
+to_come Off m = drop m.taken m.blocks
+to_come (Awaits id) m = drop m.taken m.blocks
+to_come (Holds id block) m = block ∷ drop m.taken m.blocks
+to_come (Releases id) m = drop m.taken m.blocks
+
+-- the records are these contents, with those of the first so many blocks to come
+pub record HasPrefix (bridge : BridgeState) (m : Machine) (contents : Contents) (shown : Stored) : Type 0 where
+  pub count : ℕ
+  pub same : (id : ℕ) → bytes_in shown id ≡ with_blocks (next_id bridge) (take count (to_come bridge m)) contents id

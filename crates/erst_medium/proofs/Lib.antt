@@ -1,5 +1,0 @@
-pub mod SumLemmas
-pub mod HeaderLemmas
-pub mod ChangeLemmas
-pub mod ImageLemmas
-pub mod CutLemmas

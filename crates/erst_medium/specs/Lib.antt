@@ -1,3 +1,0 @@
-pub mod Checksums
-pub mod Headers
-pub mod Formats

@@ -1,4 +1,0 @@
-pub mod MoveEntries
-pub mod MoveSpaces
-pub mod MoveRuns
-pub mod PlainMoves

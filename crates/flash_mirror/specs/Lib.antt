@@ -1,5 +1,0 @@
-pub mod Pasts
-pub mod Dues
-pub mod Contents
-pub mod Logs
-pub mod States

@@ -1,2 +1,0 @@
-pub mod CrashLemmas
-pub mod PowerLemmas

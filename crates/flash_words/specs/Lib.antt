@@ -1,2 +1,0 @@
-pub mod Flash
-pub mod Layout

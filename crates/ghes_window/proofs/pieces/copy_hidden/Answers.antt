@@ -1,7 +1,0 @@
-use Rattle.std.proofs.Common.{length}
-use Rattle.ghes_window.proofs.PieceLemmas.{hidden_copy}
-use Rattle.ghes_window.proofs.pieces.copy_hidden.Goals as goal
-
-pub returns : goal.returns
-returns c =
-    hidden_copy c.args.block.now c.copy_from_slice.new.self c.fill.new.self (length c.args.out.now) c.min.result c.requires c.min.ensures c.copy_from_slice.ensures.after (c.fill.ensures.after (λ y same. same))

@@ -1,4 +1,0 @@
-pub mod Pieces
-pub mod Places
-pub mod Windows
-pub mod Queues

@@ -1,9 +1,0 @@
-pub mod BehindLemmas
-pub mod ColumnLemmas
-pub mod CommonLemmas
-pub mod KeywordLemmas
-pub mod NumberLemmas
-pub mod NumberThenLemmas
-pub mod OneKeyword
-pub mod OneLine
-pub mod PairLemmas

@@ -1,3 +1,0 @@
-pub mod Columns
-pub mod Keywords
-pub mod Parts

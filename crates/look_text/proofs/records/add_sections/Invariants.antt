@@ -1,6 +1,0 @@
-use Rattle.std.proofs.Common.{string_bytes}
-use Rattle.look_text.specs.Texts.{Grows}
-use Rattle.look_text.proofs.records.add_sections.Given as goal
-
-abbrev pub invariant-loop-index : goal.invariant-loop-index
-invariant-loop-index l = Grows (string_bytes l.initial.out) (string_bytes l.out)

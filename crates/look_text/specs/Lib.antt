@@ -1,4 +1,0 @@
-pub mod Texts
-pub mod Words
-pub mod Times
-pub mod Places

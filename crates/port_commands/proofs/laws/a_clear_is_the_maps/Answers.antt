@@ -1,8 +1,0 @@
-use Rattle.port_commands.proofs.LawLemmas.{clear_answered, clear_made}
-use Rattle.port_commands.proofs.laws.a_clear_is_the_maps.Goals as goal
-
-pub returns-clause-answered : goal.returns-clause-answered
-returns-clause-answered c = clear_answered
-
-pub returns-clause-records : goal.returns-clause-records
-returns-clause-records c = clear_made

@@ -1,8 +1,0 @@
-use Rattle.port_commands.proofs.ListingLemmas.{listed_rising}
-use Rattle.port_commands.proofs.laws.a_listing_rises.Goals as goal
-
-pub returns-clause-listed : goal.returns-clause-listed
-returns-clause-listed c = λ addresses first ids last lists rising budget result left end names not. (listed_rising addresses first ids last lists rising budget result left end names not).0
-
-pub returns-clause-anew : goal.returns-clause-anew
-returns-clause-anew c = λ addresses first ids last lists rising budget result left end names not. (listed_rising addresses first ids last lists rising budget result left end names not).1

@@ -1,0 +1,320 @@
+-- What two ports that are alike do.
+use Rattle.std.proofs.Common.{◌≡◌, ◌≢◌, ℕ, ◌+◌, ◌-◌, ◌*◌, ◌/◌, ◌%◌, ◌^◌, inl, inr, false, List, length, Option, Some, None, Result, Ok, Err, refl, sym, ap, subst, ◌∙◌, arith, ◌++◌, length-append}
+use Rattle.base_model.specs.Bytes.{spelled, part, number_at, put_at}
+use Rattle.apei_tables.specs.declared.widths.Width.{Width}
+use Rattle.apei_tables.specs.Access.{bits}
+use Rattle.base_model.specs.Layout.{Layout, room_of, reach_of}
+use Rattle.record_model.specs.Records.{Stored}
+use Rattle.record_model.specs.RecordMap.{IsNextAbove}
+use Rattle.record_store.specs.Store.{StoreView, Pending, Idle, stored, doubted}
+use Rattle.record_store.specs.declared.errors.StoreError.{StoreError}
+use Rattle.erst_entries.specs.Actions.{action_of, code_of}
+use Rattle.erst_entries.specs.declared.actions.Action.TheVariants.{GetErrorLogAddressRange, GetRecordIdentifier}
+use Rattle.erst_device.specs.declared.status.CommandStatus.TheVariants.{Success}
+use Rattle.erst_device.specs.DeviceState.{DeviceState, given_up}
+use Rattle.erst_device.specs.StoreCalls.{FoundNext}
+use Rattle.erst_device.specs.Actions.{Acts, found}
+use Rattle.erst_commands.specs.Alike.{DeviceOutline, StoreOutline, device_outline, store_outline, unplaced, FailsNothing}
+use Rattle.erst_commands.proofs.StoreOutlines.{only_looked, answers_ok}
+use Rattle.erst_commands.proofs.DeviceOutlines.{became, found_once}
+use Rattle.erst_port.specs.declared.errors.PortError.{PortError}
+use Rattle.erst_port.specs.declared.errors.PortError.TheVariants.{BadAccess}
+use Rattle.erst_port.specs.declared.windows.Addresses.{Addresses}
+use Rattle.erst_port.specs.declared.windows.Spot.{Spot}
+use Rattle.erst_port.specs.declared.windows.Spot.TheVariants.{Action, Value, LowHalf, HighHalf, Bytes, Nowhere}
+use Rattle.erst_port.specs.PortState.{PortState, IsMade}
+use Rattle.erst_port.specs.Accesses.{number_read, Tells, Address, Round, Number, Acted, ActsOn, ActionWritten, NumberWritten, with_value, with_bytes, bytes_read, bytes_stored, ResetsOn, reset_answer, Resets}
+use Rattle.erst_port.specs.Saved.{signature, head_size, saved_head, IsSaved}
+use Rattle.erst_port.specs.Loaded.{AreOfDevice, AreOfLayout, GoesOn}
+use Rattle.erst_port.proofs.SavedLemmas.{length-saved_head, HasNumbers, has_numbers}
+use Rattle.erst_port.proofs.LookLemmas.{Looked, looked as looked_by, IsBehind, behind, IsSecond, second}
+use Rattle.port_laws.specs.Alike.{bare, AlikePorts, FailedNothing}
+use Rattle.port_laws.proofs.Bare.{became_alike}
+
+-- The bytes of a saved port
+
+head_is : (layout : Layout) (addresses : Addresses) (device : DeviceState) (range : List ℕ)
+    → (number_at (saved_head layout addresses device ++ range) 0 8 ≡ signature) × (number_at (saved_head layout addresses device ++ range) 8 4 ≡ 1)
+unfolding number_at part saved_head spelled
+head_is layout addresses device range = (refl, refl)
+
+pub is_taken : (port : PortState) (saved : List ℕ) → IsSaved port saved
+    → AreOfDevice saved × AreOfLayout saved port.device.store.layout × (length saved ≡ head_size + reach_of (room_of port.device.store.layout))
+is_taken port saved is =
+    let layout = port.device.store.layout in
+    let head : List ℕ = saved_head layout port.addresses port.device in
+    let numbers : HasNumbers layout port.addresses port.device saved = subst (HasNumbers layout port.addresses port.device) (sym is.form) (has_numbers layout port.addresses port.device port.range is.small) in
+    let start = head_is layout port.addresses port.device port.range in
+    let size : length saved ≡ head_size + length port.range =
+    ap (λ (xs : List ℕ). length xs) is.form ∙ length-append head port.range ∙ ap (λ (n : ℕ). n + length port.range) (length-saved_head layout port.addresses port.device) in (
+      record {
+        signed = record { long = omega (arith, size); signed = ap (λ (xs : List ℕ). number_at xs 0 8) is.form ∙ start.0 };
+        version = ap (λ (xs : List ℕ). number_at xs 8 4) is.form ∙ start.1;
+        names = ((port.device.operation, sym numbers.operation), (port.device.status, sym numbers.status));
+      },
+      record { sector = numbers.sector; per_slot = numbers.per_slot; slots = numbers.slots },
+      size ∙ ap (λ (n : ℕ). head_size + n) is.whole.range,
+    )
+
+-- A port that goes on
+
+pub goes_on_alike : (old new : PortState) (saved : List ℕ) → IsSaved old saved → GoesOn old new → AlikePorts old new
+goes_on_alike old new saved is on =
+    let device : new.device ≡ record old.device { store = new.device.store } = ap (λ (p : PortState). p.device) on.port in
+    let pending : unplaced new.device.store.pending ≡ unplaced old.device.store.pending = ap unplaced on.ready.idle ∙ sym (ap unplaced is.still.no_change) in
+    let outlines : bare (device_outline new.device) ≡ bare (device_outline old.device) =
+    ap (λ (d : DeviceState). bare (device_outline d)) device
+    ∙ ap (λ (l : Layout). record (bare (device_outline old.device)) { store = record { layout = l; records = stored new.device.store; steps = 0; in_doubt = false; pending = unplaced new.device.store.pending; copies = 0 } }) on.layout
+    ∙ ap (λ (map : Stored). record (bare (device_outline old.device)) { store = record { layout = old.device.store.layout; records = map; steps = 0; in_doubt = false; pending = unplaced new.device.store.pending; copies = 0 } }) on.records_are
+    ∙ ap (λ (p : Pending). record (bare (device_outline old.device)) { store = record { layout = old.device.store.layout; records = stored old.device.store; steps = 0; in_doubt = false; pending = p; copies = 0 } }) pending in
+    record {
+      device = sym outlines;
+      range = sym (ap (λ (p : PortState). p.range) on.port);
+      table = sym (ap (λ (p : PortState). p.table) on.port);
+      addresses = sym (ap (λ (p : PortState). p.addresses) on.port);
+    }
+
+-- VALUE
+
+same_value : (one other : PortState) → AlikePorts one other → one.device.value ≡ other.device.value
+same_value one other alike = ap (λ (o : DeviceOutline). o.value) alike.device
+
+pub reads_alike : (one other : PortState) (spot : Spot) (width : Width) → AlikePorts one other → number_read spot one width ≡ number_read spot other width
+reads_alike one other Action width alike = refl
+reads_alike one other Value width alike = ap (λ (n : ℕ). Ok n) (same_value one other alike)
+reads_alike one other LowHalf width alike = ap (λ (n : ℕ). Ok (n % 2 ^ 32)) (same_value one other alike)
+reads_alike one other HighHalf width alike = ap (λ (n : ℕ). Ok (n / 2 ^ 32)) (same_value one other alike)
+reads_alike one other (Bytes start) width alike = ap (λ (xs : List ℕ). Ok (number_at xs start (bits width / 8))) alike.range
+reads_alike one other Nowhere width alike = refl
+
+pub gets_alike : (one other : PortState) (spot : Spot) (before : List ℕ) → AlikePorts one other → bytes_read spot one before ≡ bytes_read spot other before
+gets_alike one other (Bytes start) before alike = ap (λ (xs : List ℕ). (Ok tt, part xs start (length before))) alike.range
+gets_alike one other Action before alike = refl
+gets_alike one other Value before alike = refl
+gets_alike one other LowHalf before alike = refl
+gets_alike one other HighHalf before alike = refl
+gets_alike one other Nowhere before alike = refl
+
+with_value_alike : (one other : PortState) (number also : ℕ) → AlikePorts one other → number ≡ also → AlikePorts (with_value number one) (with_value also other)
+with_value_alike one other number also alike same = record {
+  device = ap (λ (o : DeviceOutline). record o { value = number }) alike.device ∙ ap (λ (n : ℕ). record (bare (device_outline other.device)) { value = n }) same;
+  range = alike.range;
+  table = alike.table;
+  addresses = alike.addresses;
+}
+
+with_bytes_alike : (one other : PortState) (start : ℕ) (bytes : List ℕ) → AlikePorts one other → AlikePorts (with_bytes start bytes one) (with_bytes start bytes other)
+with_bytes_alike one other start bytes alike = record {
+  device = alike.device;
+  range = ap (λ (xs : List ℕ). put_at xs start bytes) alike.range;
+  table = alike.table;
+  addresses = alike.addresses;
+}
+
+pub puts_alike : (one other : PortState) (spot : Spot) (bytes : List ℕ) → AlikePorts one other
+    → ((bytes_stored spot one bytes).0 ≡ (bytes_stored spot other bytes).0) × AlikePorts (bytes_stored spot one bytes).1 (bytes_stored spot other bytes).1
+puts_alike one other (Bytes start) bytes alike = (refl, with_bytes_alike one other start bytes alike)
+puts_alike one other Action bytes alike = (refl, alike)
+puts_alike one other Value bytes alike = (refl, alike)
+puts_alike one other LowHalf bytes alike = (refl, alike)
+puts_alike one other HighHalf bytes alike = (refl, alike)
+puts_alike one other Nowhere bytes alike = (refl, alike)
+
+-- The number that a port tells
+
+-- the outline of a device that was asked for the first identifier
+abbrev next_told : Option ℕ → DeviceOutline → DeviceOutline
+next_told (Some id) o = record o { value = id; cursor = id; reading = None }
+next_told None o = record o { value = 2 ^ 64 - 1; cursor = 0; reading = None }
+
+next_told_bare : (next : Option ℕ) (o : DeviceOutline) → bare (next_told next o) ≡ next_told next (bare o)
+next_told_bare (Some id) o = refl
+next_told_bare None o = refl
+
+data ToldBy (address code : ℕ) (left : DeviceOutline) : DeviceOutline → Type 0 where
+  ByAddress : code ≡ code_of GetErrorLogAddressRange → ToldBy address code left (record left { value = address })
+  ByRound : (next : Option ℕ) → code ≡ code_of GetRecordIdentifier → left.value ≡ 2 ^ 64 - 1 → IsNextAbove 0 left.store.records next → ToldBy address code left (next_told next left)
+  ByNumber : code ≢ code_of GetErrorLogAddressRange → (code ≡ code_of GetRecordIdentifier → left.value ≢ 2 ^ 64 - 1) → ToldBy address code left left
+
+-- an action, its outline, and what is made of its number
+record Split (old : DeviceState) (range : List ℕ) (address code : ℕ) (new : DeviceState) (after : List ℕ) : Type 0 where
+  left : DeviceState
+  acts : Acts (Unit {0}) old range (action_of code) left after
+  quiet : FailsNothing old.store left.store
+  told : ToldBy address code (device_outline left) (device_outline new)
+
+told_round : (address code : ℕ) (left new : DeviceState) (store : StoreView) (result : Result (Option ℕ) StoreError) → code ≡ code_of GetRecordIdentifier → left.value ≡ 2 ^ 64 - 1
+    → FoundNext (Unit {0}) (given_up left).store store left.cursor result → new ≡ found result store (given_up left) → left.cursor ≡ 0 → new.store ≡ left.store → new.value ≢ 0
+    → ToldBy address code (device_outline left) (device_outline new)
+told_round address code left new store (Ok (Some id)) is all look new_is first same some =
+    let store_is : store ≡ left.store = sym (ap (λ (d : DeviceState). d.store) new_is) ∙ same in
+    let outline : device_outline new ≡ next_told (Some id) (device_outline left) =
+    ap device_outline new_is ∙ ap (λ (s : StoreView). record (device_outline left) { value = id; cursor = id; reading = None; store = store_outline s }) store_is in
+    subst (ToldBy address code (device_outline left)) (sym outline) (ByRound (Some id) is all (subst (λ (n : ℕ). IsNextAbove n (stored left.store) (Some id)) first (look.answer tt)))
+told_round address code left new store (Ok None) is all look new_is first same some =
+    let store_is : store ≡ left.store = sym (ap (λ (d : DeviceState). d.store) new_is) ∙ same in
+    let outline : device_outline new ≡ next_told None (device_outline left) =
+    ap device_outline new_is ∙ ap (λ (s : StoreView). record (device_outline left) { value = 2 ^ 64 - 1; cursor = 0; reading = None; store = store_outline s }) store_is in
+    subst (ToldBy address code (device_outline left)) (sym outline) (ByRound None is all (subst (λ (n : ℕ). IsNextAbove n (stored left.store) None) first (look.answer tt)))
+told_round address code left new store (Err error) is all look new_is first same some = absurd (some (ap (λ (d : DeviceState). d.value) new_is))
+
+rounded : (old : DeviceState) (range : List ℕ) (address code : ℕ) (left : DeviceState) (after : List ℕ) (new : DeviceState) → Acts (Unit {0}) old range (action_of code) left after
+    → code ≡ code_of GetRecordIdentifier → left.value ≡ 2 ^ 64 - 1 → Acts (Unit {0}) left after (Some GetRecordIdentifier) new after → FailsNothing old.store new.store → Split old range address code new after
+rounded old range address code left after new acts is all again quiet =
+    let ends : IsBehind old left = behind old range left after (looked_by old range (action_of code) left after (ap action_of is) acts) all in
+    let repeats : Looked left after new after = looked_by left after (Some GetRecordIdentifier) new after refl again in
+    let next : IsSecond left new = second left after new after repeats ends.ready ends.cursor in
+    record {
+      left = left;
+      acts = acts;
+      quiet = subst (λ (s : StoreView). FailsNothing old.store s) next.store quiet;
+      told = told_round address code left new repeats.store repeats.result is all repeats.look repeats.new_is ends.cursor next.store next.some;
+    }
+
+split : (old : DeviceState) (range : List ℕ) (address code : ℕ) (left : DeviceState) (after : List ℕ) (new : DeviceState) → Acts (Unit {0}) old range (action_of code) left after
+    → Tells address code left after new → FailsNothing old.store new.store → Split old range address code new after
+split old range address code left after new acts told = elim told as (λ new told. FailsNothing old.store new.store → Split old range address code new after) [
+  | Address is ↦ λ quiet. record { left = left; acts = acts; quiet = quiet; told = ByAddress is }
+  | Round new is all again ↦ λ quiet. rounded old range address code left after new acts is all again quiet
+  | Number tells looks ↦ λ quiet. record { left = left; acts = acts; quiet = quiet; told = ByNumber tells looks }
+]
+
+other_code : (code : ℕ) → code ≡ code_of GetErrorLogAddressRange → code ≡ code_of GetRecordIdentifier → ⊥
+other_code code is also = omega (arith, is, also)
+
+told_alike : (address code : ℕ) (one other one_new other_new : DeviceOutline) → bare one ≡ bare other → ToldBy address code one one_new → ToldBy address code other other_new → bare one_new ≡ bare other_new
+told_alike address code one other one_new other_new alike first later =
+    let value : one.value ≡ other.value = ap (λ (o : DeviceOutline). o.value) alike in
+    elim first as (λ one_new first. bare one_new ≡ bare other_new) [
+      | ByAddress is ↦ elim later as (λ other_new later. bare (record one { value = address }) ≡ bare other_new) [
+        | ByAddress also ↦ ap (λ (o : DeviceOutline). record o { value = address }) alike
+        | ByRound next also all least ↦ absurd (other_code code is also)
+        | ByNumber tells looks ↦ absurd (tells is)
+      ]
+      | ByRound next is all least ↦ elim later as (λ other_new later. bare (next_told next one) ≡ bare other_new) [
+        | ByAddress also ↦ absurd (other_code code also is)
+        | ByRound found also all_found least_found ↦
+            let records : one.store.records ≡ other.store.records = ap (λ (o : DeviceOutline). o.store.records) alike in
+            let same : next ≡ found = found_once (Some 0) one.store.records next found least (subst (λ (map : Stored). IsNextAbove 0 map found) (sym records) least_found) in
+            next_told_bare next one ∙ ap (λ (n : Option ℕ). next_told n (bare one)) same ∙ ap (next_told found) alike ∙ sym (next_told_bare found other)
+        | ByNumber tells looks ↦ absurd (looks is (sym value ∙ all))
+      ]
+      | ByNumber tells looks ↦ elim later as (λ other_new later. bare one ≡ bare other_new) [
+        | ByAddress also ↦ absurd (tells also)
+        | ByRound found also all least ↦ absurd (looks also (value ∙ all))
+        | ByNumber none other_looks ↦ alike
+      ]
+    ]
+
+-- An action
+
+acted_alike : (one other : DeviceState) (range : List ℕ) (address code : ℕ) (one_after : DeviceState) (one_range : List ℕ) (other_after : DeviceState) (other_range : List ℕ)
+    → bare (device_outline one) ≡ bare (device_outline other)
+    → Acted one range address code one_after one_range → FailsNothing one.store one_after.store → Acted other range address code other_after other_range → FailsNothing other.store other_after.store
+    → (bare (device_outline one_after) ≡ bare (device_outline other_after)) × (one_range ≡ other_range)
+acted_alike one other range address code one_after one_range other_after other_range alike first quiet later also_quiet =
+    let a = split one range address code first.left one_range one_after first.acts first.told quiet in
+    let b = split other range address code later.left other_range other_after later.acts later.told also_quiet in
+    let both = became_alike (action_of code) (device_outline one) (device_outline other) range (device_outline a.left) one_range (device_outline b.left) other_range alike
+    (became (Unit {0}) tt one range (action_of code) a.left one_range a.acts first.copies a.quiet)
+    (became (Unit {0}) tt other range (action_of code) b.left other_range b.acts later.copies b.quiet) in
+    (told_alike address code (device_outline a.left) (device_outline b.left) (device_outline one_after) (device_outline other_after) both.0 a.told b.told, both.1)
+
+acts_on_alike : (one other : PortState) (code : ℕ) (one_after other_after : PortState) → AlikePorts one other → ActsOn one code one_after → FailedNothing one one_after
+    → ActsOn other code other_after → FailedNothing other other_after → AlikePorts one_after other_after
+acts_on_alike one other code one_after other_after alike first quiet later also_quiet =
+    let here : Acted other.device one.range one.addresses.range code other_after.device other_after.range =
+    subst (λ (range : List ℕ). Acted other.device range one.addresses.range code other_after.device other_after.range) (sym alike.range)
+    (subst (λ (places : Addresses). Acted other.device other.range places.range code other_after.device other_after.range) (sym alike.addresses) later.acted) in
+    let both = acted_alike one.device other.device one.range one.addresses.range code one_after.device one_after.range other_after.device other_after.range alike.device first.acted quiet here also_quiet in
+    record {
+      device = both.0;
+      range = both.1;
+      table = ap (λ (p : PortState). p.table) first.others ∙ alike.table ∙ sym (ap (λ (p : PortState). p.table) later.others);
+      addresses = ap (λ (p : PortState). p.addresses) first.others ∙ alike.addresses ∙ sym (ap (λ (p : PortState). p.addresses) later.others);
+    }
+
+-- A write
+
+action_alike : (one other : PortState) (code : ℕ) (answer also : Result (Unit {0}) PortError) (one_after other_after : PortState) → AlikePorts one other → IsMade one → IsMade other
+    → ActionWritten one code answer one_after → FailedNothing one one_after → ActionWritten other code also other_after → FailedNothing other other_after
+    → (answer ≡ also) × AlikePorts one_after other_after
+action_alike one other code answer also one_after other_after alike made also_made (inl due) quiet later also_quiet = absurd (due.1 made)
+action_alike one other code answer also one_after other_after alike made also_made (inr first) quiet (inl due) also_quiet = absurd (due.1 also_made)
+action_alike one other code answer also one_after other_after alike made also_made (inr first) quiet (inr later) also_quiet =
+    (first.0 ∙ sym later.0, acts_on_alike one other code one_after other_after alike first.2 quiet later.2 also_quiet)
+
+-- one that leaves a port as an equation says
+by_equations : (one other one_is other_is one_after other_after : PortState) (answer also done : Result (Unit {0}) PortError) → answer ≡ done → also ≡ done → one_after ≡ one_is → other_after ≡ other_is
+    → AlikePorts one_is other_is → (answer ≡ also) × AlikePorts one_after other_after
+by_equations one other one_is other_is one_after other_after answer also done is also_is first later alike =
+    (is ∙ sym also_is, subst (λ (p : PortState). AlikePorts p other_after) (sym first) (subst (AlikePorts one_is) (sym later) alike))
+
+pub writes_alike : (one other : PortState) (spot : Spot) (width : Width) (value : ℕ) (answer also : Result (Unit {0}) PortError) (one_after other_after : PortState) → AlikePorts one other → IsMade one → IsMade other
+    → NumberWritten spot one width value answer one_after → FailedNothing one one_after → NumberWritten spot other width value also other_after → FailedNothing other other_after
+    → (answer ≡ also) × AlikePorts one_after other_after
+writes_alike one other Action width value answer also one_after other_after alike made also_made first quiet later also_quiet =
+    action_alike one other (value % 2 ^ 32) answer also one_after other_after alike made also_made first quiet later also_quiet
+writes_alike one other Value width value answer also one_after other_after alike made also_made first quiet later also_quiet =
+    by_equations one other _ _ one_after other_after answer also (Ok tt) first.0 later.0 first.1 later.1 (with_value_alike one other value value alike refl)
+writes_alike one other LowHalf width value answer also one_after other_after alike made also_made first quiet later also_quiet =
+    by_equations one other _ _ one_after other_after answer also (Ok tt) first.0 later.0 first.1 later.1 (with_value_alike one other (value % 2 ^ 32) (value % 2 ^ 32) alike refl)
+writes_alike one other HighHalf width value answer also one_after other_after alike made also_made first quiet later also_quiet =
+    by_equations one other _ _ one_after other_after answer also (Ok tt) first.0 later.0 first.1 later.1
+    (with_value_alike one other (2 ^ 32 * (value % 2 ^ 32) + one.device.value % 2 ^ 32) (2 ^ 32 * (value % 2 ^ 32) + other.device.value % 2 ^ 32) alike
+    (ap (λ (n : ℕ). 2 ^ 32 * (value % 2 ^ 32) + n % 2 ^ 32) (same_value one other alike)))
+writes_alike one other (Bytes start) width value answer also one_after other_after alike made also_made first quiet later also_quiet =
+    by_equations one other _ _ one_after other_after answer also (Ok tt) first.0 later.0 first.1 later.1 (with_bytes_alike one other start (spelled (bits width / 8) value) alike)
+writes_alike one other Nowhere width value answer also one_after other_after alike made also_made first quiet later also_quiet =
+    by_equations one other one other one_after other_after answer also (Err BadAccess) first.0 later.0 first.1 later.1 alike
+
+-- A restart
+
+abbrev restarted : DeviceOutline → DeviceOutline
+restarted o = record o {
+  value = 0;
+  operation = None;
+  offset = 0;
+  id = 0;
+  status = Success;
+  cursor = 0;
+  reading = None;
+  store = record o.store { pending = Idle };
+}
+
+-- one that the flash fails nothing of
+record Restarted (old new : PortState) (answer : Result (Unit {0}) PortError) : Type 0 where
+  is_done : answer ≡ Ok tt
+  device : bare (device_outline new.device) ≡ restarted (bare (device_outline old.device))
+
+restarts : (old new : PortState) (answer : Result (Unit {0}) PortError) (result : Result (Unit {0}) StoreError) → answer ≡ reset_answer result → ResetsOn old result new → FailedNothing old new → Restarted old new answer
+restarts old new answer (Ok done) is on quiet = record {
+  is_done = is;
+  device =
+      ap (λ (d : DeviceState). bare (device_outline d)) on.registers
+      ∙ ap (λ (s : StoreOutline). bare (record { value = 0; operation = None; offset = 0; id = 0; status = Success; cursor = 0; reading = None; store = s }))
+      (only_looked {T = Unit {0}} (Unit {0}) tt (doubted old.device.store) new.device.store (Ok done) quiet on.leaves);
+}
+restarts old new answer (Err error) is on quiet = absurd (answers_ok (Unit {0}) (doubted old.device.store) new.device.store error on.error quiet on.leaves.cause)
+
+restarted_alike : (one other : PortState) (answer also : Result (Unit {0}) PortError) (result outcome : Result (Unit {0}) StoreError) (one_after other_after : PortState) → AlikePorts one other
+    → answer ≡ reset_answer result → ResetsOn one result one_after → FailedNothing one one_after → also ≡ reset_answer outcome → ResetsOn other outcome other_after → FailedNothing other other_after
+    → (answer ≡ also) × AlikePorts one_after other_after
+restarted_alike one other answer also result outcome one_after other_after alike is first quiet also_is later also_quiet =
+    let a = restarts one one_after answer result is first quiet in
+    let b = restarts other other_after also outcome also_is later also_quiet in (
+      a.is_done ∙ sym b.is_done,
+      record {
+        device = a.device ∙ ap restarted alike.device ∙ sym b.device;
+        range = ap (λ (p : PortState). p.range) first.others ∙ alike.range ∙ sym (ap (λ (p : PortState). p.range) later.others);
+        table = ap (λ (p : PortState). p.table) first.others ∙ alike.table ∙ sym (ap (λ (p : PortState). p.table) later.others);
+        addresses = ap (λ (p : PortState). p.addresses) first.others ∙ alike.addresses ∙ sym (ap (λ (p : PortState). p.addresses) later.others);
+      },
+    )
+
+pub resets_alike : (one other : PortState) (answer also : Result (Unit {0}) PortError) (one_after other_after : PortState) → AlikePorts one other → IsMade one → IsMade other
+    → Resets one answer one_after → FailedNothing one one_after → Resets other also other_after → FailedNothing other other_after → (answer ≡ also) × AlikePorts one_after other_after
+resets_alike one other answer also one_after other_after alike made also_made (inl due) quiet later also_quiet = absurd (due.1 made)
+resets_alike one other answer also one_after other_after alike made also_made (inr first) quiet (inl due) also_quiet = absurd (due.1 also_made)
+resets_alike one other answer also one_after other_after alike made also_made (inr first) quiet (inr later) also_quiet =
+    restarted_alike one other answer also first.1.0 later.1.0 one_after other_after alike first.1.1 first.1.2 quiet later.1.1 later.1.2 also_quiet

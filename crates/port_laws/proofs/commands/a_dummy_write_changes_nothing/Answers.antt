@@ -1,0 +1,5 @@
+use Rattle.port_laws.proofs.CommandLawLemmas.{dummy_answered}
+use Rattle.port_laws.proofs.commands.a_dummy_write_changes_nothing.Goals as goal
+
+pub returns : goal.returns
+returns c = dummy_answered

@@ -1,0 +1,12 @@
+pub mod Calls
+pub mod Beginnings
+pub mod Losses
+pub mod Commands
+pub mod Prefixes
+pub mod PortSpaces
+pub mod Machines
+pub mod PortClients
+pub mod Looks
+pub mod Listings
+pub mod Others
+pub mod Alike

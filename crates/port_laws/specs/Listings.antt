@@ -1,0 +1,42 @@
+-- A listing of the identifiers of a port.
+use Rattle.std.specs.Prelude.{ℕ, ◌<◌, ◌≤◌, List, [], ◌∷◌, Contains, IsSome, Option, Some, None, Result, Ok, Err}
+use Rattle.std.specs.FinMap.{get}
+use Rattle.record_model.specs.Records.{Stored}
+use Rattle.record_model.specs.RecordMap.{IsNextAbove}
+use Rattle.erst_client.specs.declared.errors.ClientError.{ClientError}
+use Rattle.erst_client.specs.Commands.{Names}
+use Rattle.erst_port.specs.declared.windows.Addresses.{Addresses}
+use Rattle.erst_port.specs.PortTables.{port_entries}
+use Rattle.port_laws.specs.PortSpaces.{SpaceState, Goes}
+
+-- the next identifier is asked for again and again, with nothing else in between, and these are told
+pub data Lists (addresses : Addresses) : (first : SpaceState) → List ℕ → (last : SpaceState) → Type 0 where
+  NoneTold : (first : SpaceState) → Lists addresses first [] first
+  OneTold : (first mid last : SpaceState) (id budget left : ℕ) (ids : List ℕ) → Names (Goes addresses) (port_entries addresses.registers) budget first (Ok (Some id)) left mid
+      → Lists addresses mid ids last → Lists addresses first (id ∷ ids) last
+
+-- numbers above a first one, each greater than the one before
+abbrev pub Rising : (low : ℕ) → List ℕ → Type 0
+Rising low [] = Unit {0}
+Rising low (id ∷ ids) = (low < id) × Rising id ids
+
+-- the stored identifiers above a cursor
+pub record AreAllAbove (cursor : ℕ) (stored : Stored) (ids : List ℕ) : Type 0 where
+  pub are_stored : (id : ℕ) → Contains ids id → IsSome (get stored id)
+  pub all : (id : ℕ) → cursor < id → IsSome (get stored id) → Contains ids id
+
+-- the stored identifiers
+pub record AreAll (stored : Stored) (ids : List ℕ) : Type 0 where
+  pub are_stored : (id : ℕ) → Contains ids id → IsSome (get stored id)
+  pub all : (id : ℕ) → IsSome (get stored id) → Contains ids id
+
+-- an answer that is no greater identifier
+abbrev pub IsNotGreater : (cursor : ℕ) → Result (Option ℕ) ClientError → Type 0
+IsNotGreater cursor (Ok (Some id)) = id ≤ cursor
+IsNotGreater cursor (Ok None) = Unit {0}
+IsNotGreater cursor (Err error) = ⊥
+
+-- the first of all, or none where none is stored
+pub data StartsAnew (stored : Stored) : Result (Option ℕ) ClientError → Type 0 where
+  IsLeast : (id : ℕ) → IsNextAbove 0 stored (Some id) → StartsAnew stored (Ok (Some id))
+  IsEmpty : IsNextAbove 0 stored None → StartsAnew stored (Ok None)

@@ -1,0 +1,22 @@
+//! Laws on the port: what power lost at its medium leaves, what a client of its table is answered, and that alike ports do alike.
+#![tactic(auto)]
+
+mod commands;
+mod durability;
+mod equivalence;
+
+pub use commands::{
+    a_clear_is_the_maps, a_client_reads_as_the_map, a_client_writes_as_the_map,
+    a_count_is_the_maps, a_dummy_write_changes_nothing, a_listing_comes_round, a_listing_rises,
+    a_read_is_the_maps, a_write_is_the_maps, accesses_leave_the_windows, an_access_is_the_machines,
+    attaching_never_fails, enough_steps_go_through, hardware_has_its_cause, next_goes_round,
+    programs_run_as_the_machines,
+};
+pub use durability::{
+    a_lost_medium_shows_a_prefix, a_medium_keeps_step, an_opening_begins,
+    lost_power_leaves_a_crash_image, records_change_by_commands,
+};
+pub use equivalence::{
+    a_loaded_port_is_alike, a_saved_port_is_taken, alike_ports_read_alike, alike_ports_reset_alike,
+    alike_ports_write_alike,
+};

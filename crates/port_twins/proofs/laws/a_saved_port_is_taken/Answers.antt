@@ -1,5 +1,0 @@
-use Rattle.port_twins.proofs.PortLemmas.{is_taken}
-use Rattle.port_twins.proofs.laws.a_saved_port_is_taken.Goals as goal
-
-pub returns : goal.returns
-returns c = is_taken

@@ -1,0 +1,5 @@
+pub mod Kinds
+pub mod Names
+pub mod Shapes
+pub mod Signatures
+pub mod Places

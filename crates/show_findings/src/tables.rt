@@ -1,0 +1,41 @@
+// The sentences of tables.
+use crate::{seen_u32, seen_u64};
+use std::alloc::AllocError;
+use std::str::from_utf8;
+
+/// Adds the sentence of a table.
+pub fn add_table(out: &mut String, table: &[u8]) -> Result<(), AllocError> {
+    let len = table.len();
+    let signature = match table {
+        [a, b, c, d, ..] => [*a, *b, *c, *d],
+        _ => return write!(out, "table cut off after {len} bytes"),
+    };
+    match &signature {
+        b"ERST" => {
+            let entries = seen_u32(table, 44);
+            write!(
+                out,
+                "Error Record Serialization Table, {entries} instruction entries"
+            )
+        }
+        b"HEST" => {
+            let sources = seen_u32(table, 36);
+            write!(out, "Hardware Error Source Table, {sources} error sources")
+        }
+        b"BERT" => {
+            let region = seen_u32(table, 36);
+            let address = seen_u64(table, 40);
+            write!(
+                out,
+                "Boot Error Record Table, a region of {region} bytes at {address:#x}"
+            )
+        }
+        other => {
+            out.push_str("table ")?;
+            if let Ok(name) = from_utf8(other) {
+                out.push_str(name)?;
+            }
+            write!(out, ", {len} bytes, none of those of errors")
+        }
+    }
+}

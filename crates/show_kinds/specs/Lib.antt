@@ -1,4 +1,0 @@
-pub mod Kinds
-pub mod Names
-pub mod Shapes
-pub mod Signatures

@@ -1,0 +1,16 @@
+pub mod Headers
+pub mod Erst
+pub mod Checks
+pub mod Pcie
+pub mod Generic
+pub mod Sources
+pub mod Records
+pub mod Blocks
+pub mod Processor
+pub mod Ia32
+pub mod Arm
+pub mod Memory
+pub mod Pci
+pub mod Remapping
+pub mod Linux
+pub mod Sections
