@@ -13,6 +13,6 @@ state_of flash = record {
   reads = flash.reads;
   faults = flash.faults;
   powered = true;
-  dark = 0;
+  unpowered = 0;
   restarts = flash.restarts;
 }

@@ -15,7 +15,7 @@ mod write;
 pub use adapters::{StdSink, StdSource};
 pub use guid::Guid;
 pub use in_memory::{MemSink, MemSource};
-pub use memory::Memory;
+pub use memory::OutOfMemory;
 pub use numbers::{get_u16, get_u32, get_u64, put_u16, put_u32, put_u64};
 pub use read::{array_at, byte_at, bytes_at, guid_at};
 pub use room::{NoRoom, room_for};

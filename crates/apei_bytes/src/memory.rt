@@ -3,16 +3,16 @@ use std::alloc::{AllocError, AllocFailed};
 
 /// A call found no memory for what it had to keep.
 #[derive(Clone, Copy, Debug, PartialEq, Eq)]
-pub struct Memory;
+pub struct OutOfMemory;
 
-impl From<AllocError> for Memory {
-    fn from(_error: AllocError) -> Memory {
-        Memory
+impl From<AllocError> for OutOfMemory {
+    fn from(_error: AllocError) -> OutOfMemory {
+        OutOfMemory
     }
 }
 
-impl<T: Drop> From<AllocFailed<T>> for Memory {
-    fn from(_refused: AllocFailed<T>) -> Memory {
-        Memory
+impl<T: Drop> From<AllocFailed<T>> for OutOfMemory {
+    fn from(_refused: AllocFailed<T>) -> OutOfMemory {
+        OutOfMemory
     }
 }

@@ -9,7 +9,7 @@ use Rattle.erst_port.specs.declared.errors.PortError.{PortError}
 use Rattle.erst_port.specs.PortState.{PortState, flash_of, IsMade}
 use Rattle.erst_entries.specs.Layout.{spelling}
 use Rattle.erst_port.specs.declared.windows.Addresses.{Addresses as AnyAddresses}
-use Rattle.erst_port.specs.Places.{spot_of, range_spot, are_apart}
+use Rattle.erst_port.specs.Places.{location_of, range_location, are_apart}
 use Rattle.erst_port.specs.PortTables.{port_erst}
 use Rattle.erst_port.specs.Accesses.{number_read, NumberWritten, bytes_read, bytes_stored, Resets}
 use Rattle.erst_port.specs.Changes.{IsDueOn}
@@ -24,7 +24,7 @@ abbrev pub ReadsNumber : Option Window → Option Width → (offset : ℕ) → P
 ReadsNumber None width offset port before status after = (status ≡ NoWindow) × (after ≡ before)
 ReadsNumber (Some window) None offset port before status after = (status ≡ Access) × (after ≡ before)
 ReadsNumber (Some window) (Some width) offset port before status after =
-    MatchResult (number_read (spot_of window (length port.range) offset width) port width)
+    MatchResult (number_read (location_of window (length port.range) offset width) port width)
     (λ number. (status ≡ Done) × (after ≡ number)) (λ error. (status ≡ status_of_error error) × (after ≡ before))
 
 abbrev pub WritesNumber : Option Window → Option Width → (offset value : ℕ) → PortState → Status → PortState → Type 0
@@ -32,16 +32,16 @@ WritesNumber None width offset value old status new = (status ≡ NoWindow) × (
 WritesNumber (Some window) None offset value old status new = (status ≡ Access) × (new ≡ old)
 WritesNumber (Some window) (Some width) offset value old status new =
     (answer : Result (Unit {0}) PortError) × (status ≡ status_of_access answer)
-    × NumberWritten (spot_of window (length old.range) offset width) old width value answer new
+    × NumberWritten (location_of window (length old.range) offset width) old width value answer new
 
 abbrev pub GetsBytes : (offset : ℕ) → (before : List ℕ) → PortState → Status → (after : List ℕ) → Type 0
 GetsBytes offset before port status after =
-    let outcome = bytes_read (range_spot (length port.range) offset (length before)) port before in
+    let outcome = bytes_read (range_location (length port.range) offset (length before)) port before in
     (status ≡ status_of_access outcome.0) × (after ≡ outcome.1)
 
 abbrev pub PutsBytes : (offset : ℕ) → (bytes : List ℕ) → PortState → Status → PortState → Type 0
 PutsBytes offset bytes old status new =
-    let outcome = bytes_stored (range_spot (length old.range) offset (length bytes)) old bytes in
+    let outcome = bytes_stored (range_location (length old.range) offset (length bytes)) old bytes in
     (status ≡ status_of_access outcome.0) × (new ≡ outcome.1)
 
 abbrev pub Restarts : PortState → Status → PortState → Type 0

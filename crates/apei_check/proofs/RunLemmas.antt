@@ -45,9 +45,9 @@ module _ (told_source told_sink : Type 0) (show : Show) (script rest rest_now wr
       }
 
   -- it was shown in part
-  pub ends_unheard : (now : List ℕ) → (told_source → StandsAt script so_far.lines b.number (last_line b)) → ShowsPart told_sink (AreShownBy show (checked_line_of line)) middle now
+  pub ends_unwritten : (now : List ℕ) → (told_source → StandsAt script so_far.lines b.number (last_line b)) → ShowsPart told_sink (AreShownBy show (checked_line_of line)) middle now
       → ChecksScript told_source told_sink show script rest_now written now SinkFault
-  ends_unheard now stands shows =
+  ends_unwritten now stands shows =
       let read = is_read text line is in
       record {
         lines = so_far.lines ++ last_line b ∷ [];

@@ -12,7 +12,7 @@ use Rattle.apei_script.specs.declared.player.PlayStop.{PlayStop}
 use Rattle.apei_script.specs.declared.player.PlayStop.TheVariants.{FlashFault as RestartFailed, Memory as NoMemory}
 use Rattle.apei_script.specs.Players.{PlayerState}
 use Rattle.apei_script.specs.Words.{Reply, text_of_replies}
-use Rattle.apei_script.specs.Plays.{LinePlayed, HasHappened, FailsRestart, PartlyWritten, PlaysLine, PlaysUnheard, Stops, Told, step_of}
+use Rattle.apei_script.specs.Plays.{LinePlayed, HasHappened, FailsRestart, PartlyWritten, PlaysLine, PlaysUnwritten, Stops, Told, step_of}
 use Rattle.erst_machine.specs.Shown.{changes_of}
 use Rattle.apei_script.specs.History.{Played, Follows, AreCounted, blocks_of, reply_of, text_of, heard_after}
 use Rattle.script_lines.specs.Ends.{IsBadFrom, EndsReading}
@@ -21,7 +21,7 @@ use Rattle.script_lines.specs.Lines.{Line, Reading, IsNextLine}
 use Rattle.script_lines.specs.Played.{IsLineOf, ArePlayed, StopsAt, PlaysByFault}
 use Rattle.script_lines.specs.Reads.{HasRead, AreReadInOrder, last_line}
 use Rattle.script_lines.proofs.PlayedLemmas.{ArePlayed-push, is_bad, stops_at, ends_behind, whole, ends_none as lines_end}
-use Rattle.apei_cli.specs.Statuses.{GivesTable, FailsInRestart, IsUnheard, EndsLines, LeavesLast, status_of}
+use Rattle.apei_cli.specs.Statuses.{GivesTable, FailsInRestart, IsUnwritten, EndsLines, LeavesLast, status_of}
 use Rattle.apei_cli.specs.Runs.{PlaysScript}
 use Rattle.apei_cli.specs.declared.status.Status.{Status}
 use Rattle.apei_cli.specs.declared.status.Status.TheVariants.{BadLine, SinkFault, FlashFault, Memory}
@@ -175,9 +175,9 @@ module _ {L : Type 0} (hearing : L → Hearing) (told_source told_sink tells : T
       as_so_far script rest rest_now written now now first members old new a (status_of ending) so_far (record {
         lines = so_far.lines;
         ends = λ told. has.ends script rest_now so_far.lines new.machine new.machine (lines_end IsLine GivesTable told_source script rest rest_now so_far.lines a b ending order so_far.read end told);
-        are = subst (PlaysByFault (λ (text : List ℕ) (one : Played). Means text one.line) (IsUnheard told_sink written now) (λ (all : List Played). told_sink → now ≡ written ++ text_of all) so_far.lines so_far.played)
+        are = subst (PlaysByFault (λ (text : List ℕ) (one : Played). Means text one.line) (IsUnwritten told_sink written now) (λ (all : List Played). told_sink → now ≡ written ++ text_of all) so_far.lines so_far.played)
             has.fault
-            (whole (λ (text : List ℕ) (one : Played). Means text one.line) (IsUnheard told_sink written now) (λ (all : List Played). told_sink → now ≡ written ++ text_of all)
+            (whole (λ (text : List ℕ) (one : Played). Means text one.line) (IsUnwritten told_sink written now) (λ (all : List Played). told_sink → now ≡ written ++ text_of all)
             told_source a b rest rest_now so_far.lines so_far.played ending end (so_far.are, so_far.text));
       })
       (has.leaves new.machine) has.no_flash
@@ -195,11 +195,11 @@ module _ {L : Type 0} (hearing : L → Hearing) (told_source told_sink tells : T
       refl (λ e. absurd (cc e))
 
   -- its reply was refused by the sink
-  pub ends_unheard : (script rest rest_now written middle now : List ℕ) (first members members_now : List L) (old mid new : PlayerState) (a b : Reading) (line : ScriptLine)
+  pub ends_unwritten : (script rest rest_now written middle now : List ℕ) (first members members_now : List L) (old mid new : PlayerState) (a b : Reading) (line : ScriptLine)
       → SoFar hearing told_source told_sink tells script rest written middle first members old mid a → IsNextLine told_source a b rest rest_now → IsLineOf (λ (text : List ℕ). Means text line) (last_line b)
-      → PlaysUnheard hearing tells told_sink mid new members members_now line middle now → (tells → changes_of new.machine ≡ step_of new)
+      → PlaysUnwritten hearing tells told_sink mid new members members_now line middle now → (tells → changes_of new.machine ≡ step_of new)
       → PlaysScript hearing told_source told_sink tells script rest_now written now first members_now old new SinkFault
-  ends_unheard script rest rest_now written middle now first members members_now old mid new a b line so_far next is plays counts = record {
+  ends_unwritten script rest rest_now written middle now first members members_now old mid new a b line so_far next is plays counts = record {
     played = so_far.played ++ played_as plays.made plays.said plays.blocks plays.steps new ∷ [];
     last = new;
     history = history_then script rest written middle first members old mid a so_far plays.made plays.said plays.blocks plays.steps new members_now plays.played plays.told;
@@ -220,7 +220,7 @@ module _ {L : Type 0} (hearing : L → Hearing) (told_source told_sink tells : T
             line = line;
             means = is.is;
             before = plays.before;
-            unheard = plays.last;
+            unwritten = plays.last;
             left = plays.left;
             wrote = λ told. subst (λ (bs : List ℕ). PartlyWritten plays.before plays.last bs now) (so_far.text told) (plays.text told);
           };

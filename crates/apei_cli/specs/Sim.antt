@@ -39,7 +39,7 @@ new_flash plan sector image = record {
   reads = 0;
   faults = 0;
   starved = 0;
-  dark = 0;
+  unpowered = 0;
   restarts = 0;
 }
 

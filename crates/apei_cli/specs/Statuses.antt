@@ -68,18 +68,18 @@ LeavesLast tells last final status = final ≡ last
 
 -- the sink refused a reply of the line that was played last, behind some that were played whole: what is left of it says which reply. What was
 -- written are the replies to the lines before it, of its own those before that one, and a part of that
-pub record IsUnheard (told_sink : Type 0) (written written_now : List ℕ) (first : List Played) (text : List ℕ) (last : Played) : Type 0 where
+pub record IsUnwritten (told_sink : Type 0) (written written_now : List ℕ) (first : List Played) (text : List ℕ) (last : Played) : Type 0 where
   pub line : ScriptLine
   pub means : Means text line
   pub before : List Reply
-  pub unheard : Reply
-  pub left : LeftIn line last.line last.said before unheard
-  pub wrote : told_sink → PartlyWritten before unheard (written ++ text_of first) written_now
+  pub unwritten : Reply
+  pub left : LeftIn line last.line last.said before unwritten
+  pub wrote : told_sink → PartlyWritten before unwritten (written ++ text_of first) written_now
 
 -- these lines were played, and their replies written; but where the sink failed, the last in part
 abbrev pub ArePlayedBy : Type 0 → List ℕ → List ℕ → List Line → List Played → Status → Type 0
 ArePlayedBy told_sink written written_now lines played status =
-    PlaysByFault (λ (text : List ℕ) (one : Played). Means text one.line) (IsUnheard told_sink written written_now)
+    PlaysByFault (λ (text : List ℕ) (one : Played). Means text one.line) (IsUnwritten told_sink written written_now)
     (λ (all : List Played). told_sink → written_now ≡ written ++ text_of all) lines played (fault_of status)
 
 -- the lines that were played and what was written, by the status

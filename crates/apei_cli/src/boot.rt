@@ -1,7 +1,7 @@
 // The player of a plan's machine.
 ghost use Rattle.std.specs.Prelude.{◌≡◌, ⊤, IfOk, IfErr};
 ghost use Rattle.apei_notify.specs.Chains.{members_of};
-ghost use Rattle.apei_script.specs.Desks.{state_of};
+ghost use Rattle.apei_script.specs.Sessions.{state_of};
 ghost use Rattle.apei_cli.specs.Orders.{order_of};
 ghost use Rattle.apei_cli.specs.LineLaws.{HaveLaws};
 ghost use Rattle.apei_cli.specs.Runs.{boot_status, IsBootOf, HasBooted, HasNotBegun, IsOnGeometry, HasFlashCause};
@@ -78,7 +78,7 @@ pub fn boot_player<F: Flash>(
     listeners: Vec<Box<dyn Listener>>,
 ) -> Result<Player<F>, NotBegun<F>>
     requires { ⊤ }
-    ensures booted { IfOk result (λ player. HasBooted F.tells (order_of plan.now) (F.state flash) (state_of player.desk)) }
+    ensures booted { IfOk result (λ player. HasBooted F.tells (order_of plan.now) (F.state flash) (state_of player.session)) }
     ensures members { IfOk result (λ player. members_of player.chain ≡ listeners.items) }
     ensures refused { IfErr result (λ none. HasNotBegun F.tells (order_of plan.now) (F.state flash) (F.state none.flash) none.status) }
     ensures listeners_back { IfErr result (λ none. none.listeners.items ≡ listeners.items) }
@@ -122,7 +122,7 @@ pub fn boot_player<F: Flash>(
 /// The flash and the listeners of a player, and what is true of the lines that it played.
 pub fn take_apart<F: Flash>(player: Player<F>) -> (F, Vec<Box<dyn Listener>>)
     requires { ⊤ }
-    ensures flash { F.state result.0 ≡ (state_of player.desk).machine.device.store.flash }
+    ensures flash { F.state result.0 ≡ (state_of player.session).machine.device.store.flash }
     ensures listeners { result.1.items ≡ members_of player.chain }
     ensures laws { HaveLaws F.tells }
 {

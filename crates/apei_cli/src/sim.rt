@@ -4,7 +4,7 @@ ghost use Rattle.flash_model.specs.Limits.{IsGeometry};
 ghost use Rattle.apei_cli.specs.Sim.{simulates, tear_numbered, cut_of, failing_of, IsErasedFlash, IsEmptyFlash};
 
 use crate::{Job, Plan};
-use apei_bytes::Memory;
+use apei_bytes::OutOfMemory;
 use flash_model::{Cut, Geometry, SimFlash, Tear, erased};
 use std::alloc::Global;
 
@@ -13,7 +13,7 @@ const NO_SECTOR: u32 = 256;
 
 /// The flash that a `sim` or `gen` plays on: its bytes are erased, and its calls fail where the plan says, and for want of
 /// memory. For another job, and where the geometry is outside its limits, it is empty.
-pub fn sim_flash(alloc: Global, plan: &Plan) -> Result<SimFlash, Memory>
+pub fn sim_flash(alloc: Global, plan: &Plan) -> Result<SimFlash, OutOfMemory>
     ensures erased { simulates plan.now.job ≡ true → IsGeometry plan.now.sector plan.now.per_slot plan.now.slots → IfOk result (IsErasedFlash plan.now) }
     ensures empty { ¬ IsGeometry plan.now.sector plan.now.per_slot plan.now.slots → IfOk result (IsEmptyFlash plan.now) }
     ensures other { simulates plan.now.job ≡ false → IfOk result (IsEmptyFlash plan.now) }
@@ -55,7 +55,7 @@ fn lost_power(plan: &Plan) -> Option<Cut>
 }
 
 // The changes that a plan has fail.
-fn failing_changes(alloc: Global, plan: &Plan) -> Result<Vec<(u64, Tear)>, Memory>
+fn failing_changes(alloc: Global, plan: &Plan) -> Result<Vec<(u64, Tear)>, OutOfMemory>
     ensures { IfOk result (λ failing. failing.items ≡ failing_of plan.now.fail plan.now.torn) }
 {
     match plan.fail {
@@ -65,7 +65,7 @@ fn failing_changes(alloc: Global, plan: &Plan) -> Result<Vec<(u64, Tear)>, Memor
 }
 
 // The reads that a plan has fail.
-fn failing_reads(alloc: Global, plan: &Plan) -> Result<Vec<u64>, Memory>
+fn failing_reads(alloc: Global, plan: &Plan) -> Result<Vec<u64>, OutOfMemory>
     ensures { IfOk result (λ failing. failing.items ≡ option_to_list plan.now.fail_read) }
 {
     match plan.fail_read {

@@ -36,10 +36,10 @@ use Rattle.apei_script.specs.Players.{PlayerState, budget_of}
 use Rattle.apei_script.specs.Words.{Reply, at_step, said_at, words_of_block, text_of_reply, text_of_replies, reply_at}
 use Rattle.script_text.specs.Turns.{side_of}
 use Rattle.apei_script.specs.Bridged.{words_of_turn, words_of_step, words_of_steps, words_of_made, HasTaken, block_of, blocks_in, block_replies, replies_of, ByBridge, Enters, StaysAs, BridgesTurns, TurnsShown}
-use Rattle.apei_script.specs.Plays.{Plays, Blank, ByClient, GivenTable, OwnTable, GivenShadow, OnMachine, ByTheBridge, OnlyTells, Reset, Power, Told, changes_in, LinePlayed, PlaysLine, PlaysUnheard, LeftIn, AtLast, InBridged}
+use Rattle.apei_script.specs.Plays.{Plays, Blank, ByClient, GivenTable, OwnTable, GivenShadow, OnMachine, ByTheBridge, OnlyTells, Reset, Power, Told, changes_in, LinePlayed, PlaysLine, PlaysUnwritten, LeftIn, AtLast, InBridged}
 use Rattle.apei_script.specs.History.{ShowsLine}
-use Rattle.apei_script.specs.declared.desk.Desk.{Desk}
-use Rattle.apei_script.specs.Desks.{state_of, SameClients}
+use Rattle.apei_script.specs.declared.session.Session.{Session}
+use Rattle.apei_script.specs.Sessions.{state_of, SameClients}
 use Rattle.apei_script.proofs.PlayLemmas.{quiet_with, shows_none, other_bridge}
 use Rattle.apei_script.proofs.KeptTurns.{blocks_kept}
 use Rattle.apei_script.proofs.MappedTurns.{turns_mapped, turns_end}
@@ -318,11 +318,11 @@ module _ {L : Type 0} (hearing : L → Hearing) (tells told_sink : Type 0) (prog
         ∙ text_more written (block_replies so.steps) (at_step (changes_in new.machine) (words_of_steps so.steps));
   }
 
-  pub turns_unheard : (members_now : List L) (all : List ℕ) (k : ℕ) (made : List MadeTurn) (written_now written_then : List ℕ) (step : ℕ) → length all ≤ k
+  pub turns_unwritten : (members_now : List L) (all : List ℕ) (k : ℕ) (made : List MadeTurn) (written_now written_then : List ℕ) (step : ℕ) → length all ≤ k
       → SoFar new.bridge new.machine members_now (take k all) made written_now → step ≡ changes_in new.machine
       → (told_sink → (n : ℕ) × (written_then ≡ written_now ++ take n (reply_at step (words_of_made made))))
-      → PlaysUnheard hearing tells told_sink old new members members_now (turns all) written written_then
-  turns_unheard members_now all k made written_now written_then step end so at text = record {
+      → PlaysUnwritten hearing tells told_sink old new members members_now (turns all) written written_then
+  turns_unwritten members_now all k made written_now written_then step end so at text = record {
     made = turns all;
     said = replies_of (changes_in new.machine) so.steps;
     before = block_replies so.steps;
@@ -346,7 +346,7 @@ module _ {L : Type 0} (hearing : L → Hearing) (tells told_sink : Type 0) (prog
       → (tells → changes_of new.machine ≡ step) → step ≡ changes_in new.machine → HasTaken (turn_of turn)
       → Told hearing (new.machine.handover.last ∷ []) members_mid members_now
       → (told_sink → (n : ℕ) × (written_now ≡ written_mid ++ take n (reply_at (changes_in new.machine) (words_of_block new.machine.handover.last))))
-      → PlaysUnheard hearing tells told_sink old new members members_now (turns all) written written_now
+      → PlaysUnwritten hearing tells told_sink old new members members_now (turns all) written written_now
   turns_cut mid before members_mid members_now all k made written_mid written_now turn step more so is side counted at taken telling text =
       let last : Step = record { turn = turn_of turn; bridge = new.bridge; machine = new.machine } in
       let took = taken_is (turn_of turn) taken in
@@ -411,7 +411,7 @@ so_at hearing tells told_sink client budget state old members written now then n
     (subst (λ (m : MachineState). BridgedSoFar hearing tells told_sink client budget state old members written now m members_now letters made_then written_now) (sym machine)
     (subst (λ (xs : List MadeTurn). BridgedSoFar hearing tells told_sink client budget state old members written now new members_now letters xs written_now) (sym items) so))
 
-module _ {F L : Type 0} (hearing : L → Hearing) (tells told_sink : Type 0) (old new : Desk F) (now : BridgeState) (final : MachineState) (clients : SameClients old new) (bridge : new.bridge ≡ now) (machine : new.machine ≡ final) where
+module _ {F L : Type 0} (hearing : L → Hearing) (tells told_sink : Type 0) (old new : Session F) (now : BridgeState) (final : MachineState) (clients : SameClients old new) (bridge : new.bridge ≡ now) (machine : new.machine ≡ final) where
   behind_all : state_of new ≡ record (state_of old) { machine = final; bridge = now }
   behind_all = other_bridge old new clients ∙ ap (λ (b : BridgeState). record (state_of old) { machine = new.machine; bridge = b }) bridge
       ∙ ap (λ (m : MachineState). record (state_of old) { machine = m; bridge = now }) machine
@@ -421,7 +421,7 @@ module _ {F L : Type 0} (hearing : L → Hearing) (tells told_sink : Type 0) (ol
   played_by members members_now line written written_now plays =
       subst (λ (p : PlayerState). PlaysLine hearing tells told_sink (state_of old) p members members_now line written written_now) (sym behind_all) plays
 
-  pub unheard_by : (members members_now : List L) (line : Line) (written written_now : List ℕ) → PlaysUnheard hearing tells told_sink (state_of old) (record (state_of old) { machine = final; bridge = now }) members members_now line written written_now
-      → PlaysUnheard hearing tells told_sink (state_of old) (state_of new) members members_now line written written_now
-  unheard_by members members_now line written written_now plays =
-      subst (λ (p : PlayerState). PlaysUnheard hearing tells told_sink (state_of old) p members members_now line written written_now) (sym behind_all) plays
+  pub unwritten_by : (members members_now : List L) (line : Line) (written written_now : List ℕ) → PlaysUnwritten hearing tells told_sink (state_of old) (record (state_of old) { machine = final; bridge = now }) members members_now line written written_now
+      → PlaysUnwritten hearing tells told_sink (state_of old) (state_of new) members members_now line written written_now
+  unwritten_by members members_now line written written_now plays =
+      subst (λ (p : PlayerState). PlaysUnwritten hearing tells told_sink (state_of old) p members members_now line written written_now) (sym behind_all) plays

@@ -15,12 +15,12 @@ use Rattle.erst_device.specs.DeviceState.{DeviceState}
 use Rattle.erst_machine.specs.declared.errors.BootError.{BootError}
 use Rattle.erst_machine.specs.declared.areas.Area.{Area}
 use Rattle.erst_machine.specs.declared.areas.Area.TheVariants.{Device, Scratch, LogRange, Handover, BootErrors, Ports}
-use Rattle.erst_machine.specs.declared.areas.Spot.{Spot}
-use Rattle.erst_machine.specs.declared.areas.Spot.TheVariants.{Inside, Beyond, Nowhere}
+use Rattle.erst_machine.specs.declared.areas.Location.{Location}
+use Rattle.erst_machine.specs.declared.areas.Location.TheVariants.{Inside, Beyond, Nowhere}
 use Rattle.erst_machine.specs.declared.areas.Register.{Register}
 use Rattle.erst_machine.specs.declared.areas.Register.TheVariants.{Action, Value, NoRegister}
 use Rattle.erst_machine.specs.Areas.{register_at}
-use Rattle.erst_machine.specs.MachineState.{MachineState, spot_of, spot_at}
+use Rattle.erst_machine.specs.MachineState.{MachineState, location_of, location_at}
 use Rattle.erst_machine.specs.Allowed.{RegisterWritten, AreaWritten, NumberWritten, Allows}
 use Rattle.erst_machine.specs.Events.{Warms, Powers, Event, Accessed, Warmed, Powered, Submitted, Turned, Laid, Submits, Happens}
 use Rattle.erst_machine.proofs.CrashTrail.{stored_store, copied_store}
@@ -43,7 +43,7 @@ by_state tells old new other is same = still tells old new (ap (λ (s : MachineS
 
 of_register : (tells : Type 0) (register : Register) (old new : MachineState) (at : ℕ) (width : Width) (value : ℕ) (answer : Result (Unit {0}) SpaceFault) →
     RegisterWritten tells register old at width value answer new → Takes tells old (changes_at_register register old (value % 2 ^ 32)) new
-of_register tells Action old new at width value answer h = record { never_falls = h.1.effect.never_falls; layout = h.1.effect.alike.layout; exact = h.1.effect.exact }
+of_register tells Action old new at width value answer h = record { never_falls = h.1.effect.never_falls; layout = h.1.effect.equivalent.layout; exact = h.1.effect.exact }
 of_register tells Value old new at width value answer h = by_state tells old new _ h.1 refl
 of_register tells NoRegister old new at width value answer h = by_state tells old new _ h.1 refl
 
@@ -56,32 +56,32 @@ of_area tells Handover start old new at width value answer h = by_state tells ol
 of_area tells BootErrors start old new at width value answer h = by_state tells old new _ h.1 refl
 of_area tells Ports start old new at width value answer h = by_state tells old new _ h.1 refl
 
-of_write : (tells : Type 0) (spot : Spot) (old new : MachineState) (at : ℕ) (width : Width) (value : ℕ) (answer : Result (Unit {0}) SpaceFault) →
-    NumberWritten tells spot old at width value answer new → Takes tells old (changes_at spot old width (value % 2 ^ 32)) new
+of_write : (tells : Type 0) (location : Location) (old new : MachineState) (at : ℕ) (width : Width) (value : ℕ) (answer : Result (Unit {0}) SpaceFault) →
+    NumberWritten tells location old at width value answer new → Takes tells old (changes_at location old width (value % 2 ^ 32)) new
 of_write tells (Inside area start) old new at width value answer h = of_area tells area start old new at width value answer h
 of_write tells (Beyond area address) old new at width value answer h = by_state tells old new _ h.1 refl
 of_write tells (Nowhere address) old new at width value answer h = by_state tells old new _ h.1 refl
 
 of_access : (tells : Type 0) (old : MachineState) (call : Call) (new : MachineState) → Allows tells old call new → Takes tells old (changes_by_call old call) new
 of_access tells old (Read at width answer) new h = by_state tells old new _ h.1 refl
-of_access tells old (Write at width value answer) new h = of_write tells (spot_of old at (bits width / 8)) old new (address_of at) width value answer h
+of_access tells old (Write at width value answer) new h = of_write tells (location_of old at (bits width / 8)) old new (address_of at) width value answer h
 of_access tells old (Wait micros) new h = by_state tells old new _ h refl
-of_access tells old (Copy from to n answer) new h = by_state tells old new _ h.1 (copied_store _ _ (spot_at old from n) (spot_at old to n) old n)
+of_access tells old (Copy from to n answer) new h = by_state tells old new _ h.1 (copied_store _ _ (location_at old from n) (location_at old to n) old n)
 of_access tells old (ReadBytes at before after answer) new h = by_state tells old new _ h.2 refl
-of_access tells old (WriteBytes at bytes answer) new h = by_state tells old new _ h.1 (stored_store (spot_at old at (length bytes)) old at bytes)
+of_access tells old (WriteBytes at bytes answer) new h = by_state tells old new _ h.1 (stored_store (location_at old at (length bytes)) old at bytes)
 
 -- a restart looks at the slots of the flash that it finds
 of_warms : (tells : Type 0) (old new : MachineState) (result : Result ℕ BootError) → Warms tells old result new → Takes tells old (copies_in old.device.store) new
 of_warms tells old new (Ok n) h =
     let cause : new.device.store.flash.faults ≡ old.device.store.flash.faults = h.leaves.cause in
-    record { never_falls = omega arith; layout = h.leaves.alike.layout; exact = λ told _. h.leaves.ended told }
-of_warms tells old new (Err error) h = record { never_falls = h.leaves.cause.0; layout = h.leaves.alike.layout; exact = λ told none. absurd (none h.leaves.cause.1) }
+    record { never_falls = omega arith; layout = h.leaves.equivalent.layout; exact = λ told _. h.leaves.ended told }
+of_warms tells old new (Err error) h = record { never_falls = h.leaves.cause.0; layout = h.leaves.equivalent.layout; exact = λ told none. absurd (none h.leaves.cause.1) }
 
 of_powers : (tells : Type 0) (old new : MachineState) (result : Result ℕ BootError) → Powers tells old result new → Takes tells old (copies_in old.device.store) new
 of_powers tells old new (Ok n) h =
     let cause : new.device.store.flash.faults ≡ old.device.store.flash.faults = h.restarts.leaves.cause in
-    record { never_falls = omega arith; layout = h.restarts.leaves.alike.layout; exact = λ told _. h.restarts.leaves.ended told }
-of_powers tells old new (Err error) h = record { never_falls = h.restarts.leaves.cause.0; layout = h.restarts.leaves.alike.layout; exact = λ told none. absurd (none h.restarts.leaves.cause.1) }
+    record { never_falls = omega arith; layout = h.restarts.leaves.equivalent.layout; exact = λ told _. h.restarts.leaves.ended told }
+of_powers tells old new (Err error) h = record { never_falls = h.restarts.leaves.cause.0; layout = h.restarts.leaves.equivalent.layout; exact = λ told none. absurd (none h.restarts.leaves.cause.1) }
 
 of_submits : (tells : Type 0) (old new : MachineState) (block : List ℕ) (result : Result ℕ SubmitError) → Submits old block result new → Takes tells old 0 new
 of_submits tells old new block (Ok n) h = by_state tells old new _ h.added refl

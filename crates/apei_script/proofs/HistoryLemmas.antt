@@ -11,7 +11,7 @@ use Rattle.erst_machine.specs.Shown.{changes_of, shown_by, made_by_event, GoesOn
 use Rattle.erst_machine.proofs.CrashTrail.{shown_alike, by_step, events_are_shown, happens_then}
 use Rattle.erst_machine.proofs.EventLemmas.{events_keep}
 use Rattle.erst_commands.specs.Attached.{own_client}
-use Rattle.erst_commands.specs.Alike.{FailedNothing}
+use Rattle.erst_commands.specs.Equivalence.{FailedNothing}
 use Rattle.erst_commands.proofs.Dialogues.{quiet_first, quiet_second}
 use Rattle.erst_bridge.specs.Turns.{Step}
 use Rattle.erst_bridge.proofs.TrailLemmas.{own_client-same}
@@ -172,7 +172,7 @@ module _ (tells : Type 0) where
         let more = (history_goes_on wants (heard_after wants line.blocks counts) line.left rest last is.1).1 in
         let image : image_at (told_of last.machine) (changes_of left) ≡ (told_of left).image =
         image_at-later (told_of left) (told_of last.machine) (changes_of left) more.later (omega arith) ∙ image_at-now (told_of left) (changes_of left) (omega arith) in
-        (ap (shown_by first.machine) image ∙ sym (shown_alike first.machine left (told_of left).image one.alike), history_ends wants (heard_after wants line.blocks counts) line.left rest last is.1)
+        (ap (shown_by first.machine) image ∙ sym (shown_alike first.machine left (told_of left).image one.equivalent), history_ends wants (heard_after wants line.blocks counts) line.left rest last is.1)
 
     pub history_in_order : (wants : List (ℕ → Bool)) (counts : List ℕ) (first : PlayerState) (played : List Played) (last : PlayerState) → Follows tells wants counts first played last
         → EndInOrder (changes_of first.machine) played (changes_of last.machine)
@@ -207,8 +207,8 @@ module _ (tells : Type 0) where
         let shows = line_shows counts first line own given lines.0 is.0 in
         let stay = line_own tells counts first line.line line.said line.blocks line.steps line.left is.0.plays in
         by_step (changes_of left) s _ _
-        (λ after. subst (λ (m : Stored). ShowsLines s line.left rest m) (shown_alike first.machine left image one.alike)
+        (λ after. subst (λ (m : Stored). ShowsLines s line.left rest m) (shown_alike first.machine left image one.equivalent)
         (history_shows wants (heard_after wants line.blocks counts) line.left rest last
-        (stay.0 ∙ own ∙ sym (own_client-same first.machine left one.alike.layout))
+        (stay.0 ∙ own ∙ sym (own_client-same first.machine left one.equivalent.layout))
         (no_other counts first line.line line.said line.blocks line.steps line.left is.0.plays lines.0 given) lines.1 is.1 s image after crash))
         (λ before. shows line.steps refl s image from (CrashImage-earlier (told_of left) (told_of last.machine) s image more.later before crash))

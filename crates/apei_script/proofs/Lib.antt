@@ -2,7 +2,7 @@ pub mod HistoryLemmas
 pub mod OneEvent
 pub mod LineKinds
 pub mod TurnsAlike
-pub mod TwinLemmas
+pub mod EquivalenceLemmas
 pub mod EventChanges
 pub mod LineLemmas
 pub mod WordLemmas
@@ -22,7 +22,7 @@ pub mod Made
 pub mod Asking
 pub mod Giving
 pub mod Owning
-pub mod DeskLines
+pub mod SessionLines
 pub mod PlayLemmas
 pub mod KeptTurns
 mod MappedTurns

@@ -11,7 +11,7 @@ use Rattle.script_text.specs.ScriptGrammar.{bert}
 use Rattle.apei_script.specs.Words.{Reply, at_step, said_at, words_of_block, words_of_bert, reply_at, replies_at}
 use Rattle.apei_script.specs.Happened.{IsListed}
 use Rattle.apei_script.specs.Plays.{changes_in, LeftIn, InList}
-use Rattle.apei_script.specs.Desks.{Lists, ListsUnheard}
+use Rattle.apei_script.specs.Sessions.{Lists, ListsUnwritten}
 use Rattle.apei_script.proofs.TurnLemmas.{at_last, replies-more}
 
 -- the first blocks were shown, and the others stand from a place on
@@ -118,7 +118,7 @@ next_within told_sink machine at count next written written_now is so found =
 pub listed_cut : (tells told_sink : Type 0) (machine : MachineState) (at count next : ℕ) (written written_now written_then : List ℕ) → ListedSoFar told_sink machine at count written written_now
     → next_from machine.memory.region at ≡ Ok (Some next)
     → (told_sink → (n : ℕ) × (written_then ≡ written_now ++ take n (reply_at (changes_in machine) (words_of_block (part machine.memory.region at (next - at))))))
-    → ListsUnheard tells told_sink machine written written_then
+    → ListsUnwritten tells told_sink machine written written_then
 listed_cut tells told_sink machine at count next written written_now written_then so is text =
     let region = machine.memory.region in
     let h = has_next told_sink machine at count next written written_now so is in
@@ -173,7 +173,7 @@ listed_all tells told_sink machine at count written written_now written_then so 
 -- and a part of that line
 pub listed_but : (tells told_sink : Type 0) (machine : MachineState) (at count : ℕ) (written written_now written_then : List ℕ) → ListedSoFar told_sink machine at count written written_now
     → ((next : ℕ) → next_from machine.memory.region at ≡ Ok (Some next) → ⊥)
-    → (told_sink → (n : ℕ) × (written_then ≡ written_now ++ take n (reply_at (changes_in machine) (words_of_bert count)))) → ListsUnheard tells told_sink machine written written_then
+    → (told_sink → (n : ℕ) × (written_then ≡ written_now ++ take n (reply_at (changes_in machine) (words_of_bert count)))) → ListsUnwritten tells told_sink machine written written_then
 listed_but tells told_sink machine at count written written_now written_then so none text =
     let all = all_listed told_sink machine at count written written_now so none in
     let step = changes_in machine in

@@ -41,10 +41,10 @@ module _ (tells : Type 0) (client : ClientState) (budget : ℕ) (told : tells) w
   turns_end state old [] next last are = tt
   turns_end state old (step ∷ rest) next last (first, behind) =
       let left = step.machine in
-      let alike = (turn_goes_on tells client budget told state old step.turn step.bridge left first).1.alike in
+      let equivalent = (turn_goes_on tells client budget told state old step.turn step.bridge left first).1.equivalent in
       let later = (turns_go_on tells client budget told step.bridge left rest next last behind).1.later in
       let image : image_at (told_of last) (changes_of left) ≡ (told_of left).image =
       image_at-later (told_of left) (told_of last) (changes_of left) later (omega arith) ∙ image_at-now (told_of left) (changes_of left) (omega arith) in (
-        ap (shown_by old) image ∙ sym (shown_alike old left (told_of left).image alike),
+        ap (shown_by old) image ∙ sym (shown_alike old left (told_of left).image equivalent),
         turns_end step.bridge left rest next last behind,
       )

@@ -7,7 +7,7 @@ use Rattle.apei_space.specs.Calls.{ReadBytes}
 use Rattle.ghes_ack.specs.declared.submission.SubmitError.{SubmitError}
 use Rattle.erst_machine.specs.declared.errors.FatalError.{FatalError}
 use Rattle.erst_machine.specs.Events.{Event, Accessed, Submitted, Laid}
-use Rattle.erst_commands.specs.Alike.{bytes_shown, asked_event, answered_event}
+use Rattle.erst_commands.specs.Equivalence.{bytes_shown, asked_event, answered_event}
 use Rattle.script_text.specs.ScriptGrammar.{Line, error, peek, fatal}
 use Rattle.apei_script.specs.Players.{PlayerState}
 use Rattle.apei_script.specs.Words.{words_of_submission, words_of_peek, words_of_laid}
@@ -43,7 +43,7 @@ pub record OneEvent (line : Line) (event : Event) (words : List ℕ) : Type 0 wh
   pub alone : asks_once line ≡ true
   pub untold : (counts : List ℕ) (old : PlayerState) → words_told counts old line ≡ None
   pub unnamed : names_command line ≡ false
-  pub alike : IsAlwaysAlike line event words
+  pub equivalent : IsAlwaysAlike line event words
 
 pub same_bytes : (hex bytes others : List ℕ) → decode_of hex ≡ Ok bytes → decode_of hex ≡ Ok others → bytes ≡ others
 same_bytes hex bytes others first second = let both : ◌≡◌ {A = Result (List ℕ) FromHexError} (Ok bytes) (Ok others) = sym first ∙ second in cc both
@@ -84,8 +84,8 @@ peeked_alike at len from before after answer words asks (Accessed (ReadBytes pla
 peeked_alike at len from before after answer words asks also others asks_too = absurd asks_too
 
 pub once : (line : Line) (event : Event) (words : List ℕ) → AsksFor line event words → OneEvent line event words
-once (error hex) (Submitted block result) words asks = record { quiet = tt; alone = refl; untold = λ counts old. refl; unnamed = refl; alike = given_alike hex block result words asks }
+once (error hex) (Submitted block result) words asks = record { quiet = tt; alone = refl; untold = λ counts old. refl; unnamed = refl; equivalent = given_alike hex block result words asks }
 once (peek at len) (Accessed (ReadBytes from before after answer)) words asks =
-    record { quiet = tt; alone = refl; untold = λ counts old. refl; unnamed = refl; alike = peeked_alike at len from before after answer words asks }
-once (fatal hex) (Laid block result) words asks = record { quiet = tt; alone = refl; untold = λ counts old. refl; unnamed = refl; alike = laid_alike hex block result words asks }
+    record { quiet = tt; alone = refl; untold = λ counts old. refl; unnamed = refl; equivalent = peeked_alike at len from before after answer words asks }
+once (fatal hex) (Laid block result) words asks = record { quiet = tt; alone = refl; untold = λ counts old. refl; unnamed = refl; equivalent = laid_alike hex block result words asks }
 once line event words asks = absurd asks

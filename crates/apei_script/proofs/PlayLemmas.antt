@@ -9,12 +9,12 @@ use Rattle.erst_bridge.specs.Bridges.{BridgeState}
 use Rattle.erst_bridge.specs.Turns.{Step}
 use Rattle.script_text.specs.ScriptGrammar.{Line, blank, bert, heard}
 use Rattle.apei_notify.specs.Telling.{Hearing, counts_of}
-use Rattle.apei_script.specs.declared.desk.Desk.{Desk}
+use Rattle.apei_script.specs.declared.session.Session.{Session}
 use Rattle.apei_script.specs.Players.{PlayerState, budget_of, client_of, with_machine}
 use Rattle.apei_script.specs.Words.{Reply, at_step, said_at, words_of_heard, reply_at, replies_at}
 use Rattle.apei_script.specs.Bridged.{NeedsNoBridge, TurnsShown}
-use Rattle.apei_script.specs.Plays.{Plays, Blank, OnMachine, OnlyTells, LinePlayed, PlaysLine, PlaysUnheard, Occurred, OccurredUnheard, LeftIn, AtLast, InList, InTurns, InBridged, names_command, step_of}
-use Rattle.apei_script.specs.Desks.{state_of, SameClients, Lists, ListsUnheard, LineAnswered, MakesReply}
+use Rattle.apei_script.specs.Plays.{Plays, Blank, OnMachine, OnlyTells, LinePlayed, PlaysLine, PlaysUnwritten, Occurred, OccurredUnwritten, LeftIn, AtLast, InList, InTurns, InBridged, names_command, step_of}
+use Rattle.apei_script.specs.Sessions.{state_of, SameClients, Lists, ListsUnwritten, LineAnswered, MakesReply}
 use Rattle.apei_script.proofs.LineLemmas.{line_happened}
 use Rattle.apei_script.proofs.LeavesLemmas.{line_leaves}
 use Rattle.apei_notify.proofs.ToldLemmas.{told_none}
@@ -49,15 +49,15 @@ same_state machine own own_now other other_now steps steps_now state a b c =
     ∙ ap (λ (x : Option ℕ). let s : PlayerState = record { machine = machine; own = own; other = other; steps = x; bridge = state } in s) c
 
 -- only the machine and the bridge are others
-pub other_bridge : {F : Type 0} (old new : Desk F) → SameClients old new → state_of new ≡ record (state_of old) { machine = new.machine; bridge = new.bridge }
+pub other_bridge : {F : Type 0} (old new : Session F) → SameClients old new → state_of new ≡ record (state_of old) { machine = new.machine; bridge = new.bridge }
 other_bridge old new same = same_state new.machine old.own new.own old.other new.other old.steps new.steps new.bridge same.own same.other same.steps
 
 -- only the machine is another
-pub other_machine : {F : Type 0} (old new : Desk F) → SameClients old new → new.bridge ≡ old.bridge → state_of new ≡ with_machine new.machine (state_of old)
+pub other_machine : {F : Type 0} (old new : Session F) → SameClients old new → new.bridge ≡ old.bridge → state_of new ≡ with_machine new.machine (state_of old)
 other_machine old new same bridge = other_bridge old new same ∙ ap (λ (b : BridgeState). record (state_of old) { machine = new.machine; bridge = b }) bridge
 
--- a desk with the same state has the same machine
-pub same_machine : {F : Type 0} (old new : Desk F) → state_of new ≡ state_of old → new.machine ≡ old.machine
+-- a session with the same state has the same machine
+pub same_machine : {F : Type 0} (old new : Session F) → state_of new ≡ state_of old → new.machine ≡ old.machine
 same_machine old new same = ap (λ (s : PlayerState). s.machine) same
 
 -- a line that was answered, with all that is said of it
@@ -110,10 +110,10 @@ module _ {L : Type 0} (hearing : L → Hearing) (tells told_sink : Type 0) where
     text = h.text;
   }
 
-  pub occurred_unheard : (old new : PlayerState) (members members_now : List L) (line : Line) (written written_now : List ℕ) → names_command line ≡ false → NeedsNoBridge old.bridge line → new ≡ with_machine new.machine old
-      → OccurredUnheard hearing tells told_sink old.machine new.machine members members_now line written written_now
-      → PlaysUnheard hearing tells told_sink old new members members_now line written written_now
-  occurred_unheard old new members members_now line written written_now none alone same h = record {
+  pub occurred_unwritten : (old new : PlayerState) (members members_now : List L) (line : Line) (written written_now : List ℕ) → names_command line ≡ false → NeedsNoBridge old.bridge line → new ≡ with_machine new.machine old
+      → OccurredUnwritten hearing tells told_sink old.machine new.machine members members_now line written written_now
+      → PlaysUnwritten hearing tells told_sink old new members members_now line written written_now
+  occurred_unwritten old new members members_now line written written_now none alone same h = record {
     made = h.made;
     said = said_at (step_of new) h.words;
     before = h.before;
@@ -140,10 +140,10 @@ module _ {L : Type 0} (hearing : L → Hearing) (tells told_sink : Type 0) where
         text = h.text;
       })
 
-  pub listed_unheard : (old new : PlayerState) (members : List L) (written written_now : List ℕ) → new ≡ old → ListsUnheard tells told_sink old.machine written written_now
-      → PlaysUnheard hearing tells told_sink old new members members bert written written_now
-  listed_unheard old new members written written_now same h =
-      subst (λ (s : PlayerState). PlaysUnheard hearing tells told_sink old s members members bert written written_now) (sym same) (record {
+  pub listed_unwritten : (old new : PlayerState) (members : List L) (written written_now : List ℕ) → new ≡ old → ListsUnwritten tells told_sink old.machine written written_now
+      → PlaysUnwritten hearing tells told_sink old new members members bert written written_now
+  listed_unwritten old new members written written_now same h =
+      subst (λ (s : PlayerState). PlaysUnwritten hearing tells told_sink old s members members bert written written_now) (sym same) (record {
         made = bert;
         said = said_at (step_of old) h.words;
         before = h.before;
@@ -172,10 +172,10 @@ module _ {L : Type 0} (hearing : L → Hearing) (tells told_sink : Type 0) where
     text = λ t. text t ∙ one_text (step_of new) words written;
   }
 
-  pub one_unheard : (old new : PlayerState) (members : List L) (line : Line) (words written written_now : List ℕ) → LinePlayed tells (counts_of hearing members) old line (said_at (step_of new) (words ∷ [])) [] [] new
+  pub one_unwritten : (old new : PlayerState) (members : List L) (line : Line) (words written written_now : List ℕ) → LinePlayed tells (counts_of hearing members) old line (said_at (step_of new) (words ∷ [])) [] [] new
       → (told_sink → (n : ℕ) × (written_now ≡ written ++ take n (reply_at (step_of new) words)))
-      → PlaysUnheard hearing tells told_sink old new members members line written written_now
-  one_unheard old new members line words written written_now played text = record {
+      → PlaysUnwritten hearing tells told_sink old new members members line written written_now
+  one_unwritten old new members line words written written_now played text = record {
     made = line;
     said = said_at (step_of new) (words ∷ []);
     before = [];
@@ -196,13 +196,13 @@ module _ {L : Type 0} (hearing : L → Hearing) (tells told_sink : Type 0) where
       subst (λ (now : List L). PlaysLine hearing tells told_sink old new members now line written written_now) (sym same)
       (one_played old new members line words written written_now played text)
 
-  pub answer_unheard : (old new : PlayerState) (members members_now : List L) (line : Line) (words written written_now : List ℕ) → members_now ≡ members
+  pub answer_unwritten : (old new : PlayerState) (members members_now : List L) (line : Line) (words written written_now : List ℕ) → members_now ≡ members
       → LinePlayed tells (counts_of hearing members) old line (said_at (step_of new) (words ∷ [])) [] [] new
       → (told_sink → (n : ℕ) × (written_now ≡ written ++ take n (reply_at (step_of new) words)))
-      → PlaysUnheard hearing tells told_sink old new members members_now line written written_now
-  answer_unheard old new members members_now line words written written_now same played text =
-      subst (λ (now : List L). PlaysUnheard hearing tells told_sink old new members now line written written_now) (sym same)
-      (one_unheard old new members line words written written_now played text)
+      → PlaysUnwritten hearing tells told_sink old new members members_now line written written_now
+  answer_unwritten old new members members_now line words written written_now same played text =
+      subst (λ (now : List L). PlaysUnwritten hearing tells told_sink old new members now line written written_now) (sym same)
+      (one_unwritten old new members line words written written_now played text)
 
   heard_line : (old new : PlayerState) (members : List L) → new ≡ old → LinePlayed tells (counts_of hearing members) old heard (said_at (step_of new) (words_of_heard (counts_of hearing members) ∷ [])) [] [] new
   heard_line old new members same = quiet tells (counts_of hearing members) old heard (said_at (step_of new) (words_of_heard (counts_of hearing members) ∷ [])) [] new refl
@@ -215,9 +215,9 @@ module _ {L : Type 0} (hearing : L → Hearing) (tells told_sink : Type 0) where
       one_played old new members heard (words_of_heard (counts_of hearing members)) written written_now (heard_line old new members same)
       (λ t. text t ∙ ap (λ (s : PlayerState). written ++ reply_at (step_of s) (words_of_heard (counts_of hearing members))) (sym same))
 
-  pub heard_unheard : (old new : PlayerState) (members : List L) (written written_now : List ℕ) → new ≡ old
+  pub heard_unwritten : (old new : PlayerState) (members : List L) (written written_now : List ℕ) → new ≡ old
       → (told_sink → (n : ℕ) × (written_now ≡ written ++ take n (reply_at (step_of old) (words_of_heard (counts_of hearing members)))))
-      → PlaysUnheard hearing tells told_sink old new members members heard written written_now
-  heard_unheard old new members written written_now same text =
-      one_unheard old new members heard (words_of_heard (counts_of hearing members)) written written_now (heard_line old new members same)
+      → PlaysUnwritten hearing tells told_sink old new members members heard written written_now
+  heard_unwritten old new members written written_now same text =
+      one_unwritten old new members heard (words_of_heard (counts_of hearing members)) written written_now (heard_line old new members same)
       (λ t. let some = text t in (some.0, some.1 ∙ ap (λ (s : PlayerState). written ++ take some.0 (reply_at (step_of s) (words_of_heard (counts_of hearing members)))) (sym same)))

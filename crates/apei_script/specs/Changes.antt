@@ -9,12 +9,12 @@ use Rattle.erst_entries.specs.Actions.{action_of}
 use Rattle.erst_device.specs.Effects.{changes_of_action}
 use Rattle.erst_machine.specs.declared.areas.Area.{Area}
 use Rattle.erst_machine.specs.declared.areas.Area.TheVariants.{Device}
-use Rattle.erst_machine.specs.declared.areas.Spot.{Spot}
-use Rattle.erst_machine.specs.declared.areas.Spot.TheVariants.{Inside, Beyond, Nowhere}
+use Rattle.erst_machine.specs.declared.areas.Location.{Location}
+use Rattle.erst_machine.specs.declared.areas.Location.TheVariants.{Inside, Beyond, Nowhere}
 use Rattle.erst_machine.specs.declared.areas.Register.{Register}
 use Rattle.erst_machine.specs.declared.areas.Register.TheVariants.{Action, Value, NoRegister}
 use Rattle.erst_machine.specs.Areas.{register_at}
-use Rattle.erst_machine.specs.MachineState.{MachineState, spot_of}
+use Rattle.erst_machine.specs.MachineState.{MachineState, location_of}
 use Rattle.erst_machine.specs.Events.{Event, Accessed, Warmed, Powered}
 
 -- of a write of a number: only a code in ACTION makes some
@@ -27,14 +27,14 @@ abbrev pub changes_in : Area → ℕ → MachineState → Width → ℕ → ℕ
 changes_in Device start state width code = changes_at_register (register_at start width) state code
 changes_in area start state width code = 0
 
-abbrev pub changes_at : Spot → MachineState → Width → ℕ → ℕ
+abbrev pub changes_at : Location → MachineState → Width → ℕ → ℕ
 changes_at (Inside area start) state width code = changes_in area start state width code
 changes_at (Beyond area address) state width code = 0
 changes_at (Nowhere address) state width code = 0
 
 -- of an access
 abbrev pub changes_by_call : MachineState → Call → ℕ
-changes_by_call state (Write at width value answer) = changes_at (spot_of state at (bits width / 8)) state width (value % 2 ^ 32)
+changes_by_call state (Write at width value answer) = changes_at (location_of state at (bits width / 8)) state width (value % 2 ^ 32)
 changes_by_call state call = 0
 
 -- of whatever happens: a restart ends a second copy where one stands, by one change

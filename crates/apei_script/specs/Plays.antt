@@ -204,7 +204,7 @@ abbrev pub PartlyWritten : List Reply → Reply → List ℕ → List ℕ → Ty
 PartlyWritten before last written written_now = (n : ℕ) × (written_now ≡ written ++ text_of_replies before ++ take n (text_of_reply last))
 
 -- a line was played, or what is left of it, and its listeners told. The sink refused a reply
-pub record PlaysUnheard {L : Type 0} (hearing : L → Hearing) (tells told_sink : Type 0)
+pub record PlaysUnwritten {L : Type 0} (hearing : L → Hearing) (tells told_sink : Type 0)
     (old new : PlayerState) (members members_now : List L) (line : Line) (written written_now : List ℕ) : Type 0 where
   pub made : Line
   pub said : List Reply
@@ -218,7 +218,7 @@ pub record PlaysUnheard {L : Type 0} (hearing : L → Hearing) (tells told_sink 
   pub text : told_sink → PartlyWritten before last written written_now
 
 -- the same of a line that asks the machine itself
-pub record OccurredUnheard {L : Type 0} (hearing : L → Hearing) (tells told_sink : Type 0)
+pub record OccurredUnwritten {L : Type 0} (hearing : L → Hearing) (tells told_sink : Type 0)
     (old new : MachineState) (members members_now : List L) (line : Line) (written written_now : List ℕ) : Type 0 where
   pub made : Line
   pub words : List (List ℕ)

@@ -6,18 +6,18 @@ ghost use Rattle.script_text.specs.ScriptGrammar.{error, peek, fatal};
 ghost use Rattle.apei_script.specs.Words.{words_of_submission, words_of_laid};
 ghost use Rattle.apei_script.specs.Replies.{IsMade};
 ghost use Rattle.apei_script.specs.Happened.{Happened};
-ghost use Rattle.apei_script.specs.Desks.{state_of, MakesReply};
+ghost use Rattle.apei_script.specs.Sessions.{state_of, MakesReply};
 
-use crate::desk::Desk;
 use crate::refusals::{refuse, refuse_fatal};
 use crate::reply::put_number;
+use crate::session::Session;
 use apei_space::Space;
 use erst_machine::{FatalError, Machine};
 use flash_model::Flash;
 use ghes_ack::SubmitError;
 use script_text::{Reply, decode_line};
 
-impl<F: Flash> Desk<F> {
+impl<F: Flash> Session<F> {
     /// Gives an error status block to the handover.
     pub fn give_block(&mut self, hex: &[u8])
         requires pairs { IsPairs hex.now }

@@ -11,12 +11,12 @@ ghost use Rattle.apei_script.specs.Players.{budget_of};
 ghost use Rattle.apei_script.specs.Words.{reply_at};
 ghost use Rattle.script_text.specs.Turns.{side_of};
 ghost use Rattle.apei_script.specs.Bridged.{HasTaken, words_of_turn, words_of_made};
-ghost use Rattle.apei_script.specs.Desks.{state_of, SameClients, MakesReply};
-ghost use Rattle.apei_script.specs.Played.{AreBridged, AreBridgedUnheard};
+ghost use Rattle.apei_script.specs.Sessions.{state_of, SameClients, MakesReply};
+ghost use Rattle.apei_script.specs.Played.{AreBridged, AreBridgedUnwritten};
 
-use crate::desk::Desk;
 use crate::events::hear_of_block;
 use crate::reply::{end_line, put_number};
+use crate::session::Session;
 use apei_bytes::{Sink, SinkFault, write_all};
 use apei_notify::{Chain, Listener};
 use erst_bridge::{Bridge, BridgeEvent, MadeTurn, SideTurn, turn_side};
@@ -29,7 +29,7 @@ use record_slots::RecordId;
 use script_lines::LineText;
 use script_text::{Refusal, Reply, side_of, word_of};
 
-impl<F: Flash> Desk<F> {
+impl<F: Flash> Session<F> {
     /// Turns the bridge on, where it is off and the reader idle: the first block that is stored gets this identifier.
     pub fn enter_bridge(&mut self, id: u64)
         ensures { MakesReply F.tells (state_of self.old) (bridge id) (state_of self.new) self.new.buffers.reply }
@@ -64,39 +64,39 @@ impl<F: Flash> Desk<F> {
 /// Turns of both sides while the bridge is on, one for each letter: those of the reader are the bridge's. The listeners are told of each
 /// block when it is taken, and its line is written right after; where the sink refuses that, no further turn is made.
 pub fn bridged_turns<F: Flash, O: Sink>(
-    desk: &mut Desk<F>,
+    session: &mut Session<F>,
     chain: &mut Chain,
     letters: &[u8],
     out: &mut O,
 ) -> Result<(), SinkFault>
     requires few { length letters.now ≤ 4096 }
-    requires on { desk.old.bridge ≢ Off }
-    ensures played { OnOk result (AreBridged hearing F.tells O.tells desk.old chain.old letters.now desk.new chain.new (O.written out.old) (O.written out.new)) }
-    ensures unheard { OnErr result (AreBridgedUnheard hearing F.tells O.tells desk.old chain.old letters.now desk.new chain.new (O.written out.old) (O.written out.new)) }
+    requires on { session.old.bridge ≢ Off }
+    ensures played { OnOk result (AreBridged hearing F.tells O.tells session.old chain.old letters.now session.new chain.new (O.written out.old) (O.written out.new)) }
+    ensures unwritten { OnErr result (AreBridgedUnwritten hearing F.tells O.tells session.old chain.old letters.now session.new chain.new (O.written out.old) (O.written out.new)) }
     ensures cause { HasCause (O.faults out.old) (O.faults out.new) result }
 {
     own_programs_run_through::<F>();
-    desk.machine.stands();
-    let steps = desk.budget();
-    desk.buffers.made.clear();
+    session.machine.stands();
+    let steps = session.budget();
+    session.buffers.made.clear();
     'turning: for letter in letters {
         let turn = bridged_turn(
-            &mut desk.bridge,
-            &mut desk.own,
+            &mut session.bridge,
+            &mut session.own,
             steps,
-            &mut desk.machine,
+            &mut session.machine,
             *letter,
         );
         let taken = took(&turn);
-        let step = desk.machine.steps();
-        desk.buffers.made.push(MadeTurn { turn, step }).unwrap();
+        let step = session.machine.steps();
+        session.buffers.made.push(MadeTurn { turn, step }).unwrap();
         if taken {
-            hear_of_block(desk, chain, out)?;
+            hear_of_block(session, chain, out)?;
         }
     }
-    let step = desk.machine.steps();
-    let reply = &mut desk.buffers.reply;
-    say_made(&desk.buffers.made, step, reply, out)
+    let step = session.machine.steps();
+    let reply = &mut session.buffers.reply;
+    say_made(&session.buffers.made, step, reply, out)
 }
 
 /// A turn of the side of a letter. A block that it took is one that the handover's window takes.

@@ -2,7 +2,7 @@
 ghost use Rattle.std.specs.Prelude.{◌≡◌, ◌≤◌, [], vec_len, vec_capacity, IfOk};
 ghost use Rattle.script_lines.specs.declared.lengths.TheConstants.{LONGEST_BYTES};
 
-use apei_bytes::Memory;
+use apei_bytes::OutOfMemory;
 use erst_bridge::MadeTurn;
 use ghes_ack::Event;
 use script_lines::LONGEST_BYTES;
@@ -26,7 +26,7 @@ pub struct Buffers {
 
 impl Buffers {
     /// All the memory that lines need, but for that of tables.
-    pub fn new(alloc: Global) -> Result<Buffers, Memory>
+    pub fn new(alloc: Global) -> Result<Buffers, OutOfMemory>
         ensures { IfOk result (λ buffers. buffers.reply ≡ []) }
     {
         Ok(Buffers {

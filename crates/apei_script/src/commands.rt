@@ -4,11 +4,11 @@ ghost use Rattle.script_lines.specs.declared.lengths.TheConstants.{LONGEST_BYTES
 ghost use Rattle.script_lines.specs.Parts.{IsPairs};
 ghost use Rattle.script_text.specs.ScriptGrammar.{Line, write, read, clear, count, next, dummy, action};
 ghost use Rattle.script_text.specs.ScriptText.{line_of};
-ghost use Rattle.apei_script.specs.{Players.budget_by, Words.words_of_write, Replies.IsMade, Asked.Answers, Plays.IsPlayable, Plays.asks_client, Desks.state_of, Desks.MakesReply};
+ghost use Rattle.apei_script.specs.{Players.budget_by, Words.words_of_write, Replies.IsMade, Asked.Answers, Plays.IsPlayable, Plays.asks_client, Sessions.state_of, Sessions.MakesReply};
 
-use crate::desk::Desk;
 use crate::refusals::{refuse, refuse_behind};
 use crate::reply::{put_number, put_record};
+use crate::session::Session;
 use apei_bytes::get_u64;
 use cper_frame::ID_AT;
 use erst_client::Client;
@@ -20,7 +20,7 @@ use script_text::{Reply, ScriptLine, decode};
 /// The bytes of the longest record that is read.
 const READ_BUFFER: usize = 65_536;
 
-impl<F: Flash> Desk<F> {
+impl<F: Flash> Session<F> {
     /// Carries out what a line asks of the client in use.
     pub fn ask(&mut self, line: &ScriptLine<'_>)
         requires playable { IsPlayable (line_of line.now) }

@@ -9,11 +9,11 @@ ghost use Rattle.apei_script.specs.Replies.{IsMade};
 ghost use Rattle.script_text.specs.Turns.{side_of};
 ghost use Rattle.apei_script.specs.Words.{words_of_turns, words_of_heard, words_of_block, words_of_bert, reply_at};
 ghost use Rattle.apei_script.specs.Plays.{changes_in};
-ghost use Rattle.apei_script.specs.Desks.{state_of, SameClients, Lists, ListsUnheard};
-ghost use Rattle.apei_script.specs.Played.{AreTold, heard_by, AreTurned, AreTurnedUnheard};
+ghost use Rattle.apei_script.specs.Sessions.{state_of, SameClients, Lists, ListsUnwritten};
+ghost use Rattle.apei_script.specs.Played.{AreTold, heard_by, AreTurned, AreTurnedUnwritten};
 
-use crate::desk::Desk;
 use crate::reply::{end_line, put_block};
+use crate::session::Session;
 use apei_bytes::{Sink, SinkFault, get_u32, write_all};
 use apei_notify::{Chain, Listener};
 use apei_space::Space;
@@ -25,29 +25,29 @@ use script_text::{Reply, side_of, word_of};
 /// Turns of both sides, one for each letter. The listeners are told of each block when it is taken, and its line is written right after;
 /// where the sink refuses that, no further turn is made.
 pub fn turns<F: Flash, O: Sink>(
-    desk: &mut Desk<F>,
+    session: &mut Session<F>,
     chain: &mut Chain,
     letters: &[u8],
     out: &mut O,
 ) -> Result<(), SinkFault>
     requires { length letters.now ≤ 4096 }
-    ensures occurred { OnOk result (AreTurned hearing F.tells O.tells desk.old chain.old letters.now desk.new chain.new (O.written out.old) (O.written out.new)) }
-    ensures unheard { OnErr result (AreTurnedUnheard hearing F.tells O.tells desk.old chain.old letters.now desk.new chain.new (O.written out.old) (O.written out.new)) }
-    ensures clients { SameClients desk.old desk.new }
-    ensures bridge { desk.new.bridge ≡ desk.old.bridge }
+    ensures occurred { OnOk result (AreTurned hearing F.tells O.tells session.old chain.old letters.now session.new chain.new (O.written out.old) (O.written out.new)) }
+    ensures unwritten { OnErr result (AreTurnedUnwritten hearing F.tells O.tells session.old chain.old letters.now session.new chain.new (O.written out.old) (O.written out.new)) }
+    ensures clients { SameClients session.old session.new }
+    ensures bridge { session.new.bridge ≡ session.old.bridge }
     ensures cause { HasCause (O.faults out.old) (O.faults out.new) result }
 {
-    desk.buffers.events.clear();
+    session.buffers.events.clear();
     'turning: for letter in letters {
-        let event = turn(&mut desk.machine, *letter);
-        desk.buffers.events.push(event).unwrap();
+        let event = turn(&mut session.machine, *letter);
+        session.buffers.events.push(event).unwrap();
         if event == Event::Took {
-            hear_of_block(desk, chain, out)?;
+            hear_of_block(session, chain, out)?;
         }
     }
-    let step = desk.machine.steps();
-    let reply = &mut desk.buffers.reply;
-    say_turns(&desk.buffers.events, reply);
+    let step = session.machine.steps();
+    let reply = &mut session.buffers.reply;
+    say_turns(&session.buffers.events, reply);
     end_line(reply, step);
     write_all(out, reply.text())
 }
@@ -67,25 +67,25 @@ const SEVERITY: usize = 16;
 
 /// Tells the listeners of the block that was taken last, and writes its line.
 pub fn hear_of_block<F: Flash, O: Sink>(
-    desk: &mut Desk<F>,
+    session: &mut Session<F>,
     chain: &mut Chain,
     out: &mut O,
 ) -> Result<(), SinkFault>
-    requires { Fits 4096 desk.old.machine.handover.last }
-    ensures told { AreTold hearing (desk.old.machine.handover.last ∷ []) chain.old chain.new }
-    ensures all { OnOk result (O.tells → O.written out.new ≡ O.written out.old ++ reply_at (changes_in desk.old.machine) (words_of_block desk.old.machine.handover.last)) }
-    ensures part { OnErr result (O.tells → (n : ℕ) × (O.written out.new ≡ O.written out.old ++ take n (reply_at (changes_in desk.old.machine) (words_of_block desk.old.machine.handover.last)))) }
-    ensures machine { desk.new.machine ≡ desk.old.machine }
-    ensures clients { SameClients desk.old desk.new }
-    ensures bridge { desk.new.bridge ≡ desk.old.bridge }
-    ensures events { desk.new.buffers.events ≡ desk.old.buffers.events }
-    ensures made { desk.new.buffers.made ≡ desk.old.buffers.made }
+    requires { Fits 4096 session.old.machine.handover.last }
+    ensures told { AreTold hearing (session.old.machine.handover.last ∷ []) chain.old chain.new }
+    ensures all { OnOk result (O.tells → O.written out.new ≡ O.written out.old ++ reply_at (changes_in session.old.machine) (words_of_block session.old.machine.handover.last)) }
+    ensures part { OnErr result (O.tells → (n : ℕ) × (O.written out.new ≡ O.written out.old ++ take n (reply_at (changes_in session.old.machine) (words_of_block session.old.machine.handover.last)))) }
+    ensures machine { session.new.machine ≡ session.old.machine }
+    ensures clients { SameClients session.old session.new }
+    ensures bridge { session.new.bridge ≡ session.old.bridge }
+    ensures events { session.new.buffers.events ≡ session.old.buffers.events }
+    ensures made { session.new.buffers.made ≡ session.old.buffers.made }
     ensures cause { HasCause (O.faults out.old) (O.faults out.new) result }
 {
-    let step = desk.machine.steps();
-    let block = desk.machine.taken();
+    let step = session.machine.steps();
+    let block = session.machine.taken();
     chain.tell(get_u32(block, SEVERITY), block);
-    let reply = &mut desk.buffers.reply;
+    let reply = &mut session.buffers.reply;
     put_block(reply, block);
     end_line(reply, step);
     write_all(out, reply.text())
@@ -104,21 +104,24 @@ fn say_turns(events: &[Event], reply: &mut Reply)
 }
 
 /// Shows each block of the boot error region, and then how many there are.
-pub fn list_blocks<F: Flash, O: Sink>(desk: &mut Desk<F>, out: &mut O) -> Result<(), SinkFault>
-    ensures listed { OnOk result (Lists F.tells O.tells desk.old.machine (O.written out.old) (O.written out.new)) }
-    ensures unheard { OnErr result (ListsUnheard F.tells O.tells desk.old.machine (O.written out.old) (O.written out.new)) }
-    ensures desk { state_of desk.new ≡ state_of desk.old }
+pub fn list_blocks<F: Flash, O: Sink>(
+    session: &mut Session<F>,
+    out: &mut O,
+) -> Result<(), SinkFault>
+    ensures listed { OnOk result (Lists F.tells O.tells session.old.machine (O.written out.old) (O.written out.new)) }
+    ensures unwritten { OnErr result (ListsUnwritten F.tells O.tells session.old.machine (O.written out.old) (O.written out.new)) }
+    ensures session { state_of session.new ≡ state_of session.old }
     ensures cause { HasCause (O.faults out.old) (O.faults out.new) result }
 {
-    desk.machine.stands();
+    session.machine.stands();
     let mut at = 0;
     let mut count = 0u64;
-    'listing: while let Some(next) = next_block(&desk.machine, at) {
-        show_block(desk, at, next, out)?;
+    'listing: while let Some(next) = next_block(&session.machine, at) {
+        show_block(session, at, next, out)?;
         at = next;
         count += 1;
     }
-    end_list(desk, count, out)
+    end_list(session, count, out)
 }
 
 /// The place behind the block that stands at a place of the boot error region, `None` where none begins there.
@@ -136,7 +139,7 @@ fn next_block<F: Flash>(machine: &Machine<F>, at: u32) -> Option<u32>
 
 /// Shows the block from one place of the boot error region to another.
 fn show_block<F: Flash, O: Sink>(
-    desk: &mut Desk<F>,
+    session: &mut Session<F>,
     at: u32,
     next: u32,
     out: &mut O,
@@ -144,22 +147,22 @@ fn show_block<F: Flash, O: Sink>(
     requires head { at + 20 ≤ next }
     requires within { next ≤ 16384 }
     ensures all { OnOk result (O.tells → O.written out.new ≡ O.written out.old
-        ++ reply_at (changes_in desk.old.machine) (words_of_block (part desk.old.machine.memory.region at (next - at)))) }
+        ++ reply_at (changes_in session.old.machine) (words_of_block (part session.old.machine.memory.region at (next - at)))) }
     ensures part { OnErr result (O.tells → (n : ℕ) × (O.written out.new ≡ O.written out.old
-        ++ take n (reply_at (changes_in desk.old.machine) (words_of_block (part desk.old.machine.memory.region at (next - at)))))) }
-    ensures desk { state_of desk.new ≡ state_of desk.old }
+        ++ take n (reply_at (changes_in session.old.machine) (words_of_block (part session.old.machine.memory.region at (next - at)))))) }
+    ensures session { state_of session.new ≡ state_of session.old }
     ensures cause { HasCause (O.faults out.old) (O.faults out.new) result }
 {
-    let step = desk.machine.steps();
+    let step = session.machine.steps();
     make_block(
-        &mut desk.machine,
+        &mut session.machine,
         at,
         next,
-        &mut desk.buffers.bytes,
-        &mut desk.buffers.reply,
+        &mut session.buffers.bytes,
+        &mut session.buffers.reply,
     );
-    end_line(&mut desk.buffers.reply, step);
-    write_all(out, desk.buffers.reply.text())
+    end_line(&mut session.buffers.reply, step);
+    write_all(out, session.buffers.reply.text())
 }
 
 /// The reply to a block from one place of the boot error region to another.
@@ -194,14 +197,18 @@ fn region_bytes<F: Flash>(machine: &mut Machine<F>, at: u32, out: &mut [u8])
 }
 
 /// Shows how many blocks there are.
-fn end_list<F: Flash, O: Sink>(desk: &mut Desk<F>, count: u64, out: &mut O) -> Result<(), SinkFault>
-    ensures all { OnOk result (O.tells → O.written out.new ≡ O.written out.old ++ reply_at (changes_in desk.old.machine) (words_of_bert count)) }
-    ensures part { OnErr result (O.tells → (n : ℕ) × (O.written out.new ≡ O.written out.old ++ take n (reply_at (changes_in desk.old.machine) (words_of_bert count)))) }
-    ensures desk { state_of desk.new ≡ state_of desk.old }
+fn end_list<F: Flash, O: Sink>(
+    session: &mut Session<F>,
+    count: u64,
+    out: &mut O,
+) -> Result<(), SinkFault>
+    ensures all { OnOk result (O.tells → O.written out.new ≡ O.written out.old ++ reply_at (changes_in session.old.machine) (words_of_bert count)) }
+    ensures part { OnErr result (O.tells → (n : ℕ) × (O.written out.new ≡ O.written out.old ++ take n (reply_at (changes_in session.old.machine) (words_of_bert count)))) }
+    ensures session { state_of session.new ≡ state_of session.old }
     ensures cause { HasCause (O.faults out.old) (O.faults out.new) result }
 {
-    let step = desk.machine.steps();
-    let reply = &mut desk.buffers.reply;
+    let step = session.machine.steps();
+    let reply = &mut session.buffers.reply;
     reply.begin(b"bert ");
     reply.add_number(count);
     end_line(reply, step);
@@ -210,19 +217,19 @@ fn end_list<F: Flash, O: Sink>(desk: &mut Desk<F>, count: u64, out: &mut O) -> R
 
 /// Shows how often each listener has heard of an error. However many they are, their counts take no memory.
 pub fn say_heard<F: Flash, O: Sink>(
-    desk: &mut Desk<F>,
+    session: &mut Session<F>,
     chain: &Chain,
     out: &mut O,
 ) -> Result<(), SinkFault>
-    ensures desk { state_of desk.new ≡ state_of desk.old }
+    ensures session { state_of session.new ≡ state_of session.old }
     ensures all { OnOk result (O.tells → O.written out.new ≡ O.written out.old
-        ++ reply_at (changes_in desk.old.machine) (words_of_heard (heard_by hearing chain.now))) }
+        ++ reply_at (changes_in session.old.machine) (words_of_heard (heard_by hearing chain.now))) }
     ensures part { OnErr result (O.tells → (n : ℕ) × (O.written out.new ≡ O.written out.old
-        ++ take n (reply_at (changes_in desk.old.machine) (words_of_heard (heard_by hearing chain.now))))) }
+        ++ take n (reply_at (changes_in session.old.machine) (words_of_heard (heard_by hearing chain.now))))) }
     ensures cause { HasCause (O.faults out.old) (O.faults out.new) result }
 {
-    let step = desk.machine.steps();
-    let reply = &mut desk.buffers.reply;
+    let step = session.machine.steps();
+    let reply = &mut session.buffers.reply;
     reply.begin(b"heard");
     'hearing: for at in 0..chain.len() {
         reply.make_room(out)?;

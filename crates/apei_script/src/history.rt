@@ -10,7 +10,7 @@ ghost use Rattle.erst_machine.specs.MachineState.{MachineState, IsMachine, recor
 ghost use Rattle.erst_machine.specs.Events.{Event, Happens};
 ghost use Rattle.erst_machine.specs.Shown.{IsShown, made_by_event, changes_of, shown_by};
 ghost use Rattle.erst_commands.specs.Attached.{own_client};
-ghost use Rattle.erst_commands.specs.Alike.{AlikeMachines, FailedNothing, BootsFrom};
+ghost use Rattle.erst_commands.specs.Equivalence.{EquivalentMachines, FailedNothing, BootsFrom};
 ghost use Rattle.apei_script.specs.Players.{PlayerState, GivenNoOther};
 ghost use Rattle.script_text.specs.ScriptGrammar.{Line};
 ghost use Rattle.erst_bridge.specs.{Turns.Step, MachinesInStep.KeepOrder, Shown.IsStoredAs};
@@ -19,10 +19,10 @@ ghost use Rattle.apei_script.specs.Plays.{Plays, HasHappened};
 ghost use Rattle.apei_script.specs.KeptCauses.{AllHaveCauses};
 ghost use Rattle.apei_script.specs.Orders.{HasNoBridge, IsInStep, AlwaysInStep, AllGiveStoredBack};
 ghost use Rattle.apei_script.specs.Spares.{SpareLines, KeepsAll};
-ghost use Rattle.apei_script.specs.Alike.{AlikePlayers, own_player, WantAlike, lines_in, PlayedAlike};
+ghost use Rattle.apei_script.specs.Equivalence.{EquivalentPlayers, own_player, WantAlike, lines_in, PlayedAlike};
 ghost use Rattle.apei_script.specs.History.{Played, Follows, EndInOrder, ShowsLines, ShowsEachLine, AreOwnLines, AreMapped, NoneSaysHardware, AllGoThrough, AlwaysUsesEither};
 
-use erst_bridge::alike_machines_make_turns_alike;
+use erst_bridge::equivalent_machines_make_turns_alike;
 use erst_commands::own_programs_run_through;
 use flash_model::Flash;
 
@@ -116,21 +116,21 @@ pub fn each_line_is_the_maps<F: Flash>()
         → Follows F.tells wants counts first played last → AlwaysUsesEither first played }
 {}
 
-/// Players of the machines' own clients are alike where the machines are.
-pub fn alike_machines_make_alike_players()
-    ensures { (one also : MachineState) (steps : Option ℕ) → AlikeMachines one also → AlikePlayers (own_player one steps) (own_player also steps) }
+/// Players of the machines' own clients are equivalent where the machines are.
+pub fn equivalent_machines_make_equivalent_players()
+    ensures { (one also : MachineState) (steps : Option ℕ) → EquivalentMachines one also → EquivalentPlayers (own_player one steps) (own_player also steps) }
 {}
 
-/// The same lines of two players that are alike, over flashes that fail nothing: the replies are the same, at the same flash steps, and so
+/// The same lines of two players that are equivalent, over flashes that fail nothing: the replies are the same, at the same flash steps, and so
 /// are the blocks that the operating system takes and the records at the end. Where the records stand plays no part in it.
 pub fn scripts_play_alike<F: Flash>()
     ensures { F.tells → (wants wants_too : List (ℕ → Bool)) (counts : List ℕ) (one also : PlayerState) (first second : List Played) (one_last also_last : PlayerState)
-        → WantAlike wants wants_too → AlikePlayers one also → IsMachine one.machine → lines_in first ≡ lines_in second
+        → WantAlike wants wants_too → EquivalentPlayers one also → IsMachine one.machine → lines_in first ≡ lines_in second
         → Follows F.tells wants counts one first one_last → FailedNothing one.machine one_last.machine
         → Follows F.tells wants_too counts also second also_last → FailedNothing also.machine also_last.machine
         → PlayedAlike first second one_last also_last }
 {
-    alike_machines_make_turns_alike::<F>();
+    equivalent_machines_make_turns_alike::<F>();
 }
 
 /// So the replies to a script tell of a flash only the records that it holds, with their generations, how many changes it has made, and
@@ -146,5 +146,5 @@ pub fn booted_scripts_play_alike<F: Flash>()
         → Follows F.tells wants counts (own_player also steps) second also_last → FailedNothing also also_last.machine
         → PlayedAlike first second one_last also_last }
 {
-    alike_machines_make_turns_alike::<F>();
+    equivalent_machines_make_turns_alike::<F>();
 }

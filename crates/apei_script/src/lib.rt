@@ -5,7 +5,6 @@ mod blocks;
 mod bridged;
 mod buffers;
 mod commands;
-mod desk;
 mod events;
 mod history;
 mod laws;
@@ -13,10 +12,11 @@ mod own;
 mod player;
 mod refusals;
 mod reply;
+mod session;
 mod tables;
 
 pub use history::{
-    alike_machines_make_alike_players, booted_scripts_play_alike, each_line_is_the_maps,
+    booted_scripts_play_alike, each_line_is_the_maps, equivalent_machines_make_equivalent_players,
     kept_blocks_have_causes, lines_are_one_list, lines_are_shown, lines_keep_a_machine,
     lines_keep_in_step, scripts_play_alike, stored_blocks_stay,
 };

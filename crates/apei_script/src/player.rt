@@ -10,16 +10,16 @@ ghost use Rattle.erst_bridge.specs.Bridges.{Off};
 ghost use Rattle.erst_machine.specs.MachineState.{IsMachine};
 ghost use Rattle.erst_machine.specs.Shown.{changes_of};
 ghost use Rattle.apei_script.specs.Plays.{IsPlayable, Stops, step_of, has_one_reply};
-ghost use Rattle.apei_script.specs.Desks.{state_of, LineAnswered};
-ghost use Rattle.apei_script.specs.Played.{IsPlayed, IsUnheard, IsStopped};
+ghost use Rattle.apei_script.specs.Sessions.{state_of, LineAnswered};
+ghost use Rattle.apei_script.specs.Played.{IsPlayed, IsUnwritten, IsStopped};
 
 use crate::bridged::bridged_turns;
 use crate::buffers::Buffers;
-use crate::desk::Desk;
 use crate::events::{list_blocks, say_heard, turns};
 use crate::laws::a_line_is_the_maps;
 use crate::reply::end_line;
-use apei_bytes::{Memory, Sink, SinkFault, write_all};
+use crate::session::Session;
+use apei_bytes::{OutOfMemory, Sink, SinkFault, write_all};
 use apei_notify::{Chain, Listener};
 use erst_bridge::Bridge;
 use erst_client::Client;
@@ -50,7 +50,7 @@ impl From<SinkFault> for PlayStop {
 /// Plays lines on a machine, by a client of it, and tells listeners of the errors that the operating system takes. It may not be dropped:
 /// `into_parts` spends it.
 pub struct Player<F: Flash> {
-    desk: Desk<F>,
+    session: Session<F>,
     chain: Chain,
 }
 
@@ -71,9 +71,9 @@ impl<F: Flash> Player<F> {
         chain: Chain,
         steps: Option<u64>,
     ) -> Result<Player<F>, PlayerRefused<F>>
-        ensures state { IfOk result (λ player. state_of player.desk ≡ player_of machine own steps) }
+        ensures state { IfOk result (λ player. state_of player.session ≡ player_of machine own steps) }
         ensures listeners { IfOk result (λ player. members_of player.chain ≡ members_of chain) }
-        ensures reply { IfOk result (λ player. player.desk.buffers.reply ≡ []) }
+        ensures reply { IfOk result (λ player. player.session.buffers.reply ≡ []) }
         ensures machine_back { IfErr result (λ refused. (refused.machine ≡ machine) × (refused.own ≡ own)) }
         ensures listeners_back { IfErr result (λ refused. members_of refused.chain ≡ members_of chain) }
     {
@@ -84,7 +84,7 @@ impl<F: Flash> Player<F> {
                 chain,
             });
         };
-        let desk = Desk {
+        let session = Session {
             machine,
             own,
             other: None,
@@ -93,14 +93,14 @@ impl<F: Flash> Player<F> {
             buffers,
             alloc,
         };
-        Ok(Player { desk, chain })
+        Ok(Player { session, chain })
     }
 
     /// Plays one line, and writes its replies.
     pub fn play<O: Sink>(&mut self, line: &ScriptLine<'_>, out: &mut O) -> Result<(), PlayStop>
         requires { IsPlayable (line_of line.now) }
         ensures played { OnOk result (IsPlayed hearing F.tells O.tells self.old (line_of line.now) self.new (O.written out.old) (O.written out.new)) }
-        ensures unheard { result ≡ Err PlayStop.SinkFault → IsUnheard hearing F.tells O.tells self.old (line_of line.now) self.new (O.written out.old) (O.written out.new) }
+        ensures unwritten { result ≡ Err PlayStop.SinkFault → IsUnwritten hearing F.tells O.tells self.old (line_of line.now) self.new (O.written out.old) (O.written out.new) }
         ensures stopped { IfErr result (λ stop. stop ≢ PlayStop.SinkFault → IsStopped F.tells self.old (line_of line.now) self.new stop × (out.new ≡ out.old)) }
         ensures fault { result ≡ Err PlayStop.SinkFault → Rose (O.faults out.old) (O.faults out.new) }
         ensures no_fault { result ≢ Err PlayStop.SinkFault → O.faults out.new ≡ O.faults out.old }
@@ -108,8 +108,8 @@ impl<F: Flash> Player<F> {
         match line {
             ScriptLine::Blank => {}
             ScriptLine::Turns { letters } => self.make_turns(letters, out)?,
-            ScriptLine::Bert => list_blocks(&mut self.desk, out)?,
-            ScriptLine::Heard => say_heard(&mut self.desk, &self.chain, out)?,
+            ScriptLine::Bert => list_blocks(&mut self.session, out)?,
+            ScriptLine::Heard => say_heard(&mut self.session, &self.chain, out)?,
             line => {
                 self.answer(line)?;
                 write_all(out, self.reply())?;
@@ -122,13 +122,13 @@ impl<F: Flash> Player<F> {
     fn make_turns<O: Sink>(&mut self, letters: &[u8], out: &mut O) -> Result<(), SinkFault>
         requires { length letters.now ≤ 4096 }
         ensures played { OnOk result (IsPlayed hearing F.tells O.tells self.old (turns_of letters.now) self.new (O.written out.old) (O.written out.new)) }
-        ensures unheard { OnErr result (IsUnheard hearing F.tells O.tells self.old (turns_of letters.now) self.new (O.written out.old) (O.written out.new)) }
+        ensures unwritten { OnErr result (IsUnwritten hearing F.tells O.tells self.old (turns_of letters.now) self.new (O.written out.old) (O.written out.new)) }
         ensures cause { HasCause (O.faults out.old) (O.faults out.new) result }
     {
-        if self.desk.bridge.is_on() {
-            bridged_turns(&mut self.desk, &mut self.chain, letters, out)
+        if self.session.bridge.is_on() {
+            bridged_turns(&mut self.session, &mut self.chain, letters, out)
         } else {
-            turns(&mut self.desk, &mut self.chain, letters, out)
+            turns(&mut self.session, &mut self.chain, letters, out)
         }
     }
 
@@ -136,48 +136,51 @@ impl<F: Flash> Player<F> {
     pub fn answer(&mut self, line: &ScriptLine<'_>) -> Result<(), PlayStop>
         requires playable { IsPlayable (line_of line.now) }
         requires one { has_one_reply (line_of line.now) ≡ true }
-        ensures answered { OnOk result (LineAnswered F.tells (state_of self.old.desk) (line_of line.now) (state_of self.new.desk) self.new.desk.buffers.reply) }
-        ensures stopped { IfErr result (Stops F.tells (state_of self.old.desk) (line_of line.now) (state_of self.new.desk)) }
+        ensures answered { OnOk result (LineAnswered F.tells (state_of self.old.session) (line_of line.now) (state_of self.new.session) self.new.session.buffers.reply) }
+        ensures stopped { IfErr result (Stops F.tells (state_of self.old.session) (line_of line.now) (state_of self.new.session)) }
         ensures listeners { members_of self.new.chain ≡ members_of self.old.chain }
     {
         a_line_is_the_maps::<F>();
-        self.desk.machine.stands();
-        self.desk.carry_out(line)?;
-        end_line(&mut self.desk.buffers.reply, self.desk.machine.steps());
+        self.session.machine.stands();
+        self.session.carry_out(line)?;
+        end_line(
+            &mut self.session.buffers.reply,
+            self.session.machine.steps(),
+        );
         Ok(())
     }
 
     /// What is true of every player: it does nothing.
     pub fn stands(&self)
-        ensures machine { IsMachine (state_of self.now.desk).machine }
+        ensures machine { IsMachine (state_of self.now.session).machine }
 
         // The step behind each reply counts the changes that the flash tells.
-        ensures counted { F.tells → changes_of (state_of self.now.desk).machine ≡ step_of (state_of self.now.desk) }
+        ensures counted { F.tells → changes_of (state_of self.now.session).machine ≡ step_of (state_of self.now.session) }
     {
-        self.desk.machine.stands();
+        self.session.machine.stands();
     }
 
     /// The reply that `answer` made last, right behind it; of a player that has played no line yet nothing.
     pub fn reply(&self) -> &[u8]
-        ensures { result.now ≡ self.now.desk.buffers.reply }
+        ensures { result.now ≡ self.now.session.buffers.reply }
     {
-        self.desk.buffers.reply.text()
+        self.session.buffers.reply.text()
     }
 
     /// How many changes of the flash were made so far: the step behind a reply.
     pub fn steps(&self) -> u64
-        ensures { result ≡ step_of (state_of self.now.desk) }
+        ensures { result ≡ step_of (state_of self.now.session) }
     {
-        self.desk.machine.steps()
+        self.session.machine.steps()
     }
 
     /// Takes the player apart.
     pub fn into_parts(self) -> (Machine<F>, Chain)
-        ensures machine { result.0 ≡ self.desk.machine }
+        ensures machine { result.0 ≡ self.session.machine }
         ensures listeners { members_of result.1 ≡ members_of self.chain }
     {
-        let Player { desk, chain } = self;
-        let Desk {
+        let Player { session, chain } = self;
+        let Session {
             machine,
             own: _,
             other: _,
@@ -185,13 +188,13 @@ impl<F: Flash> Player<F> {
             bridge: _,
             buffers: _,
             alloc: _,
-        } = desk;
+        } = session;
         (machine, chain)
     }
 }
 
 /// The memory of a player: that in which lines are carried out, and that of the bridge, which is off.
-fn take_memory(alloc: Global) -> Result<(Buffers, Bridge), Memory>
+fn take_memory(alloc: Global) -> Result<(Buffers, Bridge), OutOfMemory>
     ensures reply { IfOk result (λ memory. memory.0.reply ≡ []) }
     ensures off { IfOk result (λ memory. memory.1 ≡ Off) }
 {

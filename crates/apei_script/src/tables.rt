@@ -4,12 +4,12 @@ ghost use Rattle.script_lines.specs.declared.lengths.TheConstants.{LONGEST_LINE}
 ghost use Rattle.script_lines.specs.Parts.{IsPairs};
 ghost use Rattle.script_text.specs.ScriptGrammar.{table, own_table, shadow_table};
 ghost use Rattle.apei_script.specs.Plays.{Stops};
-ghost use Rattle.apei_script.specs.Desks.{state_of, MakesReply};
+ghost use Rattle.apei_script.specs.Sessions.{state_of, MakesReply};
 
-use crate::desk::Desk;
 use crate::player::PlayStop;
 use crate::refusals::{refuse, refuse_behind};
 use crate::reply::put_number;
+use crate::session::Session;
 use erst_client::Client;
 use erst_entries::{ErstError, ErstTable};
 use erst_interp::Budget;
@@ -20,7 +20,7 @@ use script_text::decode_line;
 /// The steps that attaching to a table is given.
 pub const ATTACH_STEPS: u64 = 64;
 
-impl<F: Flash> Desk<F> {
+impl<F: Flash> Session<F> {
     /// Attaches a client to the table that the bytes of a line begin with: it takes the place of the one that a line gave before. Where it is
     /// refused that one stays.
     pub fn give_table(&mut self, hex: &[u8]) -> Result<(), PlayStop>

@@ -1,6 +1,6 @@
 pub mod AccessLemmas
 mod BytePlaces
-pub mod Spots
+pub mod Locations
 pub mod MappedLemmas
 pub mod Placed
 pub mod StretchLemmas

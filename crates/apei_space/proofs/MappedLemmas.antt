@@ -4,7 +4,7 @@ use Rattle.std.proofs.lemmas.Bool.{cases_lt, cases_eq, le-leb, lt-leb, eq-eqb, n
 use Rattle.apei_tables.specs.declared.registers.Place.{Place}
 use Rattle.apei_tables.specs.declared.registers.Place.TheVariants.{Memory, Io}
 use Rattle.apei_space.specs.declared.windows.Window.{Window}
-use Rattle.apei_space.specs.Windows.{address_of, room_in, room_from, room, spot, IsApart, IsApartFrom, AreApart}
+use Rattle.apei_space.specs.Windows.{address_of, room_in, room_from, room, location, IsApart, IsApartFrom, AreApart}
 use Rattle.apei_space.specs.RamState.{within, found}
 use Rattle.apei_space.specs.Mapped.{Holds, IsMapped, further, FindsBytes}
 
@@ -113,25 +113,25 @@ end_unmapped (window ∷ windows) at apart ends mapped = elim ends [
 -- what the search among the windows says of the bytes
 abbrev FindsRoom : List Window → Place → Option (ℕ × ℕ) → Type 0
 FindsRoom windows at None = ¬ IsMapped windows at
-FindsRoom windows at (Some spot) = (0 < spot.1) × ((k : ℕ) → k < spot.1 → IsMapped windows (further at k)) × OneEndsAt windows (further at spot.1)
+FindsRoom windows at (Some location) = (0 < location.1) × ((k : ℕ) → k < location.1 → IsMapped windows (further at k)) × OneEndsAt windows (further at location.1)
 
 FindsRoom-later : (window : Window) (windows : List Window) (at : Place) (o : Option (ℕ × ℕ)) → room window at ≡ 0 → FindsRoom windows at o → FindsRoom (window ∷ windows) at o
 FindsRoom-later window windows at None none finds = λ mapped. elim mapped [
   | inl here ↦ unheld window.place window.len at none here
   | inr later ↦ finds later
 ]
-FindsRoom-later window windows at (Some spot) none finds = (finds.0, λ k h. inr (finds.1 k h), inr finds.2)
+FindsRoom-later window windows at (Some location) none finds = (finds.0, λ k h. inr (finds.1 k h), inr finds.2)
 
-finds_room : (windows : List Window) (start : ℕ) (at : Place) → FindsRoom windows at (spot windows start at)
+finds_room : (windows : List Window) (start : ℕ) (at : Place) → FindsRoom windows at (location windows start at)
 finds_room [] start at = λ mapped. mapped
 finds_room (window ∷ windows) start at = elim (cases_eq (room window at) 0) [
   | inl none ↦
-      let skips : spot (window ∷ windows) start at ≡ spot windows (start + window.len) at =
-      ap (λ (b : Bool). cond b (spot windows (start + window.len) at) (Some (start + (window.len - room window at), room window at))) (eq-eqb (room window at) 0 none) in
-      subst (λ (o : Option (ℕ × ℕ)). FindsRoom (window ∷ windows) at o) (sym skips) (FindsRoom-later window windows at (spot windows (start + window.len) at) none (finds_room windows (start + window.len) at))
+      let skips : location (window ∷ windows) start at ≡ location windows (start + window.len) at =
+      ap (λ (b : Bool). cond b (location windows (start + window.len) at) (Some (start + (window.len - room window at), room window at))) (eq-eqb (room window at) 0 none) in
+      subst (λ (o : Option (ℕ × ℕ)). FindsRoom (window ∷ windows) at o) (sym skips) (FindsRoom-later window windows at (location windows (start + window.len) at) none (finds_room windows (start + window.len) at))
   | inr some ↦
-      let stops : spot (window ∷ windows) start at ≡ Some (start + (window.len - room window at), room window at) =
-      ap (λ (b : Bool). cond b (spot windows (start + window.len) at) (Some (start + (window.len - room window at), room window at))) (ne_eqb (room window at) 0 some) in
+      let stops : location (window ∷ windows) start at ≡ Some (start + (window.len - room window at), room window at) =
+      ap (λ (b : Bool). cond b (location windows (start + window.len) at) (Some (start + (window.len - room window at), room window at))) (ne_eqb (room window at) 0 some) in
       let enough : 0 < room window at = omega arith in
       subst (λ (o : Option (ℕ × ℕ)). FindsRoom (window ∷ windows) at o) (sym stops)
       (enough, λ k h. inl (held window.place window.len at (room window at) k refl enough h), inl (ended window.place window.len at (room window at) refl enough))
@@ -151,18 +151,18 @@ finds_within windows at n None some apart finds = (
     mapped_before = λ j h. absurd (omega arith);
   },
 )
-finds_within windows at n (Some spot) some apart finds = elim (cases_lt spot.1 n) [
+finds_within windows at n (Some location) some apart finds = elim (cases_lt location.1 n) [
   | inr fits ↦
-      let all : within (Some spot) (address_of at) n ≡ Ok spot.0 = ap (λ (b : Bool). cond {A = Result ℕ ℕ} b (Ok spot.0) (Err (address_of at + spot.1))) (le-leb n spot.1 fits) in
+      let all : within (Some location) (address_of at) n ≡ Ok location.0 = ap (λ (b : Bool). cond {A = Result ℕ ℕ} b (Ok location.0) (Err (address_of at + location.1))) (le-leb n location.1 fits) in
       subst (λ (r : Result ℕ ℕ). FindsBytes windows at n r) (sym all) (λ k h. finds.1 k (omega arith))
   | inl short ↦
-      let part : within (Some spot) (address_of at) n ≡ Err (address_of at + spot.1) = ap (λ (b : Bool). cond {A = Result ℕ ℕ} b (Ok spot.0) (Err (address_of at + spot.1))) (lt-leb n spot.1 short) in
+      let part : within (Some location) (address_of at) n ≡ Err (address_of at + location.1) = ap (λ (b : Bool). cond {A = Result ℕ ℕ} b (Ok location.0) (Err (address_of at + location.1))) (lt-leb n location.1 short) in
       subst (λ (r : Result ℕ ℕ). FindsBytes windows at n r) (sym part) (
-        spot.1,
+        location.1,
         record {
           within = short;
           address_is = refl;
-          unmapped = λ mapped. end_unmapped windows (further at spot.1) apart finds.2 mapped;
+          unmapped = λ mapped. end_unmapped windows (further at location.1) apart finds.2 mapped;
           mapped_before = λ j h. finds.1 j h;
         },
       )
@@ -171,9 +171,9 @@ finds_within windows at n (Some spot) some apart finds = elim (cases_lt spot.1 n
 pub finds_bytes : (windows : List Window) (at : Place) (n : ℕ) → AreApart windows → FindsBytes windows at n (found windows at n)
 finds_bytes windows at n apart = elim (cases_eq n 0) [
   | inl none ↦
-      let nothing : found windows at n ≡ Ok 0 = ap (λ (b : Bool). cond {A = Result ℕ ℕ} b (Ok 0) (within (spot windows 0 at) (address_of at) n)) (eq-eqb n 0 none) in
+      let nothing : found windows at n ≡ Ok 0 = ap (λ (b : Bool). cond {A = Result ℕ ℕ} b (Ok 0) (within (location windows 0 at) (address_of at) n)) (eq-eqb n 0 none) in
       subst (λ (r : Result ℕ ℕ). FindsBytes windows at n r) (sym nothing) (λ k h. absurd (omega arith))
   | inr some ↦
-      let bytes : found windows at n ≡ within (spot windows 0 at) (address_of at) n = ap (λ (b : Bool). cond {A = Result ℕ ℕ} b (Ok 0) (within (spot windows 0 at) (address_of at) n)) (ne_eqb n 0 some) in
-      subst (λ (r : Result ℕ ℕ). FindsBytes windows at n r) (sym bytes) (finds_within windows at n (spot windows 0 at) (omega arith) apart (finds_room windows 0 at))
+      let bytes : found windows at n ≡ within (location windows 0 at) (address_of at) n = ap (λ (b : Bool). cond {A = Result ℕ ℕ} b (Ok 0) (within (location windows 0 at) (address_of at) n)) (ne_eqb n 0 some) in
+      subst (λ (r : Result ℕ ℕ). FindsBytes windows at n r) (sym bytes) (finds_within windows at n (location windows 0 at) (omega arith) apart (finds_room windows 0 at))
 ]

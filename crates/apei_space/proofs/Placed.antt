@@ -5,11 +5,11 @@ use Rattle.std.proofs.lemmas.Bool.Decides.{nat_tests}
 use Rattle.apei_tables.specs.declared.registers.Place.{Place}
 use Rattle.apei_tables.specs.declared.registers.Place.TheVariants.{Memory, Io}
 use Rattle.apei_space.specs.declared.windows.Window.{Window}
-use Rattle.apei_space.specs.Windows.{address_of, room_in, room_from, room, spot, total, IsApart, IsApartFrom, AreApart}
+use Rattle.apei_space.specs.Windows.{address_of, room_in, room_from, room, location, total, IsApart, IsApartFrom, AreApart}
 use Rattle.apei_space.specs.RamState.{within, found, refused, located}
 use Rattle.apei_space.specs.Mapped.{Holds, IsMapped, AreMapped, AreDisjoint, further, FindsBytes}
 use Rattle.apei_space.proofs.MappedLemmas.{finds_bytes, room_in-some, held}
-use Rattle.apei_space.proofs.Spots.{spot_fits}
+use Rattle.apei_space.proofs.Locations.{location_fits}
 
 -- two windows that are apart hold no byte together
 not_both : (p : Place) (n : ℕ) (q : Place) (m : ℕ) (at : Place) → IsApart p n q m → Holds p n at → Holds q m at → ⊥
@@ -33,7 +33,7 @@ holds (Io base) n (Io at) h = let a = room_in-some base n at (room_in base n at)
 holds (Memory base) n (Io at) h = absurd (omega (arith, h))
 holds (Io base) n (Memory at) h = absurd (omega (arith, h))
 
--- the same spot, so many bytes further
+-- the same location, so many bytes further
 room_in-further : (base n at k : ℕ) → k < room_in base n at → room_in base n (at + k) + k ≡ room_in base n at
 room_in-further base n at k h =
     let a = room_in-some base n at (room_in base n at) refl (omega (arith, h)) in
@@ -61,29 +61,29 @@ room_le (Io base) n (Io at) = room_in-le base n at
 room_le (Memory base) n (Io at) = omega arith
 room_le (Io base) n (Memory at) = omega arith
 
-spot_head : (window : Window) (windows : List Window) (start : ℕ) (at : Place) → 0 < room window at → spot (window ∷ windows) start at ≡ Some (start + (window.len - room window at), room window at)
-spot_head window windows start at h = let e : (room window at == 0) ≡ false = grind (arith, nat_tests) in rw e refl
+location_head : (window : Window) (windows : List Window) (start : ℕ) (at : Place) → 0 < room window at → location (window ∷ windows) start at ≡ Some (start + (window.len - room window at), room window at)
+location_head window windows start at h = let e : (room window at == 0) ≡ false = grind (arith, nat_tests) in rw e refl
 
-spot_tail : (window : Window) (windows : List Window) (start : ℕ) (at : Place) → room window at ≡ 0 → spot (window ∷ windows) start at ≡ spot windows (start + window.len) at
-spot_tail window windows start at h = let e : (room window at == 0) ≡ true = grind (arith, nat_tests) in rw e refl
+location_tail : (window : Window) (windows : List Window) (start : ℕ) (at : Place) → room window at ≡ 0 → location (window ∷ windows) start at ≡ location windows (start + window.len) at
+location_tail window windows start at h = let e : (room window at == 0) ≡ true = grind (arith, nat_tests) in rw e refl
 
 pair_is : (a b s r : ℕ) → ◌≡◌ {A = Option (ℕ × ℕ)} (Some (a, b)) (Some (s, r)) → (a ≡ s) × (b ≡ r)
 pair_is a b s r e =
     let same : ◌≡◌ {A = ℕ × ℕ} (a, b) (s, r) = cc in
     (ap (λ (x : ℕ × ℕ). x.0) same, ap (λ (x : ℕ × ℕ). x.1) same)
 
-head_is : (window : Window) (windows : List Window) (start : ℕ) (at : Place) (s r : ℕ) → (room window at ≡ 0 → ⊥) → spot (window ∷ windows) start at ≡ Some (s, r)
+head_is : (window : Window) (windows : List Window) (start : ℕ) (at : Place) (s r : ℕ) → (room window at ≡ 0 → ⊥) → location (window ∷ windows) start at ≡ Some (s, r)
     → (start + (window.len - room window at) ≡ s) × (room window at ≡ r)
 head_is window windows start at s r some is =
     let more : 0 < room window at = grind arith in
-    pair_is (start + (window.len - room window at)) (room window at) s r (sym (spot_head window windows start at more) ∙ is)
+    pair_is (start + (window.len - room window at)) (room window at) s r (sym (location_head window windows start at more) ∙ is)
 
--- what a spot holds is mapped
-spot_mapped : (windows : List Window) (start : ℕ) (at : Place) (s r k : ℕ) → spot windows start at ≡ Some (s, r) → k < r → IsMapped windows (further at k)
-spot_mapped [] start at s r k is h = absurd cc
-spot_mapped (window ∷ windows) start at s r k is h = go (cases_eq (room window at) 0) (λ later. spot_mapped windows (start + window.len) at s r k later h) where
-  go : (room window at ≡ 0) ⊎ (room window at ≡ 0 → ⊥) → (spot windows (start + window.len) at ≡ Some (s, r) → IsMapped windows (further at k)) → IsMapped (window ∷ windows) (further at k)
-  go (inl none) rest = inr (rest (sym (spot_tail window windows start at none) ∙ is))
+-- what a location holds is mapped
+location_mapped : (windows : List Window) (start : ℕ) (at : Place) (s r k : ℕ) → location windows start at ≡ Some (s, r) → k < r → IsMapped windows (further at k)
+location_mapped [] start at s r k is h = absurd cc
+location_mapped (window ∷ windows) start at s r k is h = go (cases_eq (room window at) 0) (λ later. location_mapped windows (start + window.len) at s r k later h) where
+  go : (room window at ≡ 0) ⊎ (room window at ≡ 0 → ⊥) → (location windows (start + window.len) at ≡ Some (s, r) → IsMapped windows (further at k)) → IsMapped (window ∷ windows) (further at k)
+  go (inl none) rest = inr (rest (sym (location_tail window windows start at none) ∙ is))
   go (inr some) rest = inl (held window.place window.len at r k (head_is window windows start at s r some is).1 (omega (arith, h)) h)
 
 -- a window among some that holds a place
@@ -93,33 +93,33 @@ mapped_at (window ∷ windows) at zero w inside is h = inl (subst (λ (x : Windo
 mapped_at (window ∷ windows) at (suc i) w inside is h = inr (mapped_at windows at i w (omega (arith, inside)) is h)
 
 -- a window with room is where the place is found, whatever windows stand before it
-pub spot_at : (windows : List Window) (start : ℕ) (at : Place) (i : ℕ) (w : Window) → AreApart windows → i < length windows → get_or windows i w ≡ w → 0 < room w at
-    → spot windows start at ≡ Some (start + total (take i windows) + (w.len - room w at), room w at)
-spot_at [] start at i w apart inside is more = absurd (omega (arith, inside))
-spot_at (window ∷ windows) start at zero w apart inside is more =
-    subst (λ (x : Window). spot (window ∷ windows) start at ≡ Some (start + 0 + (x.len - room x at), room x at)) is
-    (spot_head window windows start at (subst (λ (x : Window). 0 < room x at) (sym is) more)
+pub location_at : (windows : List Window) (start : ℕ) (at : Place) (i : ℕ) (w : Window) → AreApart windows → i < length windows → get_or windows i w ≡ w → 0 < room w at
+    → location windows start at ≡ Some (start + total (take i windows) + (w.len - room w at), room w at)
+location_at [] start at i w apart inside is more = absurd (omega (arith, inside))
+location_at (window ∷ windows) start at zero w apart inside is more =
+    subst (λ (x : Window). location (window ∷ windows) start at ≡ Some (start + 0 + (x.len - room x at), room x at)) is
+    (location_head window windows start at (subst (λ (x : Window). 0 < room x at) (sym is) more)
     ∙ ap (λ (n : ℕ). Some (n + (window.len - room window at), room window at)) (omega arith))
-spot_at (window ∷ windows) start at (suc i) w apart inside is more = go (cases_eq (room window at) 0) (spot_at windows (start + window.len) at i w apart.2 (omega (arith, inside)) is more) where
+location_at (window ∷ windows) start at (suc i) w apart inside is more = go (cases_eq (room window at) 0) (location_at windows (start + window.len) at i w apart.2 (omega (arith, inside)) is more) where
   mapped : IsMapped windows at
   mapped = mapped_at windows at i w (omega (arith, inside)) is (holds w.place w.len at more)
 
-  go : (room window at ≡ 0) ⊎ (room window at ≡ 0 → ⊥) → spot windows (start + window.len) at ≡ Some (start + window.len + total (take i windows) + (w.len - room w at), room w at)
-      → spot (window ∷ windows) start at ≡ Some (start + (window.len + total (take i windows)) + (w.len - room w at), room w at)
-  go (inl none) later = spot_tail window windows start at none ∙ later ∙ ap (λ (n : ℕ). Some (n + (w.len - room w at), room w at)) (omega arith)
+  go : (room window at ≡ 0) ⊎ (room window at ≡ 0 → ⊥) → location windows (start + window.len) at ≡ Some (start + window.len + total (take i windows) + (w.len - room w at), room w at)
+      → location (window ∷ windows) start at ≡ Some (start + (window.len + total (take i windows)) + (w.len - room w at), room w at)
+  go (inl none) later = location_tail window windows start at none ∙ later ∙ ap (λ (n : ℕ). Some (n + (w.len - room w at), room w at)) (omega arith)
   go (inr some) later = absurd (unheld_by window windows at apart.1 (holds window.place window.len at (grind arith)) mapped)
 
-pub spot_further : (windows : List Window) (start : ℕ) (at : Place) (s r k : ℕ) → AreApart windows → spot windows start at ≡ Some (s, r) → k < r → spot windows start (further at k) ≡ Some (s + k, r - k)
-spot_further [] start at s r k apart is h = absurd cc
-spot_further (window ∷ windows) start at s r k apart is h = go (cases_eq (room window at) 0) (λ later. spot_further windows (start + window.len) at s r k apart.2 later h) where
-  go : (room window at ≡ 0) ⊎ (room window at ≡ 0 → ⊥) → (spot windows (start + window.len) at ≡ Some (s, r) → spot windows (start + window.len) (further at k) ≡ Some (s + k, r - k)) → spot (window ∷ windows) start (further at k) ≡ Some (s + k, r - k)
+pub location_further : (windows : List Window) (start : ℕ) (at : Place) (s r k : ℕ) → AreApart windows → location windows start at ≡ Some (s, r) → k < r → location windows start (further at k) ≡ Some (s + k, r - k)
+location_further [] start at s r k apart is h = absurd cc
+location_further (window ∷ windows) start at s r k apart is h = go (cases_eq (room window at) 0) (λ later. location_further windows (start + window.len) at s r k apart.2 later h) where
+  go : (room window at ≡ 0) ⊎ (room window at ≡ 0 → ⊥) → (location windows (start + window.len) at ≡ Some (s, r) → location windows (start + window.len) (further at k) ≡ Some (s + k, r - k)) → location (window ∷ windows) start (further at k) ≡ Some (s + k, r - k)
   go (inl none) rest =
-      let later : spot windows (start + window.len) at ≡ Some (s, r) = sym (spot_tail window windows start at none) ∙ is in
+      let later : location windows (start + window.len) at ≡ Some (s, r) = sym (location_tail window windows start at none) ∙ is in
       let no_room : room window (further at k) ≡ 0 = elsewhere (cases_eq (room window (further at k)) 0) later in
-      spot_tail window windows start (further at k) no_room ∙ rest later where
-        elsewhere : (room window (further at k) ≡ 0) ⊎ (room window (further at k) ≡ 0 → ⊥) → spot windows (start + window.len) at ≡ Some (s, r) → room window (further at k) ≡ 0
+      location_tail window windows start (further at k) no_room ∙ rest later where
+        elsewhere : (room window (further at k) ≡ 0) ⊎ (room window (further at k) ≡ 0 → ⊥) → location windows (start + window.len) at ≡ Some (s, r) → room window (further at k) ≡ 0
         elsewhere (inl z) later = z
-        elsewhere (inr some) later = absurd (unheld_by window windows (further at k) apart.1 (holds window.place window.len (further at k) (grind arith)) (spot_mapped windows (start + window.len) at s r k later h))
+        elsewhere (inr some) later = absurd (unheld_by window windows (further at k) apart.1 (holds window.place window.len (further at k) (grind arith)) (location_mapped windows (start + window.len) at s r k later h))
   go (inr some) rest =
       let e = head_is window windows start at s r some is in
       let same = e.1 in
@@ -128,7 +128,7 @@ spot_further (window ∷ windows) start at s r k apart is h = go (cases_eq (room
       let le = room_le window.place window.len at in
       let sum : start + (window.len - room window (further at k)) ≡ s + k = omega (arith, f, same, at_s, le, h) in
       let left : room window (further at k) ≡ r - k = omega (arith, f, same) in
-      spot_head window windows start (further at k) (omega (arith, f, same, h)) ∙ ap (λ (x : ℕ). Some (x, room window (further at k))) sum ∙ ap (λ (x : ℕ). Some (s + k, x)) left
+      location_head window windows start (further at k) (omega (arith, f, same, h)) ∙ ap (λ (x : ℕ). Some (x, room window (further at k))) sum ∙ ap (λ (x : ℕ). Some (s + k, x)) left
 
 -- both in one window
 apart_in : (base len p n q m start : ℕ) → 0 < n → 0 < m → n ≤ room_in base len p → m ≤ room_in base len q → (p + n ≤ q) ⊎ (q + m ≤ p) →
@@ -148,32 +148,32 @@ same_window (Io base) len (Memory p) n q m start a b np mq d = absurd (omega (ar
 same_window (Memory base) len (Memory p) n (Io q) m start a b np mq d = absurd (omega (arith, b, mq))
 same_window (Io base) len (Io p) n (Memory q) m start a b np mq d = absurd (omega (arith, b, mq))
 
-spot_from : (windows : List Window) (start : ℕ) (at : Place) (s r : ℕ) → spot windows start at ≡ Some (s, r) → start ≤ s
-spot_from [] start at s r is = absurd cc
-spot_from (window ∷ windows) start at s r is = go (cases_eq (room window at) 0) (λ later. spot_from windows (start + window.len) at s r later) where
-  go : (room window at ≡ 0) ⊎ (room window at ≡ 0 → ⊥) → (spot windows (start + window.len) at ≡ Some (s, r) → start + window.len ≤ s) → start ≤ s
-  go (inl none) rest = let h = rest (sym (spot_tail window windows start at none) ∙ is) in omega (arith, h)
+location_from : (windows : List Window) (start : ℕ) (at : Place) (s r : ℕ) → location windows start at ≡ Some (s, r) → start ≤ s
+location_from [] start at s r is = absurd cc
+location_from (window ∷ windows) start at s r is = go (cases_eq (room window at) 0) (λ later. location_from windows (start + window.len) at s r later) where
+  go : (room window at ≡ 0) ⊎ (room window at ≡ 0 → ⊥) → (location windows (start + window.len) at ≡ Some (s, r) → start + window.len ≤ s) → start ≤ s
+  go (inl none) rest = let h = rest (sym (location_tail window windows start at none) ∙ is) in omega (arith, h)
   go (inr some) rest = let same = (head_is window windows start at s r some is).0 in omega (arith, same)
 
 -- what the first window holds stands before what a later one holds
 head_before : (window : Window) (windows : List Window) (start : ℕ) (p q : Place) (s r t u : ℕ) → (room window p ≡ 0 → ⊥) → room window q ≡ 0 →
-    spot (window ∷ windows) start p ≡ Some (s, r) → spot (window ∷ windows) start q ≡ Some (t, u) → s + r ≤ t
+    location (window ∷ windows) start p ≡ Some (s, r) → location (window ∷ windows) start q ≡ Some (t, u) → s + r ≤ t
 head_before window windows start p q s r t u in_p no_q is it =
     let e = head_is window windows start p s r in_p is in
     let at_s = e.0 in
     let same = e.1 in
-    let later = spot_from windows (start + window.len) q t u (sym (spot_tail window windows start q no_q) ∙ it) in
+    let later = location_from windows (start + window.len) q t u (sym (location_tail window windows start q no_q) ∙ it) in
     let le = room_le window.place window.len p in
     omega (arith, at_s, same, later, le)
 
-pub spots_apart : (windows : List Window) (start : ℕ) (p : Place) (n : ℕ) (q : Place) (m : ℕ) (s r t u : ℕ) → 0 < n → 0 < m → AreDisjoint p n q m →
-    spot windows start p ≡ Some (s, r) → n ≤ r → spot windows start q ≡ Some (t, u) → m ≤ u → (s + n ≤ t) ⊎ (t + m ≤ s)
-spots_apart [] start p n q m s r t u a b d is nr it mu = absurd cc
-spots_apart (window ∷ windows) start p n q m s r t u a b d is nr it mu =
-    go (cases_eq (room window p) 0) (cases_eq (room window q) 0) (λ x y. spots_apart windows (start + window.len) p n q m s r t u a b d x nr y mu) where
+pub locations_apart : (windows : List Window) (start : ℕ) (p : Place) (n : ℕ) (q : Place) (m : ℕ) (s r t u : ℕ) → 0 < n → 0 < m → AreDisjoint p n q m →
+    location windows start p ≡ Some (s, r) → n ≤ r → location windows start q ≡ Some (t, u) → m ≤ u → (s + n ≤ t) ⊎ (t + m ≤ s)
+locations_apart [] start p n q m s r t u a b d is nr it mu = absurd cc
+locations_apart (window ∷ windows) start p n q m s r t u a b d is nr it mu =
+    go (cases_eq (room window p) 0) (cases_eq (room window q) 0) (λ x y. locations_apart windows (start + window.len) p n q m s r t u a b d x nr y mu) where
       go : (room window p ≡ 0) ⊎ (room window p ≡ 0 → ⊥) → (room window q ≡ 0) ⊎ (room window q ≡ 0 → ⊥) →
-          (spot windows (start + window.len) p ≡ Some (s, r) → spot windows (start + window.len) q ≡ Some (t, u) → (s + n ≤ t) ⊎ (t + m ≤ s)) → (s + n ≤ t) ⊎ (t + m ≤ s)
-      go (inl no_p) (inl no_q) rest = rest (sym (spot_tail window windows start p no_p) ∙ is) (sym (spot_tail window windows start q no_q) ∙ it)
+          (location windows (start + window.len) p ≡ Some (s, r) → location windows (start + window.len) q ≡ Some (t, u) → (s + n ≤ t) ⊎ (t + m ≤ s)) → (s + n ≤ t) ⊎ (t + m ≤ s)
+      go (inl no_p) (inl no_q) rest = rest (sym (location_tail window windows start p no_p) ∙ is) (sym (location_tail window windows start q no_q) ∙ it)
       go (inr in_p) (inl no_q) rest = let before = head_before window windows start p q s r t u in_p no_q is it in inl (omega (arith, before, nr))
       go (inl no_p) (inr in_q) rest = let before = head_before window windows start q p t u s r in_q no_p it is in inr (omega (arith, before, mu))
       go (inr in_p) (inr in_q) rest =
@@ -187,26 +187,26 @@ spots_apart (window ∷ windows) start p n q m s r t u a b d is nr it mu =
 pub record IsPlaced (windows : List Window) (at : Place) (n s : ℕ) : Type 0 where
   pub found_at : located windows at n ≡ Ok s
   pub room : ℕ
-  pub spot_is : spot windows 0 at ≡ Some (s, room)
+  pub location_is : location windows 0 at ≡ Some (s, room)
   pub fits : n ≤ room
 
 -- an access that is found is placed
 pub found_placed : (windows : List Window) (at : Place) (n s : ℕ) → 0 < n → located windows at n ≡ Ok s → IsPlaced windows at n s
-found_placed windows at n s some is = go (spot windows 0 at) refl where
-  plain : found windows at n ≡ within (spot windows 0 at) (address_of at) n
-  plain = ap (λ (b : Bool). cond {A = Result ℕ ℕ} b (Ok 0) (within (spot windows 0 at) (address_of at) n)) (ne_eqb n 0 (λ z. omega (arith, z, some)))
+found_placed windows at n s some is = go (location windows 0 at) refl where
+  plain : found windows at n ≡ within (location windows 0 at) (address_of at) n
+  plain = ap (λ (b : Bool). cond {A = Result ℕ ℕ} b (Ok 0) (within (location windows 0 at) (address_of at) n)) (ne_eqb n 0 (λ z. omega (arith, z, some)))
 
   none : (a : ℕ) → found windows at n ≡ Err a → ⊥
   none a e = let both : refused (Err a) ≡ Ok s = sym (ap refused e) ∙ is in cc
 
-  go : (o : Option (ℕ × ℕ)) → spot windows 0 at ≡ o → IsPlaced windows at n s
+  go : (o : Option (ℕ × ℕ)) → location windows 0 at ≡ o → IsPlaced windows at n s
   go None e = absurd (none (address_of at) (plain ∙ ap (λ (o : Option (ℕ × ℕ)). within o (address_of at) n) e))
   go (Some x) e = test (nat_le n x.1) refl where
     test : (b : Bool) → nat_le n x.1 ≡ b → IsPlaced windows at n s
     test true h =
         let all : found windows at n ≡ Ok x.0 = plain ∙ ap (λ (o : Option (ℕ × ℕ)). within o (address_of at) n) e ∙ ap (λ (b : Bool). cond {A = Result ℕ ℕ} b (Ok x.0) (Err (address_of at + x.1))) h in
         let same : x.0 ≡ s = start_is x.0 all in
-        record { found_at = is; room = x.1; spot_is = subst (λ (k : ℕ). spot windows 0 at ≡ Some (k, x.1)) same e; fits = grind (arith, nat_tests) } where
+        record { found_at = is; room = x.1; location_is = subst (λ (k : ℕ). location windows 0 at ≡ Some (k, x.1)) same e; fits = grind (arith, nat_tests) } where
           start_is : (k : ℕ) → found windows at n ≡ Ok k → k ≡ s
           start_is k f = let both : refused (Ok k) ≡ Ok s = sym (ap refused f) ∙ is in cc
     test false h =
@@ -224,22 +224,22 @@ placed windows at n apart some mapped = go (found windows at n) refl (finds_byte
 pub located_within : (windows : List Window) (at : Place) (n s k m : ℕ) → AreApart windows → IsPlaced windows at n s → 0 < m → k + m ≤ n → located windows (further at k) m ≡ Ok (s + k)
 located_within windows at n s k m apart p some inside =
     let fits = p.fits in
-    let e = spot_further windows 0 at s p.room k apart p.spot_is (omega (arith, fits, some, inside)) in
-    let plain : found windows (further at k) m ≡ within (spot windows 0 (further at k)) (address_of (further at k)) m =
-    ap (λ (b : Bool). cond {A = Result ℕ ℕ} b (Ok 0) (within (spot windows 0 (further at k)) (address_of (further at k)) m)) (ne_eqb m 0 (λ z. omega (arith, z, some))) in
+    let e = location_further windows 0 at s p.room k apart p.location_is (omega (arith, fits, some, inside)) in
+    let plain : found windows (further at k) m ≡ within (location windows 0 (further at k)) (address_of (further at k)) m =
+    ap (λ (b : Bool). cond {A = Result ℕ ℕ} b (Ok 0) (within (location windows 0 (further at k)) (address_of (further at k)) m)) (ne_eqb m 0 (λ z. omega (arith, z, some))) in
     ap refused (plain ∙ ap (λ (o : Option (ℕ × ℕ)). within o (address_of (further at k)) m) e
     ∙ ap (λ (b : Bool). cond {A = Result ℕ ℕ} b (Ok (s + k)) (Err (address_of (further at k) + (p.room - k)))) (le-leb m (p.room - k) (omega (arith, fits, inside))))
 
 -- what is placed lies among the bytes
 pub placed_fits : (windows : List Window) (at : Place) (n s : ℕ) → AreApart windows → IsPlaced windows at n s → s + n ≤ total windows
 placed_fits windows at n s apart p =
-    let f = spot_fits windows 0 at (s, p.room) apart p.spot_is in
+    let f = location_fits windows 0 at (s, p.room) apart p.location_is in
     let w = f.within in
     let fits = p.fits in
     omega (arith, w, fits)
 
 pub placed_apart : (windows : List Window) (p : Place) (n s : ℕ) (q : Place) (m t : ℕ) → 0 < n → 0 < m → IsPlaced windows p n s → IsPlaced windows q m t → AreDisjoint p n q m → (s + n ≤ t) ⊎ (t + m ≤ s)
-placed_apart windows p n s q m t a b x y d = spots_apart windows 0 p n q m s x.room t y.room a b d x.spot_is x.fits y.spot_is y.fits
+placed_apart windows p n s q m t a b x y d = locations_apart windows 0 p n q m s x.room t y.room a b d x.location_is x.fits y.location_is y.fits
 
 -- two places are one, or their bytes are two
 one_or_two : (a b : ℕ) → (a ≡ b) ⊎ ((a + 1 ≤ b) ⊎ (b + 1 ≤ a))

@@ -5,9 +5,9 @@ use Rattle.std.specs.List.Sorted.{IsPermutation}
 use Rattle.apei_tables.specs.declared.registers.Place.{Place}
 use Rattle.apei_space.specs.declared.windows.Window.{Window}
 use Rattle.apei_space.specs.declared.windows.Stretch.{Stretch}
-use Rattle.apei_space.specs.Windows.{room, spot, total, AreApart}
+use Rattle.apei_space.specs.Windows.{room, location, total, AreApart}
 use Rattle.apei_space.specs.Stretches.{IsStretch, IsTableOf, stretches_from}
-use Rattle.apei_space.proofs.Placed.{spot_at}
+use Rattle.apei_space.proofs.Placed.{location_at}
 
 taken : (windows : List Window) (i : ℕ) (d : Window) → i < length windows → total (take (suc i) windows) ≡ total (take i windows) + (get_or windows i d).len
 taken [] i d inside = absurd (omega (arith, inside))
@@ -25,12 +25,12 @@ total_more windows i d inside = let same : suc i ≡ i + 1 = omega arith in subs
 pub total_rest : (windows : List Window) (i : ℕ) (d : Window) → i < length windows → total (drop i windows) ≡ (get_or windows i d).len + total (drop (i + 1) windows)
 total_rest windows i d inside = let same : suc i ≡ i + 1 = omega arith in subst (λ (n : ℕ). total (drop i windows) ≡ (get_or windows i d).len + total (drop n windows)) same (left windows i d inside)
 
-pub stretch_spot : (windows : List Window) (at : Place) (stretch : Stretch) (r : ℕ) → AreApart windows → IsStretch windows stretch → r ≡ room stretch.window at → 0 < r
-    → Some (stretch.start + (stretch.window.len - r), r) ≡ spot windows 0 at
-stretch_spot windows at stretch r apart is room_is more =
-    let there = spot_at windows 0 at is.number stretch.window apart is.inside is.window_is (subst (λ (n : ℕ). 0 < n) room_is more) in
+pub stretch_location : (windows : List Window) (at : Place) (stretch : Stretch) (r : ℕ) → AreApart windows → IsStretch windows stretch → r ≡ room stretch.window at → 0 < r
+    → Some (stretch.start + (stretch.window.len - r), r) ≡ location windows 0 at
+stretch_location windows at stretch r apart is room_is more =
+    let there = location_at windows 0 at is.number stretch.window apart is.inside is.window_is (subst (λ (n : ℕ). 0 < n) room_is more) in
     let start = is.start_is in
-    subst (λ (n : ℕ). Some (stretch.start + (stretch.window.len - n), n) ≡ spot windows 0 at) (sym room_is)
+    subst (λ (n : ℕ). Some (stretch.start + (stretch.window.len - n), n) ≡ location windows 0 at) (sym room_is)
     (ap (λ (n : ℕ). Some (n + (stretch.window.len - room stretch.window at), room stretch.window at)) (omega (arith, start)) ∙ sym there)
 
 pub table_of : (windows : List Window) (table same : List Stretch) → same ≡ table → total windows < 2 ^ 63 → AreApart windows → All (IsStretch windows) table → IsTableOf windows same

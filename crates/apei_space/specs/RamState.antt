@@ -8,7 +8,7 @@ use Rattle.apei_space.specs.declared.faults.SpaceFault.{SpaceFault}
 use Rattle.apei_space.specs.declared.faults.SpaceFault.TheVariants.{Unmapped}
 use Rattle.apei_space.specs.declared.windows.Window.{Window}
 use Rattle.apei_space.specs.Calls.{Call, Read, Write, Wait, Copy, ReadBytes, WriteBytes}
-use Rattle.apei_space.specs.Windows.{address_of, spot, total, AreApart}
+use Rattle.apei_space.specs.Windows.{address_of, location, total, AreApart}
 
 pub record RamState : Type 0 where
   pub windows : List Window
@@ -23,10 +23,10 @@ pub record FillsWindows (ram : RamState) : Type 0 where
 -- where the first of n bytes from a place on stands, if one window holds them all; or the first address that none holds
 abbrev pub within : Option (ℕ × ℕ) → ℕ → ℕ → Result ℕ ℕ
 within None at n = Err at
-within (Some spot) at n = if nat_le n spot.1 then Ok spot.0 else Err (at + spot.1)
+within (Some location) at n = if nat_le n location.1 then Ok location.0 else Err (at + location.1)
 
 abbrev pub found : List Window → Place → ℕ → Result ℕ ℕ
-found windows at n = if n == 0 then Ok 0 else within (spot windows 0 at) (address_of at) n
+found windows at n = if n == 0 then Ok 0 else within (location windows 0 at) (address_of at) n
 
 abbrev pub refused : Result ℕ ℕ → Result ℕ SpaceFault
 refused (Ok start) = Ok start

@@ -5,7 +5,7 @@ use Rattle.apei_tables.specs.declared.registers.Place.{Place}
 use Rattle.apei_space.specs.declared.windows.Window.{Window}
 use Rattle.apei_space.specs.declared.windows.Stretch.{Stretch}
 use Rattle.apei_space.specs.declared.guesses.Guess.{Guess}
-use Rattle.apei_space.specs.Windows.{address_of, room, total, spot, AreApart}
+use Rattle.apei_space.specs.Windows.{address_of, room, total, location, AreApart}
 
 -- it is one of some windows, whose bytes stand one after another
 pub record IsStretch (windows : List Window) (stretch : Stretch) : Type 0 where
@@ -25,7 +25,7 @@ IsTable table = (windows : List Window) × IsTableOf windows table
 
 -- where the byte of a place stands is told right, if it is told
 abbrev pub Tells : List Stretch → Place → Option (ℕ × ℕ) → Type 0
-Tells table at told = (windows : List Window) → IsTableOf windows table → IfSome told (λ given. Some given ≡ spot windows 0 at)
+Tells table at told = (windows : List Window) → IsTableOf windows table → IfSome told (λ given. Some given ≡ location windows 0 at)
 
 -- each of some windows, and where its first byte stands among those of all, which stand one after another from an index on
 abbrev pub stretches_from : ℕ → List Window → List Stretch
@@ -38,19 +38,19 @@ pub record IsTabulated (windows : List Window) (table : List Stretch) : Type 0 w
   pub in_order : IsNonDecreasingBy (λ stretch. address_of stretch.window.place) table
 
 -- where the byte of a place stands, if a stretch holds it
-abbrev pub spot_in : Place → Option Stretch → Option (ℕ × ℕ)
-spot_in at None = None
-spot_in at (Some stretch) =
+abbrev pub location_in : Place → Option Stretch → Option (ℕ × ℕ)
+location_in at None = None
+location_in at (Some stretch) =
     if room stretch.window at == 0 then None else Some (stretch.start + (stretch.window.len - room stretch.window at), room stretch.window at)
 
 -- if that of a number does
-abbrev pub spot_numbered : List Stretch → ℕ → Place → Option (ℕ × ℕ)
-spot_numbered table number at = spot_in at (slice_get table number)
+abbrev pub location_numbered : List Stretch → ℕ → Place → Option (ℕ × ℕ)
+location_numbered table number at = location_in at (slice_get table number)
 
 abbrev pub or_else : Option (ℕ × ℕ) → Option (ℕ × ℕ) → Option (ℕ × ℕ)
 or_else (Some found) other = Some found
 or_else None other = other
 
 -- if one of two does, the first one asked first
-abbrev pub spot_guessed : List Stretch → Guess → Place → Option (ℕ × ℕ)
-spot_guessed table guess at = or_else (spot_numbered table guess.first at) (spot_numbered table guess.second at)
+abbrev pub location_guessed : List Stretch → Guess → Place → Option (ℕ × ℕ)
+location_guessed table guess at = or_else (location_numbered table guess.first at) (location_numbered table guess.second at)

@@ -29,10 +29,10 @@ total (window ∷ windows) = window.len + total windows
 
 -- where the byte of a place stands among the bytes of all windows, which stand one after another from an index on, and
 -- how many its window holds from there on
-abbrev pub spot : List Window → ℕ → Place → Option (ℕ × ℕ)
-spot [] start at = None
-spot (window ∷ windows) start at =
-    if room window at == 0 then spot windows (start + window.len) at else Some (start + (window.len - room window at), room window at)
+abbrev pub location : List Window → ℕ → Place → Option (ℕ × ℕ)
+location [] start at = None
+location (window ∷ windows) start at =
+    if room window at == 0 then location windows (start + window.len) at else Some (start + (window.len - room window at), room window at)
 
 -- two windows are in different spaces, or there is an address between them
 abbrev pub IsApart : Place → ℕ → Place → ℕ → Type 0

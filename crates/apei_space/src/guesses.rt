@@ -2,7 +2,7 @@
 ghost use Rattle.std.specs.Prelude.{◌≡◌, ◌/◌, ◌^◌, ◌<◌, length, replicate, IfOk};
 ghost use Rattle.apei_space.specs.Guesses.{guessed, keys, no_guess, put, shift, slot, window_noted};
 
-use apei_bytes::Memory;
+use apei_bytes::OutOfMemory;
 use std::alloc::Global;
 
 /// The slots of all guesses, as many as 8 bits can number.
@@ -61,7 +61,7 @@ fn keys_of(len: u32) -> u32
 }
 
 impl Guesses {
-    pub fn new(alloc: Global) -> Result<Guesses, Memory>
+    pub fn new(alloc: Global) -> Result<Guesses, OutOfMemory>
         ensures { IfOk result (λ guesses. guesses.slots.items ≡ replicate 256 no_guess) }
     {
         let slots = vec![in alloc; NO_GUESS; SLOTS]?;

@@ -10,7 +10,7 @@ use crate::bytes::{copy_part, get_number, get_part, put_number, put_part};
 use crate::faults::SpaceFault;
 use crate::spaces::Space;
 use crate::windows::{Table, Window, address, search, tabulate};
-use apei_bytes::Memory;
+use apei_bytes::OutOfMemory;
 use apei_tables::{Place, Width};
 use std::alloc::Global;
 use std::marker::Model;
@@ -41,12 +41,12 @@ impl Model for Ram {
 
 impl Ram {
     /// Memory of these windows, all bytes 0.
-    pub fn new(alloc: Global, windows: &[Window]) -> Result<Ram, Memory>
+    pub fn new(alloc: Global, windows: &[Window]) -> Result<Ram, OutOfMemory>
         requires { AreApart windows.now }
         ensures { IfOk result (λ ram. ram ≡ record { windows = windows.now; bytes = replicate (total windows.now) 0; waited = 0 }) }
     {
         let Some(len) = total_of(windows) else {
-            return Err(Memory);
+            return Err(OutOfMemory);
         };
         let bytes = vec![in alloc; 0; len]?;
         let table = tabulate(alloc, windows)?;

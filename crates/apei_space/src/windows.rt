@@ -1,11 +1,11 @@
 // A stretch of plain bytes, and where an access stands in one.
 ghost use Rattle.std.specs.Prelude.{◌≡◌, ◌+◌, ◌<◌, ◌≤◌, ◌^◌, ◌-◌, All, length, IfOk, IfSome};
-ghost use Rattle.apei_space.specs.Windows.{address_of, room, room_in, spot, total, AreApart};
-ghost use Rattle.apei_space.specs.Stretches.{IsStretch, IsTable, IsTabulated, Tells, spot_guessed, spot_numbered};
+ghost use Rattle.apei_space.specs.Windows.{address_of, room, room_in, location, total, AreApart};
+ghost use Rattle.apei_space.specs.Stretches.{IsStretch, IsTable, IsTabulated, Tells, location_guessed, location_numbered};
 ghost use Rattle.apei_space.specs.Guesses.{all_noted, guesses_at};
 
 use crate::guesses::{Guess, Guesses, SHORT};
-use apei_bytes::Memory;
+use apei_bytes::OutOfMemory;
 use apei_tables::Place;
 use std::alloc::Global;
 
@@ -50,9 +50,9 @@ pub fn address(at: Place) -> u64
 
 /// Where the byte of a place stands among the bytes of all windows, and how many its window holds from there on.
 #[inline(always)]
-fn spot(windows: &[Window], at: Place) -> Option<(usize, u32)>
+fn location(windows: &[Window], at: Place) -> Option<(usize, u32)>
     requires { total windows.now < 2 ^ 63 }
-    ensures { result ≡ spot windows.now 0 at }
+    ensures { result ≡ location windows.now 0 at }
 {
     let mut start: usize = 0;
     for window in windows {
@@ -80,7 +80,7 @@ pub struct Table {
 }
 
 /// The table of some windows.
-pub fn tabulate(alloc: Global, windows: &[Window]) -> Result<Table, Memory>
+pub fn tabulate(alloc: Global, windows: &[Window]) -> Result<Table, OutOfMemory>
     requires { total windows.now < 2 ^ 63 }
     ensures are { IfOk result (λ table. All (IsStretch windows.now) table.stretches.items) }
     ensures whole { IfOk result (λ table. IsTabulated windows.now table.stretches.items) }
@@ -92,7 +92,7 @@ pub fn tabulate(alloc: Global, windows: &[Window]) -> Result<Table, Memory>
 }
 
 /// The windows in the order of their addresses.
-fn stretches(alloc: Global, windows: &[Window]) -> Result<Vec<Stretch>, Memory>
+fn stretches(alloc: Global, windows: &[Window]) -> Result<Vec<Stretch>, OutOfMemory>
     requires { total windows.now < 2 ^ 63 }
     ensures are { IfOk result (λ table. All (IsStretch windows.now) table.items) }
     ensures whole { IfOk result (λ table. IsTabulated windows.now table.items) }
@@ -110,7 +110,7 @@ fn stretches(alloc: Global, windows: &[Window]) -> Result<Vec<Stretch>, Memory>
     Ok(table)
 }
 
-fn guesses(alloc: Global, stretches: &[Stretch]) -> Result<Guesses, Memory>
+fn guesses(alloc: Global, stretches: &[Stretch]) -> Result<Guesses, OutOfMemory>
     ensures { IfOk result (λ guesses. guesses.slots.items ≡ guesses_at stretches.now) }
 {
     let mut guesses = Guesses::new(alloc)?;
@@ -137,18 +137,18 @@ fn note_windows(guesses: &mut Guesses, stretches: &[Stretch], is_short: bool)
 /// So many windows are looked at one by one as fast as by a search.
 const FEW: usize = 4;
 
-/// The same as `spot`: few windows are looked at one by one.
+/// The same as `location`: few windows are looked at one by one.
 #[inline(always)]
 pub fn search(table: &Table, windows: &[Window], at: Place) -> Option<(usize, u32)>
     requires few { total windows.now < 2 ^ 63 }
     requires apart { AreApart windows.now }
     requires table { All (IsStretch windows.now) table.now.stretches.items }
-    ensures { result ≡ spot windows.now 0 at }
+    ensures { result ≡ location windows.now 0 at }
 {
     if windows.len() > FEW {
         return search_many(table, windows, at);
     }
-    spot(windows, at)
+    location(windows, at)
 }
 
 /// The same by a guess, where one is right.
@@ -157,14 +157,14 @@ fn search_many(table: &Table, windows: &[Window], at: Place) -> Option<(usize, u
     requires few { total windows.now < 2 ^ 63 }
     requires apart { AreApart windows.now }
     requires table { All (IsStretch windows.now) table.now.stretches.items }
-    ensures { result ≡ spot windows.now 0 at }
+    ensures { result ≡ location windows.now 0 at }
 {
     let stretches = table.stretches.as_slice();
     let first = address(at);
-    if let Some(found) = spot_guessed(stretches, table.guesses.by_word(first), at) {
+    if let Some(found) = location_guessed(stretches, table.guesses.by_word(first), at) {
         return Some(found);
     }
-    if let Some(found) = spot_guessed(stretches, table.guesses.by_page(first), at) {
+    if let Some(found) = location_guessed(stretches, table.guesses.by_page(first), at) {
         return Some(found);
     }
     search_in_order(stretches, windows, at)
@@ -172,22 +172,22 @@ fn search_many(table: &Table, windows: &[Window], at: Place) -> Option<(usize, u
 
 /// Where the byte of a place stands, if one of two stretches holds it.
 #[inline(always)]
-fn spot_guessed(stretches: &[Stretch], guess: Guess, at: Place) -> Option<(usize, u32)>
+fn location_guessed(stretches: &[Stretch], guess: Guess, at: Place) -> Option<(usize, u32)>
     requires { IsTable stretches.now }
-    ensures value { result ≡ spot_guessed stretches.now guess at }
+    ensures value { result ≡ location_guessed stretches.now guess at }
     ensures right { Tells stretches.now at result }
 {
-    if let Some(found) = spot_numbered(stretches, guess.first, at) {
+    if let Some(found) = location_numbered(stretches, guess.first, at) {
         return Some(found);
     }
-    spot_numbered(stretches, guess.second, at)
+    location_numbered(stretches, guess.second, at)
 }
 
 /// Where the byte of a place stands, if the stretch of this number holds it.
 #[inline(always)]
-fn spot_numbered(stretches: &[Stretch], number: usize, at: Place) -> Option<(usize, u32)>
+fn location_numbered(stretches: &[Stretch], number: usize, at: Place) -> Option<(usize, u32)>
     requires { IsTable stretches.now }
-    ensures value { result ≡ spot_numbered stretches.now number at }
+    ensures value { result ≡ location_numbered stretches.now number at }
     ensures right { Tells stretches.now at result }
 {
     if number >= stretches.len() {
@@ -207,14 +207,14 @@ fn search_in_order(stretches: &[Stretch], windows: &[Window], at: Place) -> Opti
     requires few { total windows.now < 2 ^ 63 }
     requires apart { AreApart windows.now }
     requires table { All (IsStretch windows.now) stretches.now }
-    ensures { result ≡ spot windows.now 0 at }
+    ensures { result ≡ location windows.now 0 at }
 {
     let first = address(at);
     let behind = stretches.partition_point(|stretch| address(stretch.window.place) <= first);
     if behind > 0 {
-        if let Some(found) = spot_numbered(stretches, behind - 1, at) {
+        if let Some(found) = location_numbered(stretches, behind - 1, at) {
             return Some(found);
         }
     }
-    spot(windows, at)
+    location(windows, at)
 }

@@ -1,12 +1,12 @@
 -- Calls that find a flash with power and don't restart it, one after another.
 use Rattle.std.proofs.Common.{◌≡◌, refl, ◌∙◌}
-use Rattle.base_model.specs.Flash.{FlashState, StaysLit}
+use Rattle.base_model.specs.Flash.{FlashState, StaysPowered}
 
-pub lit_none : (flash : FlashState) → StaysLit flash flash
-lit_none flash = record { restarts = refl; dark = λ on. refl }
+pub lit_none : (flash : FlashState) → StaysPowered flash flash
+lit_none flash = record { restarts = refl; unpowered = λ on. refl }
 
-pub lit_then : (old mid new : FlashState) → mid.powered ≡ old.powered → StaysLit old mid → StaysLit mid new → StaysLit old new
+pub lit_then : (old mid new : FlashState) → mid.powered ≡ old.powered → StaysPowered old mid → StaysPowered mid new → StaysPowered old new
 lit_then old mid new power first second = record {
   restarts = second.restarts ∙ first.restarts;
-  dark = λ on. second.dark (power ∙ on) ∙ first.dark on;
+  unpowered = λ on. second.unpowered (power ∙ on) ∙ first.unpowered on;
 }

@@ -7,7 +7,7 @@ ghost use Rattle.cper_frame.specs.Pieces.{contents, Stepped, Passed};
 
 use crate::error::FrameError;
 use crate::reader::FrameReader;
-use apei_bytes::Memory;
+use apei_bytes::OutOfMemory;
 use std::alloc::Global;
 
 /// The records that a stream begins with, and the reason why what follows them is refused, where it is.
@@ -30,7 +30,7 @@ fn step(
     reader: &mut FrameReader,
     records: &mut Vec<Vec<u8>>,
     rest: &[u8],
-) -> Result<Progress, Memory>
+) -> Result<Progress, OutOfMemory>
     requires waits { Waits reader.old }
     requires some { 0 < length rest.now }
     ensures { IfOk result (Stepped reader.old reader.new (contents records.old.items) (contents records.new.items) rest.now) }
@@ -55,7 +55,7 @@ fn feed_piece(
     reader: &mut FrameReader,
     records: &mut Vec<Vec<u8>>,
     piece: &[u8],
-) -> Result<Option<FrameError>, Memory>
+) -> Result<Option<FrameError>, OutOfMemory>
     requires { Waits reader.old }
     ensures { IfOk result (Passed reader.old reader.new (contents records.old.items) (contents records.new.items) piece.now) }
 {
@@ -70,7 +70,7 @@ fn feed_piece(
 }
 
 /// Cuts a stream that comes in these pieces into its records of at most `limit` bytes.
-pub fn frames_in(alloc: Global, limit: u32, pieces: &[Vec<u8>]) -> Result<Frames, Memory>
+pub fn frames_in(alloc: Global, limit: u32, pieces: &[Vec<u8>]) -> Result<Frames, OutOfMemory>
     requires { 128 ≤ limit }
     // Up to a rest that is no whole record, or that is refused, the stream is these records.
     ensures split { IfOk result (λ f. (rest : List ℕ) × (error : Error) × Splits limit (flat_map (λ v. v.items) pieces.now) (contents f.records.items) rest error × (f.refused ≡ refusal error)) }

@@ -8,7 +8,7 @@ ghost use Rattle.cper_frame.specs.Stream.{feed_result, fill_result, frame_of, wi
 use crate::error::FrameError;
 use crate::fed::Fed;
 use crate::record::{HEADER, Record, checked_length};
-use apei_bytes::Memory;
+use apei_bytes::OutOfMemory;
 use std::alloc::Global;
 use std::cmp::min;
 use std::marker::Model;
@@ -44,7 +44,7 @@ fn add(held: &mut Vec<u8>, bytes: &[u8])
 
 impl FrameReader {
     /// A reader of records of at most `limit` bytes.
-    pub fn new(alloc: Global, limit: u32) -> Result<FrameReader, Memory>
+    pub fn new(alloc: Global, limit: u32) -> Result<FrameReader, OutOfMemory>
         requires { 128 ≤ limit }
         ensures reader { IfOk result (λ r. r ≡ record { limit = limit; held = []; failed = None }) }
         ensures none { IfOk result (λ r. frame_of r ≡ None) }

@@ -1,4 +1,4 @@
--- One turn of a bridge over two machines that are alike.
+-- One turn of a bridge over two machines that are equivalent.
 use Rattle.std.proofs.Common.{◌≡◌, ◌∙◌, ◌⊎◌, inl, inr, ℕ, ◌+◌, ◌-◌, ◌^◌, ◌<◌, List, Result, Ok, Err, refl, sym, ap, arith}
 use Rattle.ghes_ack.specs.declared.events.Side.TheVariants.{Reader}
 use Rattle.ghes_ack.specs.declared.events.Event.{Event}
@@ -7,7 +7,7 @@ use Rattle.erst_client.specs.Commands.{ClientState, Writes}
 use Rattle.erst_machine.specs.MachineState.{MachineState}
 use Rattle.erst_machine.specs.Allowed.{Allows}
 use Rattle.erst_machine.specs.Events.{Turns}
-use Rattle.erst_commands.specs.Alike.{MachineOutline, machine_outline, AlikeMachines, FailedNothing, EndAlike, IsDoneAlike}
+use Rattle.erst_commands.specs.Equivalence.{MachineOutline, machine_outline, EquivalentMachines, FailedNothing, EndAlike, IsDoneAlike}
 use Rattle.erst_bridge.specs.declared.events.BridgeEvent.{BridgeEvent}
 use Rattle.erst_bridge.specs.declared.events.BridgeEvent.TheVariants.{Line, Stored, Kept, Out}
 use Rattle.erst_bridge.specs.BridgedRecord.{bridged}
@@ -27,10 +27,10 @@ abbrev write_answer : ℕ → List ℕ → Result (Unit {0}) ClientError → Ans
 write_answer id block (Ok done) = (Stored id, Releases (id + 1))
 write_answer id block (Err error) = (Kept error, Holds id block)
 
--- a turn of the reader, of one side of two machines that are alike
+-- a turn of the reader, of one side of two machines that are equivalent
 abbrev pub ReadsAlike : Type 0
-ReadsAlike = (one other : MachineState) (event also : Event) (one_after other_after : MachineState) → AlikeMachines one other
-    → Turns Reader one event one_after → Turns Reader other also other_after → (event ≡ also) × AlikeMachines one_after other_after
+ReadsAlike = (one other : MachineState) (event also : Event) (one_after other_after : MachineState) → EquivalentMachines one other
+    → Turns Reader one event one_after → Turns Reader other also other_after → (event ≡ also) × EquivalentMachines one_after other_after
 
 module _ (tells : Type 0) (client : ClientState) (budget : ℕ) where
   record IsRead (old : MachineState) (id : ℕ) (bridge : BridgeState) (answer : Answer) (left : ℕ) (new : MachineState) : Type 0 where
@@ -76,33 +76,33 @@ module _ (tells : Type 0) (client : ClientState) (budget : ℕ) where
     | RunsOut id block last ↦ inr (record { last = last; answer_is = refl; left_is = refl; new_is = refl })
   ]
 
-  module _ (reads : ReadsAlike) (one other : MachineState) (alike : AlikeMachines one other) (answer also : Answer) (left also_left : ℕ) (one_after other_after : MachineState) where
+  module _ (reads : ReadsAlike) (one other : MachineState) (equivalent : EquivalentMachines one other) (answer also : Answer) (left also_left : ℕ) (one_after other_after : MachineState) where
     both_read : (id : ℕ) (bridge : BridgeState) → IsRead one id bridge answer left one_after → IsRead other id bridge also also_left other_after → EndAlike answer also left also_left one_after other_after
     both_read id bridge first second =
-        let both = reads one other first.event second.event one_after other_after alike first.turns second.turns in
+        let both = reads one other first.event second.event one_after other_after equivalent first.turns second.turns in
         record {
           same_answer = first.answer_is ∙ ap (λ (e : Event). read_answer e id (last_of one_after) bridge) both.0
               ∙ ap (λ (o : MachineOutline). read_answer second.event id o.handover.last bridge) both.1 ∙ sym second.answer_is;
           same_left = first.left_is ∙ sym second.left_is;
-          alike = both.1;
+          equivalent = both.1;
         }
 
     module _ (writes : (bytes : List ℕ) → IsDoneAlike {A = Result (Unit {0}) ClientError} (λ first result left last. Writes (Allows tells) client bytes budget first result left last))
         (quiet : FailedNothing one one_after) (also_quiet : FailedNothing other other_after) where
       both_held : (id : ℕ) (block : List ℕ) → IsOf one (Holds id block) answer left one_after → IsOf other (Holds id block) also also_left other_after → EndAlike answer also left also_left one_after other_after
       both_held id block (inl a) (inl b) =
-          let both = writes (bridged block id) one other a.result b.result left also_left one_after other_after alike a.writes quiet b.writes also_quiet in
+          let both = writes (bridged block id) one other a.result b.result left also_left one_after other_after equivalent a.writes quiet b.writes also_quiet in
           record {
             same_answer = a.answer_is ∙ ap (write_answer id block) both.same_answer ∙ sym b.answer_is;
             same_left = both.same_left;
-            alike = both.alike;
+            equivalent = both.equivalent;
           }
       both_held id block (inl a) (inr b) = let x = a.small in let y = b.last in absurd (omega arith)
       both_held id block (inr a) (inl b) = let x = b.small in let y = a.last in absurd (omega arith)
       both_held id block (inr a) (inr b) = record {
         same_answer = a.answer_is ∙ sym b.answer_is;
         same_left = a.left_is ∙ sym b.left_is;
-        alike = ap machine_outline a.new_is ∙ alike ∙ sym (ap machine_outline b.new_is);
+        equivalent = ap machine_outline a.new_is ∙ equivalent ∙ sym (ap machine_outline b.new_is);
       }
 
       by_bridge : (bridge : BridgeState) → IsOf one bridge answer left one_after → IsOf other bridge also also_left other_after → EndAlike answer also left also_left one_after other_after

@@ -86,8 +86,8 @@ module _ (tells : Type 0) (run : OwnProgramsRun tells) (told : tells) (client : 
   pub turn_records : (bridge : BridgeState) (old : MachineState) (turn : Turn) (next : BridgeState) (new : MachineState) → client ≡ own_client old → IsMachine old
       → IsTurn tells client budget bridge old turn next new → (records_of new ≡ records_of old) ⊎ (records_of new ≡ after_turn bridge old turn)
   turn_records bridge old turn next new own machine is =
-      let alike = (turn_goes_on tells client budget told bridge old turn next new is).1.alike in
-      let same : records_of new ≡ shown_by old (told_of new).image = ap (λ (l : Layout). records_in l (told_of new).image) alike.layout in
+      let equivalent = (turn_goes_on tells client budget told bridge old turn next new is).1.equivalent in
+      let same : records_of new ≡ shown_by old (told_of new).image = ap (λ (l : Layout). records_in l (told_of new).image) equivalent.layout in
       elim (Leaves-exit (told_of old) (told_of new) _ (turn_crash bridge old turn next new own machine is)) [
         | inl kept ↦ inl (same ∙ kept)
         | inr made ↦ inr (same ∙ made)

@@ -81,7 +81,7 @@ module _ (tells : Type 0) (client : ClientState) (budget : ℕ) where
         let more = (turns_go_on tells client budget told step.bridge left rest next last are.1).1 in
         let leaves = turn_crash tells run told client budget bridge first step.turn step.bridge left own machine are.0 in
         by_step (changes_of left) s _ _
-        (λ behind. subst (λ (m : Records). ShowsTurns s step.bridge left rest m) (shown_alike first left image one.alike)
+        (λ behind. subst (λ (m : Records). ShowsTurns s step.bridge left rest m) (shown_alike first left image one.equivalent)
         (turns_show step.bridge left rest next last (own_on tells client budget told bridge first step.turn step.bridge left are.0 own)
         (turn_keeps tells client budget bridge first step.turn step.bridge left are.0 machine) are.1 s image behind crash))
         (λ before. leaves.each s image from (CrashImage-earlier (told_of left) (told_of last) s image more.later before crash))

@@ -71,4 +71,4 @@ module _ (tells : Type 0) where
     -- behind a turn the client is still that of the machine's own table
     pub own_on : tells → (bridge : BridgeState) (old : MachineState) (turn : Turn) (next : BridgeState) (new : MachineState) → IsTurn tells client budget bridge old turn next new
         → client ≡ own_client old → client ≡ own_client new
-    own_on told bridge old turn next new is own = own ∙ sym (own_client-same old new (turn_goes_on told bridge old turn next new is).1.alike.layout)
+    own_on told bridge old turn next new is own = own ∙ sym (own_client-same old new (turn_goes_on told bridge old turn next new is).1.equivalent.layout)

@@ -5,12 +5,12 @@ use Rattle.ghes_ack.specs.declared.events.Event.{Event}
 use Rattle.ghes_ack.specs.declared.events.Event.TheVariants.{Idle, Fill, Publish, Free, Wait, Nothing, Found, Copied, Took, Clear, Ack}
 use Rattle.erst_client.specs.Commands.{ClientState}
 use Rattle.erst_bridge.specs.declared.events.BridgeEvent.{BridgeEvent}
-use Rattle.erst_bridge.specs.declared.stages.Stage.{Stage}
-use Rattle.erst_bridge.specs.declared.stages.Stage.TheVariants.{Closed, Awaiting, Holding, Releasing}
+use Rattle.erst_bridge.specs.declared.stages.BridgeStage.{BridgeStage}
+use Rattle.erst_bridge.specs.declared.stages.BridgeStage.TheVariants.{Closed, Awaiting, Holding, Releasing}
 use Rattle.erst_bridge.specs.Bridges.{BridgeState, Off, Awaits, Holds, Releases, state_of, HoldsNone, after_reader, Bridges, TurnsReader, Stores, Keeps, RunsOut}
 
 -- a bridge that is on and not holding holds none
-pub holds_none : (stage : Stage) (id : ℕ) (bytes : List ℕ) → (stage ≡ Holding → ⊥) → (state_of stage id bytes ≡ Off → ⊥) → HoldsNone id (state_of stage id bytes)
+pub holds_none : (stage : BridgeStage) (id : ℕ) (bytes : List ℕ) → (stage ≡ Holding → ⊥) → (state_of stage id bytes ≡ Off → ⊥) → HoldsNone id (state_of stage id bytes)
 holds_none Closed id bytes other on = on refl
 holds_none Awaiting id bytes other on = refl
 holds_none Holding id bytes other on = other refl

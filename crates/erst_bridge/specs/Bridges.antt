@@ -7,8 +7,8 @@ use Rattle.erst_client.specs.declared.errors.ClientError.{ClientError}
 use Rattle.erst_client.specs.Commands.{ClientState, Writes}
 use Rattle.erst_bridge.specs.declared.events.BridgeEvent.{BridgeEvent}
 use Rattle.erst_bridge.specs.declared.events.BridgeEvent.TheVariants.{Line, Stored, Kept, Out}
-use Rattle.erst_bridge.specs.declared.stages.Stage.{Stage}
-use Rattle.erst_bridge.specs.declared.stages.Stage.TheVariants.{Closed, Awaiting, Holding, Releasing}
+use Rattle.erst_bridge.specs.declared.stages.BridgeStage.{BridgeStage}
+use Rattle.erst_bridge.specs.declared.stages.BridgeStage.TheVariants.{Closed, Awaiting, Holding, Releasing}
 use Rattle.erst_bridge.specs.BridgedRecord.{bridged}
 
 -- a bridge: off; or it awaits a block, with the identifier that the block will get; or it holds a block whose record is not stored, with
@@ -20,14 +20,14 @@ pub data BridgeState : Type 0 where
   Releases : (id : ℕ) → BridgeState
 
 -- in the record of the held block, the block stands behind the 200 bytes of header and descriptor
-abbrev pub state_of : Stage → ℕ → List ℕ → BridgeState
+abbrev pub state_of : BridgeStage → ℕ → List ℕ → BridgeState
 state_of Closed id bytes = Off
 state_of Awaiting id bytes = Awaits id
 state_of Holding id bytes = Holds id (drop 200 bytes)
 state_of Releasing id bytes = Releases id
 
 -- while a block is held the bytes are its record, and an identifier is at least 1
-abbrev pub HasRecord : Stage → ℕ → List ℕ → Type 0
+abbrev pub HasRecord : BridgeStage → ℕ → List ℕ → Type 0
 HasRecord Closed id bytes = Unit {0}
 HasRecord Awaiting id bytes = 0 < id
 HasRecord Holding id bytes = (0 < id) × (bytes ≡ bridged (drop 200 bytes) id)

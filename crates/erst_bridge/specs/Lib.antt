@@ -10,5 +10,5 @@ pub mod Prefixes
 pub mod BridgedRuns
 pub mod BridgeTheorems
 pub mod Made
-pub mod AlikeSteps
+pub mod EquivalentSteps
 pub mod BridgedAlike

@@ -1,14 +1,14 @@
 // The bridge.
 ghost use Rattle.std.specs.Prelude.{◌≡◌, ◌≢◌, ◌≤◌, ◌<◌, ◌↔◌, ◌-◌, ◌^◌, ℕ, List, length, take, drop, IfOk, IsTrue};
 ghost use Rattle.erst_bridge.specs.BridgedRecord.{bridged};
-ghost use Rattle.erst_bridge.specs.declared.stages.Stage.TheVariants.{Holding as IsHolding};
+ghost use Rattle.erst_bridge.specs.declared.stages.BridgeStage.TheVariants.{Holding as IsHolding};
 ghost use Rattle.erst_bridge.specs.Bridges.{Off, Awaits, Holds, Bridges, state_of, HasRecord, after_reader, after_offer, IsStored};
 ghost use Rattle.erst_bridge.specs.Causes.{OfEvent};
 
 use crate::events::BridgeEvent;
 use crate::record::make_record;
-use crate::stages::Stage;
-use apei_bytes::Memory;
+use crate::stages::BridgeStage;
+use apei_bytes::OutOfMemory;
 use erst_client::Client;
 use erst_interp::Budget;
 use ghes_ack::{Event, Station};
@@ -24,7 +24,7 @@ const LONGEST: usize = 4296;
 /// While it is on, the reader is to make no other turn, and is to be idle at the first one: see `a_bridge_stays_in_step`.
 #[derive(Drop)]
 pub struct Bridge {
-    stage: Stage,
+    stage: BridgeStage,
     /// The identifier of the block that is held, or else of the next one that is taken.
     id: u64,
     /// How many bytes the record of the held block has.
@@ -45,11 +45,11 @@ impl Model for Bridge {
 
 impl Bridge {
     /// A bridge that is off, with room for the record of the longest block. No other call takes memory.
-    pub fn new(alloc: Global) -> Result<Bridge, Memory>
+    pub fn new(alloc: Global) -> Result<Bridge, OutOfMemory>
         ensures { IfOk result (λ bridge. bridge ≡ Off) }
     {
         Ok(Bridge {
-            stage: Stage::Closed,
+            stage: BridgeStage::Closed,
             id: 0,
             size: 0,
             bytes: vec![in alloc; 0u8; LONGEST]?,
@@ -61,7 +61,7 @@ impl Bridge {
         requires { self.old ≡ Off }
         ensures { self.new ≡ Awaits first }
     {
-        self.stage = Stage::Awaiting;
+        self.stage = BridgeStage::Awaiting;
         self.id = first.get();
     }
 
@@ -69,14 +69,14 @@ impl Bridge {
     pub fn leave(&mut self)
         ensures { self.new ≡ Off }
     {
-        self.stage = Stage::Closed;
+        self.stage = BridgeStage::Closed;
     }
 
     /// Whether it is on.
     pub fn is_on(&self) -> bool
         ensures { IsTrue result ↔ (self.now ≢ Off) }
     {
-        self.stage != Stage::Closed
+        self.stage != BridgeStage::Closed
     }
 
     /// One turn: of the reader, or, while a block is held, a write of its record by the client. `Kept` leaves the block held, so that
@@ -95,7 +95,7 @@ impl Bridge {
         ensures cause { OfEvent (S.faults (S.state station.old)) (S.faults (S.state station.new)) result }
     {
         match self.stage {
-            Stage::Holding => {
+            BridgeStage::Holding => {
                 let event = offer(&self.bytes[..self.size], self.id, client, budget, station);
                 settle(&event, &mut self.stage, &mut self.id);
                 event
@@ -116,7 +116,7 @@ impl Bridge {
 
 /// A turn of the reader. The record of a block that it takes is made, and held.
 fn turn_reader<S: Station>(
-    stage: &mut Stage,
+    stage: &mut BridgeStage,
     id: u64,
     size: &mut usize,
     bytes: &mut [u8],
@@ -135,9 +135,9 @@ fn turn_reader<S: Station>(
     match event {
         Event::Took => {
             *size = make_record(bytes, station.taken(), id);
-            *stage = Stage::Holding;
+            *stage = BridgeStage::Holding;
         }
-        Event::Ack => *stage = Stage::Awaiting,
+        Event::Ack => *stage = BridgeStage::Awaiting,
         _ => {}
     }
     event
@@ -167,7 +167,7 @@ fn offer<S: Station>(
 }
 
 /// What a try to store the held block leaves: only behind one that stored it the reader goes on, and the identifier is used up.
-fn settle(event: &BridgeEvent, stage: &mut Stage, id: &mut u64)
+fn settle(event: &BridgeEvent, stage: &mut BridgeStage, id: &mut u64)
     requires holding { stage.old ≡ IsHolding }
     requires spare { IsStored event.now → id.old < 2 ^ 64 - 1 }
     ensures state { (bytes : List ℕ) → state_of stage.new id.new bytes ≡ after_offer event.now id.old (drop 200 bytes) }
@@ -175,7 +175,7 @@ fn settle(event: &BridgeEvent, stage: &mut Stage, id: &mut u64)
 {
     match *event {
         BridgeEvent::Stored { .. } => {
-            *stage = Stage::Releasing;
+            *stage = BridgeStage::Releasing;
             *id += 1;
         }
         BridgeEvent::Kept(_) => {}

@@ -1,5 +1,5 @@
 //! The bridge: each block that the reader takes is stored before it is acknowledged. What power lost at any flash step shows of its turns,
-//! and that over two machines that are alike it does the same.
+//! and that over two machines that are equivalent it does the same.
 #![tactic(auto)]
 
 mod bridge;
@@ -18,7 +18,8 @@ pub use durability::{
     bridged_turns_are_shown, bridged_turns_show_a_prefix, what_is_acknowledged_was_stored,
 };
 pub use equivalence::{
-    alike_machines_bridge_alike, alike_machines_make_turns_alike, alike_machines_turn_alike,
+    equivalent_machines_bridge_alike, equivalent_machines_make_turns_alike,
+    equivalent_machines_turn_alike,
 };
 pub use events::BridgeEvent;
 pub use laws::{a_bridge_stays_in_step, a_bridged_block_is_a_record};

@@ -2,7 +2,7 @@
 
 /// How far a bridge is with a block.
 #[derive(Clone, Copy, PartialEq, Eq)]
-pub enum Stage {
+pub enum BridgeStage {
     /// The bridge is off.
     Closed,
     /// It waits for a block to be taken.

@@ -7,7 +7,7 @@ use Rattle.erst_entries.specs.Actions.{code_of}
 use Rattle.erst_entries.specs.Layout.{Erst}
 use Rattle.erst_entries.specs.Programs.{entries_of}
 use Rattle.erst_interp.specs.declared.stops.RunStop.{RunStop}
-use Rattle.erst_client.specs.declared.attaching.Found.{Found}
+use Rattle.erst_client.specs.declared.attaching.FoundRange.{FoundRange}
 use Rattle.erst_client.specs.declared.errors.AttachError.{AttachError}
 use Rattle.erst_client.specs.declared.errors.AttachError.TheVariants.{Stopped, NonVolatile, NoRange}
 use Rattle.erst_client.specs.declared.requests.Request.{Request}
@@ -43,14 +43,14 @@ pub record Attaches {W : Type 0} (allows : W → Call → W → Type 0) (erst : 
   pub result_is : result ≡ attached erst answers
 
 -- the client of a table and of what was found of it
-abbrev pub client_with : Erst → Found → ClientState
+abbrev pub client_with : Erst → FoundRange → ClientState
 client_with erst found = record { table = erst; address = found.address; range = found.len; timings = found.timings }
 
-abbrev pub client_result : Erst → Result Found AttachError → Result ClientState AttachError
+abbrev pub client_result : Erst → Result FoundRange AttachError → Result ClientState AttachError
 client_result erst (Ok found) = Ok (client_with erst found)
 client_result erst (Err error) = Err error
 
-abbrev pub found_result : ℕ → ℕ → ℕ → Option (ℕ × ℕ) → Result Found AttachError
+abbrev pub found_result : ℕ → ℕ → ℕ → Option (ℕ × ℕ) → Result FoundRange AttachError
 found_result address len attributes timings =
     if not (bit_and attributes 2 == 0) then Err (NonVolatile attributes)
     else (if nat_lt len 128 then Err (NoRange len)

@@ -14,7 +14,7 @@ const NON_VOLATILE: u64 = 2;
 
 /// The error log address range, and how long an operation takes at most and nominally.
 #[derive(Clone, Copy, Debug, PartialEq, Eq)]
-pub struct Found {
+pub struct FoundRange {
     pub address: u64,
     pub len: u64,
     pub timings: Option<(u32, u32)>,
@@ -25,7 +25,7 @@ pub fn find<S: Space>(
     table: &ErstTable,
     budget: &mut Budget,
     space: &mut S,
-) -> Result<Found, AttachError>
+) -> Result<FoundRange, AttachError>
     ensures { Attaches S.allows table.now budget.old (S.state space.old) (client_result table.now result) budget.new (S.state space.new) }
 {
     let address = match ask(table, Action::GetErrorLogAddressRange, budget, space) {
@@ -75,7 +75,7 @@ fn admit(
     len: u64,
     attributes: u64,
     timings: Option<(u32, u32)>,
-) -> Result<Found, AttachError>
+) -> Result<FoundRange, AttachError>
     ensures { result ≡ found_result address len attributes timings }
 {
     if attributes & NON_VOLATILE != 0 {
@@ -84,7 +84,7 @@ fn admit(
     if len < HEADER as u64 {
         return Err(AttachError::NoRange { len });
     }
-    Ok(Found {
+    Ok(FoundRange {
         address,
         len,
         timings,

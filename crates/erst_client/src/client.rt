@@ -7,7 +7,7 @@ ghost use Rattle.erst_client.specs.Commands.{ClientState, Writes, Reads, Counts,
 ghost use Rattle.erst_client.specs.Attaching.{Attaches};
 ghost use Rattle.erst_client.specs.Causes.{HasDeviceCause, HasAttachCause};
 
-use crate::attaching::{Found, find};
+use crate::attaching::{FoundRange, find};
 use crate::commands::{
     clear_record, count_records, next_identifier, read_record, write_dummy, write_record,
 };
@@ -22,7 +22,7 @@ use std::marker::Model;
 #[derive(Drop)]
 pub struct Client {
     table: ErstTable,
-    found: Found,
+    found: FoundRange,
 }
 
 impl Model for Client {

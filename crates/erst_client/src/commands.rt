@@ -4,7 +4,7 @@ ghost use Rattle.erst_client.specs.Commands.{Writes, Puts, Reads, Counts, Names,
 ghost use Rattle.erst_client.specs.Attaching.{client_with};
 ghost use Rattle.erst_client.specs.Sequences.{Sequence, read_requests, clear_requests, dummy_requests};
 
-use crate::attaching::Found;
+use crate::attaching::FoundRange;
 use crate::errors::ClientError;
 use crate::requests::{Request, ask};
 use crate::sequences::sequence;
@@ -28,7 +28,7 @@ fn plain(action: Action) -> Request
 #[tactic(auto, using(crate::proofs::Rules::commands))]
 pub fn write_record<S: Space>(
     table: &ErstTable,
-    found: Found,
+    found: FoundRange,
     bytes: &[u8],
     budget: &mut Budget,
     space: &mut S,
@@ -68,7 +68,7 @@ fn refusal(bytes: &[u8], range: u64) -> Option<ClientError>
 
 /// Puts a record's bytes at the start of the range, and its mark over theirs.
 #[tactic(auto, using(crate::proofs::Rules::commands))]
-fn put<S: Space>(found: Found, bytes: &[u8], space: &mut S) -> Result<(), ClientError>
+fn put<S: Space>(found: FoundRange, bytes: &[u8], space: &mut S) -> Result<(), ClientError>
     ensures { Puts S.allows found.address bytes.now (S.state space.old) result (S.state space.new) }
 {
     match space.write_bytes(found.address, bytes) {
@@ -85,7 +85,7 @@ fn put<S: Space>(found: Found, bytes: &[u8], space: &mut S) -> Result<(), Client
 #[tactic(auto, using(crate::proofs::Rules::commands))]
 pub fn read_record<S: Space>(
     table: &ErstTable,
-    found: Found,
+    found: FoundRange,
     id: u64,
     out: &mut [u8],
     budget: &mut Budget,
@@ -140,7 +140,7 @@ fn copy_refusal(len: u64, range: u64, room: u64) -> Option<ClientError>
 /// Has the firmware clear a record.
 pub fn clear_record<S: Space>(
     table: &ErstTable,
-    found: Found,
+    found: FoundRange,
     id: u64,
     budget: &mut Budget,
     space: &mut S,
@@ -161,7 +161,7 @@ pub fn clear_record<S: Space>(
 /// Has the firmware go through a write that stores nothing.
 pub fn write_dummy<S: Space>(
     table: &ErstTable,
-    found: Found,
+    found: FoundRange,
     budget: &mut Budget,
     space: &mut S,
 ) -> Result<(), ClientError>

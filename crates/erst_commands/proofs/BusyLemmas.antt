@@ -100,7 +100,7 @@ module _ (tells : Type 0) (old : DeviceState) (range : List ℕ) (still : IsStil
         n = changes_in_all layout bytes replaces;
         few = omega (arith, few.1, most);
         finite = record {
-          layout_is = ap (λ (s : StoreView). s.layout) there ∙ call.leaves.alike.layout;
+          layout_is = ap (λ (s : StoreView). s.layout) there ∙ call.leaves.equivalent.layout;
           runs = inl (
             none,
             subst (λ (p : Pending). IsBounded (changes_in_all layout bytes replaces) layout p) (sym (ap (λ (s : StoreView). s.pending) there ∙ pending.1.1))
@@ -109,19 +109,19 @@ module _ (tells : Type 0) (old : DeviceState) (range : List ℕ) (still : IsStil
         };
       }
   write_finite size id store (Err error) new draft call there none =
-      quiet new (ap (λ (s : StoreView). s.layout) there ∙ call.leaves.alike.layout) none (ap (λ (s : StoreView). s.pending) there ∙ idle_after store error call.leaves.doubt)
+      quiet new (ap (λ (s : StoreView). s.layout) there ∙ call.leaves.equivalent.layout) none (ap (λ (s : StoreView). s.pending) there ∙ idle_after store error call.leaves.doubt)
 
   clear_finite : (store : StoreView) (result : Result (Unit {0}) StoreError) (new : DeviceState) → StartedClear tells old.store store old.id result → new.store ≡ store → new.reading ≡ None → StartsFinite old.store.layout new
   clear_finite store (Ok done) new call there none = record {
     n = 1;
     few = omega arith;
     finite = record {
-      layout_is = ap (λ (s : StoreView). s.layout) there ∙ call.leaves.alike.layout;
+      layout_is = ap (λ (s : StoreView). s.layout) there ∙ call.leaves.equivalent.layout;
       runs = inl (none, ap (pending_after old.store.layout) (ap (λ (s : StoreView). s.pending) there ∙ call.pending));
     };
   }
   clear_finite store (Err error) new call there none =
-      quiet new (ap (λ (s : StoreView). s.layout) there ∙ call.leaves.alike.layout) none (ap (λ (s : StoreView). s.pending) there ∙ idle_after store error call.leaves.doubt)
+      quiet new (ap (λ (s : StoreView). s.layout) there ∙ call.leaves.equivalent.layout) none (ap (λ (s : StoreView). s.pending) there ∙ idle_after store error call.leaves.doubt)
 
   pub starts_finite : (new : DeviceState) → Starts tells old range new → StartsFinite old.store.layout new
   starts_finite new starts = elim starts as (λ new starts. StartsFinite old.store.layout new) [
@@ -129,11 +129,11 @@ module _ (tells : Type 0) (old : DeviceState) (range : List ℕ) (still : IsStil
     | WritesDummy begun ↦ quiet _ refl still.no_read still.no_change
     | NoDraft begun none ↦ quiet _ refl still.no_read still.no_change
     | Writes size id store result begun draft call ↦ write_finite size id store result _ draft call refl still.no_read
-    | LookFails store error begun looks ↦ quiet _ looks.leaves.alike.layout still.no_read looks.leaves.idle
-    | FindsNone store begun looks ↦ quiet _ looks.leaves.alike.layout still.no_read looks.leaves.idle
-    | Misses store least begun looks none ↦ quiet _ looks.leaves.alike.layout still.no_read looks.leaves.idle
-    | GoesBeyond store least size begun looks long beyond ↦ quiet _ looks.leaves.alike.layout still.no_read looks.leaves.idle
-    | Finds store least size begun looks long fits ↦ record { n = 0; few = omega arith; finite = record { layout_is = looks.leaves.alike.layout; runs = inr (named old.id least, refl) } }
+    | LookFails store error begun looks ↦ quiet _ looks.leaves.equivalent.layout still.no_read looks.leaves.idle
+    | FindsNone store begun looks ↦ quiet _ looks.leaves.equivalent.layout still.no_read looks.leaves.idle
+    | Misses store least begun looks none ↦ quiet _ looks.leaves.equivalent.layout still.no_read looks.leaves.idle
+    | GoesBeyond store least size begun looks long beyond ↦ quiet _ looks.leaves.equivalent.layout still.no_read looks.leaves.idle
+    | Finds store least size begun looks long fits ↦ record { n = 0; few = omega arith; finite = record { layout_is = looks.leaves.equivalent.layout; runs = inr (named old.id least, refl) } }
     | NoneToClear begun reserved ↦ quiet _ refl still.no_read still.no_change
     | Clears store result begun usable call ↦ clear_finite store result _ call refl still.no_read
   ]
@@ -148,18 +148,18 @@ data HasGone (layout : Layout) (n : ℕ) (new : DeviceState) : Type 0 where
 module _ (layout : Layout) (old : DeviceState) (layout_is : old.store.layout ≡ layout) (none : old.reading ≡ None) where
   further : (n : ℕ) (store : StoreView) → old.store.pending ≡ Idle ⊎ IsBusy old.store.pending → IsBusy old.store.pending → IsBounded n layout old.store.pending → store.layout ≡ layout → store.pending ≡ pending_after old.store.layout old.store.pending
       → (store.pending ≡ Idle → ⊥) → HasGone layout n (stepped (Ok false) store old)
-  further zero store which busy bounded alike pending goes = absurd (idle_busy old.store.pending bounded busy)
-  further (suc n) store which busy bounded alike pending goes =
+  further zero store which busy bounded equivalent pending goes = absurd (idle_busy old.store.pending bounded busy)
+  further (suc n) store which busy bounded equivalent pending goes =
       rest n (subst (λ (p : Pending). IsBounded n layout p) (sym (pending ∙ ap (λ (l : Layout). pending_after l old.store.pending) layout_is)) bounded)
     where
       rest : (m : ℕ) → IsBounded m layout store.pending → HasGone layout (suc m) (stepped (Ok false) store old)
       rest zero idle = absurd (goes idle)
-      rest (suc more) left = GoesOn more refl (record { layout_is = alike; runs = inl (none, left) }) refl
+      rest (suc more) left = GoesOn more refl (record { layout_is = equivalent; runs = inl (none, left) }) refl
 
   by_result : (tells : Type 0) (n : ℕ) (store : StoreView) (result : Result Bool StoreError) → IsBusy old.store.pending → IsBounded n layout old.store.pending → Stepped tells old.store store result → HasGone layout n (stepped result store old)
   by_result tells n store (Ok true) busy bounded step = IsDone refl
   by_result tells n store (Ok false) busy bounded step =
-      further n store (inr busy) busy bounded (step.alike.layout ∙ layout_is) step.stepped.1 (goes_on step.stepped.2)
+      further n store (inr busy) busy bounded (step.equivalent.layout ∙ layout_is) step.stepped.1 (goes_on step.stepped.2)
     where
       goes_on : (false ≡ true) ⊎ ((false ≡ false) × (store.pending ≡ Idle → ⊥)) → store.pending ≡ Idle → ⊥
       goes_on (inl e) = absurd (cc e)

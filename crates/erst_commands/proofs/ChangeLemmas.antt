@@ -32,12 +32,12 @@ use Rattle.erst_commands.specs.Changes.{IsErrorOf, copies_first, waits_after, Ch
 use Rattle.erst_commands.proofs.MachineSteps.{on_device}
 use Rattle.erst_commands.proofs.SequenceLemmas.{Untouched, Opened, StillWaited, IsAtOnce, IsShort, wait_still, ended_from, status_in, HasTold, HasNotTold, HasNotWaited, HasNotAsked, sequence_ends, opened_ok, opened_short}
 use Rattle.erst_commands.proofs.WayLemmas.{Leads, OnWay, Broken, Midway, of_way, WayWaited, WayEnds, WayBreaks, WayStops, wait_way}
-use Rattle.erst_commands.proofs.SharedLemmas.{alike_then}
+use Rattle.erst_commands.proofs.SharedLemmas.{equivalent_then}
 
 -- what a start leaves, whatever it answers
 pub record Base (first start : MachineState) : Type 0 where
   pub kept : KeepsMap first.device.store start.device.store
-  pub alike : DividesAlike first.device.store start.device.store
+  pub equivalent : DividesAlike first.device.store start.device.store
   pub few : start.device.store.flash.steps ≤ first.device.store.flash.steps + 1
   pub never_falls : first.device.store.flash.faults ≤ start.device.store.flash.faults
   pub cursor : start.device.cursor ≡ first.device.cursor
@@ -71,7 +71,7 @@ pub record UnstartedChange (first start : MachineState) (id : ℕ) (command : Co
 
 -- the start keeps the records, and what follows keeps them or makes these
 begun_then : (old mid new : StoreView) (made : Stored) → KeepsMap old mid → DividesAlike old mid → KeepsOrMakes mid new made → KeepsOrMakes old new made
-begun_then old mid new made kept alike makes =
+begun_then old mid new made kept equivalent makes =
     Leaves-then old.flash.told mid.flash.told new.flash.told (λ image. (records_in old.layout image ≡ stored old) ⊎ (records_in old.layout image ≡ made))
     (Leaves-weaker old.flash.told mid.flash.told (λ image. records_in old.layout image ≡ stored old)
     (λ image. (records_in old.layout image ≡ stored old) ⊎ (records_in old.layout image ≡ made)) kept (λ image same. inl same))
@@ -79,12 +79,12 @@ begun_then old mid new made kept alike makes =
     (λ image. (records_in mid.layout image ≡ stored mid) ⊎ (records_in mid.layout image ≡ made))
     (λ image. (records_in old.layout image ≡ stored old) ⊎ (records_in old.layout image ≡ made)) makes
     (λ image either. elim either [
-      | inl same ↦ inl (by_layout image ∙ same ∙ kept_map old mid kept alike)
+      | inl same ↦ inl (by_layout image ∙ same ∙ kept_map old mid kept equivalent)
       | inr ends ↦ inr (by_layout image ∙ ends)
     ]))
   where
     by_layout : (image : List ℕ) → records_in old.layout image ≡ records_in mid.layout image
-    by_layout image = ap (λ (l : Layout). records_in l image) (sym alike.layout)
+    by_layout image = ap (λ (l : Layout). records_in l image) (sym equivalent.layout)
 
 pub abandoned_idle : (store : StoreView) → store.pending ≡ Idle → abandoned store ≡ store
 abandoned_idle store idle =
@@ -92,8 +92,8 @@ abandoned_idle store idle =
 
 -- the records at the end are those from before, or these
 exit_of : (old new : StoreView) (made : Stored) → KeepsOrMakes old new made → DividesAlike old new → (stored new ≡ stored old) ⊎ (stored new ≡ made)
-exit_of old new made crash alike =
-    let same : stored new ≡ records_in old.layout new.flash.told.image = ap (λ (l : Layout). records_in l new.flash.told.image) alike.layout in
+exit_of old new made crash equivalent =
+    let same : stored new ≡ records_in old.layout new.flash.told.image = ap (λ (l : Layout). records_in l new.flash.told.image) equivalent.layout in
     elim (Leaves-exit old.flash.told new.flash.told (λ image. (records_in old.layout image ≡ stored old) ⊎ (records_in old.layout image ≡ made)) crash) [
       | inl kept ↦ inl (same ∙ kept)
       | inr is_made ↦ inr (same ∙ is_made)
@@ -103,10 +103,10 @@ exit_of old new made crash alike =
 leaves_from : (first start : MachineState) (command : Command) (all pauses value : ℕ) (w : MachineState) → Base first start → all ≤ changes_of first.device.store.layout command (records_of first)
     → Midway start (after first.device.store.layout command (records_of first)) all pauses w → ChangeLeaves first (ended_from (with_value value w)) command pauses
 leaves_from first start command all pauses value w base few midway = record {
-  crash = begun_then first.device.store start.device.store w.device.store (after first.device.store.layout command (records_of first)) base.kept base.alike midway.crash;
+  crash = begun_then first.device.store start.device.store w.device.store (after first.device.store.layout command (records_of first)) base.kept base.equivalent midway.crash;
   few = omega (arith, base.few, midway.few, few);
   idle = refl;
-  alike = let both = alike_then first.device.store start.device.store w.device.store base.alike midway.alike in record { layout = both.layout; size = both.size; sector_size = both.sector_size };
+  equivalent = let both = equivalent_then first.device.store start.device.store w.device.store base.equivalent midway.equivalent in record { layout = both.layout; size = both.size; sector_size = both.sector_size };
   never_falls = omega (arith, base.never_falls, midway.never_falls);
   cursor = midway.cursor ∙ base.cursor;
   elsewhere =
@@ -120,7 +120,7 @@ midway_none start made = record {
   crash = Leaves-none start.device.store.flash.told _ (inl refl);
   few = omega arith;
   never_falls = omega arith;
-  alike = record { layout = refl; size = refl; sector_size = refl };
+  equivalent = record { layout = refl; size = refl; sector_size = refl };
   cursor = refl;
   elsewhere = refl;
 }
@@ -129,7 +129,7 @@ midway_none start made = record {
 base_untouched : (first w : MachineState) → Untouched first w → Base first w
 base_untouched first w is = record {
   kept = subst (λ (f : FlashState). KeepsMap first.device.store (record first.device.store { flash = f })) (sym is.flash) (Leaves-none first.device.store.flash.told _ refl);
-  alike = record { layout = is.layout; size = ap (λ (f : FlashState). f.size) is.flash; sector_size = ap (λ (f : FlashState). f.sector_size) is.flash };
+  equivalent = record { layout = is.layout; size = ap (λ (f : FlashState). f.size) is.flash; sector_size = ap (λ (f : FlashState). f.sector_size) is.flash };
   few = omega (arith, ap (λ (f : FlashState). f.steps) is.flash);
   never_falls = omega (arith, ap (λ (f : FlashState). f.faults) is.flash);
   cursor = is.cursor;
@@ -151,7 +151,7 @@ module _ (tells : Type 0) (own : OwnProgramsRun tells) (told : tells) (first : M
     steps = omega arith;
     faults = refl;
     certain = started.certain;
-    alike = record { layout = refl; size = refl; sector_size = refl };
+    equivalent = record { layout = refl; size = refl; sector_size = refl };
     no_read = started.no_read;
     status = started.status;
     cursor = refl;
@@ -213,7 +213,7 @@ module _ (tells : Type 0) (own : OwnProgramsRun tells) (told : tells) (first : M
           let answer : judged (status_in idle) ≡ Err Hardware = ap (λ (s : CommandStatus). judged (number_of s)) broken.status in
           subst (λ (r : Result (Unit {0}) ClientError). ChangeCommand first last id command requests budget r left) (sym answer)
           (IsFailed busy left started.usable (subst (λ (n : ℕ). Rose n idle.device.store.flash.faults) started.faults broken.rose)
-          (exit_of first.device.store last.device.store (after first.device.store.layout command (records_of first)) leaves.crash leaves.alike)
+          (exit_of first.device.store last.device.store (after first.device.store.layout command (records_of first)) leaves.crash leaves.equivalent)
           leaves (omega (arith, few, started.all)) (omega (arith, sum, behind, opened, needs (busy + 1))))
 
   -- the status of one that did not run
@@ -241,7 +241,7 @@ module _ (tells : Type 0) (own : OwnProgramsRun tells) (told : tells) (first : M
       store_is = abandoned_idle start.device.store unstarted.still.no_change
 
       map_same : stored start.device.store ≡ records_of first
-      map_same = kept_map first.device.store start.device.store unstarted.base.kept unstarted.base.alike
+      map_same = kept_map first.device.store start.device.store unstarted.base.kept unstarted.base.equivalent
 
       leaves : ChangeLeaves first (ended_from (with_value (status_in start) start)) command 0
       leaves = leaves_from first start command 0 0 (status_in start) start unstarted.base (omega arith) (midway_none start _)

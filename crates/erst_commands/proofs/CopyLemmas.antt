@@ -8,13 +8,13 @@ use Rattle.apei_space.specs.Calls.{ReadBytes}
 use Rattle.erst_client.specs.declared.errors.ClientError.{ClientError}
 use Rattle.erst_client.specs.Commands.{copy_refusal, CopiesOut, IsFilled, IsNotFilled, copied, Reads, IsNotRead as not_read, HasNoLength, IsNotCopied as not_copied, IsCopied as is_copied}
 use Rattle.erst_client.proofs.RefusalLemmas.{copies}
-use Rattle.erst_machine.specs.declared.areas.Spot.{Spot}
+use Rattle.erst_machine.specs.declared.areas.Location.{Location}
 use Rattle.erst_machine.specs.MachineState.{MachineState, IsMachine, reach_in}
 use Rattle.erst_machine.specs.Allowed.{Allows, bytes_read}
 use Rattle.erst_commands.specs.OwnPrograms.{OwnProgramsRun}
 use Rattle.erst_commands.specs.Attached.{own_client}
 use Rattle.erst_commands.specs.Reads.{ReadMade, IsRead, IsRefused, IsFailed, ReadCommand, Answers, StopsBehind, StopsBefore, ReadAnswered, IsNotRead, IsNotCopied, IsCopied}
-use Rattle.erst_commands.proofs.RangeLemmas.{spot-start, spot-length, at-start}
+use Rattle.erst_commands.proofs.RangeLemmas.{location-start, location-length, at-start}
 use Rattle.erst_commands.proofs.ReadLemmas.{read_command}
 
 no_fault : (fault : SpaceFault) → ◌≡◌ {A = Result (Unit {0}) SpaceFault} (Err fault) (Ok tt) → ⊥
@@ -39,14 +39,14 @@ module _ (tells : Type 0) (mid : MachineState) (reach : ℕ) (range_is : length 
   length_read : 24 ≤ reach → (field : List ℕ) (answer : Result (Unit {0}) SpaceFault) (new : MachineState) → Allows tells mid (ReadBytes 0x100014 (0 ∷ 0 ∷ 0 ∷ 0 ∷ []) field answer) new
       → (answer ≡ Ok tt) × (field ≡ part mid.memory.range 20 4) × (new ≡ mid)
   length_read long field answer new allowed =
-      let spot = spot-length (length mid.memory.range) (omega (arith, long, range_is)) in
-      (allowed.0 ∙ ap (λ (s : Spot). (bytes_read s mid 0x100014 (0 ∷ 0 ∷ 0 ∷ 0 ∷ [])).0) spot, allowed.1 ∙ ap (λ (s : Spot). (bytes_read s mid 0x100014 (0 ∷ 0 ∷ 0 ∷ 0 ∷ [])).1) spot, allowed.2)
+      let location = location-length (length mid.memory.range) (omega (arith, long, range_is)) in
+      (allowed.0 ∙ ap (λ (s : Location). (bytes_read s mid 0x100014 (0 ∷ 0 ∷ 0 ∷ 0 ∷ [])).0) location, allowed.1 ∙ ap (λ (s : Location). (bytes_read s mid 0x100014 (0 ∷ 0 ∷ 0 ∷ 0 ∷ [])).1) location, allowed.2)
 
   range_read : (before after : List ℕ) (answer : Result (Unit {0}) SpaceFault) (new : MachineState) → 0 < length before → length before ≤ reach → Allows tells mid (ReadBytes 0x100000 before after answer) new
       → (answer ≡ Ok tt) × (after ≡ part mid.memory.range 0 (length before)) × (new ≡ mid)
   range_read before after answer new some fits allowed =
-      let spot = spot-start (length mid.memory.range) (length before) some (omega (arith, fits, range_is)) in
-      (allowed.0 ∙ ap (λ (s : Spot). (bytes_read s mid 0x100000 before).0) spot, allowed.1 ∙ ap (λ (s : Spot). (bytes_read s mid 0x100000 before).1) spot, allowed.2)
+      let location = location-start (length mid.memory.range) (length before) some (omega (arith, fits, range_is)) in
+      (allowed.0 ∙ ap (λ (s : Location). (bytes_read s mid 0x100000 before).0) location, allowed.1 ∙ ap (λ (s : Location). (bytes_read s mid 0x100000 before).1) location, allowed.2)
 
   copied_out : (before after : List ℕ) (answer : Result (Unit {0}) ClientError) (new : MachineState) → 0 < length before → length before ≤ reach → CopiesOut (Allows tells) 0x100000 before after mid answer new
       → (answer ≡ Ok tt) × (after ≡ part mid.memory.range 0 (length before)) × (new ≡ mid)

@@ -22,7 +22,7 @@ use Rattle.erst_device.specs.StoreCalls.{Stepped, StartedWrite, StartedClear, Fo
 use Rattle.erst_device.specs.DeviceState.{DeviceState, IsStill, IsRunning, Reads, Changes, is_busy, given_up, KnowsCopies}
 use Rattle.erst_device.specs.Starts.{named, HasLength, Starts, NoneBegun, WritesDummy, NoDraft, Writes, LookFails, FindsNone, Misses, GoesBeyond, Finds, NoneToClear, Clears, status_after}
 use Rattle.erst_device.specs.Actions.{told_by, begun_by, waits, gives_up, stepped, shown, found, counted, Acts, Begins, Ends, SetsOffset, SetsId, Waits, Executes, NoneRuns, Steps, Shows, Tells, FindsNext, Counts, Ignores}
-use Rattle.erst_commands.specs.Alike.{StoreOutline, DeviceOutline, unplaced, store_outline, device_outline, FailsNothing}
+use Rattle.erst_commands.specs.Equivalence.{StoreOutline, DeviceOutline, unplaced, store_outline, device_outline, FailsNothing}
 use Rattle.erst_commands.proofs.StoreOutlines.{looked, gave_up, changed, started, status_by, is_idle, write_pending, given_up_outline, only_looked, has_changed, write_started, clear_started, answers_ok}
 
 -- What an action makes of an outline
@@ -400,7 +400,7 @@ module _ (tells : Type 0) (told : tells) (old : DeviceState) (range : List ℕ) 
 -- two devices whose outlines are the same
 pub became_alike : (action : Option Action) (one other : DeviceOutline) (range : List ℕ) (one_after : DeviceOutline) (one_range : List ℕ) (other_after : DeviceOutline) (other_range : List ℕ) → one ≡ other
     → Became action one range one_after one_range → Became action other range other_after other_range → (one_after ≡ other_after) × (one_range ≡ other_range)
-became_alike action one other range one_after one_range other_after other_range alike first second =
-    let back = subst (λ (o : DeviceOutline). Became action o range other_after other_range) (sym alike) second in
+became_alike action one other range one_after one_range other_after other_range equivalent first second =
+    let back = subst (λ (o : DeviceOutline). Became action o range other_after other_range) (sym equivalent) second in
     let same = found_once (looks action one) one.store.records first.next back.next first.is_found back.is_found in
     (first.outline ∙ ap (λ (n : Option ℕ). become action one range n) same ∙ sym back.outline, first.range_is ∙ sym back.range_is)

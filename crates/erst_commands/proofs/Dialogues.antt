@@ -1,9 +1,9 @@
 -- Dialogues with a space: what a program or a client does, as the calls that it makes and how it goes on by their answers. Two of one
--- dialogue, from spaces that are alike, end alike.
+-- dialogue, from spaces that are equivalent, end alike.
 use Rattle.std.proofs.Common.{◌≡◌, ℕ, ◌-◌, ◌^◌, ◌<◌, ◌≤◌, refl, sym, ap, subst, ◌∙◌, arith, inl, inr}
 use Rattle.base_model.specs.Faults.{Rose}
 use Rattle.apei_space.specs.Calls.{Call}
-use Rattle.erst_commands.specs.Alike.{answered, AskAlike}
+use Rattle.erst_commands.specs.Equivalence.{answered, AskAlike}
 
 -- it ends with a result, or makes a call and goes on by the call with its answer
 pub data Dialogue (A : Type 0) : Type 0 where
@@ -67,9 +67,9 @@ quiet_second a b c first second quiet rose = elim rose [
 ]
 
 -- Two of one dialogue. `alike` relates two spaces, and one call of each keeps it where nothing fails
-module _ {W : Type 0} (allows : W → Call → W → Type 0) (faults : W → ℕ) (alike : W → W → Type 0) (grows : (old new : W) (call : Call) → allows old call new → faults old ≤ faults new)
-    (keeps : (one other : W) (call also : Call) (one_after other_after : W) → alike one other → AskAlike call also → allows one call one_after → (Rose (faults one) (faults one_after) → ⊥)
-    → allows other also other_after → (Rose (faults other) (faults other_after) → ⊥) → (answered call ≡ answered also) × alike one_after other_after) where
+module _ {W : Type 0} (allows : W → Call → W → Type 0) (faults : W → ℕ) (equivalent : W → W → Type 0) (grows : (old new : W) (call : Call) → allows old call new → faults old ≤ faults new)
+    (keeps : (one other : W) (call also : Call) (one_after other_after : W) → equivalent one other → AskAlike call also → allows one call one_after → (Rose (faults one) (faults one_after) → ⊥)
+    → allows other also other_after → (Rose (faults other) (faults other_after) → ⊥) → (answered call ≡ answered also) × equivalent one_after other_after) where
   pub held_grows : {A : Type 0} (dialogue : Dialogue A) (old : W) (x : A) (new : W) → HeldBy allows dialogue old x new → faults old ≤ faults new
   held_grows (Ends y) old x new held = let same = ap faults held.1 in omega arith
   held_grows (Calls call next) old x new held =
@@ -77,10 +77,10 @@ module _ {W : Type 0} (allows : W → Call → W → Type 0) (faults : W → ℕ
       let more = held_grows (next (answered held.0)) held.1 x new held.4 in
       omega arith
 
-  held_alike : {A : Type 0} (dialogue : Dialogue A) (one other : W) (x y : A) (one_after other_after : W) → alike one other → HeldBy allows dialogue one x one_after → (Rose (faults one) (faults one_after) → ⊥)
-      → HeldBy allows dialogue other y other_after → (Rose (faults other) (faults other_after) → ⊥) → (x ≡ y) × alike one_after other_after
+  held_alike : {A : Type 0} (dialogue : Dialogue A) (one other : W) (x y : A) (one_after other_after : W) → equivalent one other → HeldBy allows dialogue one x one_after → (Rose (faults one) (faults one_after) → ⊥)
+      → HeldBy allows dialogue other y other_after → (Rose (faults other) (faults other_after) → ⊥) → (x ≡ y) × equivalent one_after other_after
   held_alike (Ends z) one other x y one_after other_after related first quiet second also_quiet =
-      (first.0 ∙ sym second.0, subst (λ (w : W). alike w other_after) (sym first.1) (subst (λ (w : W). alike one w) (sym second.1) related))
+      (first.0 ∙ sym second.0, subst (λ (w : W). equivalent w other_after) (sym first.1) (subst (λ (w : W). equivalent one w) (sym second.1) related))
   held_alike {A} (Calls call next) one other x y one_after other_after related first quiet second also_quiet =
       let one_step = grows one first.1 first.0 first.3 in
       let one_rest = held_grows (next (answered first.0)) first.1 x one_after first.4 in
@@ -94,7 +94,7 @@ module _ {W : Type 0} (allows : W → Call → W → Type 0) (faults : W → ℕ
       first.4 (quiet_second (faults one) (faults first.1) (faults one_after) one_step one_rest quiet)
       rest (quiet_second (faults other) (faults second.1) (faults other_after) other_step other_rest also_quiet)
 
-  pub ends_alike : {A : Type 0} (dialogue : Dialogue A) (one other : W) (x y : A) (one_after other_after : W) → alike one other → Held allows dialogue one x one_after → (Rose (faults one) (faults one_after) → ⊥)
-      → Held allows dialogue other y other_after → (Rose (faults other) (faults other_after) → ⊥) → (x ≡ y) × alike one_after other_after
+  pub ends_alike : {A : Type 0} (dialogue : Dialogue A) (one other : W) (x y : A) (one_after other_after : W) → equivalent one other → Held allows dialogue one x one_after → (Rose (faults one) (faults one_after) → ⊥)
+      → Held allows dialogue other y other_after → (Rose (faults other) (faults other_after) → ⊥) → (x ≡ y) × equivalent one_after other_after
   ends_alike dialogue one other x y one_after other_after related first quiet second also_quiet =
       held_alike dialogue one other x y one_after other_after related (held_by allows dialogue one x one_after first) quiet (held_by allows dialogue other y other_after second) also_quiet

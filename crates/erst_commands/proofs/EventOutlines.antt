@@ -1,4 +1,4 @@
--- Restarts, calls of the handover, fatal blocks and boots of two machines that are alike, over flashes that fail nothing.
+-- Restarts, calls of the handover, fatal blocks and boots of two machines that are equivalent, over flashes that fail nothing.
 use Rattle.std.proofs.Common.{◌≡◌, ℕ, suc, Bool, true, false, List, [], ◌∷◌, ◌++◌, length, Option, Some, None, Result, Ok, Err, refl, sym, ap, subst, ◌∙◌, arith}
 use Rattle.std.specs.Prelude.{if◌then◌else◌, option_to_list}
 use Rattle.std.specs.FinMap.{len}
@@ -24,7 +24,7 @@ use Rattle.erst_machine.specs.Memories.{MemoryState, cleared}
 use Rattle.erst_machine.specs.MachineState.{MachineState, IsMachine, records_of}
 use Rattle.erst_machine.specs.Boots.{IsBooted}
 use Rattle.erst_machine.specs.Events.{Restarts, Warms, Powers, Submits, Turns, LaysFatal, Event, Accessed, Warmed, Powered, Submitted, Turned, Laid, Happens}
-use Rattle.erst_commands.specs.Alike.{StoreOutline, DeviceOutline, MachineOutline, unplaced, store_outline, device_outline, machine_outline, AlikeMachines, FailsNothing, FailedNothing, asked_event, answered_event}
+use Rattle.erst_commands.specs.Equivalence.{StoreOutline, DeviceOutline, MachineOutline, unplaced, store_outline, device_outline, machine_outline, EquivalentMachines, FailsNothing, FailedNothing, asked_event, answered_event}
 use Rattle.erst_commands.proofs.StoreOutlines.{looked, same_outline, only_looked, no_copies}
 use Rattle.erst_commands.proofs.MachineOutlines.{same_machine, answer_alike}
 
@@ -68,9 +68,9 @@ began tells told before memory old (Err error) new before_is quiet restarts = ab
 -- two restarts
 begin_alike : (memory : MachineOutline → MemoryState) (one other : MachineOutline) (result also : Result ℕ BootError) (one_after other_after : MachineOutline) → one ≡ other → Began (memory one) one result one_after
     → Began (memory other) other also other_after → (result ≡ also) × (one_after ≡ other_after)
-begin_alike memory one other result also one_after other_after alike first second = (
-  first.answer ∙ ap (λ (o : MachineOutline). Ok (len o.device.store.records)) alike ∙ sym second.answer,
-  first.outline ∙ ap (λ (o : MachineOutline). begun (memory o) o) alike ∙ sym second.outline,
+begin_alike memory one other result also one_after other_after equivalent first second = (
+  first.answer ∙ ap (λ (o : MachineOutline). Ok (len o.device.store.records)) equivalent ∙ sym second.answer,
+  first.outline ∙ ap (λ (o : MachineOutline). begun (memory o) o) equivalent ∙ sym second.outline,
 )
 
 abbrev warm_memory : MachineOutline → MemoryState
@@ -105,28 +105,28 @@ stands_once g h ram mem m at first second =
     let both = same_kept g.at_work h.at_work g.waiting h.waiting (first.blocks ∙ sym second.blocks) (first.wait ∙ sym second.wait) in
     same_state g h at (sym first.situation ∙ second.situation) both.1 both.0 (first.filled ∙ sym second.filled) (first.copied ∙ sym second.copied) (first.last ∙ sym second.last)
 
-module _ (one other : MachineState) (alike : AlikeMachines one other) where
-  pub submits_alike : (block : List ℕ) (result also : Result ℕ SubmitError) (one_after other_after : MachineState) → Submits one block result one_after → Submits other block also other_after → (result ≡ also) × AlikeMachines one_after other_after
+module _ (one other : MachineState) (equivalent : EquivalentMachines one other) where
+  pub submits_alike : (block : List ℕ) (result also : Result ℕ SubmitError) (one_after other_after : MachineState) → Submits one block result one_after → Submits other block also other_after → (result ≡ also) × EquivalentMachines one_after other_after
   submits_alike block (Ok n) (Ok k) one_after other_after first second =
-      let after : AlikeMachines one_after other_after =
-      ap machine_outline first.added ∙ ap (λ (o : MachineOutline). record o { handover = record o.handover { waiting = o.handover.waiting ++ block ∷ [] } }) alike ∙ sym (ap machine_outline second.added) in
+      let after : EquivalentMachines one_after other_after =
+      ap machine_outline first.added ∙ ap (λ (o : MachineOutline). record o { handover = record o.handover { waiting = o.handover.waiting ++ block ∷ [] } }) equivalent ∙ sym (ap machine_outline second.added) in
       (ap (λ (i : ℕ). Ok i) (first.number ∙ ap (λ (o : MachineOutline). length o.handover.waiting) after ∙ sym second.number), after)
   submits_alike block (Ok n) (Err error) one_after other_after first second =
-      absurd (none-some error (sym first.exact ∙ ap (λ (o : MachineOutline). refusal o.handover block) alike ∙ second.exact))
+      absurd (none-some error (sym first.exact ∙ ap (λ (o : MachineOutline). refusal o.handover block) equivalent ∙ second.exact))
   submits_alike block (Err error) (Ok n) one_after other_after first second =
-      absurd (none-some error (sym second.exact ∙ sym (ap (λ (o : MachineOutline). refusal o.handover block) alike) ∙ first.exact))
+      absurd (none-some error (sym second.exact ∙ sym (ap (λ (o : MachineOutline). refusal o.handover block) equivalent) ∙ first.exact))
   submits_alike block (Err error) (Err why) one_after other_after first second = (
-    ap (λ (e : SubmitError). Err e) (same_Some error why (sym first.exact ∙ ap (λ (o : MachineOutline). refusal o.handover block) alike ∙ second.exact)),
-    ap machine_outline first.refused ∙ alike ∙ sym (ap machine_outline second.refused),
+    ap (λ (e : SubmitError). Err e) (same_Some error why (sym first.exact ∙ ap (λ (o : MachineOutline). refusal o.handover block) equivalent ∙ second.exact)),
+    ap machine_outline first.refused ∙ equivalent ∙ sym (ap machine_outline second.refused),
   )
 
   same_handover : one.handover ≡ other.handover
-  same_handover = ap (λ (o : MachineOutline). o.handover) alike
+  same_handover = ap (λ (o : MachineOutline). o.handover) equivalent
 
   same_shared : one.memory.shared ≡ other.memory.shared
-  same_shared = ap (λ (o : MachineOutline). o.memory.shared) alike
+  same_shared = ap (λ (o : MachineOutline). o.memory.shared) equivalent
 
-  pub turns_alike : (side : Side) (event also : TurnEvent) (one_after other_after : MachineState) → Turns side one event one_after → Turns side other also other_after → (event ≡ also) × AlikeMachines one_after other_after
+  pub turns_alike : (side : Side) (event also : TurnEvent) (one_after other_after : MachineState) → Turns side one event one_after → Turns side other also other_after → (event ≡ also) × EquivalentMachines one_after other_after
   turns_alike side event also one_after other_after first second =
       let m = first.stood.0 in
       let stands = first.stood.1 in
@@ -142,32 +142,32 @@ module _ (one other : MachineState) (alike : AlikeMachines one other) where
       first.memory_is
       ∙ ap (λ (bytes : List ℕ). record one.memory { shared = memory_after one.handover.map event one.memory.shared bytes }) windows
       ∙ ap (λ (e : TurnEvent). record one.memory { shared = memory_after one.handover.map e one.memory.shared (window other.handover.map other_after.memory.shared) }) events
-      ∙ ap (λ (o : MachineOutline). record o.memory { shared = memory_after o.handover.map also o.memory.shared (window other.handover.map other_after.memory.shared) }) alike
+      ∙ ap (λ (o : MachineOutline). record o.memory { shared = memory_after o.handover.map also o.memory.shared (window other.handover.map other_after.memory.shared) }) equivalent
       ∙ sym second.memory_is in (
         events,
         same_machine (machine_outline one_after) (machine_outline other_after)
-            (ap device_outline first.device ∙ ap (λ (o : MachineOutline). o.device) alike ∙ sym (ap device_outline second.device))
+            (ap device_outline first.device ∙ ap (λ (o : MachineOutline). o.device) equivalent ∙ sym (ap device_outline second.device))
             memory
             (stands_once one_after.handover other_after.handover one_after.memory.shared other_after.memory.shared (turned side m).1 maps own.stands others.stands)
-            (first.waited ∙ ap (λ (o : MachineOutline). o.waited) alike ∙ sym second.waited),
+            (first.waited ∙ ap (λ (o : MachineOutline). o.waited) equivalent ∙ sym second.waited),
       )
 
-  pub lays_alike : IsMachine one → (block : List ℕ) (result also : Result ℕ FatalError) (one_after other_after : MachineState) → LaysFatal one block result one_after → LaysFatal other block also other_after → (result ≡ also) × AlikeMachines one_after other_after
+  pub lays_alike : IsMachine one → (block : List ℕ) (result also : Result ℕ FatalError) (one_after other_after : MachineState) → LaysFatal one block result one_after → LaysFatal other block also other_after → (result ≡ also) × EquivalentMachines one_after other_after
   lays_alike machine block result also one_after other_after first second =
       let blocks : List (List ℕ) = machine.laid.0 in
       let left : ℕ = machine.laid.1 in
       let laid : IsLaidOut blocks left one.memory.region = machine.laid.2 in
-      by_result blocks left laid (subst (λ (r : List ℕ). IsLaidOut blocks left r) (ap (λ (o : MachineOutline). o.memory.region) alike) laid) result also first second
+      by_result blocks left laid (subst (λ (r : List ℕ). IsLaidOut blocks left r) (ap (λ (o : MachineOutline). o.memory.region) equivalent) laid) result also first second
     where
       by_result : (blocks : List (List ℕ)) (left : ℕ) → IsLaidOut blocks left one.memory.region → IsLaidOut blocks left other.memory.region → (result also : Result ℕ FatalError) → LaysFatal one block result one_after
-          → LaysFatal other block also other_after → (result ≡ also) × AlikeMachines one_after other_after
+          → LaysFatal other block also other_after → (result ≡ also) × EquivalentMachines one_after other_after
       by_result blocks left laid laid_too (Ok at) (Ok place) first second =
           let own = first.laid blocks left laid in
           let others = second.laid blocks left laid_too in
           let region : one_after.memory.region ≡ other_after.memory.region = own.1.region_is ∙ sym others.1.region_is in (
             ap (λ (n : ℕ). Ok n) (own.0 ∙ sym others.0),
             ap machine_outline first.others
-                ∙ ap (λ (o : MachineOutline). record o { memory = record o.memory { region = one_after.memory.region } }) alike
+                ∙ ap (λ (o : MachineOutline). record o { memory = record o.memory { region = one_after.memory.region } }) equivalent
                 ∙ ap (λ (r : List ℕ). machine_outline (record other { memory = record other.memory { region = r } })) region
                 ∙ sym (ap machine_outline second.others),
           )
@@ -175,28 +175,28 @@ module _ (one other : MachineState) (alike : AlikeMachines one other) where
       by_result blocks left laid laid_too (Err error) (Ok at) first second = absurd (none-some error (sym (second.exact blocks left laid_too) ∙ first.exact blocks left laid))
       by_result blocks left laid laid_too (Err error) (Err why) first second = (
         ap (λ (e : FatalError). Err e) (same_Some error why (sym (first.exact blocks left laid) ∙ second.exact blocks left laid_too)),
-        ap machine_outline first.refused ∙ alike ∙ sym (ap machine_outline second.refused),
+        ap machine_outline first.refused ∙ equivalent ∙ sym (ap machine_outline second.refused),
       )
 
   module _ (tells : Type 0) (told : tells) where
     warms_alike : (result also : Result ℕ BootError) (one_after other_after : MachineState) → Warms tells one result one_after → FailedNothing one one_after → Warms tells other also other_after → FailedNothing other other_after
-        → (result ≡ also) × AlikeMachines one_after other_after
+        → (result ≡ also) × EquivalentMachines one_after other_after
     warms_alike result also one_after other_after first quiet second also_quiet =
-        begin_alike warm_memory (machine_outline one) (machine_outline other) result also (machine_outline one_after) (machine_outline other_after) alike
+        begin_alike warm_memory (machine_outline one) (machine_outline other) result also (machine_outline one_after) (machine_outline other_after) equivalent
         (began tells told (doubted one.device.store) _ one result one_after (doubted_outline one.device.store (first.copies told)) quiet first)
         (began tells told (doubted other.device.store) _ other also other_after (doubted_outline other.device.store (second.copies told)) also_quiet second)
 
     powers_alike : (result also : Result ℕ BootError) (one_after other_after : MachineState) → Powers tells one result one_after → FailedNothing one one_after → Powers tells other also other_after → FailedNothing other other_after
-        → (result ≡ also) × AlikeMachines one_after other_after
+        → (result ≡ also) × EquivalentMachines one_after other_after
     powers_alike result also one_after other_after first quiet second also_quiet =
-        begin_alike cold_memory (machine_outline one) (machine_outline other) result also (machine_outline one_after) (machine_outline other_after) alike
+        begin_alike cold_memory (machine_outline one) (machine_outline other) result also (machine_outline one_after) (machine_outline other_after) equivalent
         (began tells told (restarted one.device.store) _ one result one_after (doubted_outline one.device.store (first.restarts.copies told)) quiet first.restarts)
         (began tells told (restarted other.device.store) _ other also other_after (doubted_outline other.device.store (second.restarts.copies told)) also_quiet second.restarts)
 
     pub happens_alike : IsMachine one → (event also : Event) (one_after other_after : MachineState) → asked_event event ≡ asked_event also → Happens tells one event one_after → FailedNothing one one_after
-        → Happens tells other also other_after → FailedNothing other other_after → (answered_event event ≡ answered_event also) × AlikeMachines one_after other_after
+        → Happens tells other also other_after → FailedNothing other other_after → (answered_event event ≡ answered_event also) × EquivalentMachines one_after other_after
     happens_alike machine (Accessed call) (Accessed others) one_after other_after asks first quiet second also_quiet =
-        let both = answer_alike tells told one other alike call others one_after other_after (cc) first quiet second also_quiet in
+        let both = answer_alike tells told one other equivalent call others one_after other_after (cc) first quiet second also_quiet in
         (ap (λ c. Accessed c) both.0, both.1)
     happens_alike machine (Warmed result) (Warmed found) one_after other_after asks first quiet second also_quiet =
         let both = warms_alike result found one_after other_after first quiet second also_quiet in
@@ -220,7 +220,7 @@ module _ (one other : MachineState) (alike : AlikeMachines one other) where
 
 -- A boot
 
-pub boots_alike : (geometry : Geometry) (one other : MachineState) → IsBooted geometry one → IsBooted geometry other → records_of one ≡ records_of other → one.device.store.flash.steps ≡ other.device.store.flash.steps → AlikeMachines one other
+pub boots_alike : (geometry : Geometry) (one other : MachineState) → IsBooted geometry one → IsBooted geometry other → records_of one ≡ records_of other → one.device.store.flash.steps ≡ other.device.store.flash.steps → EquivalentMachines one other
 boots_alike geometry one other first second records steps =
     let store : store_outline one.device.store ≡ store_outline other.device.store =
     same_outline (store_outline one.device.store) (store_outline other.device.store)

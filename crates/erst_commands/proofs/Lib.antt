@@ -31,5 +31,5 @@ pub mod ClientDialogues
 pub mod MachineDialogues
 pub mod EventOutlines
 pub mod TrailOutlines
-pub mod ReadTwins
+pub mod EquivalentReads
 pub mod OneLemmas

@@ -36,8 +36,8 @@ use Rattle.erst_commands.proofs.MachineSteps.{acted_is}
 use Rattle.erst_commands.proofs.SharedLemmas.{differ}
 
 -- what the store says of a call that only looks, from the store with its execution given up
-alike_from : (old new : StoreView) → DividesAlike (abandoned old) new → DividesAlike old new
-alike_from old new alike = record { layout = alike.layout; size = alike.size; sector_size = alike.sector_size }
+equivalent_from : (old new : StoreView) → DividesAlike (abandoned old) new → DividesAlike old new
+equivalent_from old new equivalent = record { layout = equivalent.layout; size = equivalent.size; sector_size = equivalent.sector_size }
 
 pub only_looked : {T : Type 0} (tells : Type 0) (told : tells) (first last : MachineState) (store : StoreView) (result : Result T StoreError) → OnlyLooks tells (abandoned first.device.store) store result
     → last.device.store ≡ store → last ≡ record first { device = last.device } → OnlyLooked first last
@@ -46,7 +46,7 @@ only_looked tells told first last store result leaves there elsewhere = subst (�
       kept = leaves.kept told;
       few = leaves.few told;
       idle = leaves.idle;
-      alike = alike_from first.device.store store leaves.alike;
+      equivalent = equivalent_from first.device.store store leaves.equivalent;
       never_falls = faults_rise first.device.store.flash.faults store.flash.faults result leaves.cause;
       elsewhere = ap (λ (m : MachineState). record m { device = record last.device { store = store } }) elsewhere;
     })

@@ -6,7 +6,7 @@ use Rattle.apei_space.specs.Calls.{WriteBytes}
 use Rattle.erst_client.specs.declared.errors.ClientError.{ClientError}
 use Rattle.erst_client.specs.declared.errors.ClientError.TheVariants.{Range}
 use Rattle.erst_client.specs.Commands.{address_in, Puts, NotPut, NotMarked, IsPut}
-use Rattle.erst_machine.specs.MachineState.{MachineState, IsMachine, spot_at}
+use Rattle.erst_machine.specs.MachineState.{MachineState, IsMachine, location_at}
 use Rattle.erst_machine.specs.Allowed.{Allows}
 use Rattle.erst_machine.proofs.KeptLemmas.{kept_allowed}
 use Rattle.erst_machine.proofs.CrashTrail.{stored_store}
@@ -22,7 +22,7 @@ same_error one other e = cc
 
 module _ (tells : Type 0) where
   put_store : (old new : MachineState) (at : ℕ) (bytes : List ℕ) (answer : Result (Unit {0}) SpaceFault) → Allows tells old (WriteBytes at bytes answer) new → new.device.store ≡ old.device.store
-  put_store old new at bytes answer allowed = ap (λ (m : MachineState). m.device.store) allowed.1 ∙ stored_store (spot_at old at (length bytes)) old at bytes
+  put_store old new at bytes answer allowed = ap (λ (m : MachineState). m.device.store) allowed.1 ∙ stored_store (location_at old at (length bytes)) old at bytes
 
   pub has_put : (address : ℕ) (bytes : List ℕ) (old : MachineState) (result : Result (Unit {0}) ClientError) (new : MachineState) → Puts (Allows tells) address bytes old result new → HasPut old result new
   has_put address bytes old result new puts = elim puts as (λ result new puts. HasPut old result new) [

@@ -53,7 +53,7 @@ use Rattle.erst_commands.proofs.RangeLemmas.{at-start}
 use Rattle.erst_commands.proofs.ChangeLemmas.{abandoned_idle}
 use Rattle.erst_commands.proofs.SequenceLemmas.{Untouched, StillWaited, IsAtOnce, IsShort, wait_still, ended_from, status_in, HasTold, HasNotTold, HasNotWaited, HasNotAsked, sequence_ends, opened_ok, opened_short}
 use Rattle.erst_commands.proofs.OpenLemmas.{IsOn, reading_device, read_opens}
-use Rattle.erst_commands.proofs.SharedLemmas.{alike_then, no_answer, no_stop, same_stop, same_number}
+use Rattle.erst_commands.proofs.SharedLemmas.{equivalent_then, no_answer, no_stop, same_stop, same_number}
 
 pub needs-read : (id : ℕ) → steps_needed own_entries (read_requests id) 1 ≡ 10
 unfolding own_entries entries_of
@@ -66,7 +66,7 @@ of_looked first last looked = record {
   kept = looked.kept;
   few = looked.few;
   idle = looked.idle;
-  alike = looked.alike;
+  equivalent = looked.equivalent;
   never_falls = looked.never_falls;
   elsewhere = looked.elsewhere ∙ ap (λ (r : List ℕ). record first { device = last.device; memory = record first.memory { range = r } }) (sym (ap (λ (m : MachineState). m.memory.range) looked.elsewhere));
 }
@@ -82,7 +82,7 @@ leaves_end first w value leaves = record {
   kept = leaves.kept;
   few = leaves.few;
   idle = refl;
-  alike = record { layout = leaves.alike.layout; size = leaves.alike.size; sector_size = leaves.alike.sector_size };
+  equivalent = record { layout = leaves.equivalent.layout; size = leaves.equivalent.size; sector_size = leaves.equivalent.sector_size };
   never_falls = leaves.never_falls;
   elsewhere = let device : DeviceState = (ended_from (with_value value w)).device in ap (λ (m : MachineState). record m { device = device }) leaves.elsewhere;
 }
@@ -107,7 +107,7 @@ untouched_end first w is = record {
   kept = subst (λ (f : FlashState). KeepsMap first.device.store (record first.device.store { flash = f })) (sym is.flash) (Leaves-none first.device.store.flash.told _ refl);
   few = omega (arith, ap (λ (f : FlashState). f.steps) is.flash);
   idle = refl;
-  alike = record { layout = is.layout; size = ap (λ (f : FlashState). f.size) is.flash; sector_size = ap (λ (f : FlashState). f.sector_size) is.flash };
+  equivalent = record { layout = is.layout; size = ap (λ (f : FlashState). f.size) is.flash; sector_size = ap (λ (f : FlashState). f.sector_size) is.flash };
   never_falls = omega (arith, ap (λ (f : FlashState). f.faults) is.flash);
   elsewhere =
       let range : w.memory.range ≡ first.memory.range = ap (λ (m : MachineState). m.memory.range) is.elsewhere in
@@ -251,10 +251,10 @@ module _ (tells : Type 0) (told : tells) (first start : MachineState) (machine :
 -- The step that shows the record
 
 kept_then : (a b c : StoreView) → KeepsMap a b → DividesAlike a b → KeepsMap b c → KeepsMap a c
-kept_then a b c first alike second =
+kept_then a b c first equivalent second =
     Leaves-then a.flash.told b.flash.told c.flash.told (λ image. records_in a.layout image ≡ stored a) first
     (Leaves-weaker b.flash.told c.flash.told (λ image. records_in b.layout image ≡ stored b) (λ image. records_in a.layout image ≡ stored a) second
-    (λ image same. ap (λ (l : Layout). records_in l image) (sym alike.layout) ∙ same ∙ kept_map a b first alike))
+    (λ image same. ap (λ (l : Layout). records_in l image) (sym equivalent.layout) ∙ same ∙ kept_map a b first equivalent))
 
 no_copies : (store : StoreView) → store.in_doubt ≡ false → copies_of store ≡ 0
 no_copies store certain = rw certain refl
@@ -270,10 +270,10 @@ module _ (tells : Type 0) (told : tells) (first start : MachineState) (id found 
       let most : store.flash.steps ≤ start.device.store.flash.steps + copies_of start.device.store = leaves.at_most told in
       let looked = asked.looked in
       record {
-        kept = subst (λ (s : StoreView). KeepsMap first.device.store s) (sym there) (kept_then first.device.store start.device.store store looked.kept looked.alike (leaves.kept told));
+        kept = subst (λ (s : StoreView). KeepsMap first.device.store s) (sym there) (kept_then first.device.store start.device.store store looked.kept looked.equivalent (leaves.kept told));
         few = subst (λ (s : StoreView). s.flash.steps ≤ first.device.store.flash.steps + 1) (sym there) (omega (arith, most, none, looked.few));
         idle = ap (λ (s : StoreView). s.pending) there ∙ leaves.idle;
-        alike = subst (λ (s : StoreView). DividesAlike first.device.store s) (sym there) (alike_then first.device.store start.device.store store looked.alike leaves.alike);
+        equivalent = subst (λ (s : StoreView). DividesAlike first.device.store s) (sym there) (equivalent_then first.device.store start.device.store store looked.equivalent leaves.equivalent);
         never_falls = subst (λ (s : StoreView). first.device.store.flash.faults ≤ s.flash.faults) (sym there)
             (omega (arith, looked.never_falls, faults_rise start.device.store.flash.faults store.flash.faults result leaves.cause));
         elsewhere = elsewhere ∙ ap (λ (m : MachineState). record m { device = new.device; memory = record m.memory { range = new.memory.range } }) looked.elsewhere;
@@ -295,7 +295,7 @@ module _ (tells : Type 0) (told : tells) (first start : MachineState) (id found 
       let there : new.device.store ≡ store = ap (λ (d : DeviceState). d.store) is in
       let leaves = read.leaves in
       let got : AnswersRead start.device.store found (drop start.device.offset start.memory.range) out (Ok size) = read.answer told in
-      let map_same : stored start.device.store ≡ records_of first = kept_map first.device.store start.device.store asked.looked.kept asked.looked.alike in
+      let map_same : stored start.device.store ≡ records_of first = kept_map first.device.store start.device.store asked.looked.kept asked.looked.equivalent in
       let same : (got.0, got.1.0) ≡ (body, generation) = same_Some _ _ (sym got.1.1 ∙ ap (λ (m : Stored). get m found) map_same ∙ here) in
       let body_is : got.0 ≡ body = ap (λ (p : List ℕ × ℕ). p.0) same in
       let size_is : size ≡ length body = got.2 ∙ ap length body_is in

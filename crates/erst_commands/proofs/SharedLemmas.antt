@@ -17,8 +17,8 @@ pub same_number : (x y : ℕ) → ◌≡◌ {A = Result ℕ RunStop} (Ok x) (Ok 
 same_number x y e = cc
 
 -- stores
-pub alike_then : (a b c : StoreView) → DividesAlike a b → DividesAlike b c → DividesAlike a c
-alike_then a b c first second = record { layout = second.layout ∙ first.layout; size = second.size ∙ first.size; sector_size = second.sector_size ∙ first.sector_size }
+pub equivalent_then : (a b c : StoreView) → DividesAlike a b → DividesAlike b c → DividesAlike a c
+equivalent_then a b c first second = record { layout = second.layout ∙ first.layout; size = second.size ∙ first.size; sector_size = second.sector_size ∙ first.sector_size }
 
 pub idle_busy : (pending : Pending) → pending ≡ Idle → IsBusy pending → ⊥
 idle_busy pending idle busy = subst (λ (p : Pending). IsBusy p) idle busy

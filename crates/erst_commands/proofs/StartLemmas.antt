@@ -68,7 +68,7 @@ base_started : (tells : Type 0) (told : tells) (first start : MachineState) (sto
     → start.device.cursor ≡ first.device.cursor → start ≡ on_device first start.device → Base first start
 base_started tells told first start store result starts there cursor elsewhere = record {
   kept = subst (λ (s : StoreView). KeepsMap first.device.store s) (sym there) (starts.kept told);
-  alike = subst (λ (s : StoreView). DividesAlike first.device.store s) (sym there) (record { layout = starts.alike.layout; size = starts.alike.size; sector_size = starts.alike.sector_size });
+  equivalent = subst (λ (s : StoreView). DividesAlike first.device.store s) (sym there) (record { layout = starts.equivalent.layout; size = starts.equivalent.size; sector_size = starts.equivalent.sector_size });
   few = subst (λ (s : StoreView). s.flash.steps ≤ first.device.store.flash.steps + 1) (sym there) (starts.few told);
   never_falls = subst (λ (s : StoreView). first.device.store.flash.faults ≤ s.flash.faults) (sym there) (faults_rise first.device.store.flash.faults store.flash.faults result starts.cause);
   cursor = cursor;
@@ -78,7 +78,7 @@ base_started tells told first start store result starts there cursor elsewhere =
 base_unasked : (first start : MachineState) → start.device.store ≡ abandoned first.device.store → start.device.cursor ≡ first.device.cursor → start ≡ on_device first start.device → Base first start
 base_unasked first start there cursor elsewhere = record {
   kept = subst (λ (s : StoreView). KeepsMap first.device.store s) (sym there) (Leaves-none first.device.store.flash.told _ refl);
-  alike = subst (λ (s : StoreView). DividesAlike first.device.store s) (sym there) (record { layout = refl; size = refl; sector_size = refl });
+  equivalent = subst (λ (s : StoreView). DividesAlike first.device.store s) (sym there) (record { layout = refl; size = refl; sector_size = refl });
   few = subst (λ (s : StoreView). s.flash.steps ≤ first.device.store.flash.steps + 1) (sym there) (omega arith);
   never_falls = subst (λ (s : StoreView). first.device.store.flash.faults ≤ s.flash.faults) (sym there) (omega arith);
   cursor = cursor;
@@ -152,7 +152,7 @@ module _ (tells : Type 0) (told : tells) (first start : MachineState) (id : ℕ)
   taken_start store more usable leaves is taken all leads =
       let there : start.device.store ≡ store = ap (λ (d : DeviceState). d.store) is in
       let base = base_started tells told first start store (Ok tt) leaves there (ap (λ (d : DeviceState). d.cursor) is ∙ cursor) elsewhere in
-      let same = kept_map first.device.store start.device.store base.kept base.alike in
+      let same = kept_map first.device.store start.device.store base.kept base.equivalent in
       record {
         base = base;
         usable = usable;
@@ -167,7 +167,7 @@ module _ (tells : Type 0) (told : tells) (first start : MachineState) (id : ℕ)
         leads = subst (λ (m : Stored). Leads (suc more) start.device.store.layout start.device.store.pending (stored start.device.store) m) (sym (after-done first.device.store.layout command (records_of first) taken))
             (subst (λ (m : Stored). Leads (suc more) start.device.store.layout start.device.store.pending m (made_by command (records_of first))) (sym same)
             (subst (λ (p : Pending). Leads (suc more) start.device.store.layout p (records_of first) (made_by command (records_of first))) (sym (ap (λ (s : StoreView). s.pending) there))
-            (subst (λ (l : Layout). Leads (suc more) l store.pending (records_of first) (made_by command (records_of first))) (sym base.alike.layout) leads)));
+            (subst (λ (l : Layout). Leads (suc more) l store.pending (records_of first) (made_by command (records_of first))) (sym base.equivalent.layout) leads)));
       }
 
   -- it answered an error

@@ -18,7 +18,7 @@ use Rattle.erst_device.specs.DeviceState.{KnowsCopies}
 use Rattle.erst_device.specs.Starts.{status_after}
 use Rattle.erst_device.proofs.ActionLemmas.{kept_map}
 use Rattle.erst_device.proofs.EffectLemmas.{without_fault}
-use Rattle.erst_commands.specs.Alike.{StoreOutline, unplaced, store_outline, FailsNothing}
+use Rattle.erst_commands.specs.Equivalence.{StoreOutline, unplaced, store_outline, FailsNothing}
 
 -- two outlines whose parts are the same
 pub same_outline : (s t : StoreOutline) → s.layout ≡ t.layout → s.records ≡ t.records → s.steps ≡ t.steps → s.in_doubt ≡ t.in_doubt → s.pending ≡ t.pending → s.copies ≡ t.copies → s ≡ t
@@ -85,15 +85,15 @@ no_copies new certain = ap (λ (b : Bool). if b then copies_in new else 0) certa
 
 looked_by : {T : Type 0} (old new : StoreView) (result : Result T StoreError) (pending : Pending) → FailsNothing old new → KeepsMap old new → EndsCopies old new result → new.in_doubt ≡ false → unplaced new.pending ≡ pending
     → DividesAlike old new → HasFaultsOf old.flash.faults new.flash.faults result → store_outline new ≡ record (looked (store_outline old)) { pending = pending }
-looked_by old new result pending quiet kept ended certain is alike cause =
-    same_outline (store_outline new) (record (looked (store_outline old)) { pending = pending }) alike.layout (kept_map old new kept alike)
+looked_by old new result pending quiet kept ended certain is equivalent cause =
+    same_outline (store_outline new) (record (looked (store_outline old)) { pending = pending }) equivalent.layout (kept_map old new kept equivalent)
     (without_fault (new.flash.steps ≡ old.flash.steps + copies_of old) old.flash.faults new.flash.faults result cause ended quiet) certain is (no_copies new certain)
 
 -- a call that only looks
 pub only_looked : {T : Type 0} (tells : Type 0) → tells → (old new : StoreView) (result : Result T StoreError) → FailsNothing old new → OnlyLooks tells old new result → store_outline new ≡ looked (store_outline old)
 only_looked tells told old new result quiet looks =
     let ready = is_ready old new result quiet looks.cause looks.doubt in
-    looked_by old new result Idle quiet (looks.kept told) (looks.ended told) ready.certain (ap unplaced ready.idle) looks.alike looks.cause
+    looked_by old new result Idle quiet (looks.kept told) (looks.ended told) ready.certain (ap unplaced ready.idle) looks.equivalent looks.cause
 
 -- the copies that a store ends once what was pending is given up
 copies_given_up : (doubt : Bool) (pending : Pending) (copies : ℕ) (layout : Layout) → (doubt ≡ false → copies ≡ copies_pending layout pending)
@@ -160,7 +160,7 @@ has_changed tells told old new (Ok last) quiet step =
     let pending : unplaced new.pending ≡ unplaced (pending_after old.layout (unplaced old.pending)) = ap unplaced step.stepped.1 ∙ pending_unplaced old.layout old.pending in
     record {
       answer = ap (λ (b : Bool). Ok b) (last_is new.pending last step.stepped.2 step.stepped.3 ∙ ap is_idle pending);
-      outline = same_outline (store_outline new) (changed (store_outline old)) step.alike.layout (step.answer told ∙ map_unplaced old.layout old.pending (stored old)) step.one step.stepped.0 pending (no_copies new step.stepped.0);
+      outline = same_outline (store_outline new) (changed (store_outline old)) step.equivalent.layout (step.answer told ∙ map_unplaced old.layout old.pending (stored old)) step.one step.stepped.0 pending (no_copies new step.stepped.0);
     }
 has_changed tells told old new (Err error) quiet step = absurd (step_error old new error step.error quiet step.cause)
 
@@ -173,7 +173,7 @@ started_ok : (tells : Type 0) → tells → (old new : StoreView) (result : Resu
     → OnlyStarts tells old new result → HasStarted refusal pending old new result
 started_ok tells told old new result refusal pending ok none quiet certain is leaves = record {
   status = ap status_after ok ∙ sym (ap status_by none);
-  outline = looked_by old new result pending quiet (leaves.kept told) (leaves.ended told) certain is leaves.alike leaves.cause
+  outline = looked_by old new result pending quiet (leaves.kept told) (leaves.ended told) certain is leaves.equivalent leaves.cause
       ∙ sym (ap (λ (r : Option Refusal). started r pending (store_outline old)) none);
 }
 
@@ -181,7 +181,7 @@ started_refused : (tells : Type 0) → tells → (old new : StoreView) (error : 
     → OnlyStarts tells old new (Err error) → HasStarted refusal pending old new (Err error)
 started_refused tells told old new error refusal why pending is status quiet ready leaves = record {
   status = status ∙ sym (ap status_by is);
-  outline = looked_by {T = Unit {0}} old new (Err error) Idle quiet (leaves.kept told) (leaves.ended told) ready.certain (ap unplaced ready.idle) leaves.alike leaves.cause
+  outline = looked_by {T = Unit {0}} old new (Err error) Idle quiet (leaves.kept told) (leaves.ended told) ready.certain (ap unplaced ready.idle) leaves.equivalent leaves.cause
       ∙ sym (ap (λ (r : Option Refusal). started r pending (store_outline old)) is);
 }
 

@@ -33,7 +33,7 @@ use Rattle.erst_commands.specs.Changes.{waits_after}
 use Rattle.erst_commands.proofs.ActionCases.{checks_busy}
 use Rattle.erst_commands.proofs.MachineSteps.{on_device, acted_is}
 use Rattle.erst_commands.proofs.OwnProgramLemmas.{steps-check}
-use Rattle.erst_commands.proofs.SharedLemmas.{alike_then, idle_busy, same_number, no_stop, no_answer, same_stop, differ}
+use Rattle.erst_commands.proofs.SharedLemmas.{equivalent_then, idle_busy, same_number, no_stop, no_answer, same_stop, differ}
 
 -- So many changes of what is pending are left. Each makes no other map, or the one that stands at the end
 abbrev pub Leads : ℕ → Layout → Pending → Stored → Stored → Type 0
@@ -134,7 +134,7 @@ pub record OnWay (start : MachineState) (made : Stored) (all n left pauses : ℕ
   pub steps : w.device.store.flash.steps ≡ start.device.store.flash.steps + n
   pub faults : w.device.store.flash.faults ≡ start.device.store.flash.faults
   pub certain : w.device.store.in_doubt ≡ false
-  pub alike : DividesAlike start.device.store w.device.store
+  pub equivalent : DividesAlike start.device.store w.device.store
   pub no_read : w.device.reading ≡ None
   pub status : w.device.status ≡ Success
   pub cursor : w.device.cursor ≡ start.device.cursor
@@ -145,7 +145,7 @@ pub record Midway (start : MachineState) (made : Stored) (all pauses : ℕ) (w :
   pub crash : KeepsOrMakes start.device.store w.device.store made
   pub few : w.device.store.flash.steps ≤ start.device.store.flash.steps + all
   pub never_falls : start.device.store.flash.faults ≤ w.device.store.flash.faults
-  pub alike : DividesAlike start.device.store w.device.store
+  pub equivalent : DividesAlike start.device.store w.device.store
   pub cursor : w.device.cursor ≡ start.device.cursor
   pub elsewhere : w ≡ record start { device = w.device; waited = waits_after pauses start.waited }
 
@@ -158,7 +158,7 @@ pub record Broken (start : MachineState) (made : Stored) (all pauses : ℕ) (w :
 
 pub of_way : (start : MachineState) (made : Stored) (all n left pauses : ℕ) (w : MachineState) → OnWay start made all n left pauses w → Midway start made all pauses w
 of_way start made all n left pauses w way =
-    record { crash = way.crash; few = omega (arith, way.sum, way.steps); never_falls = omega (arith, way.faults); alike = way.alike; cursor = way.cursor; elsewhere = way.elsewhere }
+    record { crash = way.crash; few = omega (arith, way.sum, way.steps); never_falls = omega (arith, way.faults); equivalent = way.equivalent; cursor = way.cursor; elsewhere = way.elsewhere }
 
 -- a check answers 1 where changes are left
 abbrev value_of : ℕ → ℕ
@@ -172,7 +172,7 @@ pub data Moved (start : MachineState) (made : Stored) (all n left pauses : ℕ) 
 -- power lost in one more change
 way_crash : (old mid new : StoreView) (made : Stored) → DividesAlike old mid → KeepsOrMakes old mid made → (map_after old.layout mid.pending (stored mid) ≡ stored mid) ⊎ (map_after old.layout mid.pending (stored mid) ≡ made)
     → KeepsOrMakes mid new (map_after mid.layout mid.pending (stored mid)) → KeepsOrMakes old new made
-way_crash old mid new made alike before step_map step =
+way_crash old mid new made equivalent before step_map step =
     Leaves-then old.flash.told mid.flash.told new.flash.told (λ image. (records_in old.layout image ≡ stored old) ⊎ (records_in old.layout image ≡ made)) before
     (Leaves-weaker mid.flash.told new.flash.told
     (λ image. (records_in mid.layout image ≡ stored mid) ⊎ (records_in mid.layout image ≡ map_after mid.layout mid.pending (stored mid)))
@@ -181,33 +181,33 @@ way_crash old mid new made alike before step_map step =
       | inl kept ↦ at_mid image kept
       | inr changed ↦ elim step_map [
         | inl same ↦ at_mid image (changed ∙ by_layout ∙ same)
-        | inr ends ↦ inr (alike_stored image ∙ changed ∙ by_layout ∙ ends)
+        | inr ends ↦ inr (equivalent_stored image ∙ changed ∙ by_layout ∙ ends)
       ]
     ]))
   where
     by_layout : map_after mid.layout mid.pending (stored mid) ≡ map_after old.layout mid.pending (stored mid)
-    by_layout = ap (λ (l : Layout). map_after l mid.pending (stored mid)) alike.layout
+    by_layout = ap (λ (l : Layout). map_after l mid.pending (stored mid)) equivalent.layout
 
-    alike_stored : (image : List ℕ) → records_in old.layout image ≡ records_in mid.layout image
-    alike_stored image = ap (λ (l : Layout). records_in l image) (sym alike.layout)
+    equivalent_stored : (image : List ℕ) → records_in old.layout image ≡ records_in mid.layout image
+    equivalent_stored image = ap (λ (l : Layout). records_in l image) (sym equivalent.layout)
 
     at_mid : (image : List ℕ) → records_in mid.layout image ≡ stored mid → (records_in old.layout image ≡ stored old) ⊎ (records_in old.layout image ≡ made)
     at_mid image same = elim (Leaves-exit old.flash.told mid.flash.told (λ x. (records_in old.layout x ≡ stored old) ⊎ (records_in old.layout x ≡ made)) before) [
-      | inl first ↦ inl (alike_stored image ∙ same ∙ sym (alike_stored mid.flash.told.image) ∙ first)
-      | inr last ↦ inr (alike_stored image ∙ same ∙ sym (alike_stored mid.flash.told.image) ∙ last)
+      | inl first ↦ inl (equivalent_stored image ∙ same ∙ sym (equivalent_stored mid.flash.told.image) ∙ first)
+      | inr last ↦ inr (equivalent_stored image ∙ same ∙ sym (equivalent_stored mid.flash.told.image) ∙ last)
     ]
 
 module _ (tells : Type 0) (told : tells) (start : MachineState) (made : Stored) (all n left pauses : ℕ) (mid : MachineState) (way : OnWay start made all n (suc left) pauses mid) where
   led : (store : StoreView) (last : Bool) → Stepped tells mid.device.store store (Ok last) → Leads left start.device.store.layout store.pending (stored store) made
   led store last step =
-      let layout = way.alike.layout in
+      let layout = way.equivalent.layout in
       subst (λ (p : Pending). Leads left start.device.store.layout p (stored store) made)
       (ap (λ (l : Layout). pending_after l mid.device.store.pending) (sym layout) ∙ sym step.stepped.1)
       (subst (λ (m : Stored). Leads left start.device.store.layout (pending_after start.device.store.layout mid.device.store.pending) m made)
       (ap (λ (l : Layout). map_after l mid.device.store.pending (stored mid.device.store)) (sym layout) ∙ sym (step.answer told)) way.leads.2)
 
   crashed : (store : StoreView) → KeepsOrMakes mid.device.store store (map_after mid.device.store.layout mid.device.store.pending (stored mid.device.store)) → KeepsOrMakes start.device.store store made
-  crashed store step = way_crash start.device.store mid.device.store store made way.alike way.crash way.leads.1 step
+  crashed store step = way_crash start.device.store mid.device.store store made way.equivalent way.crash way.leads.1 step
 
   went : (new : MachineState) (store : StoreView) (last : Bool) → Stepped tells mid.device.store store (Ok last) → new.device ≡ stepped (Ok last) store mid.device → new ≡ on_device mid new.device
       → OnWay start made all (n + 1) left pauses new
@@ -222,7 +222,7 @@ module _ (tells : Type 0) (told : tells) (start : MachineState) (made : Stored) 
         steps = subst (λ (s : StoreView). s.flash.steps ≡ start.device.store.flash.steps + (n + 1)) store_is (omega (arith, one, before));
         faults = subst (λ (s : StoreView). s.flash.faults ≡ start.device.store.flash.faults) store_is (step.cause ∙ way.faults);
         certain = subst (λ (s : StoreView). s.in_doubt ≡ false) store_is step.stepped.0;
-        alike = subst (λ (s : StoreView). DividesAlike start.device.store s) store_is (alike_then start.device.store mid.device.store store way.alike step.alike);
+        equivalent = subst (λ (s : StoreView). DividesAlike start.device.store s) store_is (equivalent_then start.device.store mid.device.store store way.equivalent step.equivalent);
         no_read = ap (λ (d : DeviceState). d.reading) is ∙ way.no_read;
         status = ap (λ (d : DeviceState). d.status) is ∙ way.status;
         cursor = ap (λ (d : DeviceState). d.cursor) is ∙ way.cursor;
@@ -255,7 +255,7 @@ module _ (tells : Type 0) (told : tells) (start : MachineState) (made : Stored) 
           crash = subst (λ (s : StoreView). KeepsOrMakes start.device.store s made) store_is (crashed store (step.crash told));
           few = subst (λ (s : StoreView). s.flash.steps ≤ start.device.store.flash.steps + all) store_is (omega (arith, most, way.steps, way.sum));
           never_falls = subst (λ (s : StoreView). start.device.store.flash.faults ≤ s.flash.faults) store_is (omega (arith, way.faults, cause.0));
-          alike = subst (λ (s : StoreView). DividesAlike start.device.store s) store_is (alike_then start.device.store mid.device.store store way.alike step.alike);
+          equivalent = subst (λ (s : StoreView). DividesAlike start.device.store s) store_is (equivalent_then start.device.store mid.device.store store way.equivalent step.equivalent);
           cursor = ap (λ (d : DeviceState). d.cursor) is ∙ way.cursor;
           elsewhere = there ∙ ap (λ (m : MachineState). on_device m new.device) way.elsewhere;
         };
@@ -338,7 +338,7 @@ pause_way start made all n left pauses next new is way =
       steps = way.steps;
       faults = way.faults;
       certain = way.certain;
-      alike = way.alike;
+      equivalent = way.equivalent;
       no_read = way.no_read;
       status = way.status;
       cursor = way.cursor;

@@ -8,14 +8,14 @@ use Rattle.apei_space.specs.declared.faults.SpaceFault.{SpaceFault}
 use Rattle.erst_client.specs.declared.errors.ClientError.{ClientError}
 use Rattle.erst_client.specs.Commands.{Puts, NotPut, NotMarked, IsPut, Writes, IsNoRecord as refused, IsNotPut, IsAsked}
 use Rattle.erst_client.specs.Sequences.{write_requests, Sequence}
-use Rattle.erst_machine.specs.declared.areas.Spot.{Spot}
+use Rattle.erst_machine.specs.declared.areas.Location.{Location}
 use Rattle.erst_machine.specs.MachineState.{MachineState, IsMachine, reach_in}
 use Rattle.erst_machine.specs.Allowed.{Allows, bytes_stored}
 use Rattle.erst_machine.specs.OwnTables.{own_entries}
 use Rattle.erst_commands.specs.OwnPrograms.{OwnProgramsRun}
 use Rattle.erst_commands.specs.Attached.{own_client}
 use Rattle.erst_commands.specs.Writes.{marked, id_of, with_record, WriteAnswered, IsNoRecord, IsWritten}
-use Rattle.erst_commands.proofs.RangeLemmas.{spot-start, spot-mark, IsRecord, not_refused, marked-put, holds-marked}
+use Rattle.erst_commands.proofs.RangeLemmas.{location-start, location-mark, IsRecord, not_refused, marked-put, holds-marked}
 use Rattle.erst_commands.proofs.StartLemmas.{write_command}
 
 no_fault : (fault : SpaceFault) → ◌≡◌ {A = Result (Unit {0}) SpaceFault} (Err fault) (Ok tt) → ⊥
@@ -25,28 +25,28 @@ no_error : (error : ClientError) → ◌≡◌ {A = Result (Unit {0}) ClientErro
 no_error error e = absurd (cc e)
 
 module _ (tells : Type 0) (first : MachineState) (machine : IsMachine first) (bytes : List ℕ) (is : IsRecord bytes (reach_in first.device)) where
-  start_spot : (answer : Result (Unit {0}) SpaceFault) (new : MachineState) → Allows tells first (WriteBytes 0x100000 bytes answer) new
+  start_location : (answer : Result (Unit {0}) SpaceFault) (new : MachineState) → Allows tells first (WriteBytes 0x100000 bytes answer) new
       → (answer ≡ Ok tt) × (new ≡ with_record bytes first)
-  start_spot answer new allowed =
-      let spot = spot-start (length first.memory.range) (length bytes) (omega (arith, is.least)) (omega (arith, is.fits, machine.sizes.range)) in
-      (allowed.0 ∙ ap (λ (s : Spot). (bytes_stored s first 0x100000 bytes).0) spot, allowed.1 ∙ ap (λ (s : Spot). (bytes_stored s first 0x100000 bytes).1) spot)
+  start_location answer new allowed =
+      let location = location-start (length first.memory.range) (length bytes) (omega (arith, is.least)) (omega (arith, is.fits, machine.sizes.range)) in
+      (allowed.0 ∙ ap (λ (s : Location). (bytes_stored s first 0x100000 bytes).0) location, allowed.1 ∙ ap (λ (s : Location). (bytes_stored s first 0x100000 bytes).1) location)
 
-  mark_spot : (mid : MachineState) (answer : Result (Unit {0}) SpaceFault) (new : MachineState) → mid ≡ with_record bytes first → Allows tells mid (WriteBytes 0x10006C (codes "ER") answer) new
+  mark_location : (mid : MachineState) (answer : Result (Unit {0}) SpaceFault) (new : MachineState) → mid ≡ with_record bytes first → Allows tells mid (WriteBytes 0x10006C (codes "ER") answer) new
       → (answer ≡ Ok tt) × (new ≡ with_record (marked bytes) first)
-  mark_spot mid answer new mid_is allowed_at =
+  mark_location mid answer new mid_is allowed_at =
       let allowed = subst (λ (m : MachineState). Allows tells m (WriteBytes 0x10006C (codes "ER") answer) new) mid_is allowed_at in
       let same = length-put_at first.memory.range 0 bytes (omega (arith, is.fits, machine.sizes.range)) in
-      let spot = spot-mark (length (put_at first.memory.range 0 bytes)) (omega (arith, same, is.least, is.fits, machine.sizes.range)) in (
-        allowed.0 ∙ ap (λ (s : Spot). (bytes_stored s (with_record bytes first) 0x10006C (codes "ER")).0) spot,
-        allowed.1 ∙ ap (λ (s : Spot). (bytes_stored s (with_record bytes first) 0x10006C (codes "ER")).1) spot
+      let location = location-mark (length (put_at first.memory.range 0 bytes)) (omega (arith, same, is.least, is.fits, machine.sizes.range)) in (
+        allowed.0 ∙ ap (λ (s : Location). (bytes_stored s (with_record bytes first) 0x10006C (codes "ER")).0) location,
+        allowed.1 ∙ ap (λ (s : Location). (bytes_stored s (with_record bytes first) 0x10006C (codes "ER")).1) location
             ∙ ap (λ (range : List ℕ). record first { memory = record first.memory { range = range } }) (marked-put first.memory.range bytes (omega (arith, is.least))),
       )
 
   put_ok : (result : Result (Unit {0}) ClientError) (mid : MachineState) → Puts (Allows tells) 0x100000 bytes first result mid → (result ≡ Ok tt) × (mid ≡ with_record (marked bytes) first)
   put_ok result mid puts = elim puts as (λ result mid puts. (result ≡ Ok tt) × (mid ≡ with_record (marked bytes) first)) [
-    | NotPut fault last allowed ↦ absurd (no_fault fault (start_spot (Err fault) last allowed).0)
-    | NotMarked between fault last allowed marks ↦ absurd (no_fault fault (mark_spot between (Err fault) last (start_spot (Ok tt) between allowed).1 marks).0)
-    | IsPut between last allowed marks ↦ (refl, (mark_spot between (Ok tt) last (start_spot (Ok tt) between allowed).1 marks).1)
+    | NotPut fault last allowed ↦ absurd (no_fault fault (start_location (Err fault) last allowed).0)
+    | NotMarked between fault last allowed marks ↦ absurd (no_fault fault (mark_location between (Err fault) last (start_location (Ok tt) between allowed).1 marks).0)
+    | IsPut between last allowed marks ↦ (refl, (mark_location between (Ok tt) last (start_location (Ok tt) between allowed).1 marks).1)
   ]
 
 pub written : (tells : Type 0) → OwnProgramsRun tells → tells → (bytes : List ℕ) (budget : ℕ) (first : MachineState) (result : Result (Unit {0}) ClientError) (left : ℕ) (last : MachineState) → IsMachine first

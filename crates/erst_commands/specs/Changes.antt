@@ -45,7 +45,7 @@ pub record ChangeLeaves (first last : MachineState) (command : Command) (pauses 
   pub crash : IsBeforeOrAfter first.device.store last.device.store command
   pub few : last.device.store.flash.steps ≤ first.device.store.flash.steps + 1 + changes_of first.device.store.layout command (records_of first)
   pub idle : last.device.store.pending ≡ Idle
-  pub alike : DividesAlike first.device.store last.device.store
+  pub equivalent : DividesAlike first.device.store last.device.store
   pub never_falls : first.device.store.flash.faults ≤ last.device.store.flash.faults
   pub cursor : last.device.cursor ≡ first.device.cursor
   pub elsewhere : last ≡ record first { device = last.device; waited = waits_after pauses first.waited }

@@ -9,5 +9,5 @@ pub mod Operations
 pub mod Runs
 pub mod AsTheMap
 pub mod Theorems
-pub mod Alike
-pub mod AlikeTheorems
+pub mod Equivalence
+pub mod EquivalentTheorems

@@ -16,7 +16,7 @@ pub record OnlyLooked (first last : MachineState) : Type 0 where
   pub kept : KeepsMap first.device.store last.device.store
   pub few : last.device.store.flash.steps ≤ first.device.store.flash.steps + 1
   pub idle : last.device.store.pending ≡ Idle
-  pub alike : DividesAlike first.device.store last.device.store
+  pub equivalent : DividesAlike first.device.store last.device.store
   pub never_falls : first.device.store.flash.faults ≤ last.device.store.flash.faults
   pub elsewhere : last ≡ record first { device = last.device }
 

@@ -1,16 +1,17 @@
-//! What a client's commands by the machine's own table answer, as the record map's; and that two machines that are alike do the same.
+//! What a client's commands by the machine's own table answer, as the record map's; and that two machines that are equivalent do the same.
 #![tactic(auto)]
 
 mod equivalence;
 mod laws;
 
 pub use equivalence::{
-    a_region_has_one_list, alike_devices_act_alike, alike_flashes_boot_alike,
-    alike_machines_answer_alike, alike_machines_ask_alike, alike_machines_attach_alike,
-    alike_machines_count_alike, alike_machines_end_sequences_alike, alike_machines_go_on_alike,
-    alike_machines_hand_over_alike, alike_machines_name_alike, alike_machines_read_alike,
-    alike_machines_run_alike, alike_machines_show_alike, alike_machines_stay_alike,
-    alike_machines_write_alike,
+    a_region_has_one_list, equivalent_devices_act_alike, equivalent_flashes_boot_alike,
+    equivalent_machines_answer_alike, equivalent_machines_ask_alike,
+    equivalent_machines_attach_alike, equivalent_machines_count_alike,
+    equivalent_machines_end_sequences_alike, equivalent_machines_go_on_alike,
+    equivalent_machines_hand_over_alike, equivalent_machines_name_alike,
+    equivalent_machines_read_alike, equivalent_machines_run_alike, equivalent_machines_show_alike,
+    equivalent_machines_stay_alike, equivalent_machines_write_alike,
 };
 pub use laws::{
     a_clear_is_the_maps, a_client_reads_as_the_map, a_client_writes_as_the_map,

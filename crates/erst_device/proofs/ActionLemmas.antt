@@ -107,8 +107,8 @@ unfolding part
 wrote_part range at size = ap (λ (n : ℕ). take n (drop at range)) (let e : at + size - at ≡ size = omega arith in e)
 
 pub kept_map : (old new : StoreView) → KeepsMap old new → DividesAlike old new → stored new ≡ stored old
-kept_map old new kept alike =
-    ap (λ (layout : Layout). records_of layout new.flash.told.image) alike.layout
+kept_map old new kept equivalent =
+    ap (λ (layout : Layout). records_of layout new.flash.told.image) equivalent.layout
     ∙ Leaves-exit old.flash.told new.flash.told (λ image. records_of old.layout image ≡ stored old) kept
 
 -- a start that the store refuses
@@ -133,7 +133,7 @@ pub looks_behind : (tells : Type 0) (old : DeviceState) (mid last : StoreView) (
 looks_behind tells old mid last found_id least reads next some same = record { reads = reads; next = subst (λ (o : Option ℕ). FoundNext tells old.store mid 0 (Ok o)) some next; same = same }
 
 map_behind : (tells : Type 0) (old : DeviceState) (mid last : StoreView) (least : ℕ) → LooksBehind tells old mid last least → tells → stored mid ≡ stored old.store
-map_behind tells old mid last least looks told = let n = looks.next in let leaves = n.leaves in kept_map old.store mid (leaves.kept told) leaves.alike
+map_behind tells old mid last least looks told = let n = looks.next in let leaves = n.leaves in kept_map old.store mid (leaves.kept told) leaves.equivalent
 
 pub misses_from : (tells : Type 0) (old : DeviceState) (range : List ℕ) (mid last : StoreView) (least : ℕ) → LooksBehind tells old mid last least → (tells → get (stored mid) (named old.id least) ≡ None)
     → Starts tells old range (record old { status = RecordNotFound; cursor = 0; store = last })

@@ -32,7 +32,7 @@ record Keeps (tells : Type 0) (old new : StoreView) (map : Stored) (changes : �
   exact : tells → (Rose old.flash.faults new.flash.faults → ⊥) → new.flash.steps ≡ old.flash.steps + changes
   few : tells → new.flash.steps ≤ old.flash.steps + 1
   never_falls : old.flash.faults ≤ new.flash.faults
-  alike : DividesAlike old new
+  equivalent : DividesAlike old new
   power : LosesOnlyByChange old.flash new.flash
 
 -- nothing was asked of the store: what it has begun, and whether it is in doubt, may be other
@@ -43,7 +43,7 @@ keeps_unasked tells store pending doubt = record {
   exact = λ told quiet. omega arith;
   few = λ told. omega arith;
   never_falls = omega arith;
-  alike = record { layout = refl; size = refl; sector_size = refl };
+  equivalent = record { layout = refl; size = refl; sector_size = refl };
   power = record { never_back = λ on. on; lost = inl refl };
 }
 
@@ -88,13 +88,13 @@ without_fault P before after (Err (errors.Small need)) cause holds quiet = holds
 -- the store was asked, and ended its second copies first
 keeps_asked : {T : Type 0} (tells : Type 0) (old new : StoreView) (result : Result T StoreError) → (tells → KeepsMap old new) → (tells → new.flash.steps ≤ old.flash.steps + 1) → (tells → EndsCopies old new result)
     → DividesAlike old new → LosesOnlyByChange old.flash new.flash → HasFaultsOf old.flash.faults new.flash.faults result → Keeps tells old new (stored old) (copies_of old)
-keeps_asked tells old new result kept few ended alike power cause = record {
+keeps_asked tells old new result kept few ended equivalent power cause = record {
   crash = λ told. Leaves-weaker old.flash.told new.flash.told _ _ (kept told) (λ image same. inl same);
-  made = λ told quiet. kept_map old new (kept told) alike;
+  made = λ told quiet. kept_map old new (kept told) equivalent;
   exact = λ told quiet. without_fault (new.flash.steps ≡ old.flash.steps + copies_of old) old.flash.faults new.flash.faults result cause (ended told) quiet;
   few = few;
   never_falls = faults_rise old.flash.faults new.flash.faults result cause;
-  alike = alike;
+  equivalent = equivalent;
   power = power;
 }
 
@@ -106,7 +106,7 @@ keeps_stepped tells old new (Ok last) step = record {
   exact = λ told quiet. step.one;
   few = λ told. step.at_most;
   never_falls = faults_rise {T = Bool} _ _ (Ok last) step.cause;
-  alike = step.alike;
+  equivalent = step.equivalent;
   power = step.power;
 }
 keeps_stepped tells old new (Err error) step = record {
@@ -115,7 +115,7 @@ keeps_stepped tells old new (Err error) step = record {
   exact = λ told quiet. absurd (quiet (error_rose Bool _ _ error step.cause step.error));
   few = λ told. step.at_most;
   never_falls = faults_rise {T = Bool} _ _ (Err error) step.cause;
-  alike = step.alike;
+  equivalent = step.equivalent;
   power = step.power;
 }
 
@@ -142,7 +142,7 @@ effect_by tells old range action new changing asking changes_is asks_is keeps ca
       exact = all.exact;
       few = all.few;
       never_falls = all.never_falls;
-      alike = all.alike;
+      equivalent = all.equivalent;
       power = all.power;
       status = causes.status;
       next = causes.next;
@@ -266,7 +266,7 @@ effect_of_asking tells old range new still asks_is keeps status =
 
 keeps_looked : (tells : Type 0) (old new : StoreView) (cursor : ℕ) (result : Result (Option ℕ) StoreError) → FoundNext tells old new cursor result → Keeps tells old new (stored old) (copies_of old)
 keeps_looked tells old new cursor result next =
-    let leaves = next.leaves in keeps_asked tells old new result leaves.kept leaves.few leaves.ended leaves.alike leaves.power leaves.cause
+    let leaves = next.leaves in keeps_asked tells old new result leaves.kept leaves.few leaves.ended leaves.equivalent leaves.power leaves.cause
 
 effect_of_start : (tells : Type 0) (old : DeviceState) (range : List ℕ) (new : DeviceState) → IsStill old → Starts tells old range new → Effect tells old range (Some ExecuteOperation) new
 effect_of_start tells old range new still starts =
@@ -277,7 +277,7 @@ effect_of_start tells old range new still starts =
       | Writes size id store result is draft begun ↦
           let leaves = begun.leaves in
           effect_of_asking tells old range _ still (asks_at_start old range (Some Write) still is ∙ ap is_some draft)
-          (keeps_asked tells old.store store result leaves.kept leaves.few leaves.ended leaves.alike leaves.power leaves.cause)
+          (keeps_asked tells old.store store result leaves.kept leaves.few leaves.ended leaves.equivalent leaves.power leaves.cause)
           (status_after_rose _ _ result leaves.cause)
       | LookFails store error is next ↦
           let leaves = next.leaves in
@@ -295,7 +295,7 @@ effect_of_start tells old range new still starts =
       | Clears store result is allowed begun ↦
           let leaves = begun.leaves in
           effect_of_asking tells old range _ still (asks_at_start old range (Some Clear) still is ∙ ap (λ (b : Bool). if b then false else true) allowed)
-          (keeps_asked tells old.store store result leaves.kept leaves.few leaves.ended leaves.alike leaves.power leaves.cause)
+          (keeps_asked tells old.store store result leaves.kept leaves.few leaves.ended leaves.equivalent leaves.power leaves.cause)
           (status_after_rose _ _ result leaves.cause)
     ]
 
@@ -337,7 +337,7 @@ effect_of_show : (tells : Type 0) (old : DeviceState) (range : List ℕ) (id : �
 effect_of_show tells old range id store before after result read =
     let leaves = read.leaves in
     let ready = read.ready in
-    let keeps = keeps_asked tells old.store store result leaves.kept leaves.few leaves.ended leaves.alike leaves.power leaves.cause in
+    let keeps = keeps_asked tells old.store store result leaves.kept leaves.few leaves.ended leaves.equivalent leaves.power leaves.cause in
     effect_by tells old range (Some CheckBusyStatus) (shown id result store old) false false (ap is_busy ready.idle) refl
     (subst (λ (s : StoreView). Keeps tells old.store s (records old) 0) (sym (show_store old id store result))
     (subst (λ (n : ℕ). Keeps tells old.store store (records old) n) (copies_certain old.store ready.certain) keeps))
@@ -346,8 +346,8 @@ effect_of_show tells old range id store before after result read =
 -- an execution is abandoned, and the store is asked
 keeps_given_up : (tells : Type 0) (old new : StoreView) (map : Stored) (changes : ℕ) → Keeps tells (abandoned old) new map changes → Keeps tells old new map changes
 keeps_given_up tells old new map changes keeps =
-    let alike : DividesAlike old new = record { layout = keeps.alike.layout; size = keeps.alike.size; sector_size = keeps.alike.sector_size } in
-    record { crash = keeps.crash; made = keeps.made; exact = keeps.exact; few = keeps.few; never_falls = keeps.never_falls; alike = alike; power = keeps.power }
+    let equivalent : DividesAlike old new = record { layout = keeps.equivalent.layout; size = keeps.equivalent.size; sector_size = keeps.equivalent.sector_size } in
+    record { crash = keeps.crash; made = keeps.made; exact = keeps.exact; few = keeps.few; never_falls = keeps.never_falls; equivalent = equivalent; power = keeps.power }
 
 effect_of_look : (tells : Type 0) (old : DeviceState) (range : List ℕ) (store : StoreView) (result : Result (Option ℕ) StoreError) → FoundNext tells (given_up old).store store old.cursor result → IsAllowed result
     → Effect tells old range (Some GetRecordIdentifier) (found result store (given_up old))
@@ -370,7 +370,7 @@ effect_of_count : (tells : Type 0) (old : DeviceState) (range : List ℕ) (store
 effect_of_count tells old range store (Ok n) count =
     let leaves = count.leaves in
     effect_by tells old range (Some GetRecordCount) _ false true refl refl
-    (keeps_given_up tells old.store store _ _ (keeps_asked tells _ store (Ok n) leaves.kept leaves.few leaves.ended leaves.alike leaves.power leaves.cause))
+    (keeps_given_up tells old.store store _ _ (keeps_asked tells _ store (Ok n) leaves.kept leaves.few leaves.ended leaves.equivalent leaves.power leaves.cause))
     (record {
       status = λ is. inr (refl, λ e. absurd (cc));
       next = λ e. absurd (cc);
@@ -382,7 +382,7 @@ effect_of_count tells old range store (Ok n) count =
 effect_of_count tells old range store (Err error) count =
     let leaves = count.leaves in
     effect_by tells old range (Some GetRecordCount) _ false true refl refl
-    (keeps_given_up tells old.store store _ _ (keeps_asked {T = ℕ} tells _ store (Err error) leaves.kept leaves.few leaves.ended leaves.alike leaves.power leaves.cause))
+    (keeps_given_up tells old.store store _ _ (keeps_asked {T = ℕ} tells _ store (Err error) leaves.kept leaves.few leaves.ended leaves.equivalent leaves.power leaves.cause))
     (record {
       status = λ is. inr (refl, λ e. absurd (cc));
       next = λ e. absurd (cc);

@@ -53,7 +53,7 @@ pub record Effect (tells : Type 0) (old : DeviceState) (range : List ℕ) (actio
   -- whatever happened, at most one change
   pub few : tells → new.store.flash.steps ≤ old.store.flash.steps + 1
   pub never_falls : old.store.flash.faults ≤ new.store.flash.faults
-  pub alike : DividesAlike old.store new.store
+  pub equivalent : DividesAlike old.store new.store
   pub power : LosesOnlyByChange old.store.flash new.store.flash
   -- the status of a fault is given only where one was counted in this action. One that gives no status leaves it; a start always gives one
   pub status : new.status ≡ HardwareNotAvailable

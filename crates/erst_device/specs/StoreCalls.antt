@@ -35,7 +35,7 @@ pub record Stepped (tells : Type 0) (old new : StoreView) (result : Result Bool 
   pub at_most : new.flash.steps ≤ old.flash.steps + 1
   pub reads : new.flash.reads ≡ old.flash.reads
   pub error : FailsByFlash result
-  pub alike : DividesAlike old new
+  pub equivalent : DividesAlike old new
   pub power : LosesOnlyByChange old.flash new.flash
   pub powered : OnOk result (new.flash.powered ≡ true)
   pub cause : HasFaultsOf old.flash.faults new.flash.faults result

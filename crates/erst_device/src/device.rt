@@ -1,6 +1,6 @@
 // The device.
 ghost use Rattle.std.specs.Prelude.{◌≡◌, ◌⊎◌, ℕ, ◌+◌, ◌*◌, ◌<◌, true, length, OnOk};
-ghost use Rattle.base_model.specs.Flash.{StaysLit, raised};
+ghost use Rattle.base_model.specs.Flash.{StaysPowered, raised};
 ghost use Rattle.base_model.specs.Layout.{room_of, reach_of};
 ghost use Rattle.record_store.specs.Store.{Idle, IsSettled, abandoned, doubted, restarted};
 ghost use Rattle.record_store.specs.Answers.{FailsByFlash};
@@ -104,7 +104,7 @@ impl<F: Flash> Device<F> {
         ensures settled { OnOk result (F.tells → IsSettled self.new.store) }
         ensures reads { OnOk result (self.new.store.flash.reads ≡ raised (2 * self.old.store.layout.slots) self.old.store.flash.reads) }
         ensures powered { OnOk result (self.new.store.flash.powered ≡ true) }
-        ensures lit { StaysLit self.old.store.flash self.new.store.flash }
+        ensures lit { StaysPowered self.old.store.flash self.new.store.flash }
 
         // It leaves what a call that looks leaves of a store in doubt.
         ensures leaves { OnlyLooks F.tells (doubted self.old.store) self.new.store result }
@@ -127,7 +127,7 @@ impl<F: Flash> Device<F> {
         ensures back { (self.new.store.flash.powered ≡ true) ⊎ (self.old.store.flash.steps < self.new.store.flash.steps) }
 
         // It comes back before the slots are looked at: no call finds the flash without it.
-        ensures lit { self.new.store.flash.dark ≡ self.old.store.flash.dark }
+        ensures lit { self.new.store.flash.unpowered ≡ self.old.store.flash.unpowered }
 
         ensures leaves { OnlyLooks F.tells (restarted self.old.store) self.new.store result }
         ensures copies { F.tells → KnowsCopies self.old.store }

@@ -11,7 +11,7 @@ ghost use Rattle.erst_entries.specs.Tables.{IsErst, FindsErst, AreRead, refusal,
 use crate::entries::{ENTRY, Entry};
 use crate::groups::{ACTIONS, group, start_of};
 use crate::programs::Program;
-use apei_bytes::{Memory, get_u32, put_u32};
+use apei_bytes::{OutOfMemory, get_u32, put_u32};
 use apei_tables::{Header, TableError, sum_of};
 use std::alloc::{AllocError, Global};
 use std::marker::Model;
@@ -93,7 +93,7 @@ impl ErstTable {
     }
 
     /// The table's bytes, each field as it is kept.
-    pub fn encode(&self, alloc: Global) -> Result<Vec<u8>, Memory>
+    pub fn encode(&self, alloc: Global) -> Result<Vec<u8>, OutOfMemory>
         ensures { IfOk result (λ bytes. bytes.items ≡ spelling self.now) }
     {
         let mut bytes = Vec::with_capacity(alloc, FIXED + ENTRY * self.entries.len())?;
@@ -119,7 +119,7 @@ impl ErstTable {
     }
 
     /// Puts an entry behind the others. The header and the count stay as they are until `finish`.
-    pub fn push(&mut self, entry: Entry) -> Result<(), Memory>
+    pub fn push(&mut self, entry: Entry) -> Result<(), OutOfMemory>
         requires { length self.old.entries < 2 ^ 20 }
         ensures ok { OnOk result (self.new ≡ record self.old { entries = self.old.entries ++ entry ∷ [] }) }
         ensures err { OnErr result (self.new ≡ self.old) }

@@ -20,13 +20,13 @@ use Rattle.erst_device.proofs.EffectLemmas.{faults_rise}
 use Rattle.erst_machine.specs.declared.errors.BootError.{BootError}
 use Rattle.erst_machine.specs.declared.areas.Area.{Area}
 use Rattle.erst_machine.specs.declared.areas.Area.TheVariants.{Device, Scratch, LogRange, Handover, BootErrors, Ports}
-use Rattle.erst_machine.specs.declared.areas.Spot.{Spot}
-use Rattle.erst_machine.specs.declared.areas.Spot.TheVariants.{Inside, Beyond, Nowhere}
+use Rattle.erst_machine.specs.declared.areas.Location.{Location}
+use Rattle.erst_machine.specs.declared.areas.Location.TheVariants.{Inside, Beyond, Nowhere}
 use Rattle.erst_machine.specs.declared.areas.Register.{Register}
 use Rattle.erst_machine.specs.declared.areas.Register.TheVariants.{Action, Value, NoRegister}
 use Rattle.erst_machine.specs.Areas.{register_at}
 use Rattle.erst_machine.specs.Memories.{MemoryState}
-use Rattle.erst_machine.specs.MachineState.{MachineState, IsMachine, spot_of, spot_at, records_of, told_of}
+use Rattle.erst_machine.specs.MachineState.{MachineState, IsMachine, location_of, location_at, records_of, told_of}
 use Rattle.erst_machine.specs.Allowed.{RegisterWritten, AreaWritten, NumberWritten, area_stored, bytes_stored, copied_to, copied_from, copied, Allows}
 use Rattle.erst_machine.specs.Events.{store_answer, Restarts, Event, Accessed, Warmed, Powered, Submitted, Turned, Laid, Submits, Happens}
 use Rattle.erst_machine.specs.Shown.{changes_of, shown_by, Shows, ShowsEach, made_at_register, made_in, made_at, made_by_call, made_by_event, GoesOn, IsShown, IsOneMove}
@@ -35,8 +35,8 @@ use Rattle.erst_machine.proofs.KeptLemmas.{kept_allowed}
 DividesAlike-refl : (store : StoreView) → DividesAlike store store
 DividesAlike-refl store = record { layout = refl; size = refl; sector_size = refl }
 
-alike_then : (a b c : StoreView) → DividesAlike a b → DividesAlike b c → DividesAlike a c
-alike_then a b c first second = record { layout = second.layout ∙ first.layout; size = second.size ∙ first.size; sector_size = second.sector_size ∙ first.sector_size }
+equivalent_then : (a b c : StoreView) → DividesAlike a b → DividesAlike b c → DividesAlike a c
+equivalent_then a b c first second = record { layout = second.layout ∙ first.layout; size = second.size ∙ first.size; sector_size = second.sector_size ∙ first.sector_size }
 
 -- the store is as it was
 still : (old new : MachineState) → new.device.store ≡ old.device.store → IsOneMove old (records_of old) new
@@ -47,7 +47,7 @@ still old new same = subst
       made_is = λ _. refl;
       few = omega arith;
       never_falls = omega arith;
-      alike = DividesAlike-refl old.device.store;
+      equivalent = DividesAlike-refl old.device.store;
     })
 
 by_state : (old new other : MachineState) → new ≡ other → other.device.store ≡ old.device.store → IsOneMove old (records_of old) new
@@ -60,7 +60,7 @@ of_register tells told Action old new at width value answer h = record {
   made_is = h.1.effect.made told;
   few = h.1.effect.few told;
   never_falls = h.1.effect.never_falls;
-  alike = h.1.effect.alike;
+  equivalent = h.1.effect.equivalent;
 }
 of_register tells told Value old new at width value answer h = by_state old new _ h.1 refl
 of_register tells told NoRegister old new at width value answer h = by_state old new _ h.1 refl
@@ -74,8 +74,8 @@ of_area tells told Handover start old new at width value answer h = by_state old
 of_area tells told BootErrors start old new at width value answer h = by_state old new _ h.1 refl
 of_area tells told Ports start old new at width value answer h = by_state old new _ h.1 refl
 
-of_write : (tells : Type 0) (told : tells) (spot : Spot) (old new : MachineState) (at : ℕ) (width : Width) (value : ℕ) (answer : Result (Unit {0}) SpaceFault) →
-    NumberWritten tells spot old at width value answer new → IsOneMove old (made_at spot old width (value % 2 ^ 32)) new
+of_write : (tells : Type 0) (told : tells) (location : Location) (old new : MachineState) (at : ℕ) (width : Width) (value : ℕ) (answer : Result (Unit {0}) SpaceFault) →
+    NumberWritten tells location old at width value answer new → IsOneMove old (made_at location old width (value % 2 ^ 32)) new
 of_write tells told (Inside area start) old new at width value answer h = of_area tells told area start old new at width value answer h
 of_write tells told (Beyond area address) old new at width value answer h = by_state old new _ h.1 refl
 of_write tells told (Nowhere address) old new at width value answer h = by_state old new _ h.1 refl
@@ -88,17 +88,17 @@ area_store Handover start old at bytes = refl
 area_store BootErrors start old at bytes = refl
 area_store Ports start old at bytes = refl
 
-pub stored_store : (spot : Spot) (old : MachineState) (at : ℕ) (bytes : List ℕ) → (bytes_stored spot old at bytes).1.device.store ≡ old.device.store
+pub stored_store : (location : Location) (old : MachineState) (at : ℕ) (bytes : List ℕ) → (bytes_stored location old at bytes).1.device.store ≡ old.device.store
 stored_store (Inside area start) old at bytes = area_store area start old at bytes
 stored_store (Beyond area address) old at bytes = refl
 stored_store (Nowhere address) old at bytes = refl
 
-copied_to_store : (target : Spot) (old : MachineState) (bytes : List ℕ) → (copied_to target old bytes).device.store ≡ old.device.store
+copied_to_store : (target : Location) (old : MachineState) (bytes : List ℕ) → (copied_to target old bytes).device.store ≡ old.device.store
 copied_to_store (Inside area start) old bytes = refl
 copied_to_store (Beyond area address) old bytes = refl
 copied_to_store (Nowhere address) old bytes = refl
 
-pub copied_store : (first second : Option SpaceFault) (source target : Spot) (old : MachineState) (n : ℕ) → (copied first second source target old n).1.device.store ≡ old.device.store
+pub copied_store : (first second : Option SpaceFault) (source target : Location) (old : MachineState) (n : ℕ) → (copied first second source target old n).1.device.store ≡ old.device.store
 copied_store (Some fault) second source target old n = refl
 copied_store None (Some fault) source target old n = refl
 copied_store None None source target old n = copied_to_store target old (copied_from source old n)
@@ -106,14 +106,14 @@ copied_store None None source target old n = copied_to_store target old (copied_
 -- each access of the machine
 pub one_access : (tells : Type 0) (told : tells) (old : MachineState) (call : Call) (new : MachineState) → Allows tells old call new → IsOneMove old (made_by_call old call) new
 one_access tells told old (Read at width answer) new h = by_state old new _ h.1 refl
-one_access tells told old (Write at width value answer) new h = of_write tells told (spot_of old at (bits width / 8)) old new (address_of at) width value answer h
+one_access tells told old (Write at width value answer) new h = of_write tells told (location_of old at (bits width / 8)) old new (address_of at) width value answer h
 one_access tells told old (Wait micros) new h = by_state old new _ h refl
-one_access tells told old (Copy from to n answer) new h = by_state old new _ h.1 (copied_store _ _ (spot_at old from n) (spot_at old to n) old n)
+one_access tells told old (Copy from to n answer) new h = by_state old new _ h.1 (copied_store _ _ (location_at old from n) (location_at old to n) old n)
 one_access tells told old (ReadBytes at before after answer) new h = by_state old new _ h.2 refl
-one_access tells told old (WriteBytes at bytes answer) new h = by_state old new _ h.1 (stored_store (spot_at old at (length bytes)) old at bytes)
+one_access tells told old (WriteBytes at bytes answer) new h = by_state old new _ h.1 (stored_store (location_at old at (length bytes)) old at bytes)
 
 pub shown_alike : (old new : MachineState) (image : List ℕ) → DividesAlike old.device.store new.device.store → shown_by new image ≡ shown_by old image
-shown_alike old new image alike = ap (λ (l : Layout). records_in l image) alike.layout
+shown_alike old new image equivalent = ap (λ (l : Layout). records_in l image) equivalent.layout
 
 on_true : (b : Bool) (P Q : Type 0) → b ≡ true → P → MatchBool b P Q
 on_true true P Q e p = p
@@ -136,7 +136,7 @@ module _ {E : Type 0} (moves : MachineState → E → MachineState → Type 0) (
   trail_goes_on : (first : MachineState) (trail : List (Move E MachineState)) (last : MachineState) → Trail moves first trail last → GoesOn (length trail) first last
   trail_goes_on first [] last is = subst (λ (s : MachineState). GoesOn 0 first s) (sym is) (record {
     later = IsLater-refl (told_of first);
-    alike = DividesAlike-refl first.device.store;
+    equivalent = DividesAlike-refl first.device.store;
     few = omega arith;
     never_falls = omega arith;
   })
@@ -145,7 +145,7 @@ module _ {E : Type 0} (moves : MachineState → E → MachineState → Type 0) (
       let more = trail_goes_on move.left rest last is.1 in
       record {
         later = IsLater-then (told_of first) (told_of move.left) (told_of last) one.leaves.later more.later;
-        alike = alike_then first.device.store move.left.device.store last.device.store one.alike more.alike;
+        equivalent = equivalent_then first.device.store move.left.device.store last.device.store one.equivalent more.equivalent;
         few = let a : move.left.device.store.flash.steps ≤ first.device.store.flash.steps + 1 = one.few in
             let b : last.device.store.flash.steps ≤ move.left.device.store.flash.steps + length rest = more.few in omega arith;
         never_falls = let a : first.device.store.flash.faults ≤ move.left.device.store.flash.faults = one.never_falls in
@@ -161,7 +161,7 @@ module _ {E : Type 0} (moves : MachineState → E → MachineState → Type 0) (
       let one = one_move first move.event move.left is.0 in
       let more = trail_goes_on move.left rest last is.1 in
       by_step (changes_of move.left) s _ _
-      (λ after. subst (λ (m : Stored). Shows unfaulted s move.left rest m) (shown_alike first move.left image one.alike) (trail_shows move.left rest last is.1 s image after crash))
+      (λ after. subst (λ (m : Stored). Shows unfaulted s move.left rest m) (shown_alike first move.left image one.equivalent) (trail_shows move.left rest last is.1 s image after crash))
       (λ before. elim (one.leaves.each s image from (CrashImage-earlier (told_of move.left) (told_of last) s image more.later before crash)) [
         | inl old ↦ inl old
         | inr made ↦ inr (inr made)
@@ -175,7 +175,7 @@ module _ {E : Type 0} (moves : MachineState → E → MachineState → Type 0) (
       let image : image_at (told_of last) (changes_of move.left) ≡ (told_of move.left).image =
       image_at-later (told_of move.left) (told_of last) (changes_of move.left) more.later (omega arith) ∙ image_at-now (told_of move.left) (changes_of move.left) (omega arith) in (
         past_grows (told_of first) (told_of move.left) one.leaves.later,
-        ap (shown_by first) image ∙ sym (shown_alike first move.left (told_of move.left).image one.alike),
+        ap (shown_by first) image ∙ sym (shown_alike first move.left (told_of move.left).image one.equivalent),
         trail_ends move.left rest last is.1,
       )
 
@@ -210,19 +210,19 @@ restart_moves tells told before memory old result new layout flash steps faults 
     let kept : Leaves (told_of old) (told_of new) (λ image. shown_by old image ≡ records_of old) =
     subst (λ (t : Told). Leaves t (told_of new) (λ image. shown_by old image ≡ records_in old.device.store.layout t.image)) flash
     (subst (λ (l : Layout). Leaves before.flash.told (told_of new) (λ image. records_in l image ≡ records_in l before.flash.told.image)) layout (restarts.leaves.kept told)) in
-    let alike : DividesAlike old.device.store new.device.store = record {
-      layout = restarts.leaves.alike.layout ∙ layout;
-      size = restarts.leaves.alike.size ∙ size;
-      sector_size = restarts.leaves.alike.sector_size ∙ sector;
+    let equivalent : DividesAlike old.device.store new.device.store = record {
+      layout = restarts.leaves.equivalent.layout ∙ layout;
+      size = restarts.leaves.equivalent.size ∙ size;
+      sector_size = restarts.leaves.equivalent.sector_size ∙ sector;
     } in
     let few : new.device.store.flash.steps ≤ before.flash.steps + 1 = restarts.leaves.few told in
     let rise : before.flash.faults ≤ new.device.store.flash.faults = faults_rise before.flash.faults new.device.store.flash.faults (store_answer result) restarts.leaves.cause in
     record {
       leaves = Leaves-weaker (told_of old) (told_of new) _ _ kept (λ image same. inl same);
-      made_is = λ _. shown_alike old new (told_of new).image alike ∙ Leaves-exit (told_of old) (told_of new) (λ image. shown_by old image ≡ records_of old) kept;
+      made_is = λ _. shown_alike old new (told_of new).image equivalent ∙ Leaves-exit (told_of old) (told_of new) (λ image. shown_by old image ≡ records_of old) kept;
       few = omega arith;
       never_falls = omega arith;
-      alike = alike;
+      equivalent = equivalent;
     }
 
 submit_moves : (old : MachineState) (block : List ℕ) (result : Result ℕ SubmitError) (new : MachineState) → Submits old block result new → IsOneMove old (records_of old) new

@@ -66,7 +66,7 @@ kept_restart : (tells : Type 0) (before : StoreView) (memory : MemoryState) (old
     before.layout ≡ old.device.store.layout → HasSizes (reach_in old.device) memory → IsLaid memory.region → IsMachine old → IsMachine new
 kept_restart tells before memory old new result h layout sizes laid machine = record {
   sizes = subst (λ (m : MemoryState). HasSizes (reach_in new.device) m) (sym h.memory_is)
-      (subst (λ (l : Layout). HasSizes (reach_of (room_of l)) memory) (sym (h.leaves.alike.layout ∙ layout)) sizes);
+      (subst (λ (l : Layout). HasSizes (reach_of (room_of l)) memory) (sym (h.leaves.equivalent.layout ∙ layout)) sizes);
   laid = subst (λ (m : MemoryState). IsLaid m.region) (sym h.memory_is) laid;
   map = ap (λ (s : HandoverState). s.map) h.handover ∙ machine.map;
   stands = (_, h.stands);

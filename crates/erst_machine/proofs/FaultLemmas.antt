@@ -9,12 +9,12 @@ use Rattle.apei_space.specs.Accesses.{Reaches, Stays, Goes}
 use Rattle.apei_space.specs.Windows.{address_of}
 use Rattle.erst_machine.specs.declared.areas.Area.{Area}
 use Rattle.erst_machine.specs.declared.areas.Area.TheVariants.{Device, Scratch, LogRange, Handover, BootErrors, Ports}
-use Rattle.erst_machine.specs.declared.areas.Spot.{Spot}
-use Rattle.erst_machine.specs.declared.areas.Spot.TheVariants.{Inside, Beyond, Nowhere}
+use Rattle.erst_machine.specs.declared.areas.Location.{Location}
+use Rattle.erst_machine.specs.declared.areas.Location.TheVariants.{Inside, Beyond, Nowhere}
 use Rattle.erst_machine.specs.declared.areas.Register.{Register}
 use Rattle.erst_machine.specs.declared.areas.Register.TheVariants.{Action, Value, NoRegister}
 use Rattle.erst_machine.specs.Areas.{register_at}
-use Rattle.erst_machine.specs.MachineState.{MachineState, spot_of, spot_at}
+use Rattle.erst_machine.specs.MachineState.{MachineState, location_of, location_at}
 use Rattle.erst_machine.specs.Allowed.{RegisterWritten, AreaWritten, NumberWritten, Allows}
 use Rattle.erst_machine.proofs.CrashTrail.{stored_store, copied_store}
 
@@ -41,19 +41,19 @@ of_area tells Handover start old new at width value answer h = by_state old new 
 of_area tells BootErrors start old new at width value answer h = by_state old new _ h.1 refl
 of_area tells Ports start old new at width value answer h = by_state old new _ h.1 refl
 
-of_write : (tells : Type 0) (spot : Spot) (old new : MachineState) (at : ℕ) (width : Width) (value : ℕ) (answer : Result (Unit {0}) SpaceFault) →
-    NumberWritten tells spot old at width value answer new → NeverFalls old new
+of_write : (tells : Type 0) (location : Location) (old new : MachineState) (at : ℕ) (width : Width) (value : ℕ) (answer : Result (Unit {0}) SpaceFault) →
+    NumberWritten tells location old at width value answer new → NeverFalls old new
 of_write tells (Inside area start) old new at width value answer h = of_area tells area start old new at width value answer h
 of_write tells (Beyond area address) old new at width value answer h = by_state old new _ h.1 refl
 of_write tells (Nowhere address) old new at width value answer h = by_state old new _ h.1 refl
 
 of_access : (tells : Type 0) (old : MachineState) (call : Call) (new : MachineState) → Allows tells old call new → NeverFalls old new
 of_access tells old (Read at width answer) new h = by_state old new _ h.1 refl
-of_access tells old (Write at width value answer) new h = of_write tells (spot_of old at (bits width / 8)) old new (address_of at) width value answer h
+of_access tells old (Write at width value answer) new h = of_write tells (location_of old at (bits width / 8)) old new (address_of at) width value answer h
 of_access tells old (Wait micros) new h = by_state old new _ h refl
-of_access tells old (Copy from to n answer) new h = by_state old new _ h.1 (copied_store _ _ (spot_at old from n) (spot_at old to n) old n)
+of_access tells old (Copy from to n answer) new h = by_state old new _ h.1 (copied_store _ _ (location_at old from n) (location_at old to n) old n)
 of_access tells old (ReadBytes at before after answer) new h = by_state old new _ h.2 refl
-of_access tells old (WriteBytes at bytes answer) new h = by_state old new _ h.1 (stored_store (spot_at old at (length bytes)) old at bytes)
+of_access tells old (WriteBytes at bytes answer) new h = by_state old new _ h.1 (stored_store (location_at old at (length bytes)) old at bytes)
 
 pub reached_low : (tells : Type 0) (first last : MachineState) → Reaches (Allows tells) first last → NeverFalls first last
 reached_low tells first last Stays = omega arith

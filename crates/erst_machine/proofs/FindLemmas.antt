@@ -7,9 +7,9 @@ use Rattle.apei_tables.specs.declared.registers.Place.TheVariants.{Memory, Io}
 use Rattle.apei_space.specs.Mapped.{IsMapped, FindsBytes}
 use Rattle.erst_machine.specs.declared.areas.Area.{Area}
 use Rattle.erst_machine.specs.declared.areas.Area.TheVariants.{Device, Scratch, LogRange, Handover, BootErrors, Ports}
-use Rattle.erst_machine.specs.declared.areas.Spot.{Spot}
-use Rattle.erst_machine.specs.declared.areas.Spot.TheVariants.{Inside, Beyond, Nowhere}
-use Rattle.erst_machine.specs.Areas.{base_of, size_of, within, holds, first_spot, memory_areas, place_spot, all_windows, finds}
+use Rattle.erst_machine.specs.declared.areas.Location.{Location}
+use Rattle.erst_machine.specs.declared.areas.Location.TheVariants.{Inside, Beyond, Nowhere}
+use Rattle.erst_machine.specs.Areas.{base_of, size_of, within, holds, first_location, memory_areas, place_location, all_windows, finds}
 
 -- an area has the byte of an address
 abbrev Has : ℕ → Area → ℕ → Type 0
@@ -46,8 +46,8 @@ end_not_mapped reach Handover memory small = not_mapped reach _ (λ has. absurd 
 end_not_mapped reach BootErrors memory small = not_mapped reach _ (λ has. absurd (omega arith)) (λ has. absurd (omega arith)) (λ has. absurd (omega arith)) (λ has. absurd (omega arith)) (λ has. absurd (omega arith))
 end_not_mapped reach Ports memory small = absurd memory
 
-abbrev Found : ℕ → ℕ → ℕ → Spot → Type 0
-Found reach at n spot = FindsBytes (all_windows reach) (Memory at) n (finds spot)
+abbrev Found : ℕ → ℕ → ℕ → Location → Type 0
+Found reach at n location = FindsBytes (all_windows reach) (Memory at) n (finds location)
 
 within_finds : (reach : ℕ) (area : Area) (at n : ℕ) (ends : Bool) → nat_le (at + n) (base_of area + size_of reach area) ≡ ends → IsMemory area → reach ≤ 65536 → Has reach area at →
     Found reach at n (if ends then Inside area (at - base_of area) else Beyond area (base_of area + size_of reach area))
@@ -66,7 +66,7 @@ within_finds reach area at n false is memory small has =
       },
     )
 
-area_finds : (reach : ℕ) (area : Area) (at n : ℕ) (rest : Spot) (held : Bool) → holds (base_of area) (size_of reach area) at ≡ held → IsMemory area → reach ≤ 65536 →
+area_finds : (reach : ℕ) (area : Area) (at n : ℕ) (rest : Location) (held : Bool) → holds (base_of area) (size_of reach area) at ≡ held → IsMemory area → reach ≤ 65536 →
     ((Has reach area at → ⊥) → Found reach at n rest) →
     Found reach at n (unwrap_or (if held then Some (within area (base_of area) (size_of reach area) at n) else None) rest)
 area_finds reach area at n rest true is memory small other =
@@ -86,7 +86,7 @@ nowhere_finds reach at n some none = (
   },
 )
 
-first_finds : (reach at n : ℕ) → reach ≤ 65536 → 0 < n → Found reach at n (first_spot reach memory_areas at n)
+first_finds : (reach at n : ℕ) → reach ≤ 65536 → 0 < n → Found reach at n (first_location reach memory_areas at n)
 first_finds reach at n small some =
     area_finds reach Device at n _ _ refl tt small (λ device.
     area_finds reach Scratch at n _ _ refl tt small (λ scratch.
@@ -95,12 +95,12 @@ first_finds reach at n small some =
     area_finds reach LogRange at n _ _ refl tt small (λ range.
     nowhere_finds reach at n some (not_mapped reach at device scratch range handover errors))))))
 
-some_finds : (reach at n : ℕ) (none : Bool) → (none ≡ true → ⊥) → reach ≤ 65536 → 0 < n → Found reach at n (if none then Inside Scratch 0 else first_spot reach memory_areas at n)
+some_finds : (reach at n : ℕ) (none : Bool) → (none ≡ true → ⊥) → reach ≤ 65536 → 0 < n → Found reach at n (if none then Inside Scratch 0 else first_location reach memory_areas at n)
 some_finds reach at n true not small some = absurd (not refl)
 some_finds reach at n false not small some = first_finds reach at n small some
 
-abbrev PortFound : ℕ → ℕ → ℕ → Spot → Type 0
-PortFound reach at n spot = FindsBytes (all_windows reach) (Io at) n (finds spot)
+abbrev PortFound : ℕ → ℕ → ℕ → Location → Type 0
+PortFound reach at n location = FindsBytes (all_windows reach) (Io at) n (finds location)
 
 port_mapped : (reach at : ℕ) → Has reach Ports at → IsMapped (all_windows reach) (Io at)
 port_mapped reach at has = inr (inr (inr (inr (inr (inl has)))))
@@ -145,6 +145,6 @@ port_finds reach at n false is some = (
   },
 )
 
-pub place_finds : (reach : ℕ) (at : Place) (n : ℕ) → reach ≤ 65536 → 0 < n → FindsBytes (all_windows reach) at n (finds (place_spot reach at n))
+pub place_finds : (reach : ℕ) (at : Place) (n : ℕ) → reach ≤ 65536 → 0 < n → FindsBytes (all_windows reach) at n (finds (place_location reach at n))
 place_finds reach (Memory at) n small some = some_finds reach at n _ (λ is. grind (arith, nat_tests)) small some
 place_finds reach (Io at) n small some = port_finds reach at n _ refl some

@@ -25,13 +25,13 @@ use Rattle.erst_machine.specs.declared.errors.FatalError.{FatalError}
 use Rattle.erst_machine.specs.Events.{LaysFatal, fatal_refusal}
 use Rattle.erst_machine.specs.declared.areas.Area.{Area}
 use Rattle.erst_machine.specs.declared.areas.Area.TheVariants.{Device, Scratch, LogRange, Handover, BootErrors, Ports}
-use Rattle.erst_machine.specs.declared.areas.Spot.{Spot}
-use Rattle.erst_machine.specs.declared.areas.Spot.TheVariants.{Inside, Beyond, Nowhere}
+use Rattle.erst_machine.specs.declared.areas.Location.{Location}
+use Rattle.erst_machine.specs.declared.areas.Location.TheVariants.{Inside, Beyond, Nowhere}
 use Rattle.erst_machine.specs.declared.areas.Register.{Register}
 use Rattle.erst_machine.specs.declared.areas.Register.TheVariants.{Action, Value, NoRegister}
-use Rattle.erst_machine.specs.Areas.{base_of, size_of, within, holds, first_spot, memory_areas, place_spot, IsPlaced, register_at}
+use Rattle.erst_machine.specs.Areas.{base_of, size_of, within, holds, first_location, memory_areas, place_location, IsPlaced, register_at}
 use Rattle.erst_machine.specs.Memories.{MemoryState, bytes_in, IsLaid, zeros, cleared}
-use Rattle.erst_machine.specs.MachineState.{MachineState, IsMachine, spot_of, spot_at}
+use Rattle.erst_machine.specs.MachineState.{MachineState, IsMachine, location_of, location_at}
 use Rattle.erst_machine.specs.Allowed.{RegisterWritten, AreaWritten, NumberWritten, ActsOn, put_in, area_stored, bytes_stored, copied_from, copied_to, copied, copy_of, Allows}
 
 -- an access that is found in an area lies within it
@@ -45,21 +45,21 @@ area_placed : (reach : ℕ) (area : Area) (at n : ℕ) (held : Bool) → holds (
 area_placed reach area at n true is = within_placed reach area at n _ refl (grind (arith, nat_tests))
 area_placed reach area at n false is = tt
 
-or_placed : (reach n : ℕ) (found : Option Spot) (rest : Spot) → IfSome found (IsPlaced reach n) → IsPlaced reach n rest → IsPlaced reach n (unwrap_or found rest)
-or_placed reach n (Some spot) rest one other = one
+or_placed : (reach n : ℕ) (found : Option Location) (rest : Location) → IfSome found (IsPlaced reach n) → IsPlaced reach n rest → IsPlaced reach n (unwrap_or found rest)
+or_placed reach n (Some location) rest one other = one
 or_placed reach n None rest one other = other
 
-first_placed : (reach : ℕ) (areas : List Area) (at n : ℕ) → IsPlaced reach n (first_spot reach areas at n)
+first_placed : (reach : ℕ) (areas : List Area) (at n : ℕ) → IsPlaced reach n (first_location reach areas at n)
 first_placed reach [] at n = tt
 first_placed reach (area ∷ areas) at n = or_placed reach n _ _ (area_placed reach area at n _ refl) (first_placed reach areas at n)
 
-memory_placed : (reach at n : ℕ) (none : Bool) → (none ≡ true → n ≡ 0) → IsPlaced reach n (if none then Inside Scratch 0 else first_spot reach memory_areas at n)
+memory_placed : (reach at n : ℕ) (none : Bool) → (none ≡ true → n ≡ 0) → IsPlaced reach n (if none then Inside Scratch 0 else first_location reach memory_areas at n)
 memory_placed reach at n true zero = let e : n ≡ 0 = zero refl in omega arith
 memory_placed reach at n false zero = first_placed reach memory_areas at n
 
-pub spot_placed : (reach : ℕ) (at : Place) (n : ℕ) → IsPlaced reach n (place_spot reach at n)
-spot_placed reach (Memory at) n = memory_placed reach at n _ (λ is. grind (arith, nat_tests))
-spot_placed reach (Io at) n = first_placed reach (Ports ∷ []) at n
+pub location_placed : (reach : ℕ) (at : Place) (n : ℕ) → IsPlaced reach n (place_location reach at n)
+location_placed reach (Memory at) n = memory_placed reach at n _ (λ is. grind (arith, nat_tests))
+location_placed reach (Io at) n = first_placed reach (Ports ∷ []) at n
 
 kept_same : (old new : MachineState) → new ≡ old → IsMachine old → IsMachine new
 kept_same old new same machine = subst (λ (s : MachineState). IsMachine s) (sym same) machine
@@ -67,8 +67,8 @@ kept_same old new same machine = subst (λ (s : MachineState). IsMachine s) (sym
 kept_acts : (tells : Type 0) (old new : MachineState) (code : ℕ) → ActsOn tells old code new → IsMachine old → IsMachine new
 kept_acts tells old new code acts machine = record {
   sizes = record {
-    small = subst (λ (l : Layout). reach_of (room_of l) ≤ 65536) (sym acts.effect.alike.layout) machine.sizes.small;
-    range = acts.range ∙ machine.sizes.range ∙ sym (ap (λ (l : Layout). reach_of (room_of l)) acts.effect.alike.layout);
+    small = subst (λ (l : Layout). reach_of (room_of l) ≤ 65536) (sym acts.effect.equivalent.layout) machine.sizes.small;
+    range = acts.range ∙ machine.sizes.range ∙ sym (ap (λ (l : Layout). reach_of (room_of l)) acts.effect.equivalent.layout);
     scratch = ap (λ (m : MemoryState). length m.scratch) acts.memory ∙ machine.sizes.scratch;
     ports = ap (λ (m : MemoryState). length m.ports) acts.memory ∙ machine.sizes.ports;
     region = ap (λ (m : MemoryState). length m.region) acts.memory ∙ machine.sizes.region;
@@ -133,8 +133,8 @@ kept_area tells Scratch start old new at width value answer h fits machine = kep
 kept_area tells LogRange start old new at width value answer h fits machine = kept_number_put LogRange start old new width value h.1 fits machine
 kept_area tells Ports start old new at width value answer h fits machine = kept_number_put Ports start old new width value h.1 fits machine
 
-pub kept_written : (tells : Type 0) (spot : Spot) (old new : MachineState) (at : ℕ) (width : Width) (value : ℕ) (answer : Result (Unit {0}) SpaceFault) →
-    NumberWritten tells spot old at width value answer new → IsPlaced (length old.memory.range) (bits width / 8) spot → IsMachine old → IsMachine new
+pub kept_written : (tells : Type 0) (location : Location) (old new : MachineState) (at : ℕ) (width : Width) (value : ℕ) (answer : Result (Unit {0}) SpaceFault) →
+    NumberWritten tells location old at width value answer new → IsPlaced (length old.memory.range) (bits width / 8) location → IsMachine old → IsMachine new
 kept_written tells (Inside area start) old new at width value answer h fits machine = kept_area tells area start old new at width value answer h fits machine
 kept_written tells (Beyond area address) old new at width value answer h fits machine = kept_same old new h.1 machine
 kept_written tells (Nowhere address) old new at width value answer h fits machine = kept_same old new h.1 machine
@@ -148,23 +148,23 @@ kept_area_stored Scratch start old at bytes fits machine = kept_put Scratch star
 kept_area_stored LogRange start old at bytes fits machine = kept_put LogRange start old bytes fits machine
 kept_area_stored Ports start old at bytes fits machine = kept_put Ports start old bytes fits machine
 
-pub kept_stored : (spot : Spot) (old : MachineState) (at : ℕ) (bytes : List ℕ) → IsPlaced (length old.memory.range) (length bytes) spot → IsMachine old →
-    IsMachine (bytes_stored spot old at bytes).1
+pub kept_stored : (location : Location) (old : MachineState) (at : ℕ) (bytes : List ℕ) → IsPlaced (length old.memory.range) (length bytes) location → IsMachine old →
+    IsMachine (bytes_stored location old at bytes).1
 kept_stored (Inside area start) old at bytes fits machine = kept_area_stored area start old at bytes fits machine
 kept_stored (Beyond area address) old at bytes fits machine = machine
 kept_stored (Nowhere address) old at bytes fits machine = machine
 
-kept_copied_to : (target : Spot) (old : MachineState) (bytes : List ℕ) (n : ℕ) → length bytes ≤ n → IsPlaced (length old.memory.range) n target → IsMachine old → IsMachine (copied_to target old bytes)
+kept_copied_to : (target : Location) (old : MachineState) (bytes : List ℕ) (n : ℕ) → length bytes ≤ n → IsPlaced (length old.memory.range) n target → IsMachine old → IsMachine (copied_to target old bytes)
 kept_copied_to (Inside area start) old bytes n short fits machine = kept_put area start old bytes (omega arith) machine
 kept_copied_to (Beyond area address) old bytes n short fits machine = machine
 kept_copied_to (Nowhere address) old bytes n short fits machine = machine
 
-copied_short : (source : Spot) (old : MachineState) (n : ℕ) → length (copied_from source old n) ≤ n
+copied_short : (source : Location) (old : MachineState) (n : ℕ) → length (copied_from source old n) ≤ n
 copied_short (Inside area start) old n = length-part-le (bytes_in area old.memory) start n
 copied_short (Beyond area address) old n = omega arith
 copied_short (Nowhere address) old n = omega arith
 
-pub kept_copied : (first second : Option SpaceFault) (source target : Spot) (old : MachineState) (n : ℕ) → IsPlaced (length old.memory.range) n target → IsMachine old →
+pub kept_copied : (first second : Option SpaceFault) (source target : Location) (old : MachineState) (n : ℕ) → IsPlaced (length old.memory.range) n target → IsMachine old →
     IsMachine (copied first second source target old n).1
 kept_copied (Some fault) second source target old n fits machine = machine
 kept_copied None (Some fault) source target old n fits machine = machine
@@ -174,13 +174,13 @@ kept_copied None None source target old n fits machine = kept_copied_to target o
 pub kept_allowed : (tells : Type 0) (old new : MachineState) (call : Call) → Allows tells old call new → IsMachine old → IsMachine new
 kept_allowed tells old new (Read at width answer) h machine = kept_same old new h.1 machine
 kept_allowed tells old new (Write at width value answer) h machine =
-    kept_written tells (spot_of old at (bits width / 8)) old new (address_of at) width value answer h (spot_placed (length old.memory.range) at (bits width / 8)) machine
+    kept_written tells (location_of old at (bits width / 8)) old new (address_of at) width value answer h (location_placed (length old.memory.range) at (bits width / 8)) machine
 kept_allowed tells old new (Wait micros) h machine = kept_same _ new h (record { sizes = machine.sizes; laid = machine.laid; map = machine.map; stands = machine.stands })
 kept_allowed tells old new (Copy from to n answer) h machine =
-    kept_same _ new h.1 (kept_copied _ _ (spot_at old from n) (spot_at old to n) old n (spot_placed (length old.memory.range) (Memory to) n) machine)
+    kept_same _ new h.1 (kept_copied _ _ (location_at old from n) (location_at old to n) old n (location_placed (length old.memory.range) (Memory to) n) machine)
 kept_allowed tells old new (ReadBytes at before after answer) h machine = kept_same old new h.2 machine
 kept_allowed tells old new (WriteBytes at bytes answer) h machine =
-    kept_same _ new h.1 (kept_stored (spot_at old at (length bytes)) old at bytes (spot_placed (length old.memory.range) (Memory at) (length bytes)) machine)
+    kept_same _ new h.1 (kept_stored (location_at old at (length bytes)) old at bytes (location_placed (length old.memory.range) (Memory at) (length bytes)) machine)
 
 pub kept_turn : (old : MachineState) (side : Side) (event : TurnEvent) (handover : HandoverState) (shared : RamState) → IsMachine old → handover.map ≡ old.handover.map →
     shared.windows ≡ old.memory.shared.windows → ((m : HandoverMachine) → StandsFor old.handover old.memory.shared m → IsTurned side event handover shared m) →
@@ -200,18 +200,18 @@ kept_turn old side event handover shared machine map windows turns = record {
 }
 
 -- the same of a machine that is seen as a state
-pub kept_written_at : (tells : Type 0) (spot : Spot) (old seen new : MachineState) (at n : ℕ) (width : Width) (value : ℕ) (answer : Result (Unit {0}) SpaceFault) → old ≡ seen → n ≡ bits width / 8 →
-    NumberWritten tells spot old at width value answer new → IsPlaced (length seen.memory.range) n spot → IsMachine old → IsMachine new
-kept_written_at tells spot old seen new at n width value answer same size h placed machine =
-    kept_written tells spot old new at width value answer h
-    (subst (λ (k : ℕ). IsPlaced (length old.memory.range) k spot) size (subst (λ (s : MachineState). IsPlaced (length s.memory.range) n spot) (sym same) placed)) machine
+pub kept_written_at : (tells : Type 0) (location : Location) (old seen new : MachineState) (at n : ℕ) (width : Width) (value : ℕ) (answer : Result (Unit {0}) SpaceFault) → old ≡ seen → n ≡ bits width / 8 →
+    NumberWritten tells location old at width value answer new → IsPlaced (length seen.memory.range) n location → IsMachine old → IsMachine new
+kept_written_at tells location old seen new at n width value answer same size h placed machine =
+    kept_written tells location old new at width value answer h
+    (subst (λ (k : ℕ). IsPlaced (length old.memory.range) k location) size (subst (λ (s : MachineState). IsPlaced (length s.memory.range) n location) (sym same) placed)) machine
 
-pub kept_stored_at : (spot : Spot) (old seen new : MachineState) (at : ℕ) (bytes : List ℕ) → old ≡ seen → new ≡ (bytes_stored spot old at bytes).1 →
-    IsPlaced (length seen.memory.range) (length bytes) spot → IsMachine old → IsMachine new
-kept_stored_at spot old seen new at bytes same is placed machine =
-    kept_same _ new is (kept_stored spot old at bytes (subst (λ (s : MachineState). IsPlaced (length s.memory.range) (length bytes) spot) (sym same) placed) machine)
+pub kept_stored_at : (location : Location) (old seen new : MachineState) (at : ℕ) (bytes : List ℕ) → old ≡ seen → new ≡ (bytes_stored location old at bytes).1 →
+    IsPlaced (length seen.memory.range) (length bytes) location → IsMachine old → IsMachine new
+kept_stored_at location old seen new at bytes same is placed machine =
+    kept_same _ new is (kept_stored location old at bytes (subst (λ (s : MachineState). IsPlaced (length s.memory.range) (length bytes) location) (sym same) placed) machine)
 
-pub kept_copied_at : (source target : Spot) (old seen new : MachineState) (from to n : ℕ) → old ≡ seen → new ≡ (copy_of source target old from to n).1 →
+pub kept_copied_at : (source target : Location) (old seen new : MachineState) (from to n : ℕ) → old ≡ seen → new ≡ (copy_of source target old from to n).1 →
     IsPlaced (length seen.memory.range) n target → IsMachine old → IsMachine new
 kept_copied_at source target old seen new from to n same is placed machine =
     kept_same _ new is (kept_copied _ _ source target old n (subst (λ (s : MachineState). IsPlaced (length s.memory.range) n target) (sym same) placed) machine)

@@ -14,13 +14,13 @@ use Rattle.erst_device.specs.DeviceState.{KnowsCopies}
 use Rattle.erst_device.specs.Effects.{Effect}
 use Rattle.erst_machine.specs.declared.areas.Area.{Area}
 use Rattle.erst_machine.specs.declared.areas.Area.TheVariants.{Device, Handover, BootErrors}
-use Rattle.erst_machine.specs.declared.areas.Spot.{Spot}
-use Rattle.erst_machine.specs.declared.areas.Spot.TheVariants.{Inside, Beyond, Nowhere}
+use Rattle.erst_machine.specs.declared.areas.Location.{Location}
+use Rattle.erst_machine.specs.declared.areas.Location.TheVariants.{Inside, Beyond, Nowhere}
 use Rattle.erst_machine.specs.declared.areas.Register.{Register}
 use Rattle.erst_machine.specs.declared.areas.Register.TheVariants.{Action, Value, NoRegister}
 use Rattle.erst_machine.specs.Areas.{is_plain, register_at}
 use Rattle.erst_machine.specs.Memories.{bytes_in, with_bytes}
-use Rattle.erst_machine.specs.MachineState.{MachineState, spot_of, spot_at}
+use Rattle.erst_machine.specs.MachineState.{MachineState, location_of, location_at}
 
 -- a read of a register: ACTION reads as 0
 abbrev pub register_read : Register → MachineState → ℕ → Width → Result ℕ SpaceFault
@@ -33,7 +33,7 @@ abbrev pub area_read : Area → ℕ → MachineState → ℕ → Width → Resul
 area_read Device start state at width = register_read (register_at start width) state at width
 area_read area start state at width = Ok (number_at (bytes_in area state.memory) start (bits width / 8))
 
-abbrev pub number_read : Spot → MachineState → ℕ → Width → Result ℕ SpaceFault
+abbrev pub number_read : Location → MachineState → ℕ → Width → Result ℕ SpaceFault
 number_read (Inside area start) state at width = area_read area start state at width
 number_read (Beyond area address) state at width = Err (Unmapped address)
 number_read (Nowhere address) state at width = Err (Unmapped address)
@@ -64,7 +64,7 @@ AreaWritten tells Handover start old at width value answer new = (answer ≡ Err
 AreaWritten tells BootErrors start old at width value answer new = (answer ≡ Err (BadAccess at width)) × (new ≡ old)
 AreaWritten tells area start old at width value answer new = (answer ≡ Ok tt) × (new ≡ put_in area start old (spelled (bits width / 8) value))
 
-abbrev pub NumberWritten : Type 0 → Spot → MachineState → ℕ → Width → ℕ → Result (Unit {0}) SpaceFault → MachineState → Type 0
+abbrev pub NumberWritten : Type 0 → Location → MachineState → ℕ → Width → ℕ → Result (Unit {0}) SpaceFault → MachineState → Type 0
 NumberWritten tells (Inside area start) old at width value answer new = AreaWritten tells area start old at width value answer new
 NumberWritten tells (Beyond area address) old at width value answer new = (answer ≡ Err (Unmapped address)) × (new ≡ old)
 NumberWritten tells (Nowhere address) old at width value answer new = (answer ≡ Err (Unmapped address)) × (new ≡ old)
@@ -74,7 +74,7 @@ abbrev pub area_bytes : Area → ℕ → MachineState → ℕ → List ℕ → R
 area_bytes Device start state at before = (Err (BadAccess at B8), before)
 area_bytes area start state at before = (Ok tt, part (bytes_in area state.memory) start (length before))
 
-abbrev pub bytes_read : Spot → MachineState → ℕ → List ℕ → Result (Unit {0}) SpaceFault × List ℕ
+abbrev pub bytes_read : Location → MachineState → ℕ → List ℕ → Result (Unit {0}) SpaceFault × List ℕ
 bytes_read (Inside area start) state at before = area_bytes area start state at before
 bytes_read (Beyond area address) state at before = (Err (Unmapped address), before)
 bytes_read (Nowhere address) state at before = (Err (Unmapped address), before)
@@ -86,48 +86,48 @@ area_stored Handover start old at bytes = (Err (BadAccess at B8), old)
 area_stored BootErrors start old at bytes = (Err (BadAccess at B8), old)
 area_stored area start old at bytes = (Ok tt, put_in area start old bytes)
 
-abbrev pub bytes_stored : Spot → MachineState → ℕ → List ℕ → Result (Unit {0}) SpaceFault × MachineState
+abbrev pub bytes_stored : Location → MachineState → ℕ → List ℕ → Result (Unit {0}) SpaceFault × MachineState
 bytes_stored (Inside area start) old at bytes = area_stored area start old at bytes
 bytes_stored (Beyond area address) old at bytes = (Err (Unmapped address), old)
 bytes_stored (Nowhere address) old at bytes = (Err (Unmapped address), old)
 
 -- the first byte of a copy's source or target that fails: one that is mapped and no plain memory fails before one that is not mapped
 -- behind it
-abbrev pub copy_fault : Spot → ℕ → Option SpaceFault
+abbrev pub copy_fault : Location → ℕ → Option SpaceFault
 copy_fault (Inside area start) at = if is_plain area then None else Some (NotMemory at)
 copy_fault (Beyond area address) at = if is_plain area then Some (Unmapped address) else Some (NotMemory at)
 copy_fault (Nowhere address) at = Some (Unmapped address)
 
-abbrev pub copied_from : Spot → MachineState → ℕ → List ℕ
+abbrev pub copied_from : Location → MachineState → ℕ → List ℕ
 copied_from (Inside area start) state n = part (bytes_in area state.memory) start n
 copied_from (Beyond area address) state n = []
 copied_from (Nowhere address) state n = []
 
-abbrev pub copied_to : Spot → MachineState → List ℕ → MachineState
+abbrev pub copied_to : Location → MachineState → List ℕ → MachineState
 copied_to (Inside area start) state bytes = put_in area start state bytes
 copied_to (Beyond area address) state bytes = state
 copied_to (Nowhere address) state bytes = state
 
 -- the answer to a copy of n bytes, and the state after it: the source is checked first
-abbrev pub copied : Option SpaceFault → Option SpaceFault → Spot → Spot → MachineState → ℕ → Result (Unit {0}) SpaceFault × MachineState
+abbrev pub copied : Option SpaceFault → Option SpaceFault → Location → Location → MachineState → ℕ → Result (Unit {0}) SpaceFault × MachineState
 copied (Some fault) second source target old n = (Err fault, old)
 copied None (Some fault) source target old n = (Err fault, old)
 copied None None source target old n = (Ok tt, copied_to target old (copied_from source old n))
 
-abbrev pub copy_of : Spot → Spot → MachineState → ℕ → ℕ → ℕ → Result (Unit {0}) SpaceFault × MachineState
+abbrev pub copy_of : Location → Location → MachineState → ℕ → ℕ → ℕ → Result (Unit {0}) SpaceFault × MachineState
 copy_of source target old from to n = copied (copy_fault source from) (copy_fault target to) source target old n
 
 -- before, a call with its answer, after
 abbrev pub Allows : Type 0 → MachineState → Call → MachineState → Type 0
-Allows tells old (Read at width answer) new = (answer ≡ number_read (spot_of old at (bits width / 8)) old (address_of at) width) × (new ≡ old)
-Allows tells old (Write at width value answer) new = NumberWritten tells (spot_of old at (bits width / 8)) old (address_of at) width value answer new
+Allows tells old (Read at width answer) new = (answer ≡ number_read (location_of old at (bits width / 8)) old (address_of at) width) × (new ≡ old)
+Allows tells old (Write at width value answer) new = NumberWritten tells (location_of old at (bits width / 8)) old (address_of at) width value answer new
 Allows tells old (Wait micros) new = new ≡ record old { waited = min (old.waited + micros) (2 ^ 64 - 1) }
 Allows tells old (Copy from to n answer) new =
-    let outcome = copy_of (spot_at old from n) (spot_at old to n) old from to n in
+    let outcome = copy_of (location_at old from n) (location_at old to n) old from to n in
     (answer ≡ outcome.0) × (new ≡ outcome.1)
 Allows tells old (ReadBytes at before after answer) new =
-    let outcome = bytes_read (spot_at old at (length before)) old at before in
+    let outcome = bytes_read (location_at old at (length before)) old at before in
     (answer ≡ outcome.0) × (after ≡ outcome.1) × (new ≡ old)
 Allows tells old (WriteBytes at bytes answer) new =
-    let outcome = bytes_stored (spot_at old at (length bytes)) old at bytes in
+    let outcome = bytes_stored (location_at old at (length bytes)) old at bytes in
     (answer ≡ outcome.0) × (new ≡ outcome.1)

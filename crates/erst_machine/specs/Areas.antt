@@ -8,8 +8,8 @@ use Rattle.apei_space.specs.declared.windows.Window.{Window}
 use Rattle.erst_device.specs.Actions.{log_range_at}
 use Rattle.erst_machine.specs.declared.areas.Area.{Area}
 use Rattle.erst_machine.specs.declared.areas.Area.TheVariants.{Device, Scratch, LogRange, Handover, BootErrors, Ports}
-use Rattle.erst_machine.specs.declared.areas.Spot.{Spot}
-use Rattle.erst_machine.specs.declared.areas.Spot.TheVariants.{Inside, Beyond, Nowhere}
+use Rattle.erst_machine.specs.declared.areas.Location.{Location}
+use Rattle.erst_machine.specs.declared.areas.Location.TheVariants.{Inside, Beyond, Nowhere}
 use Rattle.erst_machine.specs.declared.areas.Register.{Register}
 use Rattle.erst_machine.specs.declared.areas.Register.TheVariants.{Action, Value, NoRegister}
 
@@ -49,39 +49,39 @@ size_of reach BootErrors = region_len
 size_of reach Ports = ports_len
 
 -- of n bytes from an address on, all are in the area, or the first that is not has this address
-abbrev pub within : Area → ℕ → ℕ → ℕ → ℕ → Spot
+abbrev pub within : Area → ℕ → ℕ → ℕ → ℕ → Location
 within area base size at n = if nat_le (at + n) (base + size) then Inside area (at - base) else Beyond area (base + size)
 
 abbrev pub holds : ℕ → ℕ → ℕ → Bool
 holds base size at = nat_le base at && nat_lt at (base + size)
 
 -- n bytes whose first one is in an area
-abbrev pub area_spot : ℕ → Area → ℕ → ℕ → Option Spot
-area_spot reach area at n =
+abbrev pub area_location : ℕ → Area → ℕ → ℕ → Option Location
+area_location reach area at n =
     if holds (base_of area) (size_of reach area) at then Some (within area (base_of area) (size_of reach area) at n) else None
 
 -- the areas of memory; the device stands first, so that its registers are found by numbers alone
 abbrev pub memory_areas : List Area
 memory_areas = Device ∷ Scratch ∷ Handover ∷ BootErrors ∷ LogRange ∷ []
 
-abbrev pub first_spot : ℕ → List Area → ℕ → ℕ → Spot
-first_spot reach [] at n = Nowhere at
-first_spot reach (area ∷ areas) at n = unwrap_or (area_spot reach area at n) (first_spot reach areas at n)
+abbrev pub first_location : ℕ → List Area → ℕ → ℕ → Location
+first_location reach [] at n = Nowhere at
+first_location reach (area ∷ areas) at n = unwrap_or (area_location reach area at n) (first_location reach areas at n)
 
 -- n bytes of memory; an access of no bytes touches nothing
-abbrev pub memory_spot : ℕ → ℕ → ℕ → Spot
-memory_spot reach at n = if n == 0 then Inside Scratch 0 else first_spot reach memory_areas at n
+abbrev pub memory_location : ℕ → ℕ → ℕ → Location
+memory_location reach at n = if n == 0 then Inside Scratch 0 else first_location reach memory_areas at n
 
 -- n bytes of ports
-abbrev pub port_spot : ℕ → ℕ → ℕ → Spot
-port_spot reach at n = first_spot reach (Ports ∷ []) at n
+abbrev pub port_location : ℕ → ℕ → ℕ → Location
+port_location reach at n = first_location reach (Ports ∷ []) at n
 
-abbrev pub place_spot : ℕ → Place → ℕ → Spot
-place_spot reach (Memory at) n = memory_spot reach at n
-place_spot reach (Io at) n = port_spot reach at n
+abbrev pub place_location : ℕ → Place → ℕ → Location
+place_location reach (Memory at) n = memory_location reach at n
+place_location reach (Io at) n = port_location reach at n
 
 -- n bytes from there on are in the area
-abbrev pub IsPlaced : ℕ → ℕ → Spot → Type 0
+abbrev pub IsPlaced : ℕ → ℕ → Location → Type 0
 IsPlaced reach n (Inside area start) = start + n ≤ size_of reach area
 IsPlaced reach n (Beyond area address) = Unit {0}
 IsPlaced reach n (Nowhere address) = Unit {0}
@@ -116,7 +116,7 @@ all_windows reach =
     window_of reach Device ∷ window_of reach Scratch ∷ window_of reach LogRange ∷ window_of reach Handover ∷ window_of reach BootErrors ∷ window_of reach Ports ∷ []
 
 -- what an access finds: all its bytes, or the address of the first that is not mapped
-abbrev pub finds : Spot → Result ℕ ℕ
+abbrev pub finds : Location → Result ℕ ℕ
 finds (Inside area start) = Ok start
 finds (Beyond area address) = Err address
 finds (Nowhere address) = Err address

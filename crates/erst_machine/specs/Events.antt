@@ -2,7 +2,7 @@
 use Rattle.std.specs.Prelude.{◌≡◌, ◌⊎◌, ℕ, ◌-◌, ◌*◌, ◌<◌, true, nat_lt, if◌then◌else◌, List, [], ◌∷◌, ◌++◌, length, Option, Some, None, Result, Ok, Err, IfOk, IfErr, OnOk, OnErr, MatchResult}
 use Rattle.std.specs.FinMap.{len}
 use Rattle.base_model.specs.Bytes.{joined}
-use Rattle.base_model.specs.Flash.{StaysLit, raised}
+use Rattle.base_model.specs.Flash.{StaysPowered, raised}
 use Rattle.record_store.specs.Store.{StoreView, IsSettled, doubted, restarted}
 use Rattle.record_store.specs.Calls.{OnlyLooks}
 use Rattle.record_store.specs.declared.errors.StoreError.{StoreError}
@@ -43,7 +43,7 @@ pub record Restarts (tells : Type 0) (before : StoreView) (memory : MemoryState)
   pub settled : OnOk result (tells → IsSettled new.device.store)
   pub reads : OnOk result (new.device.store.flash.reads ≡ raised (2 * old.device.store.layout.slots) old.device.store.flash.reads)
   pub powered : OnOk result (new.device.store.flash.powered ≡ true)
-  pub lit : StaysLit before.flash new.device.store.flash
+  pub lit : StaysPowered before.flash new.device.store.flash
   pub leaves : OnlyLooks tells before new.device.store (store_answer result)
   pub copies : tells → KnowsCopies old.device.store
   pub memory_is : new.memory ≡ memory

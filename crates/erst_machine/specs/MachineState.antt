@@ -10,10 +10,10 @@ use Rattle.ghes_ack.specs.declared.maps.HandoverMap.{HandoverMap}
 use Rattle.ghes_ack.specs.Handovers.{HandoverState}
 use Rattle.ghes_ack.specs.Sides.{Stands}
 use Rattle.erst_device.specs.DeviceState.{DeviceState, records}
-use Rattle.erst_machine.specs.declared.areas.Spot.{Spot}
+use Rattle.erst_machine.specs.declared.areas.Location.{Location}
 use Rattle.erst_machine.specs.declared.contents.Contents.{Contents}
 use Rattle.erst_machine.specs.declared.areas.Area.TheVariants.{Handover}
-use Rattle.erst_machine.specs.Areas.{place_spot, base_of}
+use Rattle.erst_machine.specs.Areas.{place_location, base_of}
 use Rattle.erst_machine.specs.Memories.{MemoryState, memory_of, HasSizes, IsLaid}
 
 -- the device over its store, the bytes of memory, the handover, and the sum of all waits in microseconds
@@ -27,11 +27,11 @@ abbrev pub state_of : DeviceState → Contents → HandoverState → ℕ → Mac
 state_of device contents handover waited = record { device = device; memory = memory_of contents; handover = handover; waited = waited }
 
 -- where n bytes stand
-abbrev pub spot_of : MachineState → Place → ℕ → Spot
-spot_of state at n = place_spot (length state.memory.range) at n
+abbrev pub location_of : MachineState → Place → ℕ → Location
+location_of state at n = place_location (length state.memory.range) at n
 
-abbrev pub spot_at : MachineState → ℕ → ℕ → Spot
-spot_at state at n = spot_of state (Memory at) n
+abbrev pub location_at : MachineState → ℕ → ℕ → Location
+location_at state at n = location_of state (Memory at) n
 
 -- where the two sides of the handover meet: the machine's one error source
 abbrev pub own_map : HandoverMap

@@ -9,12 +9,12 @@ use Rattle.apei_space.specs.Calls.{Call, Read, Write, Wait, Copy, ReadBytes, Wri
 use Rattle.apei_space.specs.Windows.{address_of}
 use Rattle.erst_machine.specs.declared.areas.Area.{Area}
 use Rattle.erst_machine.specs.declared.areas.Area.TheVariants.{Device, Scratch, LogRange, Handover, BootErrors, Ports}
-use Rattle.erst_machine.specs.declared.areas.Spot.{Spot}
-use Rattle.erst_machine.specs.declared.areas.Spot.TheVariants.{Inside, Beyond, Nowhere}
+use Rattle.erst_machine.specs.declared.areas.Location.{Location}
+use Rattle.erst_machine.specs.declared.areas.Location.TheVariants.{Inside, Beyond, Nowhere}
 use Rattle.erst_machine.specs.declared.areas.Register.{Register}
 use Rattle.erst_machine.specs.declared.areas.Register.TheVariants.{Action, Value, NoRegister}
 use Rattle.erst_machine.specs.Areas.{is_plain, register_at}
-use Rattle.erst_machine.specs.MachineState.{MachineState, spot_of, spot_at}
+use Rattle.erst_machine.specs.MachineState.{MachineState, location_of, location_at}
 use Rattle.erst_machine.specs.Allowed.{register_read, area_read, number_read, RegisterWritten, AreaWritten, NumberWritten, area_bytes, bytes_read, area_stored, bytes_stored, copy_fault, copied, copy_of, Allows}
 
 abbrev no_faults : MachineState → ℕ
@@ -51,7 +51,7 @@ why_area_read Handover start old new at width same = why_ok old new _
 why_area_read BootErrors start old new at width same = why_ok old new _
 why_area_read Ports start old new at width same = why_ok old new _
 
-why_read : (spot : Spot) (old new : MachineState) (at : ℕ) (width : Width) → new ≡ old → Why old new (number_read spot old at width)
+why_read : (location : Location) (old new : MachineState) (at : ℕ) (width : Width) → new ≡ old → Why old new (number_read location old at width)
 why_read (Inside area start) old new at width same = why_area_read area start old new at width same
 why_read (Beyond area address) old new at width same = why_unmapped old new address same
 why_read (Nowhere address) old new at width same = why_unmapped old new address same
@@ -77,8 +77,8 @@ why_area_written tells Handover start old new at width value answer h = why_is o
 why_area_written tells BootErrors start old new at width value answer h = why_is old new answer _ h.0 (why_bad old new at width h.1)
 why_area_written tells Ports start old new at width value answer h = why_is old new answer _ h.0 (why_ok old new tt)
 
-why_written : (tells : Type 0) (spot : Spot) (old new : MachineState) (at : ℕ) (width : Width) (value : ℕ) (answer : Result (Unit {0}) SpaceFault) →
-    NumberWritten tells spot old at width value answer new → Why old new answer
+why_written : (tells : Type 0) (location : Location) (old new : MachineState) (at : ℕ) (width : Width) (value : ℕ) (answer : Result (Unit {0}) SpaceFault) →
+    NumberWritten tells location old at width value answer new → Why old new answer
 why_written tells (Inside area start) old new at width value answer h = why_area_written tells area start old new at width value answer h
 why_written tells (Beyond area address) old new at width value answer h = why_is old new answer _ h.0 (why_unmapped old new address h.1)
 why_written tells (Nowhere address) old new at width value answer h = why_is old new answer _ h.0 (why_unmapped old new address h.1)
@@ -91,7 +91,7 @@ why_area_bytes Handover start old new at before same = why_ok old new tt
 why_area_bytes BootErrors start old new at before same = why_ok old new tt
 why_area_bytes Ports start old new at before same = why_ok old new tt
 
-why_bytes_read : (spot : Spot) (old new : MachineState) (at : ℕ) (before : List ℕ) → new ≡ old → Why old new (bytes_read spot old at before).0
+why_bytes_read : (location : Location) (old new : MachineState) (at : ℕ) (before : List ℕ) → new ≡ old → Why old new (bytes_read location old at before).0
 why_bytes_read (Inside area start) old new at before same = why_area_bytes area start old new at before same
 why_bytes_read (Beyond area address) old new at before same = why_unmapped old new address same
 why_bytes_read (Nowhere address) old new at before same = why_unmapped old new address same
@@ -104,7 +104,7 @@ why_area_stored Handover start old at bytes = why_bad old old at B8 refl
 why_area_stored BootErrors start old at bytes = why_bad old old at B8 refl
 why_area_stored Ports start old at bytes = why_ok old _ tt
 
-why_stored : (spot : Spot) (old : MachineState) (at : ℕ) (bytes : List ℕ) → Why old (bytes_stored spot old at bytes).1 (bytes_stored spot old at bytes).0
+why_stored : (location : Location) (old : MachineState) (at : ℕ) (bytes : List ℕ) → Why old (bytes_stored location old at bytes).1 (bytes_stored location old at bytes).0
 why_stored (Inside area start) old at bytes = why_area_stored area start old at bytes
 why_stored (Beyond area address) old at bytes = why_unmapped old old address refl
 why_stored (Nowhere address) old at bytes = why_unmapped old old address refl
@@ -121,12 +121,12 @@ why_beyond : (old : MachineState) (plain : Bool) (at address : ℕ) → WhyFault
 why_beyond old true at address = (refl, tt)
 why_beyond old false at address = (refl, tt)
 
-why_copy_fault : (old : MachineState) (spot : Spot) (at : ℕ) → WhyFault old (copy_fault spot at)
+why_copy_fault : (old : MachineState) (location : Location) (at : ℕ) → WhyFault old (copy_fault location at)
 why_copy_fault old (Inside area start) at = why_inside old (is_plain area) at
 why_copy_fault old (Beyond area address) at = why_beyond old (is_plain area) at address
 why_copy_fault old (Nowhere address) at = (refl, tt)
 
-why_copied : (old : MachineState) (first second : Option SpaceFault) (source target : Spot) (n : ℕ) → WhyFault old first → WhyFault old second →
+why_copied : (old : MachineState) (first second : Option SpaceFault) (source target : Location) (n : ℕ) → WhyFault old first → WhyFault old second →
     WhyCopy old (copied first second source target old n).1 (copied first second source target old n).0
 why_copied old (Some fault) second source target n why next = record { leaves = why.0; access = why.1 }
 why_copied old None (Some fault) source target n why next = record { leaves = next.0; access = next.1 }
@@ -134,23 +134,23 @@ why_copied old None None source target n why next = record { leaves = tt; access
 
 pub reasons : (tells : Type 0) (old new : MachineState) (call : Call) → Allows tells old call new → HasReason (λ (_ : MachineState). 0) old call new
 reasons tells old new (Read at width answer) h =
-    let why = why_is old new answer _ h.0 (why_read (spot_of old at (bits width / 8)) old new (address_of at) width h.1) in
+    let why = why_is old new answer _ h.0 (why_read (location_of old at (bits width / 8)) old new (address_of at) width h.1) in
     record { never_falls = omega arith; leaves = why.leaves; of_call = why.access }
 reasons tells old new (Write at width value answer) h =
-    let why = why_written tells (spot_of old at (bits width / 8)) old new (address_of at) width value answer h in
+    let why = why_written tells (location_of old at (bits width / 8)) old new (address_of at) width value answer h in
     record { never_falls = omega arith; leaves = why.leaves; of_call = why.access }
 reasons tells old new (Wait micros) h = record { never_falls = omega arith; leaves = tt; of_call = tt }
 reasons tells old new (Copy from to n answer) h =
-    let source = spot_at old from n in
-    let target = spot_at old to n in
+    let source = location_at old from n in
+    let target = location_at old to n in
     let why = copy_is old (copy_of source target old from to n).1 answer _ h.0
     (why_copied old (copy_fault source from) (copy_fault target to) source target n (why_copy_fault old source from) (why_copy_fault old target to)) in
     subst (λ (s : MachineState). HasReason (λ (_ : MachineState). 0) old (Copy from to n answer) s) (sym h.1)
     (record { never_falls = omega arith; leaves = why.leaves; of_call = why.access })
 reasons tells old new (ReadBytes at before after answer) h =
-    let why = why_is old new answer _ h.0 (why_bytes_read (spot_at old at (length before)) old new at before h.2) in
+    let why = why_is old new answer _ h.0 (why_bytes_read (location_at old at (length before)) old new at before h.2) in
     record { never_falls = omega arith; leaves = why.leaves; of_call = why.access }
 reasons tells old new (WriteBytes at bytes answer) h =
-    let why = why_is old (bytes_stored (spot_at old at (length bytes)) old at bytes).1 answer _ h.0 (why_stored (spot_at old at (length bytes)) old at bytes) in
+    let why = why_is old (bytes_stored (location_at old at (length bytes)) old at bytes).1 answer _ h.0 (why_stored (location_at old at (length bytes)) old at bytes) in
     subst (λ (s : MachineState). HasReason (λ (_ : MachineState). 0) old (WriteBytes at bytes answer) s) (sym h.1)
     (record { never_falls = omega arith; leaves = why.leaves; of_call = why.access })

@@ -12,12 +12,12 @@ use Rattle.erst_entries.specs.Actions.{action_of}
 use Rattle.erst_device.specs.Effects.{made_by_action}
 use Rattle.erst_machine.specs.declared.areas.Area.{Area}
 use Rattle.erst_machine.specs.declared.areas.Area.TheVariants.{Device}
-use Rattle.erst_machine.specs.declared.areas.Spot.{Spot}
-use Rattle.erst_machine.specs.declared.areas.Spot.TheVariants.{Inside, Beyond, Nowhere}
+use Rattle.erst_machine.specs.declared.areas.Location.{Location}
+use Rattle.erst_machine.specs.declared.areas.Location.TheVariants.{Inside, Beyond, Nowhere}
 use Rattle.erst_machine.specs.declared.areas.Register.{Register}
 use Rattle.erst_machine.specs.declared.areas.Register.TheVariants.{Action, Value, NoRegister}
 use Rattle.erst_machine.specs.Areas.{register_at}
-use Rattle.erst_machine.specs.MachineState.{MachineState, spot_of, records_of, told_of}
+use Rattle.erst_machine.specs.MachineState.{MachineState, location_of, records_of, told_of}
 use Rattle.erst_machine.specs.Events.{Event, Accessed}
 
 -- the flash changes so far, as the flash tells them
@@ -47,14 +47,14 @@ abbrev pub made_in : Area → ℕ → MachineState → Width → ℕ → Stored
 made_in Device start state width code = made_at_register (register_at start width) state code
 made_in area start state width code = records_of state
 
-abbrev pub made_at : Spot → MachineState → Width → ℕ → Stored
+abbrev pub made_at : Location → MachineState → Width → ℕ → Stored
 made_at (Inside area start) state width code = made_in area start state width code
 made_at (Beyond area address) state width code = records_of state
 made_at (Nowhere address) state width code = records_of state
 
 -- as an access leaves them
 abbrev pub made_by_call : MachineState → Call → Stored
-made_by_call state (Write at width value answer) = made_at (spot_of state at (bits width / 8)) state width (value % 2 ^ 32)
+made_by_call state (Write at width value answer) = made_at (location_of state at (bits width / 8)) state width (value % 2 ^ 32)
 made_by_call state call = records_of state
 
 -- as whatever happens leaves them: all else keeps the records
@@ -69,12 +69,12 @@ pub record IsOneMove (old : MachineState) (made : Stored) (new : MachineState) :
   pub made_is : (Rose old.device.store.flash.faults new.device.store.flash.faults → ⊥) → records_of new ≡ made
   pub few : new.device.store.flash.steps ≤ old.device.store.flash.steps + 1
   pub never_falls : old.device.store.flash.faults ≤ new.device.store.flash.faults
-  pub alike : DividesAlike old.device.store new.device.store
+  pub equivalent : DividesAlike old.device.store new.device.store
 
 -- the flash of one state is that of another some changes later, and the store divides it alike
 pub record GoesOn (moves : ℕ) (old new : MachineState) : Type 0 where
   pub later : IsLater (told_of old) (told_of new)
-  pub alike : DividesAlike old.device.store new.device.store
+  pub equivalent : DividesAlike old.device.store new.device.store
   pub few : new.device.store.flash.steps ≤ old.device.store.flash.steps + moves
   pub never_falls : old.device.store.flash.faults ≤ new.device.store.flash.faults
 

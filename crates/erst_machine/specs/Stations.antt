@@ -16,13 +16,13 @@ use Rattle.ghes_ack.proofs.TakenLemmas.{taken_fits}
 use Rattle.erst_device.specs.DeviceState.{DeviceState}
 use Rattle.erst_machine.specs.declared.areas.Area.{Area}
 use Rattle.erst_machine.specs.declared.areas.Area.TheVariants.{Device, Scratch, LogRange, Handover, BootErrors, Ports}
-use Rattle.erst_machine.specs.declared.areas.Spot.{Spot}
-use Rattle.erst_machine.specs.declared.areas.Spot.TheVariants.{Inside, Beyond, Nowhere}
+use Rattle.erst_machine.specs.declared.areas.Location.{Location}
+use Rattle.erst_machine.specs.declared.areas.Location.TheVariants.{Inside, Beyond, Nowhere}
 use Rattle.erst_machine.specs.declared.areas.Register.{Register}
 use Rattle.erst_machine.specs.declared.areas.Register.TheVariants.{Action, Value, NoRegister}
 use Rattle.erst_machine.specs.Areas.{register_at}
 use Rattle.erst_machine.specs.Memories.{MemoryState}
-use Rattle.erst_machine.specs.MachineState.{MachineState, spot_of, spot_at}
+use Rattle.erst_machine.specs.MachineState.{MachineState, location_of, location_at}
 use Rattle.erst_machine.specs.Events.{Turns}
 use Rattle.erst_machine.specs.Allowed.{RegisterWritten, AreaWritten, NumberWritten, put_in, area_stored, bytes_stored, copied_from, copied_to, copied, Allows}
 
@@ -60,8 +60,8 @@ same_area tells Handover start old new at width value answer h = same_itself old
 same_area tells BootErrors start old new at width value answer h = same_itself old new h.1
 same_area tells Ports start old new at width value answer h = same_by old _ new h.1 (same_put Ports start old _)
 
-same_written : (tells : Type 0) (spot : Spot) (old new : MachineState) (at : ℕ) (width : Width) (value : ℕ) (answer : Result (Unit {0}) SpaceFault) →
-    NumberWritten tells spot old at width value answer new → SameHandover old new
+same_written : (tells : Type 0) (location : Location) (old new : MachineState) (at : ℕ) (width : Width) (value : ℕ) (answer : Result (Unit {0}) SpaceFault) →
+    NumberWritten tells location old at width value answer new → SameHandover old new
 same_written tells (Inside area start) old new at width value answer h = same_area tells area start old new at width value answer h
 same_written tells (Beyond area address) old new at width value answer h = same_itself old new h.1
 same_written tells (Nowhere address) old new at width value answer h = same_itself old new h.1
@@ -74,28 +74,28 @@ same_area_stored Handover start old at bytes = record { handover = refl; shared 
 same_area_stored BootErrors start old at bytes = record { handover = refl; shared = refl }
 same_area_stored Ports start old at bytes = record { handover = refl; shared = refl }
 
-same_stored : (spot : Spot) (old : MachineState) (at : ℕ) (bytes : List ℕ) → SameHandover old (bytes_stored spot old at bytes).1
+same_stored : (location : Location) (old : MachineState) (at : ℕ) (bytes : List ℕ) → SameHandover old (bytes_stored location old at bytes).1
 same_stored (Inside area start) old at bytes = same_area_stored area start old at bytes
 same_stored (Beyond area address) old at bytes = record { handover = refl; shared = refl }
 same_stored (Nowhere address) old at bytes = record { handover = refl; shared = refl }
 
-same_copied_to : (target : Spot) (old : MachineState) (bytes : List ℕ) → SameHandover old (copied_to target old bytes)
+same_copied_to : (target : Location) (old : MachineState) (bytes : List ℕ) → SameHandover old (copied_to target old bytes)
 same_copied_to (Inside area start) old bytes = same_put area start old bytes
 same_copied_to (Beyond area address) old bytes = record { handover = refl; shared = refl }
 same_copied_to (Nowhere address) old bytes = record { handover = refl; shared = refl }
 
-same_copied : (first second : Option SpaceFault) (source target : Spot) (old : MachineState) (n : ℕ) → SameHandover old (copied first second source target old n).1
+same_copied : (first second : Option SpaceFault) (source target : Location) (old : MachineState) (n : ℕ) → SameHandover old (copied first second source target old n).1
 same_copied (Some fault) second source target old n = record { handover = refl; shared = refl }
 same_copied None (Some fault) source target old n = record { handover = refl; shared = refl }
 same_copied None None source target old n = same_copied_to target old (copied_from source old n)
 
 pub same_handover : (tells : Type 0) (old new : MachineState) (call : Call) → Allows tells old call new → SameHandover old new
 same_handover tells old new (Read at width answer) h = same_itself old new h.1
-same_handover tells old new (Write at width value answer) h = same_written tells (spot_of old at (bits width / 8)) old new (address_of at) width value answer h
+same_handover tells old new (Write at width value answer) h = same_written tells (location_of old at (bits width / 8)) old new (address_of at) width value answer h
 same_handover tells old new (Wait micros) h = same_by old _ new h (record { handover = refl; shared = refl })
-same_handover tells old new (Copy from to n answer) h = same_by old _ new h.1 (same_copied _ _ (spot_at old from n) (spot_at old to n) old n)
+same_handover tells old new (Copy from to n answer) h = same_by old _ new h.1 (same_copied _ _ (location_at old from n) (location_at old to n) old n)
 same_handover tells old new (ReadBytes at before after answer) h = same_itself old new h.2
-same_handover tells old new (WriteBytes at bytes answer) h = same_by old _ new h.1 (same_stored (spot_at old at (length bytes)) old at bytes)
+same_handover tells old new (WriteBytes at bytes answer) h = same_by old _ new h.1 (same_stored (location_at old at (length bytes)) old at bytes)
 
 -- from here on, what the machine owes as a station
 pub one_turn : (old new : MachineState) (event : Event) (m : HandoverMachine) → Turns Reader old event new → StandsFor old.handover old.memory.shared m

@@ -8,7 +8,7 @@ ghost use Rattle.erst_machine.specs.Memories.{memory_of, HasSizes};
 ghost use Rattle.erst_machine.specs.MachineState.{state_of, reach_in};
 ghost use Rattle.erst_machine.specs.Allowed.{register_read, area_read, number_read, RegisterWritten, AreaWritten, NumberWritten, area_bytes, bytes_read, area_stored, bytes_stored, copy_fault, copy_of};
 
-use crate::areas::{Area, Register, Spot, register_at};
+use crate::areas::{Area, Location, Register, register_at};
 use crate::contents::Contents;
 use apei_space::SpaceFault;
 use apei_tables::Width;
@@ -54,17 +54,17 @@ fn read_area<F: Flash>(
 pub fn read_number<F: Flash>(
     device: &Device<F>,
     contents: &Contents,
-    spot: Spot,
+    location: Location,
     at: u64,
     width: Width,
 ) -> Result<u64, SpaceFault>
-    requires { (reach : ℕ) × HasSizes reach (memory_of contents.now) × IsPlaced reach (bits width / 8) spot }
-    ensures value { (handover : HandoverState) (waited : ℕ) → result ≡ number_read spot (state_of device.now contents.now handover waited) at width }
+    requires { (reach : ℕ) × HasSizes reach (memory_of contents.now) × IsPlaced reach (bits width / 8) location }
+    ensures value { (handover : HandoverState) (waited : ℕ) → result ≡ number_read location (state_of device.now contents.now handover waited) at width }
     ensures small { IfOk result (λ value. value < 2 ^ bits width) }
 {
-    match spot {
-        Spot::Inside(area, start) => read_area(device, contents, area, start, at, width),
-        Spot::Beyond(_, address) | Spot::Nowhere(address) => {
+    match location {
+        Location::Inside(area, start) => read_area(device, contents, area, start, at, width),
+        Location::Beyond(_, address) | Location::Nowhere(address) => {
             Err(SpaceFault::Unmapped { at: address })
         }
     }
@@ -131,19 +131,21 @@ fn write_area<F: Flash>(
 pub fn write_number<F: Flash>(
     device: &mut Device<F>,
     contents: &mut Contents,
-    spot: Spot,
+    location: Location,
     at: u64,
     width: Width,
     value: u64,
 ) -> Result<(), SpaceFault>
     requires sizes { HasSizes (reach_in device.old) (memory_of contents.old) }
-    requires placed { IsPlaced (reach_in device.old) (bits width / 8) spot }
-    ensures { (handover : HandoverState) (waited : ℕ) → NumberWritten F.tells spot (state_of device.old contents.old handover waited) at width value result
+    requires placed { IsPlaced (reach_in device.old) (bits width / 8) location }
+    ensures { (handover : HandoverState) (waited : ℕ) → NumberWritten F.tells location (state_of device.old contents.old handover waited) at width value result
         (state_of device.new contents.new handover waited) }
 {
-    match spot {
-        Spot::Inside(area, start) => write_area(device, contents, area, start, at, width, value),
-        Spot::Beyond(_, address) | Spot::Nowhere(address) => {
+    match location {
+        Location::Inside(area, start) => write_area(
+            device, contents, area, start, at, width, value,
+        ),
+        Location::Beyond(_, address) | Location::Nowhere(address) => {
             Err(SpaceFault::Unmapped { at: address })
         }
     }
@@ -175,17 +177,17 @@ fn read_area_bytes(
 /// A read of bytes.
 pub fn read_bytes(
     contents: &Contents,
-    spot: Spot,
+    location: Location,
     at: u64,
     out: &mut [u8],
 ) -> Result<(), SpaceFault>
-    requires { (reach : ℕ) × HasSizes reach (memory_of contents.now) × IsPlaced reach (length out.old) spot }
-    ensures { (device : DeviceState) (handover : HandoverState) (waited : ℕ) → let outcome = bytes_read spot (state_of device contents.now handover waited) at out.old in
+    requires { (reach : ℕ) × HasSizes reach (memory_of contents.now) × IsPlaced reach (length out.old) location }
+    ensures { (device : DeviceState) (handover : HandoverState) (waited : ℕ) → let outcome = bytes_read location (state_of device contents.now handover waited) at out.old in
         (result ≡ outcome.0) × (out.new ≡ outcome.1) }
 {
-    match spot {
-        Spot::Inside(area, start) => read_area_bytes(contents, area, start, at, out),
-        Spot::Beyond(_, address) | Spot::Nowhere(address) => {
+    match location {
+        Location::Inside(area, start) => read_area_bytes(contents, area, start, at, out),
+        Location::Beyond(_, address) | Location::Nowhere(address) => {
             Err(SpaceFault::Unmapped { at: address })
         }
     }
@@ -217,17 +219,17 @@ fn write_area_bytes(
 /// A write of bytes.
 pub fn write_bytes(
     contents: &mut Contents,
-    spot: Spot,
+    location: Location,
     at: u64,
     bytes: &[u8],
 ) -> Result<(), SpaceFault>
-    requires { (reach : ℕ) × HasSizes reach (memory_of contents.old) × IsPlaced reach (length bytes.now) spot }
-    ensures { (device : DeviceState) (handover : HandoverState) (waited : ℕ) → let outcome = bytes_stored spot (state_of device contents.old handover waited) at bytes.now in
+    requires { (reach : ℕ) × HasSizes reach (memory_of contents.old) × IsPlaced reach (length bytes.now) location }
+    ensures { (device : DeviceState) (handover : HandoverState) (waited : ℕ) → let outcome = bytes_stored location (state_of device contents.old handover waited) at bytes.now in
         (result ≡ outcome.0) × (state_of device contents.new handover waited ≡ outcome.1) }
 {
-    match spot {
-        Spot::Inside(area, start) => write_area_bytes(contents, area, start, at, bytes),
-        Spot::Beyond(_, address) | Spot::Nowhere(address) => {
+    match location {
+        Location::Inside(area, start) => write_area_bytes(contents, area, start, at, bytes),
+        Location::Beyond(_, address) | Location::Nowhere(address) => {
             Err(SpaceFault::Unmapped { at: address })
         }
     }
@@ -235,26 +237,26 @@ pub fn write_bytes(
 
 /// The place of a copy's source or target in plain memory.
 #[inline(always)]
-fn plain_place(spot: Spot, at: u64) -> Result<(Area, usize), SpaceFault>
-    ensures { MatchResult result (λ place. (copy_fault spot at ≡ None) × (spot ≡ Spot.Inside place.0 place.1) × (is_plain place.0 ≡ true))
-        (λ fault. copy_fault spot at ≡ Some fault) }
+fn plain_place(location: Location, at: u64) -> Result<(Area, usize), SpaceFault>
+    ensures { MatchResult result (λ place. (copy_fault location at ≡ None) × (location ≡ Location.Inside place.0 place.1) × (is_plain place.0 ≡ true))
+        (λ fault. copy_fault location at ≡ Some fault) }
 {
-    match spot {
-        Spot::Inside(area, start) => {
+    match location {
+        Location::Inside(area, start) => {
             if area.is_plain() {
                 Ok((area, start))
             } else {
                 Err(SpaceFault::NotMemory { at })
             }
         }
-        Spot::Beyond(area, address) => {
+        Location::Beyond(area, address) => {
             if area.is_plain() {
                 Err(SpaceFault::Unmapped { at: address })
             } else {
                 Err(SpaceFault::NotMemory { at })
             }
         }
-        Spot::Nowhere(address) => Err(SpaceFault::Unmapped { at: address }),
+        Location::Nowhere(address) => Err(SpaceFault::Unmapped { at: address }),
     }
 }
 
@@ -262,8 +264,8 @@ fn plain_place(spot: Spot, at: u64) -> Result<(Area, usize), SpaceFault>
 #[inline(always)]
 pub fn copy_bytes(
     contents: &mut Contents,
-    source: Spot,
-    target: Spot,
+    source: Location,
+    target: Location,
     from: u64,
     to: u64,
     n: usize,

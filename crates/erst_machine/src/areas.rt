@@ -1,6 +1,6 @@
 // The machine's memory map, and where an access of it stands.
 ghost use Rattle.std.specs.Prelude.{◌≡◌, ◌+◌, ◌<◌, ◌≤◌, ◌^◌, IfSome, unwrap_or};
-ghost use Rattle.erst_machine.specs.Areas.{base_of, size_of, area_spot, memory_spot, port_spot, place_spot, IsPlaced, is_plain, register_at};
+ghost use Rattle.erst_machine.specs.Areas.{base_of, size_of, area_location, memory_location, port_location, place_location, IsPlaced, is_plain, register_at};
 
 use apei_tables::{Place, Width};
 use erst_device::LOG_RANGE;
@@ -57,7 +57,7 @@ pub enum Area {
 
 /// Where the bytes of an access stand.
 #[derive(Clone, Copy, Debug, PartialEq, Eq)]
-pub enum Spot {
+pub enum Location {
     /// All of them in an area, from this byte of it on.
     Inside(Area, usize),
     /// The first in an area, and the first behind it at this address, where nothing is mapped.
@@ -115,10 +115,10 @@ impl Area {
 
     /// Where `n` bytes stand whose first one is in the area.
     #[tactic(auto, using(std::proofs::lemmas::Bool::Decides::nat_tests))]
-    fn spot(self, reach: usize, at: u64, n: usize) -> Option<Spot>
+    fn location(self, reach: usize, at: u64, n: usize) -> Option<Location>
         requires reach { reach < 2 ^ 32 }
         requires n { n < 2 ^ 63 }
-        ensures value { result ≡ area_spot reach self at n }
+        ensures value { result ≡ area_location reach self at n }
         ensures placed { IfSome result (IsPlaced reach n) }
     {
         let base = self.base();
@@ -127,69 +127,69 @@ impl Area {
             return None;
         }
         if at + n as u64 > end {
-            return Some(Spot::Beyond(self, end));
+            return Some(Location::Beyond(self, end));
         }
-        Some(Spot::Inside(self, (at - base) as usize))
+        Some(Location::Inside(self, (at - base) as usize))
     }
 
     /// Where `n` bytes stand if no other area has the first of them.
     #[inline(always)]
-    fn spot_alone(self, reach: usize, at: u64, n: usize) -> Spot
+    fn location_alone(self, reach: usize, at: u64, n: usize) -> Location
         requires reach { reach < 2 ^ 32 }
         requires n { n < 2 ^ 63 }
-        ensures value { result ≡ unwrap_or (area_spot reach self at n) (Spot.Nowhere at) }
+        ensures value { result ≡ unwrap_or (area_location reach self at n) (Location.Nowhere at) }
         ensures placed { IsPlaced reach n result }
     {
-        match self.spot(reach, at, n) {
-            Some(spot) => spot,
-            None => Spot::Nowhere(at),
+        match self.location(reach, at, n) {
+            Some(location) => location,
+            None => Location::Nowhere(at),
         }
     }
 }
 
 /// Where `n` bytes of memory stand: the one area that may have the first of them is looked at.
-pub fn memory_spot(reach: usize, at: u64, n: usize) -> Spot
+pub fn memory_location(reach: usize, at: u64, n: usize) -> Location
     requires reach { reach ≤ 65536 }
     requires n { n < 2 ^ 63 }
-    ensures value { result ≡ memory_spot reach at n }
+    ensures value { result ≡ memory_location reach at n }
     ensures placed { IsPlaced reach n result }
 {
     if n == 0 {
-        return Spot::Inside(Area::Scratch, 0);
+        return Location::Inside(Area::Scratch, 0);
     }
     if at < LOG_RANGE {
-        Area::Scratch.spot_alone(reach, at, n)
+        Area::Scratch.location_alone(reach, at, n)
     } else if at < ACTION {
-        Area::LogRange.spot_alone(reach, at, n)
+        Area::LogRange.location_alone(reach, at, n)
     } else if at < STATUS {
-        Area::Device.spot_alone(reach, at, n)
+        Area::Device.location_alone(reach, at, n)
     } else if at < BOOT_ERRORS {
-        Area::Handover.spot_alone(reach, at, n)
+        Area::Handover.location_alone(reach, at, n)
     } else {
-        Area::BootErrors.spot_alone(reach, at, n)
+        Area::BootErrors.location_alone(reach, at, n)
     }
 }
 
 /// Where `n` bytes of ports stand.
-pub fn port_spot(reach: usize, at: u64, n: usize) -> Spot
+pub fn port_location(reach: usize, at: u64, n: usize) -> Location
     requires reach { reach < 2 ^ 32 }
     requires n { n < 2 ^ 63 }
-    ensures value { result ≡ port_spot reach at n }
+    ensures value { result ≡ port_location reach at n }
     ensures placed { IsPlaced reach n result }
 {
-    Area::Ports.spot_alone(reach, at, n)
+    Area::Ports.location_alone(reach, at, n)
 }
 
 /// Where `n` bytes stand.
-pub fn place_spot(reach: usize, at: Place, n: usize) -> Spot
+pub fn place_location(reach: usize, at: Place, n: usize) -> Location
     requires reach { reach ≤ 65536 }
     requires n { n < 2 ^ 63 }
-    ensures value { result ≡ place_spot reach at n }
+    ensures value { result ≡ place_location reach at n }
     ensures placed { IsPlaced reach n result }
 {
     match at {
-        Place::Memory(address) => memory_spot(reach, address, n),
-        Place::Io(address) => port_spot(reach, address, n),
+        Place::Memory(address) => memory_location(reach, address, n),
+        Place::Io(address) => port_location(reach, address, n),
     }
 }
 

@@ -8,7 +8,7 @@ ghost use Rattle.erst_machine.specs.MachineState.{own_map};
 
 use crate::areas::{ACKNOWLEDGE, BLOCK, BLOCK_LEN, STATUS};
 use crate::contents::Contents;
-use apei_bytes::Memory;
+use apei_bytes::OutOfMemory;
 use apei_tables::{Place, Register, Width};
 use ghes_ack::{Handover, HandoverMap};
 use std::alloc::Global;
@@ -28,7 +28,7 @@ const OWN_MAP: HandoverMap = HandoverMap {
 };
 
 /// All memory of a machine but its store's, with a handover at its start.
-pub fn begin(alloc: Global, reach: usize) -> Result<(Contents, Handover), Memory>
+pub fn begin(alloc: Global, reach: usize) -> Result<(Contents, Handover), OutOfMemory>
     requires { reach ≤ 65536 }
     ensures memory { IfOk result (λ x. memory_of x.0 ≡ cleared reach (memory_started own_map blank)) }
     ensures sizes { IfOk result (λ x. HasSizes reach (memory_of x.0)) }

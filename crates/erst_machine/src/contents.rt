@@ -5,7 +5,7 @@ ghost use Rattle.apei_tables.specs.Access.{bits};
 ghost use Rattle.erst_machine.specs.Areas.{size_of, is_plain};
 
 use crate::areas::{Area, BOOT_ERRORS_LEN, HANDOVER_LEN, PORTS_LEN, SCRATCH_LEN, STATUS};
-use apei_bytes::Memory;
+use apei_bytes::OutOfMemory;
 use apei_space::{Ram, Window, copy_part, get_number, get_part, put_number, put_part};
 use apei_tables::{Place, Width};
 use std::alloc::Global;
@@ -37,7 +37,7 @@ impl Contents {
     ghost use Rattle.erst_machine.specs.Memories.{memory_of, bytes_in, with_bytes, IsReadable, IsWritable, HasSizes, shared_windows, cleared, blank};
 
     /// Zeros, and a log range of so many.
-    pub fn new(alloc: Global, reach: usize) -> Result<Contents, Memory>
+    pub fn new(alloc: Global, reach: usize) -> Result<Contents, OutOfMemory>
         requires { reach ≤ 65536 }
         ensures zeros { IfOk result (λ contents. memory_of contents ≡ cleared reach contents.shared) }
         ensures sizes { IfOk result (λ contents. HasSizes reach (memory_of contents)) }

@@ -3,8 +3,8 @@ ghost use Rattle.std.specs.Prelude.{◌≡◌, ℕ, ◌+◌, ◌<◌, ◌≤◌,
 ghost use Rattle.apei_tables.specs.declared.registers.Place.{Place as AnyPlace};
 ghost use Rattle.apei_space.specs.Mapped.{FindsBytes, further};
 ghost use Rattle.erst_machine.specs.declared.areas.Area.{Area as AnyArea};
-ghost use Rattle.erst_machine.specs.declared.areas.Spot.TheVariants.{Inside};
-ghost use Rattle.erst_machine.specs.Areas.{size_of, place_of, place_spot, all_windows, finds};
+ghost use Rattle.erst_machine.specs.declared.areas.Location.TheVariants.{Inside};
+ghost use Rattle.erst_machine.specs.Areas.{size_of, place_of, place_location, all_windows, finds};
 ghost use Rattle.apei_space.specs.Calls.{Call};
 ghost use Rattle.apei_space.specs.Accesses.{Reaches, Move, Trail};
 ghost use Rattle.erst_machine.specs.MachineState.{MachineState, IsMachine};
@@ -16,12 +16,12 @@ use flash_model::Flash;
 
 /// An access finds its bytes exactly where the areas of the map hold all of them, and else the address of the first that none holds.
 pub fn every_access_finds_its_bytes()
-    ensures { (reach : ℕ) (at : AnyPlace) (n : ℕ) → reach ≤ 65536 → 0 < n → FindsBytes (all_windows reach) at n (finds (place_spot reach at n)) }
+    ensures { (reach : ℕ) (at : AnyPlace) (n : ℕ) → reach ≤ 65536 → 0 < n → FindsBytes (all_windows reach) at n (finds (place_location reach at n)) }
 {}
 
 /// An access within an area is found in that area, at its index.
 pub fn an_area_has_its_bytes()
-    ensures { (reach : ℕ) (area : AnyArea) (k n : ℕ) → reach ≤ 65536 → 0 < n → k + n ≤ size_of reach area → place_spot reach (further (place_of area) k) n ≡ Inside area k }
+    ensures { (reach : ℕ) (area : AnyArea) (k n : ℕ) → reach ≤ 65536 → 0 < n → k + n ≤ size_of reach area → place_location reach (further (place_of area) k) n ≡ Inside area k }
 {}
 
 /// Whatever accesses a program, or several, make, in any order: power lost at any flash step shows the records after those

@@ -11,7 +11,7 @@ mod laws;
 mod machine;
 mod tables;
 
-pub use areas::{Area, BOOT_ERRORS, Register, SCRATCH, Spot};
+pub use areas::{Area, BOOT_ERRORS, Location, Register, SCRATCH};
 pub use errors::{BootError, BootRefused, FatalError};
 pub use laws::{
     accesses_keep_a_machine, any_accesses_are_shown, any_events_are_shown,

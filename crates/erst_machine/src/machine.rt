@@ -2,7 +2,7 @@
 ghost use Rattle.std.specs.Prelude.{◌≡◌, ◌⊎◌, ℕ, ◌+◌, ◌-◌, ◌*◌, ◌/◌, ◌<◌, ◌≤◌, ◌^◌, List, [], ◌∷◌, ◌++◌, length, IsOk, IfOk, IfErr, OnOk, OnErr, IfSome, Some, None, Ok, Err, MatchOption, MatchResult};
 ghost use Rattle.base_model.specs.Bytes.{part, joined};
 ghost use Rattle.std.specs.FinMap.{len};
-ghost use Rattle.base_model.specs.Flash.{FlashState, LosesOnlyByChange, StaysLit, raised, next_count};
+ghost use Rattle.base_model.specs.Flash.{FlashState, LosesOnlyByChange, StaysPowered, raised, next_count};
 ghost use Rattle.record_model.specs.Records.{second_copies};
 ghost use Rattle.flash_model.specs.Layouts.{Fits};
 ghost use Rattle.record_store.specs.Store.{IsReady, IsFlashOf, IsSettled, KeepsRecordsOf};
@@ -17,21 +17,21 @@ ghost use Rattle.hest_sources.specs.declared.sources.HestSource.TheVariants.{Ghe
 ghost use Rattle.hest_sources.specs.Tables.{IsHest};
 ghost use Rattle.ghes_block.specs.Table.{IsBert};
 ghost use Rattle.ghes_block.specs.Region.{IsLaidOut, next_from};
-ghost use Rattle.erst_machine.specs.Areas.{place_spot, IsPlaced};
+ghost use Rattle.erst_machine.specs.Areas.{place_location, IsPlaced};
 ghost use Rattle.erst_machine.specs.Memories.{IsLaid};
-ghost use Rattle.erst_machine.specs.MachineState.{MachineState, IsMachine, reach_in, spot_of};
+ghost use Rattle.erst_machine.specs.MachineState.{MachineState, IsMachine, reach_in, location_of};
 ghost use Rattle.erst_machine.specs.OwnTables.{own_size, own_erst, own_source, own_hest, own_bert, own_bert_bytes};
 ghost use Rattle.erst_machine.specs.Shown.{changes_of};
 ghost use Rattle.erst_machine.specs.Boots.{RefusesBoot, IsBooted};
 ghost use Rattle.erst_machine.specs.Events.{Warms, Powers, Submits, Turns, LaysFatal, fatal_refusal};
 
 use crate::accesses::{copy_bytes, read_bytes, read_number, write_bytes, write_number};
-use crate::areas::{BOOT_ERRORS_LEN, Spot, place_spot};
+use crate::areas::{BOOT_ERRORS_LEN, Location, place_location};
 use crate::boot::begin;
 use crate::contents::Contents;
 use crate::errors::{BootError, BootRefused, FatalError};
 use crate::tables;
-use apei_bytes::Memory;
+use apei_bytes::OutOfMemory;
 use apei_space::{Space, SpaceFault, address};
 use apei_tables::{Place, Width};
 use erst_device::Device;
@@ -90,8 +90,8 @@ impl<F: Flash> Machine<F> {
         ensures power_back { IfErr result (λ refused. LosesOnlyByChange (F.state flash) (F.state refused.flash)) }
 
         // It restarts no flash, and no call behind the one that lost power finds the flash without it.
-        ensures lit { IfOk result (λ machine. StaysLit (F.state flash) machine.device.store.flash) }
-        ensures lit_back { IfErr result (λ refused. StaysLit (F.state flash) (F.state refused.flash)) }
+        ensures lit { IfOk result (λ machine. StaysPowered (F.state flash) machine.device.store.flash) }
+        ensures lit_back { IfErr result (λ refused. StaysPowered (F.state flash) (F.state refused.flash)) }
 
         // The fault that is answered is the only one: nothing is asked of the flash behind it.
         ensures once { IfErr result (λ refused. refused.why ≡ BootError.Flash → (F.state refused.flash).faults ≡ next_count (F.state flash).faults) }
@@ -118,7 +118,7 @@ impl<F: Flash> Machine<F> {
     }
 
     /// The Error Record Serialization Table (ACPI 6.4, section 18.5.1).
-    pub fn erst_table(&self, alloc: Global) -> Result<Vec<u8>, Memory>
+    pub fn erst_table(&self, alloc: Global) -> Result<Vec<u8>, OutOfMemory>
         ensures bytes { IfOk result (λ bytes. bytes.items ≡ spelling own_erst) }
         ensures size { IfOk result (λ bytes. length bytes.items ≡ own_size) }
         ensures table { IfOk result (λ bytes. IsErst own_erst bytes.items) }
@@ -128,7 +128,7 @@ impl<F: Flash> Machine<F> {
     }
 
     /// The Hardware Error Source Table (18.3.2): 132 bytes, one source, which is of type 10, checksum 0x1E.
-    pub fn hest_table(&self, alloc: Global) -> Result<Vec<u8>, Memory>
+    pub fn hest_table(&self, alloc: Global) -> Result<Vec<u8>, OutOfMemory>
         ensures bytes { IfOk result (λ bytes. bytes.items ≡ own_hest) }
         ensures size { IfOk result (λ bytes. length bytes.items ≡ 132) }
         ensures table { IfOk result (λ bytes. IsHest (Generic own_source ∷ []) bytes.items) }
@@ -137,7 +137,7 @@ impl<F: Flash> Machine<F> {
     }
 
     /// The Boot Error Record Table (18.3.1): 48 bytes, checksum 0x18.
-    pub fn bert_table(&self, alloc: Global) -> Result<Vec<u8>, Memory>
+    pub fn bert_table(&self, alloc: Global) -> Result<Vec<u8>, OutOfMemory>
         ensures bytes { IfOk result (λ bytes. bytes.items ≡ own_bert_bytes) }
         ensures size { IfOk result (λ bytes. length bytes.items ≡ 48) }
         ensures table { IfOk result (λ bytes. IsBert own_bert bytes.items) }
@@ -253,12 +253,12 @@ impl<F: Flash> Machine<F> {
     }
 
     /// Where `n` bytes stand.
-    fn spot(&self, at: Place, n: usize) -> Spot
+    fn location(&self, at: Place, n: usize) -> Location
         requires { n < 2 ^ 63 }
-        ensures value { result ≡ spot_of self.now at n }
+        ensures value { result ≡ location_of self.now at n }
         ensures placed { IsPlaced (length self.now.memory.range) n result }
     {
-        place_spot(self.contents.range.len(), at, n)
+        place_location(self.contents.range.len(), at, n)
     }
 }
 
@@ -368,16 +368,16 @@ impl<F: Flash> Space for Machine<F> {
     ghost reasons = { reasons F.tells };
 
     fn read(&mut self, at: Place, width: Width) -> Result<u64, SpaceFault> {
-        let spot = self.spot(at, bytes_of(width));
-        read_number(&self.device, &self.contents, spot, address(at), width)
+        let location = self.location(at, bytes_of(width));
+        read_number(&self.device, &self.contents, location, address(at), width)
     }
 
     fn write(&mut self, at: Place, width: Width, value: u64) -> Result<(), SpaceFault> {
-        let spot = self.spot(at, bytes_of(width));
+        let location = self.location(at, bytes_of(width));
         write_number(
             &mut self.device,
             &mut self.contents,
-            spot,
+            location,
             address(at),
             width,
             value,
@@ -390,19 +390,19 @@ impl<F: Flash> Space for Machine<F> {
 
     fn copy(&mut self, from: u64, to: u64, len: u32) -> Result<(), SpaceFault> {
         let n = len as usize;
-        let source = self.spot(Place::Memory(from), n);
-        let target = self.spot(Place::Memory(to), n);
+        let source = self.location(Place::Memory(from), n);
+        let target = self.location(Place::Memory(to), n);
         copy_bytes(&mut self.contents, source, target, from, to, n)
     }
 
     fn read_bytes(&mut self, at: u64, out: &mut [u8]) -> Result<(), SpaceFault> {
-        let spot = self.spot(Place::Memory(at), out.len());
-        read_bytes(&self.contents, spot, at, out)
+        let location = self.location(Place::Memory(at), out.len());
+        read_bytes(&self.contents, location, at, out)
     }
 
     fn write_bytes(&mut self, at: u64, bytes: &[u8]) -> Result<(), SpaceFault> {
-        let spot = self.spot(Place::Memory(at), bytes.len());
-        write_bytes(&mut self.contents, spot, at, bytes)
+        let location = self.location(Place::Memory(at), bytes.len());
+        write_bytes(&mut self.contents, location, at, bytes)
     }
 }
 

@@ -10,7 +10,7 @@ ghost use Rattle.erst_machine.specs.OwnTables.{own_header, own_source, own_size,
 
 use crate::areas::{ACKNOWLEDGE, BLOCK_LEN, BOOT_ERRORS, BOOT_ERRORS_LEN, STATUS};
 use crate::entries::{own_entries, register_of};
-use apei_bytes::{Memory, put_u32, put_u64, write_array};
+use apei_bytes::{OutOfMemory, put_u32, put_u64, write_array};
 use apei_tables::{Header, seal};
 use erst_entries::ErstTable;
 use hest_sources::{Ack, Ghes};
@@ -34,7 +34,7 @@ pub fn own_header(signature: [u8; 4], length: u32) -> Header
 }
 
 /// The Error Record Serialization Table.
-pub fn erst(alloc: Global) -> Result<Vec<u8>, Memory>
+pub fn erst(alloc: Global) -> Result<Vec<u8>, OutOfMemory>
     ensures bytes { IfOk result (λ bytes. bytes.items ≡ spelling own_erst) }
     ensures size { IfOk result (λ bytes. length bytes.items ≡ own_size) }
     ensures table { IfOk result (λ bytes. IsErst own_erst bytes.items) }
@@ -97,7 +97,7 @@ fn put_bert(out: &mut [u8])
 }
 
 /// The Hardware Error Source Table.
-pub fn hest(alloc: Global) -> Result<Vec<u8>, Memory>
+pub fn hest(alloc: Global) -> Result<Vec<u8>, OutOfMemory>
     ensures bytes { IfOk result (λ bytes. bytes.items ≡ own_hest) }
     ensures size { IfOk result (λ bytes. length bytes.items ≡ 132) }
     ensures table { IfOk result (λ bytes. IsHest (Generic own_source ∷ []) bytes.items) }
@@ -108,7 +108,7 @@ pub fn hest(alloc: Global) -> Result<Vec<u8>, Memory>
 }
 
 /// The Boot Error Record Table.
-pub fn bert(alloc: Global) -> Result<Vec<u8>, Memory>
+pub fn bert(alloc: Global) -> Result<Vec<u8>, OutOfMemory>
     ensures bytes { IfOk result (λ bytes. bytes.items ≡ own_bert_bytes) }
     ensures size { IfOk result (λ bytes. length bytes.items ≡ 48) }
     ensures table { IfOk result (λ bytes. IsBert own_bert bytes.items) }

@@ -174,7 +174,7 @@ record OnStore (old : DeviceState) (range : List ℕ) (action : Option Action) (
   exact : (Rose old.store.flash.faults store.flash.faults → ⊥) → store.flash.steps ≡ old.store.flash.steps + changes_of_action action old range
   few : store.flash.steps ≤ old.store.flash.steps + 1
   never_falls : old.store.flash.faults ≤ store.flash.faults
-  alike : DividesAlike old.store store
+  equivalent : DividesAlike old.store store
   power : LosesOnlyByChange old.store.flash store.flash
 
 on_store : (old : DeviceState) (range : List ℕ) (action : Option Action) (new : DeviceState) → Effect (Unit {0}) old range action new → OnStore old range action new.store
@@ -184,7 +184,7 @@ on_store old range action new effect = record {
   exact = effect.exact tt;
   few = effect.few tt;
   never_falls = effect.never_falls;
-  alike = effect.alike;
+  equivalent = effect.equivalent;
   power = effect.power;
 }
 
@@ -199,7 +199,7 @@ with_causes old range action new on status next count = record {
   exact = λ told. on.exact;
   few = λ told. on.few;
   never_falls = on.never_falls;
-  alike = on.alike;
+  equivalent = on.equivalent;
   power = on.power;
   status = status;
   next = next;

@@ -15,13 +15,13 @@ use Rattle.erst_device.specs.Actions.{Acts, gives_up}
 use Rattle.erst_device.specs.Effects.{Effect}
 use Rattle.erst_port.specs.declared.errors.PortError.{PortError}
 use Rattle.erst_port.specs.declared.errors.PortError.TheVariants.{BadAccess, Due, Flash}
-use Rattle.erst_port.specs.declared.windows.Spot.{Spot}
-use Rattle.erst_port.specs.declared.windows.Spot.TheVariants.{Action, Value, LowHalf, HighHalf, Bytes, Nowhere}
+use Rattle.erst_port.specs.declared.windows.Location.{Location}
+use Rattle.erst_port.specs.declared.windows.Location.TheVariants.{Action, Value, LowHalf, HighHalf, Bytes, Nowhere}
 use Rattle.erst_port.specs.PortState.{PortState, IsMade}
 use Rattle.erst_port.specs.Rounds.{GoesRound}
 
 -- a read of a number: ACTION reads as 0
-abbrev pub number_read : Spot → PortState → Width → Result ℕ PortError
+abbrev pub number_read : Location → PortState → Width → Result ℕ PortError
 number_read Action state width = Ok 0
 number_read Value state width = Ok state.device.value
 number_read LowHalf state width = Ok (state.device.value % 2 ^ 32)
@@ -64,7 +64,7 @@ abbrev pub with_bytes : ℕ → List ℕ → PortState → PortState
 with_bytes start bytes state = record state { range = put_at state.range start bytes }
 
 -- a write of a number. The low half of VALUE clears the high half
-abbrev pub NumberWritten : Spot → PortState → Width → ℕ → Result (Unit {0}) PortError → PortState → Type 0
+abbrev pub NumberWritten : Location → PortState → Width → ℕ → Result (Unit {0}) PortError → PortState → Type 0
 NumberWritten Action old width value answer new = ActionWritten old (value % 2 ^ 32) answer new
 NumberWritten Value old width value answer new = (answer ≡ Ok tt) × (new ≡ with_value value old)
 NumberWritten LowHalf old width value answer new = (answer ≡ Ok tt) × (new ≡ with_value (value % 2 ^ 32) old)
@@ -74,7 +74,7 @@ NumberWritten (Bytes start) old width value answer new = (answer ≡ Ok tt) × (
 NumberWritten Nowhere old width value answer new = (answer ≡ Err BadAccess) × (new ≡ old)
 
 -- what a reader's buffer holds after a read of bytes, and the answer
-abbrev pub bytes_read : Spot → PortState → List ℕ → Result (Unit {0}) PortError × List ℕ
+abbrev pub bytes_read : Location → PortState → List ℕ → Result (Unit {0}) PortError × List ℕ
 bytes_read (Bytes start) state before = (Ok tt, part state.range start (length before))
 bytes_read Action state before = (Err BadAccess, before)
 bytes_read Value state before = (Err BadAccess, before)
@@ -83,7 +83,7 @@ bytes_read HighHalf state before = (Err BadAccess, before)
 bytes_read Nowhere state before = (Err BadAccess, before)
 
 -- the answer to a write of bytes, and the port after it
-abbrev pub bytes_stored : Spot → PortState → List ℕ → Result (Unit {0}) PortError × PortState
+abbrev pub bytes_stored : Location → PortState → List ℕ → Result (Unit {0}) PortError × PortState
 bytes_stored (Bytes start) old bytes = (Ok tt, with_bytes start bytes old)
 bytes_stored Action old bytes = (Err BadAccess, old)
 bytes_stored Value old bytes = (Err BadAccess, old)

@@ -6,30 +6,30 @@ use Rattle.apei_tables.specs.Access.{bits}
 use Rattle.erst_port.specs.declared.windows.Window.{Window}
 use Rattle.erst_port.specs.declared.windows.Window.TheVariants.{Registers, LogRange}
 use Rattle.erst_port.specs.declared.windows.Addresses.{Addresses}
-use Rattle.erst_port.specs.declared.windows.Spot.{Spot}
-use Rattle.erst_port.specs.declared.windows.Spot.TheVariants.{Action, Value, LowHalf, HighHalf, Bytes, Nowhere}
+use Rattle.erst_port.specs.declared.windows.Location.{Location}
+use Rattle.erst_port.specs.declared.windows.Location.TheVariants.{Action, Value, LowHalf, HighHalf, Bytes, Nowhere}
 
 -- the bytes of the window of the registers
 abbrev pub registers_size : ℕ
 registers_size = 16
 
 -- ACTION stands at 0 and is 32 bits wide. VALUE stands at 8 and is 64 bits wide, or two halves of 32
-abbrev pub register_spot : (offset : ℕ) → Width → Spot
-register_spot offset B8 = Nowhere
-register_spot offset B16 = Nowhere
-register_spot offset B32 = if offset == 0 then Action else (if offset == 8 then LowHalf else (if offset == 12 then HighHalf else Nowhere))
-register_spot offset B64 = if offset == 8 then Value else Nowhere
+abbrev pub register_location : (offset : ℕ) → Width → Location
+register_location offset B8 = Nowhere
+register_location offset B16 = Nowhere
+register_location offset B32 = if offset == 0 then Action else (if offset == 8 then LowHalf else (if offset == 12 then HighHalf else Nowhere))
+register_location offset B64 = if offset == 8 then Value else Nowhere
 
 -- n bytes from an offset on, in a log range of so many bytes
-abbrev pub range_spot : (size offset n : ℕ) → Spot
-range_spot size offset n = if nat_le (offset + n) size then Bytes offset else Nowhere
+abbrev pub range_location : (size offset n : ℕ) → Location
+range_location size offset n = if nat_le (offset + n) size then Bytes offset else Nowhere
 
-abbrev pub spot_of : Window → (size offset : ℕ) → Width → Spot
-spot_of Registers size offset width = register_spot offset width
-spot_of LogRange size offset width = range_spot size offset (bits width / 8)
+abbrev pub location_of : Window → (size offset : ℕ) → Width → Location
+location_of Registers size offset width = register_location offset width
+location_of LogRange size offset width = range_location size offset (bits width / 8)
 
 -- n bytes from there on are in the log range
-abbrev pub IsPlaced : (size n : ℕ) → Spot → Type 0
+abbrev pub IsPlaced : (size n : ℕ) → Location → Type 0
 IsPlaced size n (Bytes start) = start + n ≤ size
 IsPlaced size n Action = Unit {0}
 IsPlaced size n Value = Unit {0}

@@ -12,7 +12,7 @@ state_of flash = record {
   reads = flash.reads;
   faults = flash.faults;
   powered = true;
-  dark = 0;
+  unpowered = 0;
   restarts = flash.restarts;
 }
 
@@ -26,6 +26,6 @@ first_state image sector = record {
   reads = 0;
   faults = 0;
   powered = true;
-  dark = 0;
+  unpowered = 0;
   restarts = 0;
 }

@@ -1,13 +1,13 @@
 // The accesses of a port.
 ghost use Rattle.std.specs.Prelude.{◌≡◌, ◌<◌, ◌≤◌, ◌^◌, length, IfOk};
 ghost use Rattle.apei_tables.specs.Access.{bits};
-ghost use Rattle.erst_port.specs.Places.{range_spot, spot_of};
+ghost use Rattle.erst_port.specs.Places.{range_location, location_of};
 ghost use Rattle.erst_port.specs.Accesses.{number_read, NumberWritten, ActionWritten, bytes_read, bytes_stored, Resets};
 
 use crate::acting::{act, reset};
 use crate::errors::PortError;
 use crate::port::Port;
-use crate::windows::{Spot, Window, range_spot, spot_of};
+use crate::windows::{Location, Window, location_of, range_location};
 use apei_space::{get_number, get_part, put_number, put_part};
 use apei_tables::Width;
 
@@ -16,16 +16,16 @@ const HALF: u64 = 1 << 32;
 impl Port {
     /// The number at an offset of a window.
     pub fn read(&self, window: Window, offset: u64, width: Width) -> Result<u64, PortError>
-        ensures value { result ≡ number_read (spot_of window (length self.now.range) offset width) self.now width }
+        ensures value { result ≡ number_read (location_of window (length self.now.range) offset width) self.now width }
         ensures small { IfOk result (λ value. value < 2 ^ bits width) }
     {
-        match spot_of(window, self.range.len(), offset, width) {
-            Spot::Action => Ok(0),
-            Spot::Value => Ok(self.device.value()),
-            Spot::LowHalf => Ok(self.device.value() % HALF),
-            Spot::HighHalf => Ok(self.device.value() / HALF),
-            Spot::Bytes(start) => Ok(get_number(&self.range, start, width)),
-            Spot::Nowhere => Err(PortError::BadAccess),
+        match location_of(window, self.range.len(), offset, width) {
+            Location::Action => Ok(0),
+            Location::Value => Ok(self.device.value()),
+            Location::LowHalf => Ok(self.device.value() % HALF),
+            Location::HighHalf => Ok(self.device.value() / HALF),
+            Location::Bytes(start) => Ok(get_number(&self.range, start, width)),
+            Location::Nowhere => Err(PortError::BadAccess),
         }
     }
 
@@ -38,28 +38,28 @@ impl Port {
         width: Width,
         value: u64,
     ) -> Result<(), PortError>
-        ensures { NumberWritten (spot_of window (length self.old.range) offset width) self.old width value result self.new }
+        ensures { NumberWritten (location_of window (length self.old.range) offset width) self.old width value result self.new }
     {
-        match spot_of(window, self.range.len(), offset, width) {
-            Spot::Action => self.act((value % HALF) as u32),
-            Spot::Value => {
+        match location_of(window, self.range.len(), offset, width) {
+            Location::Action => self.act((value % HALF) as u32),
+            Location::Value => {
                 self.device.set_value(value);
                 Ok(())
             }
-            Spot::LowHalf => {
+            Location::LowHalf => {
                 self.device.set_value(value % HALF);
                 Ok(())
             }
-            Spot::HighHalf => {
+            Location::HighHalf => {
                 let low = self.device.value() % HALF;
                 self.device.set_value(HALF * (value % HALF) + low);
                 Ok(())
             }
-            Spot::Bytes(start) => {
+            Location::Bytes(start) => {
                 put_number(&mut self.range, start, width, value);
                 Ok(())
             }
-            Spot::Nowhere => Err(PortError::BadAccess),
+            Location::Nowhere => Err(PortError::BadAccess),
         }
     }
 
@@ -81,11 +81,11 @@ impl Port {
 
     /// Reads bytes of the log range, from an offset on.
     pub fn get(&self, offset: u64, out: &mut [u8]) -> Result<(), PortError>
-        ensures answer { result ≡ (bytes_read (range_spot (length self.now.range) offset (length out.old)) self.now out.old).0 }
-        ensures bytes { out.new ≡ (bytes_read (range_spot (length self.now.range) offset (length out.old)) self.now out.old).1 }
+        ensures answer { result ≡ (bytes_read (range_location (length self.now.range) offset (length out.old)) self.now out.old).0 }
+        ensures bytes { out.new ≡ (bytes_read (range_location (length self.now.range) offset (length out.old)) self.now out.old).1 }
     {
-        match range_spot(self.range.len(), offset, out.len()) {
-            Spot::Bytes(start) => {
+        match range_location(self.range.len(), offset, out.len()) {
+            Location::Bytes(start) => {
                 get_part(&self.range, start, out);
                 Ok(())
             }
@@ -95,11 +95,11 @@ impl Port {
 
     /// Writes bytes of the log range, from an offset on.
     pub fn put(&mut self, offset: u64, bytes: &[u8]) -> Result<(), PortError>
-        ensures answer { result ≡ (bytes_stored (range_spot (length self.old.range) offset (length bytes.now)) self.old bytes.now).0 }
-        ensures port { self.new ≡ (bytes_stored (range_spot (length self.old.range) offset (length bytes.now)) self.old bytes.now).1 }
+        ensures answer { result ≡ (bytes_stored (range_location (length self.old.range) offset (length bytes.now)) self.old bytes.now).0 }
+        ensures port { self.new ≡ (bytes_stored (range_location (length self.old.range) offset (length bytes.now)) self.old bytes.now).1 }
     {
-        match range_spot(self.range.len(), offset, bytes.len()) {
-            Spot::Bytes(start) => {
+        match range_location(self.range.len(), offset, bytes.len()) {
+            Location::Bytes(start) => {
                 put_part(&mut self.range, start, bytes);
                 Ok(())
             }

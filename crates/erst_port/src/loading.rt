@@ -33,7 +33,7 @@ impl Port {
     /// it will ever have is taken here. As behind an opening, a few changes may be due.
     pub fn load(alloc: Global, medium: &[u8], saved: &[u8]) -> Result<Port, LoadError>
         ensures loaded { IfOk result (LoadedBy (OpenedOn medium.now) saved.now) }
-        ensures alike { IfOk result (λ port. AnswersAsSaved (drop port.origin medium.now) saved.now port) }
+        ensures equivalent { IfOk result (λ port. AnswersAsSaved (drop port.origin medium.now) saved.now port) }
         ensures refused { IfErr result (RefusesLoad (OpenedOn medium.now) (RefusesOpening medium.now) saved.now) }
     {
         let state = state_in(saved)?;
@@ -51,7 +51,7 @@ impl Port {
         saved: &[u8],
     ) -> Result<Port, LoadError>
         ensures loaded { IfOk result (LoadedBy (OpenedAs 0 geometry image.now) saved.now) }
-        ensures alike { IfOk result (AnswersAsSaved image.now saved.now) }
+        ensures equivalent { IfOk result (AnswersAsSaved image.now saved.now) }
         ensures refused { IfErr result (RefusesLoad (OpenedAs 0 geometry image.now) (RefusesImage geometry image.now) saved.now) }
     {
         let state = state_in(saved)?;

@@ -1,7 +1,7 @@
 // Where the registers and the log range stand.
 ghost use Rattle.std.specs.Prelude.{◌≡◌, ◌+◌, ◌/◌, ◌<◌, ◌≤◌, ◌^◌, true};
 ghost use Rattle.apei_tables.specs.Access.{bits};
-ghost use Rattle.erst_port.specs.Places.{are_apart, register_spot, range_spot, spot_of, IsPlaced};
+ghost use Rattle.erst_port.specs.Places.{are_apart, register_location, range_location, location_of, IsPlaced};
 
 use apei_tables::Width;
 
@@ -25,7 +25,7 @@ pub struct Addresses {
 
 /// Where an access stands.
 #[derive(Clone, Copy, Debug, PartialEq, Eq)]
-pub enum Spot {
+pub enum Location {
     /// ACTION.
     Action,
     /// VALUE.
@@ -58,30 +58,30 @@ impl Addresses {
 }
 
 // Where a number of a width stands among the registers.
-fn register_spot(offset: u64, width: Width) -> Spot
-    ensures { result ≡ register_spot offset width }
+fn register_location(offset: u64, width: Width) -> Location
+    ensures { result ≡ register_location offset width }
 {
     match (width, offset) {
-        (Width::B32, 0) => Spot::Action,
-        (Width::B32, 8) => Spot::LowHalf,
-        (Width::B32, 12) => Spot::HighHalf,
-        (Width::B64, 8) => Spot::Value,
-        _ => Spot::Nowhere,
+        (Width::B32, 0) => Location::Action,
+        (Width::B32, 8) => Location::LowHalf,
+        (Width::B32, 12) => Location::HighHalf,
+        (Width::B64, 8) => Location::Value,
+        _ => Location::Nowhere,
     }
 }
 
 /// Where `n` bytes stand in a log range of `size` bytes.
 #[tactic(auto, using(std::proofs::lemmas::Bool::Decides::nat_tests))]
-pub fn range_spot(size: usize, offset: u64, n: usize) -> Spot
+pub fn range_location(size: usize, offset: u64, n: usize) -> Location
     requires size { size < 2 ^ 63 }
     requires n { n < 2 ^ 63 }
-    ensures value { result ≡ range_spot size offset n }
+    ensures value { result ≡ range_location size offset n }
     ensures placed { IsPlaced size n result }
 {
     if offset > size as u64 || n as u64 > size as u64 - offset {
-        return Spot::Nowhere;
+        return Location::Nowhere;
     }
-    Spot::Bytes(offset as usize)
+    Location::Bytes(offset as usize)
 }
 
 fn bytes_of(width: Width) -> usize
@@ -92,13 +92,13 @@ fn bytes_of(width: Width) -> usize
 }
 
 /// Where a number of a width stands in a window, with a log range of `size` bytes.
-pub fn spot_of(window: Window, size: usize, offset: u64, width: Width) -> Spot
+pub fn location_of(window: Window, size: usize, offset: u64, width: Width) -> Location
     requires { size < 2 ^ 63 }
-    ensures value { result ≡ spot_of window size offset width }
+    ensures value { result ≡ location_of window size offset width }
     ensures placed { IsPlaced size (bits width / 8) result }
 {
     match window {
-        Window::Registers => register_spot(offset, width),
-        Window::LogRange => range_spot(size, offset, bytes_of(width)),
+        Window::Registers => register_location(offset, width),
+        Window::LogRange => range_location(size, offset, bytes_of(width)),
     }
 }

@@ -12,7 +12,7 @@ use Rattle.erst_client.specs.declared.requests.Request.{Request}
 use Rattle.erst_client.specs.Commands.{Puts, NotPut, NotMarked, IsPut, Writes, IsNoRecord as refused, IsNotPut, IsAsked, copy_refusal, CopiesOut, IsFilled, IsNotFilled, copied, Reads, IsNotRead as not_read, HasNoLength, IsNotCopied as not_copied, IsCopied as is_copied}
 use Rattle.erst_client.specs.Sequences.{write_requests, read_requests, clear_requests, dummy_requests, Sequence}
 use Rattle.erst_machine.specs.declared.areas.Area.TheVariants.{Scratch}
-use Rattle.erst_machine.specs.declared.areas.Spot.{Spot}
+use Rattle.erst_machine.specs.declared.areas.Location.{Location}
 use Rattle.erst_machine.specs.MachineState.{MachineState, IsMachine, reach_in}
 use Rattle.erst_machine.specs.Allowed.{Allows, bytes_stored, bytes_read}
 use Rattle.erst_machine.proofs.PlaceLemmas.{area_found}
@@ -142,26 +142,26 @@ module _ (tells : Type 0) (first : MachineState) (machine : IsMachine first) (by
   small_range : length first.memory.range ≤ 65536
   small_range = (holds_pieces first machine).small
 
-  start_spot : (answer : Result (Unit {0}) SpaceFault) (new : MachineState) → Allows tells first (WriteBytes 0x1000 bytes answer) new → (answer ≡ Ok tt) × (new ≡ with_scratch (put_at first.memory.scratch 0 bytes) first)
-  start_spot answer new allowed =
-      let spot = area_found (length first.memory.range) Scratch 0 (length bytes) small_range (omega (arith, is.least)) (omega (arith, is.fits)) in
-      (allowed.0 ∙ ap (λ (s : Spot). (bytes_stored s first 0x1000 bytes).0) spot, allowed.1 ∙ ap (λ (s : Spot). (bytes_stored s first 0x1000 bytes).1) spot)
+  start_location : (answer : Result (Unit {0}) SpaceFault) (new : MachineState) → Allows tells first (WriteBytes 0x1000 bytes answer) new → (answer ≡ Ok tt) × (new ≡ with_scratch (put_at first.memory.scratch 0 bytes) first)
+  start_location answer new allowed =
+      let location = area_found (length first.memory.range) Scratch 0 (length bytes) small_range (omega (arith, is.least)) (omega (arith, is.fits)) in
+      (allowed.0 ∙ ap (λ (s : Location). (bytes_stored s first 0x1000 bytes).0) location, allowed.1 ∙ ap (λ (s : Location). (bytes_stored s first 0x1000 bytes).1) location)
 
-  mark_spot : (mid : MachineState) (answer : Result (Unit {0}) SpaceFault) (new : MachineState) → mid ≡ with_scratch (put_at first.memory.scratch 0 bytes) first → Allows tells mid (WriteBytes 0x106C (codes "ER") answer) new
+  mark_location : (mid : MachineState) (answer : Result (Unit {0}) SpaceFault) (new : MachineState) → mid ≡ with_scratch (put_at first.memory.scratch 0 bytes) first → Allows tells mid (WriteBytes 0x106C (codes "ER") answer) new
       → (answer ≡ Ok tt) × (new ≡ with_scratch (put_at first.memory.scratch 0 (marked bytes)) first)
-  mark_spot mid answer new mid_is allowed_at =
+  mark_location mid answer new mid_is allowed_at =
       let there = with_scratch (put_at first.memory.scratch 0 bytes) first in
       let allowed = subst (λ (m : MachineState). Allows tells m (WriteBytes 0x106C (codes "ER") answer) new) mid_is allowed_at in
-      let spot = area_found (length first.memory.range) Scratch 108 2 small_range (omega arith) (omega arith) in (
-        allowed.0 ∙ ap (λ (s : Spot). (bytes_stored s there 0x106C (codes "ER")).0) spot,
-        allowed.1 ∙ ap (λ (s : Spot). (bytes_stored s there 0x106C (codes "ER")).1) spot ∙ ap (λ (scratch : List ℕ). with_scratch scratch first) (marked-put first.memory.scratch bytes (omega (arith, is.least))),
+      let location = area_found (length first.memory.range) Scratch 108 2 small_range (omega arith) (omega arith) in (
+        allowed.0 ∙ ap (λ (s : Location). (bytes_stored s there 0x106C (codes "ER")).0) location,
+        allowed.1 ∙ ap (λ (s : Location). (bytes_stored s there 0x106C (codes "ER")).1) location ∙ ap (λ (scratch : List ℕ). with_scratch scratch first) (marked-put first.memory.scratch bytes (omega (arith, is.least))),
       )
 
   pub puts_record : (result : Result (Unit {0}) ClientError) (mid : MachineState) → Puts (Allows tells) 0x1000 bytes first result mid → (result ≡ Ok tt) × (mid ≡ with_scratch (put_at first.memory.scratch 0 (marked bytes)) first)
   puts_record result mid puts = elim puts as (λ result mid puts. (result ≡ Ok tt) × (mid ≡ with_scratch (put_at first.memory.scratch 0 (marked bytes)) first)) [
-    | NotPut fault last allowed ↦ absurd (no_fault fault (start_spot (Err fault) last allowed).0)
-    | NotMarked between fault last allowed marks ↦ absurd (no_fault fault (mark_spot between (Err fault) last (start_spot (Ok tt) between allowed).1 marks).0)
-    | IsPut between last allowed marks ↦ (refl, (mark_spot between (Ok tt) last (start_spot (Ok tt) between allowed).1 marks).1)
+    | NotPut fault last allowed ↦ absurd (no_fault fault (start_location (Err fault) last allowed).0)
+    | NotMarked between fault last allowed marks ↦ absurd (no_fault fault (mark_location between (Err fault) last (start_location (Ok tt) between allowed).1 marks).0)
+    | IsPut between last allowed marks ↦ (refl, (mark_location between (Ok tt) last (start_location (Ok tt) between allowed).1 marks).1)
   ]
 
 -- the machine with a marked record in its scratch memory still has room
@@ -213,14 +213,14 @@ module _ (tells : Type 0) (mid : MachineState) (small : length mid.memory.range 
   pub length_read : (field : List ℕ) (answer : Result (Unit {0}) SpaceFault) (new : MachineState) → Allows tells mid (ReadBytes 0x1014 (0 ∷ 0 ∷ 0 ∷ 0 ∷ []) field answer) new
       → (answer ≡ Ok tt) × (field ≡ part mid.memory.scratch 20 4) × (new ≡ mid)
   length_read field answer new allowed =
-      let spot = area_found (length mid.memory.range) Scratch 20 4 small (omega arith) (omega arith) in
-      (allowed.0 ∙ ap (λ (s : Spot). (bytes_read s mid 0x1014 (0 ∷ 0 ∷ 0 ∷ 0 ∷ [])).0) spot, allowed.1 ∙ ap (λ (s : Spot). (bytes_read s mid 0x1014 (0 ∷ 0 ∷ 0 ∷ 0 ∷ [])).1) spot, allowed.2)
+      let location = area_found (length mid.memory.range) Scratch 20 4 small (omega arith) (omega arith) in
+      (allowed.0 ∙ ap (λ (s : Location). (bytes_read s mid 0x1014 (0 ∷ 0 ∷ 0 ∷ 0 ∷ [])).0) location, allowed.1 ∙ ap (λ (s : Location). (bytes_read s mid 0x1014 (0 ∷ 0 ∷ 0 ∷ 0 ∷ [])).1) location, allowed.2)
 
   scratch_read : (before after : List ℕ) (answer : Result (Unit {0}) SpaceFault) (new : MachineState) → 0 < length before → length before ≤ 4096 → Allows tells mid (ReadBytes 0x1000 before after answer) new
       → (answer ≡ Ok tt) × (after ≡ part mid.memory.scratch 0 (length before)) × (new ≡ mid)
   scratch_read before after answer new some fits allowed =
-      let spot = area_found (length mid.memory.range) Scratch 0 (length before) small some (omega arith) in
-      (allowed.0 ∙ ap (λ (s : Spot). (bytes_read s mid 0x1000 before).0) spot, allowed.1 ∙ ap (λ (s : Spot). (bytes_read s mid 0x1000 before).1) spot, allowed.2)
+      let location = area_found (length mid.memory.range) Scratch 0 (length before) small some (omega arith) in
+      (allowed.0 ∙ ap (λ (s : Location). (bytes_read s mid 0x1000 before).0) location, allowed.1 ∙ ap (λ (s : Location). (bytes_read s mid 0x1000 before).1) location, allowed.2)
 
   copied_out : (before after : List ℕ) (answer : Result (Unit {0}) ClientError) (new : MachineState) → 0 < length before → length before ≤ 4096 → CopiesOut (Allows tells) 0x1000 before after mid answer new
       → (answer ≡ Ok tt) × (after ≡ part mid.memory.scratch 0 (length before)) × (new ≡ mid)

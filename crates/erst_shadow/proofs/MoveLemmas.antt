@@ -11,10 +11,10 @@ use Rattle.erst_shadow.specs.MoveSpaces.{ServesMove, AreAddressable, after_round
 use Rattle.erst_shadow.specs.PlainMoves.{ShareNone}
 use Rattle.erst_shadow.proofs.PlainLemmas.{part-beside, number-put, number-beside, place_in as place_behind, registers_differ}
 use Rattle.erst_machine.specs.declared.areas.Area.TheVariants.{Scratch, LogRange}
-use Rattle.erst_machine.specs.declared.areas.Spot.{Spot}
-use Rattle.erst_machine.specs.declared.areas.Spot.TheVariants.{Inside}
-use Rattle.erst_machine.specs.Areas.{memory_spot}
-use Rattle.erst_machine.specs.MachineState.{MachineState, spot_at}
+use Rattle.erst_machine.specs.declared.areas.Location.{Location}
+use Rattle.erst_machine.specs.declared.areas.Location.TheVariants.{Inside}
+use Rattle.erst_machine.specs.Areas.{memory_location}
+use Rattle.erst_machine.specs.MachineState.{MachineState, location_at}
 use Rattle.erst_machine.specs.Allowed.{Allows, number_read, NumberWritten, copy_of}
 use Rattle.erst_machine.proofs.PlaceLemmas.{area_found}
 use Rattle.erst_device.specs.Actions.{log_range_at}
@@ -36,11 +36,11 @@ place_in Source = 0xF88
 place_in Target = 0xF90
 place_in Length = 0xF98
 
-register_spot : (reach : ℕ) (r : MoveRegister) → memory_spot reach (address_of r) 8 ≡ Inside Scratch (place_in r)
-register_spot reach Offset = refl
-register_spot reach Source = refl
-register_spot reach Target = refl
-register_spot reach Length = refl
+register_location : (reach : ℕ) (r : MoveRegister) → memory_location reach (address_of r) 8 ≡ Inside Scratch (place_in r)
+register_location reach Offset = refl
+register_location reach Source = refl
+register_location reach Target = refl
+register_location reach Length = refl
 
 pub register_low : (r : MoveRegister) → (0xF80 ≤ place_in r) × (place_in r + 8 ≤ 4096)
 register_low Offset = (omega arith, omega arith)
@@ -81,10 +81,10 @@ abbrev pub put : MoveRegister → ℕ → MachineState → MachineState
 put r n w = record w { memory = record w.memory { scratch = put_at w.memory.scratch (place_in r) (spelled 8 n) } }
 
 pub register_read : (tells : Type 0) (w v : MachineState) (r : MoveRegister) (answer : Result ℕ SpaceFault) → Allows tells w (Read (Memory (address_of r)) B64 answer) v → (answer ≡ Ok (value r w)) × (v ≡ w)
-register_read tells w v r answer h = (h.0 ∙ ap (λ (s : Spot). number_read s w (address_of r) B64) (register_spot (length w.memory.range) r), h.1)
+register_read tells w v r answer h = (h.0 ∙ ap (λ (s : Location). number_read s w (address_of r) B64) (register_location (length w.memory.range) r), h.1)
 
 pub register_written : (tells : Type 0) (w v : MachineState) (r : MoveRegister) (n : ℕ) (answer : Result (Unit {0}) SpaceFault) → Allows tells w (Write (Memory (address_of r)) B64 n answer) v → (answer ≡ Ok tt) × (v ≡ put r n w)
-register_written tells w v r n answer h = subst (λ (s : Spot). NumberWritten tells s w (address_of r) B64 n answer v) (register_spot (length w.memory.range) r) h
+register_written tells w v r n answer h = subst (λ (s : Location). NumberWritten tells s w (address_of r) B64 n answer v) (register_location (length w.memory.range) r) h
 
 put_long : (first w : MachineState) (r : MoveRegister) (n : ℕ) → KeepsOthers first w → place_in r + length (spelled 8 n) ≤ length w.memory.scratch
 put_long first w r n comes = let low = (register_low r).1 in omega (arith, length-spelled 8 n, low, comes.scratch)
@@ -109,11 +109,11 @@ pub record KeepsRange (first w : MachineState) : Type 0 where
   pub kept : w.memory.range ≡ first.memory.range
 
 -- a copy between two places that are found
-copied_by : (tells : Type 0) (w v : MachineState) (from target n : ℕ) (source sink : Spot) (answer : Result (Unit {0}) SpaceFault) → spot_at w from n ≡ source → spot_at w target n ≡ sink
+copied_by : (tells : Type 0) (w v : MachineState) (from target n : ℕ) (source sink : Location) (answer : Result (Unit {0}) SpaceFault) → location_at w from n ≡ source → location_at w target n ≡ sink
     → Allows tells w (Copy from target n answer) v → (answer ≡ (copy_of source sink w from target n).0) × (v ≡ (copy_of source sink w from target n).1)
 copied_by tells w v from target n source sink answer source_is sink_is h =
-    let outcome : copy_of (spot_at w from n) (spot_at w target n) w from target n ≡ copy_of source sink w from target n =
-    ap (λ (s : Spot). copy_of s (spot_at w target n) w from target n) source_is ∙ ap (λ (s : Spot). copy_of source s w from target n) sink_is in
+    let outcome : copy_of (location_at w from n) (location_at w target n) w from target n ≡ copy_of source sink w from target n =
+    ap (λ (s : Location). copy_of s (location_at w target n) w from target n) source_is ∙ ap (λ (s : Location). copy_of source s w from target n) sink_is in
     (h.0 ∙ ap (λ (o : Result (Unit {0}) SpaceFault × MachineState). o.0) outcome, h.1 ∙ ap (λ (o : Result (Unit {0}) SpaceFault × MachineState). o.1) outcome)
 
 -- what a move needs of the machine, whichever way it goes, by what is asked of its pieces
@@ -152,11 +152,11 @@ module _ (tells : Type 0) (first : MachineState) (count : ℕ) (room : HoldsPiec
   pub below_out : AreAddressable log_range_at scratch_at count
   below_out = let few = room.few in record { source = omega arith; target_is = omega arith; some = room.some }
 
-  scratch_spot : (w : MachineState) (i : ℕ) → KeepsOthers first w → i < count → spot_at w (scratch_at + 128 * i) 128 ≡ Inside Scratch (128 * i)
-  scratch_spot w i comes less = area_found (length w.memory.range) Scratch (128 * i) 128 (omega (arith, comes.range, room.small)) (omega arith) (omega (arith, room.few))
+  scratch_location : (w : MachineState) (i : ℕ) → KeepsOthers first w → i < count → location_at w (scratch_at + 128 * i) 128 ≡ Inside Scratch (128 * i)
+  scratch_location w i comes less = area_found (length w.memory.range) Scratch (128 * i) 128 (omega (arith, comes.range, room.small)) (omega arith) (omega (arith, room.few))
 
-  range_spot : (w : MachineState) (i : ℕ) → KeepsOthers first w → i < count → spot_at w (log_range_at + 128 * i) 128 ≡ Inside LogRange (128 * i)
-  range_spot w i comes less = area_found (length w.memory.range) LogRange (128 * i) 128 (omega (arith, comes.range, room.small)) (omega arith) (omega (arith, comes.range, room.range))
+  range_location : (w : MachineState) (i : ℕ) → KeepsOthers first w → i < count → location_at w (log_range_at + 128 * i) 128 ≡ Inside LogRange (128 * i)
+  range_location w i comes less = area_found (length w.memory.range) LogRange (128 * i) 128 (omega (arith, comes.range, room.small)) (omega arith) (omega (arith, comes.range, room.range))
 
   scratch_room : (w : MachineState) → KeepsOthers first w → 128 * count ≤ length w.memory.scratch
   scratch_room w comes = omega (arith, comes.scratch, room.few)
@@ -177,7 +177,7 @@ module _ (tells : Type 0) (first : MachineState) (count : ℕ) (room : HoldsPiec
 
   pub space_in : ServesMove (Allows tells) (KeepsOthers first) scratch_at log_range_at count
   space_in = served tells first (KeepsOthers first) scratch_at log_range_at count piece_in (λ w comes. comes) (λ w r n comes. put_comes first w r n comes)
-      (λ w v i answer comes less h. copied_by tells w v (scratch_at + 128 * i) (log_range_at + 128 * i) 128 (Inside Scratch (128 * i)) (Inside LogRange (128 * i)) answer (scratch_spot w i comes less) (range_spot w i comes less) h)
+      (λ w v i answer comes less h. copied_by tells w v (scratch_at + 128 * i) (log_range_at + 128 * i) 128 (Inside Scratch (128 * i)) (Inside LogRange (128 * i)) answer (scratch_location w i comes less) (range_location w i comes less) h)
       (λ w i comes less. record {
         range = length-put_at w.memory.range (128 * i) (part w.memory.scratch (128 * i) 128) (fits_range w i comes less) ∙ comes.range;
         scratch = comes.scratch;
@@ -253,7 +253,7 @@ module _ (tells : Type 0) (first : MachineState) (count : ℕ) (room : HoldsPiec
   -- the log range stays as it is
   pub space_out : ServesMove (Allows tells) (KeepsRange first) log_range_at scratch_at count
   space_out = served tells first (KeepsRange first) log_range_at scratch_at count piece_out (λ w stays. stays.comes) (λ w r n stays. record { comes = put_comes first w r n stays.comes; kept = stays.kept })
-      (λ w v i answer stays less h. copied_by tells w v (log_range_at + 128 * i) (scratch_at + 128 * i) 128 (Inside LogRange (128 * i)) (Inside Scratch (128 * i)) answer (range_spot w i stays.comes less) (scratch_spot w i stays.comes less) h)
+      (λ w v i answer stays less h. copied_by tells w v (log_range_at + 128 * i) (scratch_at + 128 * i) 128 (Inside LogRange (128 * i)) (Inside Scratch (128 * i)) answer (range_location w i stays.comes less) (scratch_location w i stays.comes less) h)
       (λ w i stays less. record {
         comes = record {
           range = stays.comes.range;

@@ -30,11 +30,11 @@ through result ended = record { not_stopped = λ stop e. ended (Stopped stop) e 
 pub ok_ended : Ended (Ok tt)
 ok_ended error e short = absurd (cc e)
 
-alike : (one other : ClientError) → ◌≡◌ {A = Result (Unit {0}) ClientError} (Err one) (Err other) → IsCutShort other → IsCutShort one
-alike one other e short = let same : other ≡ one = cc in subst (λ (x : ClientError). IsCutShort x) same short
+equivalent : (one other : ClientError) → ◌≡◌ {A = Result (Unit {0}) ClientError} (Err one) (Err other) → IsCutShort other → IsCutShort one
+equivalent one other e short = let same : other ≡ one = cc in subst (λ (x : ClientError). IsCutShort x) same short
 
 pub error_ended : (error : ClientError) → (IsCutShort error → ⊥) → Ended (Err error)
-error_ended error whole other e short = whole (alike error other e short)
+error_ended error whole other e short = whole (equivalent error other e short)
 
 refusal_whole : (error : ClientError) (refusal : Refusal) → IsErrorOf refusal error → IsCutShort error → ⊥
 refusal_whole error refusal is = elim is as (λ refusal error is. IsCutShort error → ⊥) [

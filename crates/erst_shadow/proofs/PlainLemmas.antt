@@ -8,10 +8,10 @@ use Rattle.base_model.proofs.BytesLemmas.{length-spelled, little-spelled, length
 use Rattle.apei_tables.specs.declared.registers.Place.TheVariants.{Memory}
 use Rattle.apei_space.specs.declared.faults.SpaceFault.{SpaceFault}
 use Rattle.apei_space.specs.declared.windows.Window.{Window}
-use Rattle.apei_space.specs.Windows.{spot, AreApart as WindowsApart}
+use Rattle.apei_space.specs.Windows.{location, AreApart as WindowsApart}
 use Rattle.apei_space.specs.RamState.{RamState, Allows, located, found, refused, within, number_in, answer_of, stored, copied}
-use Rattle.apei_space.proofs.Spots.{spot_fits}
-use Rattle.apei_space.proofs.Placed.{spot_further}
+use Rattle.apei_space.proofs.Locations.{location_fits}
+use Rattle.apei_space.proofs.Placed.{location_further}
 use Rattle.erst_interp.specs.declared.stops.RunStop.{RunStop}
 use Rattle.erst_entries.specs.declared.actions.Action.{Action}
 use Rattle.erst_entries.specs.declared.entries.Entry.{Entry}
@@ -47,10 +47,10 @@ not_none n found some = ap (λ (b : Bool). cond {A = Result ℕ ℕ} b (Ok 0) fo
 within_fits : (index room place n : ℕ) → n ≤ room → within (Some (index, room)) place n ≡ Ok index
 within_fits index room place n fits = ap (λ (b : Bool). cond {A = Result ℕ ℕ} b (Ok index) (Err (place + room))) (le-leb n room fits)
 
-located_at : (windows : List Window) (place index room k n : ℕ) → WindowsApart windows → spot windows 0 (Memory place) ≡ Some (index, room) → 0 < n → k + n ≤ room → located windows (Memory (place + k)) n ≡ Ok (index + k)
+located_at : (windows : List Window) (place index room k n : ℕ) → WindowsApart windows → location windows 0 (Memory place) ≡ Some (index, room) → 0 < n → k + n ≤ room → located windows (Memory (place + k)) n ≡ Ok (index + k)
 located_at windows place index room k n apart is some fits =
-    let there : spot windows 0 (Memory (place + k)) ≡ Some (index + k, room - k) = spot_further windows 0 (Memory place) index room k apart is (omega arith) in
-    ap refused (not_none n (within (spot windows 0 (Memory (place + k))) (place + k) n) some ∙ ap (λ (o : Option (ℕ × ℕ)). within o (place + k) n) there ∙ within_fits (index + k) (room - k) (place + k) n (omega arith))
+    let there : location windows 0 (Memory (place + k)) ≡ Some (index + k, room - k) = location_further windows 0 (Memory place) index room k apart is (omega arith) in
+    ap refused (not_none n (within (location windows 0 (Memory (place + k))) (place + k) n) some ∙ ap (λ (o : Option (ℕ × ℕ)). within o (place + k) n) there ∙ within_fits (index + k) (room - k) (place + k) n (omega arith))
 
 -- how far a register stands from the first
 abbrev pub place_in : MoveRegister → ℕ
@@ -107,19 +107,19 @@ module _ (first : RamState) (from target count source sink registers : ℕ) (roo
   -- all lie within the bytes
   source_within : source + 128 * count ≤ length first.bytes
   source_within =
-      let fits = spot_fits first.windows 0 (Memory from) (source, room.source_room) room.fills.apart room.source_is in
+      let fits = location_fits first.windows 0 (Memory from) (source, room.source_room) room.fills.apart room.source_is in
       let inside = fits.within in
       omega (arith, inside, room.source_fits, room.fills.as_long)
 
   sink_within : sink + 128 * count ≤ length first.bytes
   sink_within =
-      let fits = spot_fits first.windows 0 (Memory target) (sink, room.sink_room) room.fills.apart room.sink_is in
+      let fits = location_fits first.windows 0 (Memory target) (sink, room.sink_room) room.fills.apart room.sink_is in
       let inside = fits.within in
       omega (arith, inside, room.sink_fits, room.fills.as_long)
 
   registers_within : registers + 32 ≤ length first.bytes
   registers_within =
-      let fits = spot_fits first.windows 0 (Memory 0x1F80) (registers, room.register_room) room.fills.apart room.registers_are in
+      let fits = location_fits first.windows 0 (Memory 0x1F80) (registers, room.register_room) room.fills.apart room.registers_are in
       let inside = fits.within in
       omega (arith, inside, room.registers_fit, room.fills.as_long)
 

@@ -2,7 +2,7 @@
 use Rattle.std.specs.Prelude.{◌≡◌, ◌⊎◌, ℕ, ◌+◌, ◌*◌, ◌<◌, ◌≤◌, length, Some, Result, Ok, Err}
 use Rattle.base_model.specs.Bytes.{part}
 use Rattle.apei_tables.specs.declared.registers.Place.TheVariants.{Memory}
-use Rattle.apei_space.specs.Windows.{spot}
+use Rattle.apei_space.specs.Windows.{location}
 use Rattle.apei_space.specs.RamState.{RamState, FillsWindows}
 use Rattle.erst_interp.specs.declared.stops.RunStop.{RunStop}
 use Rattle.erst_interp.specs.declared.stops.RunStop.TheVariants.{Budget}
@@ -21,9 +21,9 @@ pub record HoldsMove (ram : RamState) (from target count source sink registers :
   pub source_room : ℕ
   pub sink_room : ℕ
   pub register_room : ℕ
-  pub source_is : spot ram.windows 0 (Memory from) ≡ Some (source, source_room)
-  pub sink_is : spot ram.windows 0 (Memory target) ≡ Some (sink, sink_room)
-  pub registers_are : spot ram.windows 0 (Memory 0x1F80) ≡ Some (registers, register_room)
+  pub source_is : location ram.windows 0 (Memory from) ≡ Some (source, source_room)
+  pub sink_is : location ram.windows 0 (Memory target) ≡ Some (sink, sink_room)
+  pub registers_are : location ram.windows 0 (Memory 0x1F80) ≡ Some (registers, register_room)
   pub source_fits : 128 * count ≤ source_room
   pub sink_fits : 128 * count ≤ sink_room
   pub registers_fit : 32 ≤ register_room

@@ -5,7 +5,7 @@ ghost use Rattle.erst_entries.specs.Tables.{IsErst};
 ghost use Rattle.erst_shadow.specs.ShadowTables.{pieces_of, shadow_erst, shadow_size};
 
 use crate::entries::{entries_before, entries_behind, entries_between, move_entries};
-use apei_bytes::Memory;
+use apei_bytes::OutOfMemory;
 use erst_device::LOG_RANGE;
 use erst_entries::{Action, Entry, ErstTable};
 use erst_machine::entries::told_entries;
@@ -13,7 +13,7 @@ use erst_machine::{SCRATCH, own_header};
 use std::alloc::Global;
 
 /// Puts entries behind those of a table.
-fn append(table: &mut ErstTable, entries: &[Entry]) -> Result<(), Memory>
+fn append(table: &mut ErstTable, entries: &[Entry]) -> Result<(), OutOfMemory>
     requires { length table.old.entries + length entries.now < 2 ^ 20 }
     ensures { OnOk result (table.new ≡ record table.old { entries = table.old.entries ++ entries.now }) }
 {
@@ -25,7 +25,7 @@ fn append(table: &mut ErstTable, entries: &[Entry]) -> Result<(), Memory>
 
 /// The table of a machine whose longest record has `reach` bytes, with which a record may have as many bytes as `reach` has whole
 /// pieces of 128, and 3,968 at most. `Err` says that there is no memory for it.
-pub fn shadow_table(alloc: Global, reach: u32) -> Result<ErstTable, Memory>
+pub fn shadow_table(alloc: Global, reach: u32) -> Result<ErstTable, OutOfMemory>
     requires { 128 ≤ reach }
     ensures table { IfOk result (λ table. table ≡ shadow_erst (pieces_of reach)) }
     ensures size { IfOk result (λ table. length (spelling table) ≡ shadow_size) }

@@ -15,7 +15,7 @@ use crate::names::{add_flags_object, add_named_object};
 use crate::number::{bits_of, number_of};
 use crate::plain::field_bytes;
 use crate::register::add_register_object;
-use crate::style::{Mark, Spot, Style};
+use crate::style::{Location, Mark, Style};
 use crate::time::{YEAR_10000, add_date, add_stamp};
 use crate::value::add_guid;
 use std::alloc::AllocError;
@@ -32,7 +32,7 @@ impl Style for Json {
 
     fn add(
         &self,
-        spot: Spot,
+        location: Location,
         field: &Field,
         body: &[u8],
         out: &mut Vec<u8>,
@@ -42,10 +42,10 @@ impl Style for Json {
         end_member(&field.shape, field_bytes(field, body), out)
     }
 
-    fn mark(&self, spot: Spot, mark: &Mark, out: &mut Vec<u8>) -> Result<(), AllocError> {
+    fn mark(&self, location: Location, mark: &Mark, out: &mut Vec<u8>) -> Result<(), AllocError> {
         match *mark {
-            Mark::Part { name, index } => add_part(name, index, spot.base, out),
-            Mark::Inner { name } => add_inner(name, spot.base, out),
+            Mark::Part { name, index } => add_part(name, index, location.base, out),
+            Mark::Inner { name } => add_inner(name, location.base, out),
             Mark::End => {
                 out.push(b'}')?;
                 Ok(())

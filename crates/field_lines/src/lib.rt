@@ -24,6 +24,6 @@ pub use json::Json;
 pub use layout::{Content, Count, Inner, Key, Layout, Parts, Size};
 pub use parts::add_layout;
 pub use plain::Plain;
-pub use style::{Mark, Spot, Style};
+pub use style::{Location, Mark, Style};
 pub use time::{add_date, add_stamp};
 pub use walk::add_fields;

@@ -9,7 +9,7 @@ ghost use Rattle.field_lines.specs.Code.{content_fields, structure_of, group_of,
 
 use crate::layout::{Content, Inner, Key, Layout, Parts, Size};
 use crate::number::{bits_of, number_in};
-use crate::style::{Mark, Spot, Style};
+use crate::style::{Location, Mark, Style};
 use crate::walk::{add_fields, add_registers, is_valid, validation};
 use apei_bytes::{bytes_at, guid_at};
 use std::alloc::AllocError;
@@ -27,8 +27,8 @@ pub fn add_layout<S: Style>(
     requires place { base + length body.now < 2 ^ 64 }
     ensures { OnOk result (out.new.items ≡ out.old.items ++ structure_text (S.text style.now) (S.heading style.now) base (structure_of layout.now) body.now) }
 {
-    let spot = Spot { depth: 0, base };
-    add_fields(style, spot, layout.valid_at, layout.fields, body, out)?;
+    let location = Location { depth: 0, base };
+    add_fields(style, location, layout.valid_at, layout.fields, body, out)?;
     let at = (layout.parts_at as usize).min(body.len());
     add_groups(style, base, layout.parts, at, body, out)
 }
@@ -96,7 +96,7 @@ fn add_end<S: Style>(style: &S, base: u64, index: u64, out: &mut Vec<u8>) -> Res
     if index == 0 {
         return Ok(());
     }
-    style.mark(Spot { depth: 0, base }, &Mark::EndParts, out)
+    style.mark(Location { depth: 0, base }, &Mark::EndParts, out)
 }
 
 // How many parts a body says that it has.
@@ -139,12 +139,16 @@ fn add_part<S: Style>(
     ensures { OnOk result (out.new.items ≡ out.old.items ++ part_text (S.text style.now) (S.heading style.now) (group_of group.now) index base bytes.now) }
 {
     let name = group.name;
-    style.mark(Spot { depth: 0, base }, &Mark::Part { name, index }, out)?;
-    let inside = Spot { depth: 1, base };
+    style.mark(
+        Location { depth: 0, base },
+        &Mark::Part { name, index },
+        out,
+    )?;
+    let inside = Location { depth: 1, base };
     add_fields(style, inside, group.valid_at, group.fields, bytes, out)?;
     let valid = validation(bytes, group.valid_at);
     add_all_inside(style, base, valid, group.inner, bytes, out)?;
-    style.mark(Spot { depth: 0, base }, &Mark::End, out)
+    style.mark(Location { depth: 0, base }, &Mark::End, out)
 }
 
 fn add_all_inside<S: Style>(
@@ -183,35 +187,35 @@ fn add_inside<S: Style>(
 {
     let at = inner.at as usize;
     let start = base + at as u64;
-    let outer = Spot {
+    let outer = Location {
         depth: 1,
         base: start,
     };
     let name = inner.name;
     style.mark(outer, &Mark::Inner { name }, out)?;
-    let spot = Spot {
+    let location = Location {
         depth: 2,
         base: start,
     };
-    add_content(style, spot, &inner.content, &bytes[at..], out)?;
+    add_content(style, location, &inner.content, &bytes[at..], out)?;
     style.mark(outer, &Mark::End, out)
 }
 
 fn add_content<S: Style>(
     style: &S,
-    spot: Spot,
+    location: Location,
     content: &Content,
     bytes: &[u8],
     out: &mut Vec<u8>,
 ) -> Result<(), AllocError>
     requires sound { IsTrue (are_sound (content_fields content.now)) }
-    requires place { spot.base + length bytes.now < 2 ^ 64 }
-    ensures { OnOk result (out.new.items ≡ out.old.items ++ fields_text (S.text style.now spot.depth spot.base) 0 (content_fields content.now) bytes.now) }
+    requires place { location.base + length bytes.now < 2 ^ 64 }
+    ensures { OnOk result (out.new.items ≡ out.old.items ++ fields_text (S.text style.now location.depth location.base) 0 (content_fields content.now) bytes.now) }
 {
     match *content {
-        Content::Fields(fields) => add_fields(style, spot, 0, fields, bytes, out),
+        Content::Fields(fields) => add_fields(style, location, 0, fields, bytes, out),
         Content::Registers { width, names } => {
-            add_registers(style, spot, width, names, bytes, out)
+            add_registers(style, location, width, names, bytes, out)
         }
     }
 }

@@ -7,7 +7,7 @@ ghost use Rattle.field_lines.specs.Code.{field_of, shown_of, heading_of};
 
 use crate::digits::add_decimal;
 use crate::field::{Field, Shape};
-use crate::style::{Mark, Spot, Style};
+use crate::style::{Location, Mark, Style};
 use crate::value::end_with_value;
 use apei_bytes::bytes_at;
 use std::alloc::AllocError;
@@ -73,20 +73,20 @@ impl Style for Plain {
 
     fn add(
         &self,
-        spot: Spot,
+        location: Location,
         field: &Field,
         body: &[u8],
         out: &mut Vec<u8>,
     ) -> Result<(), AllocError> {
-        self.add_margin(spot.depth, spot.base + field.at as u64, out)?;
+        self.add_margin(location.depth, location.base + field.at as u64, out)?;
         out.extend_from_slice(field.name.as_bytes())?;
         end_with_value(&field.shape, field_bytes(field, body), out)
     }
 
-    fn mark(&self, spot: Spot, mark: &Mark, out: &mut Vec<u8>) -> Result<(), AllocError> {
+    fn mark(&self, location: Location, mark: &Mark, out: &mut Vec<u8>) -> Result<(), AllocError> {
         match *mark {
             Mark::Part { name, index } => {
-                self.add_margin(spot.depth, spot.base, out)?;
+                self.add_margin(location.depth, location.base, out)?;
                 out.extend_from_slice(name.as_bytes())?;
                 out.push(b' ')?;
                 add_decimal(index, out)?;
@@ -94,7 +94,7 @@ impl Style for Plain {
                 Ok(())
             }
             Mark::Inner { name } => {
-                self.add_margin(spot.depth, spot.base, out)?;
+                self.add_margin(location.depth, location.base, out)?;
                 out.extend_from_slice(name.as_bytes())?;
                 out.push(b'\n')?;
                 Ok(())

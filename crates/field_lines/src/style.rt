@@ -8,7 +8,7 @@ use std::alloc::AllocError;
 
 /// How deep a body lies, 0 outside and 1 a part, and where it begins in what offsets are counted from.
 #[derive(Clone, Copy)]
-pub struct Spot {
+pub struct Location {
     pub depth: u8,
     pub base: u64,
 }
@@ -41,17 +41,17 @@ pub trait Style {
     /// Appends a field of a body.
     fn add(
         &self,
-        spot: Spot,
+        location: Location,
         field: &Field,
         body: &[u8],
         out: &mut Vec<u8>,
     ) -> Result<(), AllocError>
         requires sound { IsTrue (is_sound (field_of field.now)) }
         requires within { field.now.at + field.now.width ≤ length body.now }
-        requires place { spot.base + length body.now < 2 ^ 64 }
-        ensures { OnOk result (out.new.items ≡ out.old.items ++ text self.now spot.depth spot.base (field_of field.now) body.now) };
+        requires place { location.base + length body.now < 2 ^ 64 }
+        ensures { OnOk result (out.new.items ≡ out.old.items ++ text self.now location.depth location.base (field_of field.now) body.now) };
 
     /// Appends a mark.
-    fn mark(&self, spot: Spot, mark: &Mark, out: &mut Vec<u8>) -> Result<(), AllocError>
-        ensures { OnOk result (out.new.items ≡ out.old.items ++ heading self.now spot.depth spot.base (heading_of mark.now)) };
+    fn mark(&self, location: Location, mark: &Mark, out: &mut Vec<u8>) -> Result<(), AllocError>
+        ensures { OnOk result (out.new.items ≡ out.old.items ++ heading self.now location.depth location.base (heading_of mark.now)) };
 }

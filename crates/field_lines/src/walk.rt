@@ -7,27 +7,27 @@ ghost use Rattle.field_lines.specs.Code.{field_of};
 
 use crate::field::{Field, Shape};
 use crate::number::{has_bit, number_of};
-use crate::style::{Spot, Style};
+use crate::style::{Location, Style};
 use std::alloc::AllocError;
 
 /// Appends each field that is valid and lies within the body, in their order and as a style writes it. The validation bits stand at a place of the
 /// body. Where there is no memory some fields may have been appended.
 pub fn add_fields<S: Style>(
     style: &S,
-    spot: Spot,
+    location: Location,
     valid_at: u16,
     mut fields: &[Field],
     body: &[u8],
     out: &mut Vec<u8>,
 ) -> Result<(), AllocError>
     requires sound { IsTrue (are_sound (map field_of fields.now)) }
-    requires place { spot.base + length body.now < 2 ^ 64 }
-    ensures { OnOk result (out.new.items ≡ out.old.items ++ fields_text (S.text style.now spot.depth spot.base) valid_at (map field_of fields.entry.now) body.now) }
+    requires place { location.base + length body.now < 2 ^ 64 }
+    ensures { OnOk result (out.new.items ≡ out.old.items ++ fields_text (S.text style.now location.depth location.base) valid_at (map field_of fields.entry.now) body.now) }
 {
     let valid = validation(body, valid_at);
     while let [field, rest @ ..] = fields {
         if is_shown(field, valid, body.len()) {
-            style.add(spot, field, body, out)?;
+            style.add(location, field, body, out)?;
         }
         fields = rest;
     }
@@ -37,15 +37,15 @@ pub fn add_fields<S: Style>(
 /// Appends each register that lies within the body, where they stand one behind another from a place on.
 pub(crate) fn add_registers<S: Style>(
     style: &S,
-    spot: Spot,
+    location: Location,
     width: u16,
     mut names: &[&'static str],
     body: &[u8],
     out: &mut Vec<u8>,
 ) -> Result<(), AllocError>
     requires sound { IsTrue (are_sound (register_fields width 0 (map (λ name. name.now) names.now))) }
-    requires place { spot.base + length body.now < 2 ^ 64 }
-    ensures { OnOk result (out.new.items ≡ out.old.items ++ fields_text (S.text style.now spot.depth spot.base) 0 (register_fields width 0 (map (λ name. name.now) names.entry.now)) body.now) }
+    requires place { location.base + length body.now < 2 ^ 64 }
+    ensures { OnOk result (out.new.items ≡ out.old.items ++ fields_text (S.text style.now location.depth location.base) 0 (register_fields width 0 (map (λ name. name.now) names.entry.now)) body.now) }
 {
     let mut at = 0;
     while let [name, rest @ ..] = names {
@@ -57,7 +57,7 @@ pub(crate) fn add_registers<S: Style>(
             shape: Shape::Hexadecimal,
         };
         if is_shown(&field, 0, body.len()) {
-            style.add(spot, &field, body, out)?;
+            style.add(location, &field, body, out)?;
         }
         at += width;
         names = rest;

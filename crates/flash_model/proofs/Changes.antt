@@ -5,7 +5,7 @@ use Rattle.std.proofs.lemmas.List.{length-replicate}
 use Rattle.base_model.specs.Bytes.{put_at, SameOutside}
 use Rattle.base_model.specs.Faults.{Rose}
 use Rattle.base_model.proofs.BytesLemmas.{SameOutside-refl, SameOutside-put_at}
-use Rattle.base_model.specs.Flash.{Told, Changed, MayChange, AsksChange, LosesOnlyByChange, next_count, dark_after}
+use Rattle.base_model.specs.Flash.{Told, Changed, MayChange, AsksChange, LosesOnlyByChange, next_count, unpowered_after}
 use Rattle.flash_model.specs.declared.tear.Tear.{Tear}
 use Rattle.flash_model.specs.declared.tear.Tear.TheVariants.{Nothing, Whole, Zeros, Marks}
 use Rattle.flash_model.specs.declared.power.Power.{Power}
@@ -112,20 +112,20 @@ finds_power : (old : Simulation) → FindsPower (fate_of old) old.power
 unfolding fate_of
 finds_power old = finds_under (steps_of old == 2 ^ 64 - 1) old.power (tear_at old.power old.failing (steps_of old))
 
-dark-lit : (old : Simulation) (dark : ℕ) → has_power old.power ≡ true → dark ≡ old.dark → dark ≡ dark_after (state_of old)
-dark-lit old dark on same = same ∙ sym (ap (λ (b : Bool). cond {A = ℕ} b old.dark (next_count old.dark)) on)
+unpowered-lit : (old : Simulation) (unpowered : ℕ) → has_power old.power ≡ true → unpowered ≡ old.unpowered → unpowered ≡ unpowered_after (state_of old)
+unpowered-lit old unpowered on same = same ∙ sym (ap (λ (b : Bool). cond {A = ℕ} b old.unpowered (next_count old.unpowered)) on)
 
-dark-lost : (old : Simulation) (dark : ℕ) → has_power old.power ≡ false → dark ≡ next_count old.dark → dark ≡ dark_after (state_of old)
-dark-lost old dark off more = more ∙ sym (ap (λ (b : Bool). cond {A = ℕ} b old.dark (next_count old.dark)) off)
+unpowered-lost : (old : Simulation) (unpowered : ℕ) → has_power old.power ≡ false → unpowered ≡ next_count old.unpowered → unpowered ≡ unpowered_after (state_of old)
+unpowered-lost old unpowered off more = more ∙ sym (ap (λ (b : Bool). cond {A = ℕ} b old.unpowered (next_count old.unpowered)) off)
 
 -- what a failed call for a change owes
 AsksChange-failed : {T E : Type 0} (at len : ℕ) (old new : Simulation) (result : Result T E) → IsErr result
     → MayChange at len old.told new.told → length new.told.image ≡ length old.told.image → new.sector_size ≡ old.sector_size
     → steps_of new ≡ next_count (steps_of old) → new.reads ≡ old.reads → old.faults < 2 ^ 64 → new.faults ≡ next_count old.faults
-    → LosesOnlyByChange (state_of old) (state_of new) → new.dark ≡ dark_after (state_of old) → new.restarts ≡ old.restarts
+    → LosesOnlyByChange (state_of old) (state_of new) → new.unpowered ≡ unpowered_after (state_of old) → new.restarts ≡ old.restarts
     → AsksChange (Unit {0}) at len (state_of old) (state_of new) result
-AsksChange-failed at len old new (Ok x) failed told size sector steps reads small faults power dark restarts = (cc)
-AsksChange-failed at len old new (Err e) failed told size sector steps reads small faults power dark restarts = record {
+AsksChange-failed at len old new (Ok x) failed told size sector steps reads small faults power unpowered restarts = (cc)
+AsksChange-failed at len old new (Err e) failed told size sector steps reads small faults power unpowered restarts = record {
   told = λ _. told;
   one = record {
     size = size;
@@ -138,7 +138,7 @@ AsksChange-failed at len old new (Err e) failed told size sector steps reads sma
     cause = record { never_falls = omega (arith, faults); ok = tt; err = rose old.faults new.faults small faults };
     once = faults;
   };
-  dark = dark;
+  unpowered = unpowered;
   restarts = restarts;
   done = tt;
 }
@@ -150,10 +150,10 @@ AsksChange-failed at len old new (Err e) failed told size sector steps reads sma
 AsksChange-done : {T E : Type 0} (at len : ℕ) (old new : Simulation) (result : Result T E) → (IsErr result → ⊥)
     → Changed at len old.told new.told → new.sector_size ≡ old.sector_size
     → steps_of new ≡ next_count (steps_of old) → new.reads ≡ old.reads → new.faults ≡ old.faults
-    → LosesOnlyByChange (state_of old) (state_of new) → has_power new.power ≡ true → new.dark ≡ dark_after (state_of old) → new.restarts ≡ old.restarts
+    → LosesOnlyByChange (state_of old) (state_of new) → has_power new.power ≡ true → new.unpowered ≡ unpowered_after (state_of old) → new.restarts ≡ old.restarts
     → AsksChange (Unit {0}) at len (state_of old) (state_of new) result
-AsksChange-done at len old new (Err e) succeeded changed sector steps reads faults power powered dark restarts = absurd (succeeded refl)
-AsksChange-done at len old new (Ok x) succeeded changed sector steps reads faults power powered dark restarts = record {
+AsksChange-done at len old new (Err e) succeeded changed sector steps reads faults power powered unpowered restarts = absurd (succeeded refl)
+AsksChange-done at len old new (Ok x) succeeded changed sector steps reads faults power powered unpowered restarts = record {
   told = λ _. inr (inl changed);
   one = record {
     size = changed.image.same_length;
@@ -166,7 +166,7 @@ AsksChange-done at len old new (Ok x) succeeded changed sector steps reads fault
     cause = record { never_falls = omega (arith, faults); ok = faults; err = tt };
     once = tt;
   };
-  dark = dark;
+  unpowered = unpowered;
   restarts = restarts;
   done = λ _. changed;
 }
@@ -181,7 +181,7 @@ AsksChange-starved at len old new result failed steps small on follows =
     (ap (λ (flash : Simulation). flash.sector_size) follows) steps (ap (λ (flash : Simulation). flash.reads) follows) small
     (ap (λ (flash : Simulation). flash.faults) follows)
     (power-changed 0 0 old.told.image old new (ap (λ (flash : Simulation). flash.told) follows) (ap (λ (flash : Simulation). flash.power) follows))
-    (dark-lit old new.dark on (ap (λ (flash : Simulation). flash.dark) follows)) (ap (λ (flash : Simulation). flash.restarts) follows)
+    (unpowered-lit old new.unpowered on (ap (λ (flash : Simulation). flash.unpowered) follows)) (ap (λ (flash : Simulation). flash.restarts) follows)
 
 -- whatever its fate
 AsksChange-by : {T E : Type 0} (fate : Fate) (at : ℕ) (bytes : List ℕ) (old new : Simulation) (result : Result T E)
@@ -194,7 +194,7 @@ AsksChange-by Uncounted at bytes old new result within steps small powered finds
     (ap (λ (flash : Simulation). flash.sector_size) follows) steps (ap (λ (flash : Simulation). flash.reads) follows) small
     (ap (λ (flash : Simulation). flash.faults) follows)
     (power-kept old new (ap (λ (flash : Simulation). flash.power) follows))
-    (ap (λ (flash : Simulation). flash.dark) follows) (ap (λ (flash : Simulation). flash.restarts) follows)
+    (ap (λ (flash : Simulation). flash.unpowered) follows) (ap (λ (flash : Simulation). flash.restarts) follows)
 AsksChange-by Unpowered at bytes old new result within steps small powered finds follows fails =
     AsksChange-failed at (length bytes) old new result (fails.1 tt)
     (inr (inr (Changed-with_change old.told new.told 0 0 old.told.image (ap (λ (flash : Simulation). flash.told) follows) (SameOutside-refl 0 0 old.told.image))))
@@ -202,7 +202,7 @@ AsksChange-by Unpowered at bytes old new result within steps small powered finds
     (ap (λ (flash : Simulation). flash.sector_size) follows) steps (ap (λ (flash : Simulation). flash.reads) follows) small
     (ap (λ (flash : Simulation). flash.faults) follows)
     (power-kept old new (ap (λ (flash : Simulation). flash.power) follows))
-    (dark-lost old new.dark finds (ap (λ (flash : Simulation). flash.dark) follows)) (ap (λ (flash : Simulation). flash.restarts) follows)
+    (unpowered-lost old new.unpowered finds (ap (λ (flash : Simulation). flash.unpowered) follows)) (ap (λ (flash : Simulation). flash.restarts) follows)
 AsksChange-by (Reaches None) at bytes old new result within steps small powered finds (inl follows) fails =
     AsksChange-done at (length bytes) old new result
     (λ failed. let rose : old.starved < new.starved = fails.0 failed in
@@ -213,7 +213,7 @@ AsksChange-by (Reaches None) at bytes old new result within steps small powered 
     (ap (λ (flash : Simulation). flash.faults) follows)
     (power-changed at (length bytes) (image_left None old.told.image at bytes) old new (ap (λ (flash : Simulation). flash.told) follows) (ap (λ (flash : Simulation). flash.power) follows))
     (ap has_power (ap (λ (flash : Simulation). flash.power) follows) ∙ powered refl)
-    (dark-lit old new.dark finds (ap (λ (flash : Simulation). flash.dark) follows)) (ap (λ (flash : Simulation). flash.restarts) follows)
+    (unpowered-lit old new.unpowered finds (ap (λ (flash : Simulation). flash.unpowered) follows)) (ap (λ (flash : Simulation). flash.restarts) follows)
 AsksChange-by (Reaches (Some tear)) at bytes old new result within steps small powered finds (inl follows) fails =
     let changed = Changed-with_change old.told new.told at (length bytes) (image_left (Some tear) old.told.image at bytes)
     (ap (λ (flash : Simulation). flash.told) follows) (SameOutside-image_left (Some tear) old.told.image at bytes within) in
@@ -222,7 +222,7 @@ AsksChange-by (Reaches (Some tear)) at bytes old new result within steps small p
     (ap (λ (flash : Simulation). flash.sector_size) follows) steps (ap (λ (flash : Simulation). flash.reads) follows) small
     (ap (λ (flash : Simulation). flash.faults) follows)
     (power-changed at (length bytes) (image_left (Some tear) old.told.image at bytes) old new (ap (λ (flash : Simulation). flash.told) follows) (ap (λ (flash : Simulation). flash.power) follows))
-    (dark-lit old new.dark finds (ap (λ (flash : Simulation). flash.dark) follows)) (ap (λ (flash : Simulation). flash.restarts) follows)
+    (unpowered-lit old new.unpowered finds (ap (λ (flash : Simulation). flash.unpowered) follows)) (ap (λ (flash : Simulation). flash.restarts) follows)
 AsksChange-by (Reaches None) at bytes old new result within steps small powered finds (inr follows) fails =
     let rose : new.starved ≡ old.starved + 1 = ap (λ (flash : Simulation). flash.starved) follows in
     AsksChange-starved at (length bytes) old new result (fails.1 (omega arith)) steps small finds follows

@@ -2,7 +2,7 @@
 use Rattle.std.specs.Prelude.{◌≡◌, ◌⊎◌, ℕ, ◌+◌, ◌-◌, ◌^◌, ◌<◌, Bool, true, false, ◌==◌, if◌then◌else◌, List, [], ◌∷◌, ◌++◌, length, replicate, Contains, find, Option, Some, None}
 use Rattle.std.specs.Option.{option_map}
 use Rattle.base_model.specs.Bytes.{put_at}
-use Rattle.base_model.specs.Flash.{Told, FlashState, next_count, dark_after}
+use Rattle.base_model.specs.Flash.{Told, FlashState, next_count, unpowered_after}
 use Rattle.flash_model.specs.declared.cut.Cut.{Cut}
 use Rattle.flash_model.specs.declared.tear.Tear.{Tear}
 use Rattle.flash_model.specs.declared.tear.Tear.TheVariants.{Nothing, Whole, Zeros, Marks}
@@ -20,7 +20,7 @@ pub record Simulation : Type 0 where
   pub reads : ℕ
   pub faults : ℕ
   pub starved : ℕ
-  pub dark : ℕ
+  pub unpowered : ℕ
   pub restarts : ℕ
 
 -- the changes that were asked for so far: each is told
@@ -41,7 +41,7 @@ state_of flash = record {
   reads = flash.reads;
   faults = flash.faults;
   powered = has_power flash.power;
-  dark = flash.dark;
+  unpowered = flash.unpowered;
   restarts = flash.restarts;
 }
 
@@ -103,14 +103,14 @@ faults_after (Some tear) faults = next_count faults
 
 -- after a change that can't be counted: one fault more
 abbrev pub after_uncounted : Simulation → Simulation
-after_uncounted flash = record flash { faults = next_count flash.faults; dark = dark_after (state_of flash) }
+after_uncounted flash = record flash { faults = next_count flash.faults; unpowered = unpowered_after (state_of flash) }
 
 -- after a change without power: one change of nothing and one fault more
 abbrev pub after_unpowered : Simulation → Simulation
 after_unpowered flash = record flash {
   told = with_change flash.told 0 0 flash.told.image;
   faults = next_count flash.faults;
-  dark = next_count flash.dark;
+  unpowered = next_count flash.unpowered;
 }
 
 -- after a change that found no memory: one change of nothing and one fault more, and a cut at this step has come
@@ -153,7 +153,7 @@ ReadFails flash = Contains flash.failing_reads flash.reads ⊎ (flash.power ≡ 
 -- after a read, by whether it failed
 abbrev pub after_read : Bool → Simulation → Simulation
 after_read false flash = record flash { reads = next_count flash.reads }
-after_read true flash = record flash { reads = next_count flash.reads; faults = next_count flash.faults; dark = dark_after (state_of flash) }
+after_read true flash = record flash { reads = next_count flash.reads; faults = next_count flash.faults; unpowered = unpowered_after (state_of flash) }
 
 -- power comes back where it was lost
 abbrev pub power_restored : Power → Power

@@ -1,7 +1,7 @@
 // The trait of a flash.
 ghost use Rattle.std.specs.Prelude.{true, ◌≡◌, ◌↔◌, ℕ, ◌+◌, ◌*◌, ◌<◌, ◌≤◌, length, replicate, Result, OnOk, IsErr};
 ghost use Rattle.base_model.specs.Bytes.{part, put_at};
-ghost use Rattle.base_model.specs.Flash.{FlashState, OnlyReads, AsksChange, IsErased, restart, next_count, dark_after};
+ghost use Rattle.base_model.specs.Flash.{FlashState, OnlyReads, AsksChange, IsErased, restart, next_count, unpowered_after};
 
 /// The flash failed.
 #[derive(Clone, Copy, Debug, PartialEq, Eq)]
@@ -40,7 +40,7 @@ pub trait Flash {
         ensures bytes { OnOk result (tells → buf.new ≡ part (state self.old).told.image at (length buf.old)) }
         ensures stays { OnlyReads tells 1 (state self.old) (state self.new) result }
         ensures counted { (state self.new).reads ≡ next_count (state self.old).reads }
-        ensures dark { (state self.new).dark ≡ dark_after (state self.old) }
+        ensures unpowered { (state self.new).unpowered ≡ unpowered_after (state self.old) }
         ensures fails { IsErr result ↔ read_fails self.old };
 
     /// Programs erased bytes from `at` on.

@@ -37,12 +37,12 @@ impl Power {
     }
 
     /// The calls that found no power, after one more.
-    pub(crate) fn count_dark(self, dark: u64) -> u64
-        ensures { result ≡ (if has_power self then dark else next_count dark) }
+    pub(crate) fn count_unpowered(self, unpowered: u64) -> u64
+        ensures { result ≡ (if has_power self then unpowered else next_count unpowered) }
     {
         match self {
-            Power::Lost => next_count(dark),
-            _ => dark,
+            Power::Lost => next_count(unpowered),
+            _ => unpowered,
         }
     }
 

@@ -1,7 +1,7 @@
 // A flash in memory.
 ghost use Rattle.std.specs.Prelude.{true, ◌≡◌, ◌↔◌, ℕ, ◌+◌, ◌*◌, ◌^◌, ◌<◌, ◌≤◌, [], ◌∷◌, ◌++◌, length, replicate, Contains, Result, OnOk, OnErr, is_err, IsErr, IsTrue};
 ghost use Rattle.base_model.specs.Bytes.{part, put_at};
-ghost use Rattle.base_model.specs.Flash.{FlashState, OnlyReads, AsksChange, IsErased, restart, next_count, dark_after};
+ghost use Rattle.base_model.specs.Flash.{FlashState, OnlyReads, AsksChange, IsErased, restart, next_count, unpowered_after};
 
 use crate::content::Content;
 use crate::counts::next_count;
@@ -31,7 +31,7 @@ pub struct SimFlash {
     faults: u64,
     starved: u64,
     // How many calls for a change or a read found no power.
-    dark: u64,
+    unpowered: u64,
     restarts: u64,
 }
 
@@ -51,7 +51,7 @@ impl Model for SimFlash {
       reads = flash.reads;
       faults = flash.faults;
       starved = flash.starved;
-      dark = flash.dark;
+      unpowered = flash.unpowered;
       restarts = flash.restarts;
     } };
 
@@ -83,7 +83,7 @@ impl SimFlash {
           reads = 0;
           faults = 0;
           starved = 0;
-          dark = 0;
+          unpowered = 0;
           restarts = 0;
         } }
         ensures tells { ⟦<SimFlash as Flash>⟧.tells }
@@ -99,7 +99,7 @@ impl SimFlash {
             reads: 0,
             faults: 0,
             starved: 0,
-            dark: 0,
+            unpowered: 0,
             restarts: 0,
         }
     }
@@ -129,13 +129,13 @@ impl SimFlash {
     {
         if self.steps == u64::MAX {
             self.faults = next_count(self.faults);
-            self.dark = self.power.count_dark(self.dark);
+            self.unpowered = self.power.count_unpowered(self.unpowered);
             return Err(FlashFailed);
         }
         if self.power.is_lost() {
             self.steps += 1;
             self.faults = next_count(self.faults);
-            self.dark = next_count(self.dark);
+            self.unpowered = next_count(self.unpowered);
             return Err(FlashFailed);
         }
         let step = self.steps;
@@ -199,7 +199,7 @@ impl Flash for SimFlash {
         ensures bytes { OnOk result (buf.new ≡ part self.old.told.image at (length buf.old)) }
         ensures stays { OnlyReads (Unit {0}) 1 (state_of self.old) (state_of self.new) result }
         ensures counted { self.new.reads ≡ next_count self.old.reads }
-        ensures dark { self.new.dark ≡ dark_after (state_of self.old) }
+        ensures unpowered { self.new.unpowered ≡ unpowered_after (state_of self.old) }
         ensures fails { IsErr result ↔ ReadFails self.old }
         ensures after { self.new ≡ after_read (is_err result) self.old }
     {
@@ -207,7 +207,7 @@ impl Flash for SimFlash {
         self.reads = next_count(self.reads);
         if fails {
             self.faults = next_count(self.faults);
-            self.dark = self.power.count_dark(self.dark);
+            self.unpowered = self.power.count_unpowered(self.unpowered);
             return Err(FlashFailed);
         }
         let at = at as usize;

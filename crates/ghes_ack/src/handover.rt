@@ -13,7 +13,7 @@ use crate::events::{Event, Side};
 use crate::maps::HandoverMap;
 use crate::submission::{SubmitError, check_block};
 use crate::turns::{all_turns, piece_turn};
-use apei_bytes::Memory;
+use apei_bytes::OutOfMemory;
 use apei_space::Ram;
 use std::alloc::Global;
 use std::marker::Model;
@@ -39,7 +39,7 @@ impl Model for Handover {
 impl Handover {
     /// Begins a handover, with room for 66 blocks: 64 that wait, the one at work and the one taken last. No other call
     /// takes memory.
-    pub fn new(alloc: Global, map: HandoverMap, ram: &mut Ram) -> Result<Handover, Memory>
+    pub fn new(alloc: Global, map: HandoverMap, ram: &mut Ram) -> Result<Handover, OutOfMemory>
         requires windows { HasWindows map ram.old }
         requires bits { HasAckBits map }
         ensures fresh { IfOk result (λ handover. handover ≡ fresh map) }

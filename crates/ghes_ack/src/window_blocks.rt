@@ -4,7 +4,7 @@ ghost use Rattle.std.specs.VecDeque.{deque_len};
 ghost use Rattle.ghes_ack.specs.WindowQueues.{HasRoom, IsWide, IsEmpty, HoldsNone, TakesOut, Adds};
 
 use crate::window_maps::HasWindow;
-use apei_bytes::Memory;
+use apei_bytes::OutOfMemory;
 use std::alloc::Global;
 use std::collections::VecDeque;
 use std::mem::replace;
@@ -28,7 +28,7 @@ pub struct Blocks<M> {
 }
 
 /// 65 empty buffers with room for so many bytes.
-fn buffers(alloc: Global, len: usize) -> Result<Vec<Vec<u8>>, Memory>
+fn buffers(alloc: Global, len: usize) -> Result<Vec<Vec<u8>>, OutOfMemory>
     ensures count { IfOk result (λ spare. vec_len spare ≡ 65) }
     ensures stack { IfOk result (λ spare. 65 ≤ vec_capacity spare) }
     ensures rooms { IfOk result (λ spare. All (IsWide len) spare.items) }
@@ -42,7 +42,7 @@ fn buffers(alloc: Global, len: usize) -> Result<Vec<Vec<u8>>, Memory>
 
 impl<M: HasWindow + Drop> Blocks<M> {
     /// Room for 64 blocks that wait, the one at work and the one taken last.
-    pub fn new(alloc: Global, map: M) -> Result<Blocks<M>, Memory>
+    pub fn new(alloc: Global, map: M) -> Result<Blocks<M>, OutOfMemory>
         ensures room { IfOk result (HasRoom M.window_of 0) }
         ensures empty { IfOk result IsEmpty }
         ensures map { IfOk result (λ b. b.map ≡ map) }

@@ -3,7 +3,7 @@ ghost use Rattle.std.specs.Prelude.{◌≡◌, ◌<◌, ◌≤◌, ◌+◌, ◌+
 ghost use Rattle.ghes_hub.specs.Chains.{chains_of, in_order};
 ghost use Rattle.ghes_hub.specs.Deals.{AreDealt, AreEmpty, item_lists};
 
-use apei_bytes::Memory;
+use apei_bytes::OutOfMemory;
 use apei_notify::{Chain, Listener};
 use std::alloc::Global;
 
@@ -12,7 +12,7 @@ pub fn empty_lists(
     alloc: Global,
     count: usize,
     many: usize,
-) -> Result<Vec<Vec<Box<dyn Listener>>>, Memory>
+) -> Result<Vec<Vec<Box<dyn Listener>>>, OutOfMemory>
     ensures { IfOk result (λ lists. AreEmpty count many lists.items) }
 {
     let mut lists = Vec::with_capacity(alloc, count)?;

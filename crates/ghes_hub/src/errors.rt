@@ -1,8 +1,8 @@
 // Why a hub is not opened.
 ghost use Rattle.std.specs.Prelude.{◌≡◌};
-ghost use Rattle.ghes_hub.specs.declared.errors.HubError.TheVariants.{Memory as OutOfMemory};
+ghost use Rattle.ghes_hub.specs.declared.errors.HubError.TheVariants.{Memory as WantOfMemory};
 
-use apei_bytes::Memory;
+use apei_bytes::OutOfMemory;
 use apei_notify::Listener;
 use std::alloc::AllocError;
 
@@ -26,17 +26,17 @@ pub enum HubError {
 }
 
 impl From<AllocError> for HubError {
-    ghost from_gives = { λ _ error. error ≡ OutOfMemory };
+    ghost from_gives = { λ _ error. error ≡ WantOfMemory };
 
     fn from(_: AllocError) -> Self {
         HubError::Memory
     }
 }
 
-impl From<Memory> for HubError {
-    ghost from_gives = { λ _ error. error ≡ OutOfMemory };
+impl From<OutOfMemory> for HubError {
+    ghost from_gives = { λ _ error. error ≡ WantOfMemory };
 
-    fn from(_: Memory) -> Self {
+    fn from(_: OutOfMemory) -> Self {
         HubError::Memory
     }
 }

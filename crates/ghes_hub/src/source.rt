@@ -9,7 +9,7 @@ ghost use Rattle.ghes_hub.specs.OneSource.{SourceStands, Stands, SamePlaces, Sou
 
 use crate::layouts::Layout;
 use crate::plain::PlainHandover;
-use apei_bytes::Memory;
+use apei_bytes::OutOfMemory;
 use apei_space::Ram;
 use ghes_ack::{Event, Handover, Side, SubmitError};
 use std::alloc::Global;
@@ -22,7 +22,7 @@ pub enum Source {
 
 impl Source {
     /// Begins the handover of a source. No other call takes memory.
-    pub fn new(alloc: Global, layout: Layout, ram: &mut Ram) -> Result<Source, Memory>
+    pub fn new(alloc: Global, layout: Layout, ram: &mut Ram) -> Result<Source, OutOfMemory>
         requires { HasLayout layout ram.old }
         ensures stands { IfOk result (λ handover. SourceStands handover ram.new (started (layout_window layout ram.old))) }
         ensures layout { IfOk result (λ handover. layout_in handover ≡ layout) }

@@ -10,7 +10,7 @@ ghost use Rattle.ghes_hub.specs.SourcesState.{StandsAt, TurnsAt, layouts_in};
 
 use crate::layouts::Layout;
 use crate::source::Source;
-use apei_bytes::Memory;
+use apei_bytes::OutOfMemory;
 use apei_space::Ram;
 use ghes_ack::{Event, Side, SubmitError};
 use std::alloc::Global;
@@ -34,7 +34,7 @@ impl Model for Sources {
 
 impl Sources {
     /// Begins a handover for each layout, in their order.
-    pub fn begin(alloc: Global, layouts: &[Layout], mut ram: Ram) -> Result<Sources, Memory>
+    pub fn begin(alloc: Global, layouts: &[Layout], mut ram: Ram) -> Result<Sources, OutOfMemory>
         requires { AreLaidOut layouts.now ram }
         ensures { IfOk result (λ sources. (length sources.list ≡ length layouts.now) × AreBegun layouts.now ram sources.ram sources.list) }
     {
@@ -44,7 +44,7 @@ impl Sources {
                 Ok(handover) => list.push_reserved(handover),
                 Err(_) => {
                     end_all(list);
-                    return Err(Memory);
+                    return Err(OutOfMemory);
                 }
             }
         }

@@ -98,16 +98,16 @@ heard_line {X} f told members written middle held reply k n so same many is =
 pub heard_all : {X : Type 0} (f : X → ℕ) (told : Type 0) (o : Option (List X)) (written middle now held reply lent : List ℕ) (k n : ℕ)
     → IfSome o (λ members. AreShown told written middle held (words_of_heard (map f (take k members)))) → k ≡ n → IfSome o (λ members. n ≡ min (length members) (2 ^ 32 - 1)) → reply ≡ reply_line held → lent ≡ reply
     → (told → now ≡ middle ++ lent) → IfSome o (λ members. told → now ≡ written ++ reply_line (words_of_heard (map f (listed members))))
-heard_all f told None written middle now held reply lent k n so same many is alike text = tt
-heard_all f told (Some members) written middle now held reply lent k n so same many is alike text =
+heard_all f told None written middle now held reply lent k n so same many is equivalent text = tt
+heard_all f told (Some members) written middle now held reply lent k n so same many is equivalent text =
     shown_all told written middle now reply (reply_line (words_of_heard (map f (listed members)))) (heard_line f told members written middle held reply k n so same many is)
-    (λ t. text t ∙ ap (λ (xs : List ℕ). middle ++ xs) alike)
+    (λ t. text t ∙ ap (λ (xs : List ℕ). middle ++ xs) equivalent)
 
 pub heard_last : {X : Type 0} (f : X → ℕ) (told : Type 0) (o : Option (List X)) (written middle now held reply lent : List ℕ) (k n : ℕ)
     → IfSome o (λ members. AreShown told written middle held (words_of_heard (map f (take k members)))) → k ≡ n → IfSome o (λ members. n ≡ min (length members) (2 ^ 32 - 1)) → reply ≡ reply_line held → lent ≡ reply
     → (told → (m : ℕ) × (now ≡ middle ++ take m lent)) → IfSome o (λ members. told → IsPartWritten (reply_line (words_of_heard (map f (listed members)))) written now)
-heard_last f told None written middle now held reply lent k n so same many is alike text = tt
-heard_last f told (Some members) written middle now held reply lent k n so same many is alike text =
+heard_last f told None written middle now held reply lent k n so same many is equivalent text = tt
+heard_last f told (Some members) written middle now held reply lent k n so same many is equivalent text =
     shown_part told written middle now reply (reply_line (words_of_heard (map f (listed members)))) [] (reply_line (words_of_heard (map f (listed members))))
     (heard_line f told members written middle held reply k n so same many is) (sym (append-nil (reply_line (words_of_heard (map f (listed members))))))
-    (λ t. let part = text t in (part.0, part.1 ∙ ap (λ (xs : List ℕ). middle ++ take part.0 xs) alike))
+    (λ t. let part = text t in (part.0, part.1 ∙ ap (λ (xs : List ℕ). middle ++ take part.0 xs) equivalent))

@@ -16,11 +16,11 @@ use Rattle.hub_script.specs.RefusalWords.{words_of_refusal}
 use Rattle.hub_script.specs.declared.refusals.HubRefusal.TheVariants.{NoHub}
 use Rattle.hub_script.specs.Replies.{refused, reply_line, text_of_replies, words_of_block, words_of_turns, word_of}
 use Rattle.script_text.specs.Shown.{IsPartWritten}
-use Rattle.hub_script.specs.Stages.{Stage, Waiting, Serving}
+use Rattle.hub_script.specs.Stages.{HubStage, Waiting, Serving}
 use Rattle.hub_script.specs.Plays.{Plays, IsRefused, source_of, AllNamed, Turned, NoTurn, OneMore, AllTurned}
 use Rattle.script_text.specs.Turns.{side_of}
-use Rattle.hub_script.specs.Lines.{PlaysLine, PlaysUnheard, TextIs, IsLeft, LeftOfTurns, AtLast, InBlock}
-use Rattle.hub_script.specs.TurnLines.{TakesTurn, TakesUnheard}
+use Rattle.hub_script.specs.Lines.{PlaysLine, PlaysUnwritten, TextIs, IsLeft, LeftOfTurns, AtLast, InBlock}
+use Rattle.hub_script.specs.TurnLines.{TakesTurn, TakesUnwritten}
 use Rattle.hub_script.specs.Made.{MakesReply}
 use Rattle.script_text.proofs.ShownLemmas.{flat_map-append}
 
@@ -34,7 +34,7 @@ asks_hub (turns pairs) = true
 asks_hub (heard source) = true
 asks_hub (removal source at) = true
 
-while_waiting : {L : Type 0} (hearing : L → Hearing) (listeners : List L) (line : Line) (said : List (List ℕ)) (calls : List Call) (new : Stage L) → asks_hub line ≡ true
+while_waiting : {L : Type 0} (hearing : L → Hearing) (listeners : List L) (line : Line) (said : List (List ℕ)) (calls : List Call) (new : HubStage L) → asks_hub line ≡ true
     → IsRefused NoHub (Waiting listeners) said calls new → Plays hearing (Waiting listeners) line said calls new
 while_waiting hearing listeners blank said calls new asks is = absurd (cc asks)
 while_waiting hearing listeners (comment rest) said calls new asks is = absurd (cc asks)
@@ -55,7 +55,7 @@ more_text written said words =
     ∙ ap (λ (xs : List ℕ). written ++ xs) (ap (λ (xs : List ℕ). text_of_replies said ++ xs) (sym (one_text words)) ∙ sym (flat_map-append reply_line said (words ∷ [])))
 
 -- a line of one reply has it left
-left_one : {L : Type 0} (hearing : L → Hearing) (old : Stage L) (line : Line) (words : List ℕ) (calls : List Call) (new : Stage L) → Plays hearing old line (words ∷ []) calls new → IsLeft line line (words ∷ []) [] words
+left_one : {L : Type 0} (hearing : L → Hearing) (old : HubStage L) (line : Line) (words : List ℕ) (calls : List Call) (new : HubStage L) → Plays hearing old line (words ∷ []) calls new → IsLeft line line (words ∷ []) [] words
 left_one hearing old blank words calls new is = absurd (cc is.said_is)
 left_one hearing old (comment rest) words calls new is = absurd (cc is.said_is)
 left_one hearing old (hest hex) words calls new is = (refl, refl, refl)
@@ -64,14 +64,14 @@ left_one hearing old (turns pairs) words calls new is = AtLast pairs [] words
 left_one hearing old (heard source) words calls new is = (refl, refl, refl)
 left_one hearing old (removal source at) words calls new is = (refl, refl, refl)
 
-module _ {L : Type 0} (hearing : L → Hearing) (told_sink : Type 0) (old new : Stage L) (line : Line) (written now : List ℕ) where
+module _ {L : Type 0} (hearing : L → Hearing) (told_sink : Type 0) (old new : HubStage L) (line : Line) (written now : List ℕ) where
   -- a line of one reply, which was written
   pub one_played : (words : List ℕ) (calls : List Call) → Plays hearing old line (words ∷ []) calls new → (told_sink → now ≡ written ++ reply_line words) → PlaysLine hearing told_sink old line new written now
   one_played words calls plays text = record { said = words ∷ []; calls = calls; plays = plays; text = λ t. text t ∙ ap (λ (xs : List ℕ). written ++ xs) (sym (one_text words)) }
 
   -- and one which was written in part
-  pub one_unheard : (words : List ℕ) (calls : List Call) → Plays hearing old line (words ∷ []) calls new → (told_sink → IsPartWritten (reply_line words) written now) → PlaysUnheard hearing told_sink old line new written now
-  one_unheard words calls plays text = record {
+  pub one_unwritten : (words : List ℕ) (calls : List Call) → Plays hearing old line (words ∷ []) calls new → (told_sink → IsPartWritten (reply_line words) written now) → PlaysUnwritten hearing told_sink old line new written now
+  one_unwritten words calls plays text = record {
     made = line;
     said = words ∷ [];
     calls = calls;
@@ -86,8 +86,8 @@ module _ {L : Type 0} (hearing : L → Hearing) (told_sink : Type 0) (old new : 
   pub reply_played : (reply lent : List ℕ) → MakesReply hearing old line new reply → lent ≡ reply → (told_sink → now ≡ written ++ lent) → PlaysLine hearing told_sink old line new written now
   reply_played reply lent made same text = one_played made.words made.calls made.plays (λ t. text t ∙ ap (λ (xs : List ℕ). written ++ xs) (same ∙ made.text))
 
-  pub reply_unheard : (reply lent : List ℕ) → MakesReply hearing old line new reply → lent ≡ reply → (told_sink → (n : ℕ) × (now ≡ written ++ take n lent)) → PlaysUnheard hearing told_sink old line new written now
-  reply_unheard reply lent made same text = one_unheard made.words made.calls made.plays
+  pub reply_unwritten : (reply lent : List ℕ) → MakesReply hearing old line new reply → lent ≡ reply → (told_sink → (n : ℕ) × (now ≡ written ++ take n lent)) → PlaysUnwritten hearing told_sink old line new written now
+  reply_unwritten reply lent made same text = one_unwritten made.words made.calls made.plays
       (λ t. let part = text t in (part.0, part.1 ∙ ap (λ (xs : List ℕ). written ++ take part.0 xs) (same ∙ made.text)))
 
 -- a reply to a line for which there is no hub
@@ -130,9 +130,9 @@ module _ {L : Type 0} (hearing : L → Hearing) (told_sink : Type 0) (source : �
   }
 
   -- or was refused
-  pub turn_unheard : (written later block : List ℕ) → HubTurns hearing source side event old new → takes event ≡ true → block ≡ last_in new.sources source
-      → (told_sink → IsPartWritten (reply_line (words_of_block source block)) written later) → TakesUnheard hearing told_sink source side old new written later
-  turn_unheard written later block turned took is text = record {
+  pub turn_unwritten : (written later block : List ℕ) → HubTurns hearing source side event old new → takes event ≡ true → block ≡ last_in new.sources source
+      → (told_sink → IsPartWritten (reply_line (words_of_block source block)) written later) → TakesUnwritten hearing told_sink source side old new written later
+  turn_unwritten written later block turned took is text = record {
     turned = subst (λ (e : Event). HubTurns hearing source side e old new) (took_is event took) turned;
     text = λ t. subst (λ (b : List ℕ). IsPartWritten (reply_line (words_of_block source b)) written later) is (text t);
   }
@@ -208,8 +208,8 @@ module _ {L : Type 0} (hearing : L → Hearing) (told_sink : Type 0) where
   -- the sink refused the line of a block
   cut_turned : (old mid new : HubState L) (all : List ℕ) (at : ℕ) (said_events written middle now : List ℕ) → 2 * at + 1 < length all → AllNamed old all
       → TurnedSoFar hearing told_sink old mid (take (2 * at) all) said_events written middle
-      → TakesUnheard hearing told_sink (source_of (get_or all (2 * at) 0)) (side_of (get_or all (2 * at + 1) 0)) mid new middle now
-      → PlaysUnheard hearing told_sink (Serving old) (turns all) (Serving new) written now
+      → TakesUnwritten hearing told_sink (source_of (get_or all (2 * at) 0)) (side_of (get_or all (2 * at + 1) 0)) mid new middle now
+      → PlaysUnwritten hearing told_sink (Serving old) (turns all) (Serving new) written now
   cut_turned old mid new all at said_events written middle now within named so turn =
       let digit = get_or all (2 * at) 0 in
       let letter = get_or all (2 * at + 1) 0 in
@@ -236,12 +236,12 @@ module _ {L : Type 0} (hearing : L → Hearing) (told_sink : Type 0) where
   pub turn_cut : (old mid new : HubState L) (all : List ℕ) (at source : ℕ) (side : Side) (said_events written middle now : List ℕ) → 2 * at + 1 < length all → AllNamed old all
       → source ≡ source_of (get_or all (2 * at) 0) → side ≡ side_of (get_or all (2 * at + 1) 0)
       → TurnedSoFar hearing told_sink old mid (take (2 * at) all) said_events written middle
-      → TakesUnheard hearing told_sink source side mid new middle now
-      → PlaysUnheard hearing told_sink (Serving old) (turns all) (Serving new) written now
+      → TakesUnwritten hearing told_sink source side mid new middle now
+      → PlaysUnwritten hearing told_sink (Serving old) (turns all) (Serving new) written now
   turn_cut old mid new all at source side said_events written middle now within named of_source of_side so turn =
       cut_turned old mid new all at said_events written middle now within named so
-      (subst (λ (i : ℕ). TakesUnheard hearing told_sink i (side_of (get_or all (2 * at + 1) 0)) mid new middle now) of_source
-      (subst (λ (s : Side). TakesUnheard hearing told_sink source s mid new middle now) of_side turn))
+      (subst (λ (i : ℕ). TakesUnwritten hearing told_sink i (side_of (get_or all (2 * at + 1) 0)) mid new middle now) of_source
+      (subst (λ (s : Side). TakesUnwritten hearing told_sink source s mid new middle now) of_side turn))
 
   -- all turns
   of_all : (old new : HubState L) (all : List ℕ) (at : ℕ) (said_events written now : List ℕ) → length all ≤ 2 * at → TurnedSoFar hearing told_sink old new (take (2 * at) all) said_events written now
@@ -261,9 +261,9 @@ module _ {L : Type 0} (hearing : L → Hearing) (told_sink : Type 0) where
       }
 
   -- and a part of the reply behind them
-  pub all_unheard : (old new : HubState L) (all : List ℕ) (at : ℕ) (said_events written middle now : List ℕ) → length all ≤ 2 * at → AllNamed old all → TurnedSoFar hearing told_sink old new (take (2 * at) all) said_events written middle
-      → (told_sink → IsPartWritten (reply_line said_events) middle now) → PlaysUnheard hearing told_sink (Serving old) (turns all) (Serving new) written now
-  all_unheard old new all at said_events written middle now end named some text =
+  pub all_unwritten : (old new : HubState L) (all : List ℕ) (at : ℕ) (said_events written middle now : List ℕ) → length all ≤ 2 * at → AllNamed old all → TurnedSoFar hearing told_sink old new (take (2 * at) all) said_events written middle
+      → (told_sink → IsPartWritten (reply_line said_events) middle now) → PlaysUnwritten hearing told_sink (Serving old) (turns all) (Serving new) written now
+  all_unwritten old new all at said_events written middle now end named some text =
       let so = of_all old new all at said_events written middle end some in
       record {
         made = turns all;
@@ -305,11 +305,11 @@ pub is_named : {L : Type 0} (first now : HubState L) (pairs : List ℕ) (at sour
 is_named first now pairs at source named within is count = let here = named at within in omega (arith, here, is, count)
 
 -- a blank line says nothing
-pub blank_played : {L : Type 0} (hearing : L → Hearing) (told_sink : Type 0) (stage : Stage L) (written : List ℕ) → PlaysLine hearing told_sink stage blank stage written written
+pub blank_played : {L : Type 0} (hearing : L → Hearing) (told_sink : Type 0) (stage : HubStage L) (written : List ℕ) → PlaysLine hearing told_sink stage blank stage written written
 blank_played hearing told_sink stage written = record { said = []; calls = []; plays = record { said_is = refl; calls_are = refl; stays = refl }; text = λ t. sym (append-nil written) }
 
 -- the line that a text is, a comment where it is one
-pub text_is : {L : Type 0} (hearing : L → Hearing) (told_sink : Type 0) (old new : Stage L) (written now text : List ℕ) (line : HubLine) → IsText text line → PlaysLine hearing told_sink old (line_of line) new written now
+pub text_is : {L : Type 0} (hearing : L → Hearing) (told_sink : Type 0) (old new : HubStage L) (written now text : List ℕ) (line : HubLine) → IsText text line → PlaysLine hearing told_sink old (line_of line) new written now
     → TextIs text (λ asked. PlaysLine hearing told_sink old asked new written now)
 text_is hearing told_sink old new written now text Blank (inl is) plays = record { line = blank; written = is; made = plays }
 text_is hearing told_sink old new written now text Blank (inr (rest, is)) plays = record { line = comment rest; written = is; made = record { said = plays.said; calls = plays.calls; plays = plays.plays; text = plays.text } }

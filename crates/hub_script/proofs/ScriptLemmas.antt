@@ -13,11 +13,11 @@ use Rattle.script_lines.specs.Reads.{HasRead, StandsAt, AreReadInOrder, last_lin
 use Rattle.hub_script.specs.HubGrammar.{IsLine}
 use Rattle.hub_script.specs.HubText.{IsWritten}
 use Rattle.hub_script.specs.Replies.{text_of_replies, reply_line}
-use Rattle.hub_script.specs.Stages.{Stage, Waiting, IsWaiting, members_in}
+use Rattle.hub_script.specs.Stages.{HubStage, Waiting, IsWaiting, members_in}
 use Rattle.hub_script.specs.Plays.{Plays}
-use Rattle.hub_script.specs.Lines.{PlaysLine, PlaysUnheard, TextIs, GivesTable, PairsAreNamed}
+use Rattle.hub_script.specs.Lines.{PlaysLine, PlaysUnwritten, TextIs, GivesTable, PairsAreNamed}
 use Rattle.hub_script.specs.History.{Played, Follows, stage_behind, text_of_played}
-use Rattle.hub_script.specs.Scripts.{IsUnheard, PlaysScript, ServesScript}
+use Rattle.hub_script.specs.Scripts.{IsUnwritten, PlaysScript, ServesScript}
 use Rattle.script_lines.specs.Ends.{EndsReading, IsBadFrom, fault_of}
 use Rattle.script_lines.specs.declared.ending.ScriptEnd.{ScriptEnd}
 use Rattle.script_lines.specs.declared.ending.ScriptEnd.TheVariants.{Done, BadLine, SinkFault, Memory}
@@ -28,13 +28,13 @@ use Rattle.hub_script.proofs.ServedLemmas.{are_served}
 pub is_short : (text : List ℕ) (line : TextLine) → text ≡ line.text → (IsTooLong line → ⊥) → length text ≤ LONGEST_LINE
 is_short text line is within = elim (cases_lt LONGEST_LINE (length line.text)) [ inl long ↦ absurd (within (inl long)) | inr short ↦ omega (arith, ap length is) ]
 
-Follows-push : {L : Type 0} (hearing : L → Hearing) (first : Stage L) (some : List (Played L)) (mid : Stage L) (one : Played L) → Follows hearing first some mid
+Follows-push : {L : Type 0} (hearing : L → Hearing) (first : HubStage L) (some : List (Played L)) (mid : HubStage L) (one : Played L) → Follows hearing first some mid
     → Plays hearing mid one.line one.said one.calls one.left → Follows hearing first (some ++ one ∷ []) one.left
-Follows-push {L} hearing first [] mid one is plays = (subst (λ (stage : Stage L). Plays hearing stage one.line one.said one.calls one.left) is plays, refl)
+Follows-push {L} hearing first [] mid one is plays = (subst (λ (stage : HubStage L). Plays hearing stage one.line one.said one.calls one.left) is plays, refl)
 Follows-push hearing first (head ∷ some) mid one (plays, follows) line = (plays, Follows-push hearing head.left some mid one follows line)
 
 -- the stage behind lines is the one that the last of them left
-behind_is : {L : Type 0} (hearing : L → Hearing) (first : Stage L) (some : List (Played L)) (last : Stage L) → Follows hearing first some last → stage_behind first some ≡ last
+behind_is : {L : Type 0} (hearing : L → Hearing) (first : HubStage L) (some : List (Played L)) (last : HubStage L) → Follows hearing first some last → stage_behind first some ≡ last
 behind_is hearing first [] last follows = sym follows
 behind_is hearing first (head ∷ some) last (plays, follows) = behind_is hearing head.left some last follows
 
@@ -44,7 +44,7 @@ text-push (first ∷ some) one = ap (λ (bs : List ℕ). text_of_replies first.s
 
 module _ {L : Type 0} (hearing : L → Hearing) (told_source told_sink : Type 0) where
   -- a script so far: the lines that were read, all of them played
-  pub record SoFar (old new : Stage L) (script rest written written_now : List ℕ) (reading : Reading) : Type 0 where
+  pub record SoFar (old new : HubStage L) (script rest written written_now : List ℕ) (reading : Reading) : Type 0 where
     pub lines : List TextLine
     pub played : List (Played L)
     pub read : HasRead told_source script rest lines reading
@@ -52,30 +52,30 @@ module _ {L : Type 0} (hearing : L → Hearing) (told_source told_sink : Type 0)
     pub follows : Follows hearing old played new
     pub text : told_sink → written_now ≡ written ++ text_of_played played
 
-  pub start : (stage : Stage L) (script written : List ℕ) (reading : Reading) → HasRead told_source script script [] reading → SoFar stage stage script script written written reading
+  pub start : (stage : HubStage L) (script written : List ℕ) (reading : Reading) → HasRead told_source script script [] reading → SoFar stage stage script script written written reading
   start stage script written reading read = record { lines = []; played = []; read = read; are = tt; follows = refl; text = λ told. sym (append-nil written) }
 
   -- there is no next line
-  pub ends_none : (order : AreReadInOrder told_source) (old new : Stage L) (script rest rest_now written now : List ℕ) (a b : Reading) (ending : ScriptEnd)
+  pub ends_none : (order : AreReadInOrder told_source) (old new : HubStage L) (script rest rest_now written now : List ℕ) (a b : Reading) (ending : ScriptEnd)
       → SoFar old new script rest written now a → EndsReading told_source a b rest rest_now ending → PlaysScript hearing told_source told_sink old new script rest_now written now ending
   ends_none order old new script rest rest_now written now a b ending so_far end = record {
     lines = so_far.lines;
     ends = lines_end IsLine GivesTable told_source script rest rest_now so_far.lines a b ending order so_far.read end;
     played = so_far.played;
     follows = so_far.follows;
-    are = whole (λ (text : List ℕ) (one : Played L). IsWritten text one.line) (IsUnheard told_sink old written now) (λ (all : List (Played L)). told_sink → now ≡ written ++ text_of_played all)
+    are = whole (λ (text : List ℕ) (one : Played L). IsWritten text one.line) (IsUnwritten told_sink old written now) (λ (all : List (Played L)). told_sink → now ≡ written ++ text_of_played all)
         told_source a b rest rest_now so_far.lines so_far.played ending end (so_far.are, so_far.text);
     waits = λ memory. absurd (not_memory told_source a b rest rest_now ending end memory);
   }
 
   -- the line that was read last
-  module _ (old mid : Stage L) (script rest rest_now written middle : List ℕ) (a b : Reading) (so_far : SoFar old mid script rest written middle a)
+  module _ (old mid : HubStage L) (script rest rest_now written middle : List ℕ) (a b : Reading) (so_far : SoFar old mid script rest written middle a)
       (text : List ℕ) (next : IsNextLine told_source a b rest rest_now) (same : text ≡ b.line) where
     is_this : (Is : List ℕ → Type 0) → Is text → IsLineOf Is (last_line b)
     is_this Is is = is_line Is told_source a b rest rest_now text next same is
 
     -- it was played
-    pub so_far_next : (new : Stage L) (now : List ℕ) → HasRead told_source script rest_now (so_far.lines ++ last_line b ∷ []) b
+    pub so_far_next : (new : HubStage L) (now : List ℕ) → HasRead told_source script rest_now (so_far.lines ++ last_line b ∷ []) b
         → TextIs text (λ line. PlaysLine hearing told_sink mid line new middle now) → SoFar old new script rest_now written now b
     so_far_next new now read plays =
         let one : Played L = record { line = plays.line; said = plays.made.said; calls = plays.made.calls; left = new } in
@@ -90,18 +90,18 @@ module _ {L : Type 0} (hearing : L → Hearing) (told_source told_sink : Type 0)
         }
 
     -- the sink refused a reply of it
-    pub ends_unheard : (new : Stage L) (now : List ℕ) → (told_source → StandsAt script so_far.lines b.number (last_line b))
-        → TextIs text (λ line. PlaysUnheard hearing told_sink mid line new middle now) → PlaysScript hearing told_source told_sink old new script rest_now written now SinkFault
-    ends_unheard new now stands plays =
+    pub ends_unwritten : (new : HubStage L) (now : List ℕ) → (told_source → StandsAt script so_far.lines b.number (last_line b))
+        → TextIs text (λ line. PlaysUnwritten hearing told_sink mid line new middle now) → PlaysScript hearing told_source told_sink old new script rest_now written now SinkFault
+    ends_unwritten new now stands plays =
         let made = plays.made in
         let one : Played L = record { line = made.made; said = made.said; calls = made.calls; left = new } in
-        let unheard : IsUnheard told_sink old written now so_far.played text one = record {
+        let unwritten : IsUnwritten told_sink old written now so_far.played text one = record {
           line = plays.line;
           is = plays.written;
           before = made.before;
-          unheard = made.last;
+          unwritten = made.last;
           left = made.left;
-          named = subst (λ (stage : Stage L). (made.made ≡ plays.line) ⊎ PairsAreNamed stage plays.line) (sym (behind_is hearing old so_far.played mid so_far.follows)) made.named;
+          named = subst (λ (stage : HubStage L). (made.made ≡ plays.line) ⊎ PairsAreNamed stage plays.line) (sym (behind_is hearing old so_far.played mid so_far.follows)) made.named;
           wrote = λ told. let part = made.text told in (part.0, part.1 ∙ ap (λ (bs : List ℕ). bs ++ text_of_replies made.before ++ take part.0 (reply_line made.last)) (so_far.text told));
         } in
         record {
@@ -117,13 +117,13 @@ module _ {L : Type 0} (hearing : L → Hearing) (told_source told_sink : Type 0)
             last = one;
             played_is = refl;
             are = so_far.are;
-            made = is_this (λ (words : List ℕ). IsUnheard told_sink old written now so_far.played words one) unheard;
+            made = is_this (λ (words : List ℕ). IsUnwritten told_sink old written now so_far.played words one) unwritten;
           };
           waits = λ e. absurd (cc e);
         }
 
     -- it is none
-    pub ends_bad : (new : Stage L) (now : List ℕ) (number column : ℕ) → new ≡ mid → now ≡ middle → number ≡ b.number → (told_source → StandsAt script so_far.lines b.number (last_line b)) → BreaksAt IsLine text column
+    pub ends_bad : (new : HubStage L) (now : List ℕ) (number column : ℕ) → new ≡ mid → now ≡ middle → number ≡ b.number → (told_source → StandsAt script so_far.lines b.number (last_line b)) → BreaksAt IsLine text column
         → PlaysScript hearing told_source told_sink old new script rest_now written now (BadLine number column)
     ends_bad new now number column stays kept is stands breaks = record {
       lines = so_far.lines;
@@ -135,7 +135,7 @@ module _ {L : Type 0} (hearing : L → Hearing) (told_source told_sink : Type 0)
     }
 
     -- there was no memory for it
-    pub ends_memory : (new : Stage L) (now : List ℕ) → new ≡ mid → now ≡ middle → (told_source → StandsAt script so_far.lines b.number (last_line b)) → GivesTable text → IsWaiting mid
+    pub ends_memory : (new : HubStage L) (now : List ℕ) → new ≡ mid → now ≡ middle → (told_source → StandsAt script so_far.lines b.number (last_line b)) → GivesTable text → IsWaiting mid
         → PlaysScript hearing told_source told_sink old new script rest_now written now Memory
     ends_memory new now stays kept stands table waits = record {
       lines = so_far.lines;
@@ -147,16 +147,16 @@ module _ {L : Type 0} (hearing : L → Hearing) (told_source told_sink : Type 0)
     }
 
 -- from listeners that wait on
-pub serves_script : {L : Type 0} (hearing : L → Hearing) (told_source told_sink : Type 0) (old new : Stage L) (script rest written now : List ℕ) (listeners listeners_now : List L) (ending : ScriptEnd)
+pub serves_script : {L : Type 0} (hearing : L → Hearing) (told_source told_sink : Type 0) (old new : HubStage L) (script rest written now : List ℕ) (listeners listeners_now : List L) (ending : ScriptEnd)
     → PlaysScript hearing told_source told_sink old new script rest written now ending → old ≡ Waiting listeners → listeners_now ≡ members_in new
     → ServesScript hearing told_source told_sink script rest written now listeners listeners_now ending
 serves_script {L} hearing told_source told_sink old new script rest written now listeners listeners_now ending plays begins back =
     let from : PlaysScript hearing told_source told_sink (Waiting listeners) new script rest written now ending =
-    subst (λ (stage : Stage L). PlaysScript hearing told_source told_sink stage new script rest written now ending) begins plays in
+    subst (λ (stage : HubStage L). PlaysScript hearing told_source told_sink stage new script rest written now ending) begins plays in
     record { last = new; plays = from; members = back; served = are_served hearing listeners from.played new from.follows }
 
 -- where all lines are in the grammar and no fault was counted, all are read
-pub is_done : {L : Type 0} (hearing : L → Hearing) (told_source told_sink : Type 0) (old new : Stage L) (script rest written now : List ℕ) (source source_now sink sink_now : ℕ) (ending : ScriptEnd)
+pub is_done : {L : Type 0} (hearing : L → Hearing) (told_source told_sink : Type 0) (old new : HubStage L) (script rest written now : List ℕ) (source source_now sink sink_now : ℕ) (ending : ScriptEnd)
     → PlaysScript hearing told_source told_sink old new script rest written now ending → HasSourceCause source source_now (fault_of ending) → HasSinkCause sink sink_now (fault_of ending)
     → told_source → AreInGrammar IsLine (lines_of 0 script) → (Rose source source_now → ⊥) → (Rose sink sink_now → ⊥) → (ending ≡ Done) ⊎ (ending ≡ Memory)
 is_done hearing told_source told_sink old new script rest written now source source_now sink sink_now ending plays in_cause out_cause told all no_source no_sink =

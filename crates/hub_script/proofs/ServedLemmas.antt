@@ -7,7 +7,7 @@ use Rattle.ghes_hub.specs.Hubs.{HubState, Call, Submits, Turns, Removes, Does, D
 use Rattle.ghes_hub.specs.Opens.{IsOpened}
 use Rattle.ghes_hub.proofs.OpenLemmas.{from_opening}
 use Rattle.hub_script.specs.HubGrammar.{Line, blank, comment, hest, error, turns, heard, removal}
-use Rattle.hub_script.specs.Stages.{Stage, Waiting, Serving}
+use Rattle.hub_script.specs.Stages.{HubStage, Waiting, Serving}
 use Rattle.hub_script.specs.Plays.{Plays, source_of, NoTable, NoOpening, Opened, NoSource, NotTaken, Queued, Turned, NoTurn, OneMore, NotNamed, AllTurned, NoneToCount, Counted, NoneToDrop, NoListener, Dropped}
 use Rattle.script_text.specs.Turns.{side_of}
 use Rattle.hub_script.specs.History.{Played, Follows, calls_of, AreServed, NoHub, ByHub}
@@ -28,15 +28,15 @@ turned_does hearing old pairs calls events said new is = elim is as (λ pairs ca
 ]
 
 -- a line of a hub that serves makes calls of that hub
-record MakesCalls {L : Type 0} (hearing : L → Hearing) (hub : HubState L) (calls : List Call) (new : Stage L) : Type 0 where
+record MakesCalls {L : Type 0} (hearing : L → Hearing) (hub : HubState L) (calls : List Call) (new : HubStage L) : Type 0 where
   after : HubState L
   serving : new ≡ Serving after
   does : DoAll hearing calls hub after
 
-no_calls : {L : Type 0} (hearing : L → Hearing) (hub : HubState L) (calls : List Call) (new : Stage L) → calls ≡ [] → new ≡ Serving hub → MakesCalls hearing hub calls new
+no_calls : {L : Type 0} (hearing : L → Hearing) (hub : HubState L) (calls : List Call) (new : HubStage L) → calls ≡ [] → new ≡ Serving hub → MakesCalls hearing hub calls new
 no_calls {L} hearing hub calls new none same = record { after = hub; serving = same; does = subst (λ (cs : List Call). DoAll hearing cs hub hub) (sym none) refl }
 
-makes_calls : {L : Type 0} (hearing : L → Hearing) (hub : HubState L) (line : Line) (said : List (List ℕ)) (calls : List Call) (new : Stage L) → Plays hearing (Serving hub) line said calls new → MakesCalls hearing hub calls new
+makes_calls : {L : Type 0} (hearing : L → Hearing) (hub : HubState L) (line : Line) (said : List (List ℕ)) (calls : List Call) (new : HubStage L) → Plays hearing (Serving hub) line said calls new → MakesCalls hearing hub calls new
 makes_calls hearing hub blank said calls new is = no_calls hearing hub calls new is.calls_are is.stays
 makes_calls hearing hub (comment rest) said calls new is = no_calls hearing hub calls new is.calls_are is.stays
 makes_calls hearing hub (hest hex) said calls new is = no_calls hearing hub calls new is.calls_are is.stays
@@ -60,11 +60,11 @@ makes_calls hearing hub (removal source at) said calls new is = elim is as (λ s
 ]
 
 -- all lines from a hub that serves on
-all_calls : {L : Type 0} (hearing : L → Hearing) (hub : HubState L) (played : List (Played L)) (last : Stage L) → Follows hearing (Serving hub) played last → MakesCalls hearing hub (calls_of played) last
+all_calls : {L : Type 0} (hearing : L → Hearing) (hub : HubState L) (played : List (Played L)) (last : HubStage L) → Follows hearing (Serving hub) played last → MakesCalls hearing hub (calls_of played) last
 all_calls hearing hub [] last same = record { after = hub; serving = same; does = refl }
 all_calls {L} hearing hub (one ∷ rest) last (plays, follows) =
     let here = makes_calls hearing hub one.line one.said one.calls one.left plays in
-    let later = all_calls hearing here.after rest last (subst (λ (stage : Stage L). Follows hearing stage rest last) here.serving follows) in
+    let later = all_calls hearing here.after rest last (subst (λ (stage : HubStage L). Follows hearing stage rest last) here.serving follows) in
     record {
       after = later.after;
       serving = later.serving;
@@ -72,14 +72,14 @@ all_calls {L} hearing hub (one ∷ rest) last (plays, follows) =
     }
 
 -- a line for listeners that wait makes no call: they go on to wait, or a hub was opened for a table
-record MayOpen {L : Type 0} (listeners : List L) (calls : List Call) (new : Stage L) : Type 0 where
+record MayOpen {L : Type 0} (listeners : List L) (calls : List Call) (new : HubStage L) : Type 0 where
   none : calls ≡ []
   opens : (new ≡ Waiting listeners) ⊎ ((table : List HestSource) × (hub : HubState L) × IsOpened table listeners hub × (new ≡ Serving hub))
 
-waits_on : {L : Type 0} (listeners : List L) (calls : List Call) (new : Stage L) → calls ≡ [] → new ≡ Waiting listeners → MayOpen listeners calls new
+waits_on : {L : Type 0} (listeners : List L) (calls : List Call) (new : HubStage L) → calls ≡ [] → new ≡ Waiting listeners → MayOpen listeners calls new
 waits_on listeners calls new none same = record { none = none; opens = inl same }
 
-may_open : {L : Type 0} (hearing : L → Hearing) (listeners : List L) (line : Line) (said : List (List ℕ)) (calls : List Call) (new : Stage L) → Plays hearing (Waiting listeners) line said calls new → MayOpen listeners calls new
+may_open : {L : Type 0} (hearing : L → Hearing) (listeners : List L) (line : Line) (said : List (List ℕ)) (calls : List Call) (new : HubStage L) → Plays hearing (Waiting listeners) line said calls new → MayOpen listeners calls new
 may_open hearing listeners blank said calls new is = waits_on listeners calls new is.calls_are is.stays
 may_open hearing listeners (comment rest) said calls new is = waits_on listeners calls new is.calls_are is.stays
 may_open hearing listeners (hest hex) said calls new is = elim is as (λ said calls new is. MayOpen listeners calls new) [
@@ -92,12 +92,12 @@ may_open hearing listeners (turns pairs) said calls new is = waits_on listeners 
 may_open hearing listeners (heard source) said calls new is = waits_on listeners calls new is.calls_are is.stays
 may_open hearing listeners (removal source at) said calls new is = waits_on listeners calls new is.calls_are is.stays
 
-by_hub : {L : Type 0} (hearing : L → Hearing) (table : List HestSource) (listeners : List L) (first : HubState L) (calls : List Call) (last : Stage L) → IsOpened table listeners first
+by_hub : {L : Type 0} (hearing : L → Hearing) (table : List HestSource) (listeners : List L) (first : HubState L) (calls : List Call) (last : HubStage L) → IsOpened table listeners first
     → MakesCalls hearing first calls last → AreServed hearing listeners calls last
 by_hub {L} hearing table listeners first calls last opened made = subst (AreServed hearing listeners calls) (sym made.serving)
     (ByHub table first made.after opened made.does (λ i source is. from_opening hearing table listeners i source calls first made.after opened is made.does))
 
-pub are_served : {L : Type 0} (hearing : L → Hearing) (listeners : List L) (played : List (Played L)) (last : Stage L) → Follows hearing (Waiting listeners) played last → AreServed hearing listeners (calls_of played) last
+pub are_served : {L : Type 0} (hearing : L → Hearing) (listeners : List L) (played : List (Played L)) (last : HubStage L) → Follows hearing (Waiting listeners) played last → AreServed hearing listeners (calls_of played) last
 are_served hearing listeners [] last same = subst (AreServed hearing listeners []) (sym same) (NoHub refl)
 are_served {L} hearing listeners (one ∷ rest) last (plays, follows) = choose (may_open hearing listeners one.line one.said one.calls one.left plays) (λ later. are_served hearing listeners rest last later)
   where
@@ -106,6 +106,6 @@ are_served {L} hearing listeners (one ∷ rest) last (plays, follows) = choose (
 
     choose : MayOpen listeners one.calls one.left → (Follows hearing (Waiting listeners) rest last → AreServed hearing listeners (calls_of rest) last) → AreServed hearing listeners (calls_of (one ∷ rest)) last
     choose may goes = subst (λ (cs : List Call). AreServed hearing listeners cs last) (sym (front may.none)) (elim may.opens [
-      | inl same ↦ goes (subst (λ (stage : Stage L). Follows hearing stage rest last) same follows)
-      | inr opens ↦ by_hub hearing opens.0 listeners opens.1 (calls_of rest) last opens.2 (all_calls hearing opens.1 rest last (subst (λ (stage : Stage L). Follows hearing stage rest last) opens.3 follows))
+      | inl same ↦ goes (subst (λ (stage : HubStage L). Follows hearing stage rest last) same follows)
+      | inr opens ↦ by_hub hearing opens.0 listeners opens.1 (calls_of rest) last opens.2 (all_calls hearing opens.1 rest last (subst (λ (stage : HubStage L). Follows hearing stage rest last) opens.3 follows))
     ])

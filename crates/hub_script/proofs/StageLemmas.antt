@@ -27,12 +27,12 @@ use Rattle.hub_script.specs.RefusalWords.{words_of_refusal, HubHasWords}
 use Rattle.hub_script.specs.declared.refusals.HubRefusal.TheVariants.{Open, Table, NoHub, Nobody, Submit}
 use Rattle.hub_script.specs.declared.refusals.HubRefusal.TheVariants as why_not
 use Rattle.hub_script.specs.Replies.{refused, reply_line, words_of_opened, words_of_queued, words_of_heard, words_of_dropped}
-use Rattle.hub_script.specs.Stages.{Stage, Waiting, Serving, IsWaiting, stage_in}
+use Rattle.hub_script.specs.Stages.{HubStage, Waiting, Serving, IsWaiting, stage_in}
 use Rattle.hub_script.specs.Plays.{Plays, listed, most_listed, named_at, NoTable, NoOpening, Opened, NoSource, NotTaken, Queued, NotNamed, NoneToCount, Counted, NoneToDrop, NoListener, Dropped}
 use Rattle.hub_script.specs.Made.{MakesReply, OpensFor, NotOpened, IsOpen}
 use Rattle.script_text.specs.Shown.{IsPartWritten}
-use Rattle.hub_script.specs.Lines.{PlaysLine, PlaysUnheard}
-use Rattle.hub_script.proofs.PlayLemmas.{asks_hub, no_hub, one_played, one_unheard, reply_played, reply_unheard}
+use Rattle.hub_script.specs.Lines.{PlaysLine, PlaysUnwritten}
+use Rattle.hub_script.proofs.PlayLemmas.{asks_hub, no_hub, one_played, one_unwritten, reply_played, reply_unwritten}
 
 pub some_at : {X : Type 0} (xs : List X) (i : ℕ) → i < length xs → (x : X) × (slice_get xs i ≡ Some x)
 some_at [] i within = absurd (omega (arith, within))
@@ -104,7 +104,7 @@ none_is None e = refl
 none_is (Some x) e = absurd (cc e)
 
 -- a line is refused
-refuses : {L : Type 0} (hearing : L → Hearing) (stage : Stage L) (line : Line) (words reply : List ℕ) → Plays hearing stage line (words ∷ []) [] stage → reply ≡ reply_line words → MakesReply hearing stage line stage reply
+refuses : {L : Type 0} (hearing : L → Hearing) (stage : HubStage L) (line : Line) (words reply : List ℕ) → Plays hearing stage line (words ∷ []) [] stage → reply ≡ reply_line words → MakesReply hearing stage line stage reply
 refuses hearing stage line words reply plays is = record { words = words; calls = []; plays = plays; text = is }
 
 module _ {X : Type 0} {H : X → Type 0} (hearing : DynBox X Global H → Hearing) (listeners : List (DynBox X Global H)) where
@@ -126,15 +126,15 @@ module _ {X : Type 0} {H : X → Type 0} (hearing : DynBox X Global H → Hearin
     pub waiting_played : (told_sink → now ≡ written ++ reply_line (refused (words_of_refusal NoHub))) → PlaysLine hearing told_sink (stage_in hub listeners) line (stage_in hub listeners) written now
     waiting_played text = reply_played hearing told_sink (stage_in hub listeners) (stage_in hub listeners) line written now _ _ refusal_made refl text
 
-    pub waiting_unheard : (told_sink → IsPartWritten (reply_line (refused (words_of_refusal NoHub))) written now) → PlaysUnheard hearing told_sink (stage_in hub listeners) line (stage_in hub listeners) written now
-    waiting_unheard text = reply_unheard hearing told_sink (stage_in hub listeners) (stage_in hub listeners) line written now _ _ refusal_made refl text
+    pub waiting_unwritten : (told_sink → IsPartWritten (reply_line (refused (words_of_refusal NoHub))) written now) → PlaysUnwritten hearing told_sink (stage_in hub listeners) line (stage_in hub listeners) written now
+    waiting_unwritten text = reply_unwritten hearing told_sink (stage_in hub listeners) (stage_in hub listeners) line written now _ _ refusal_made refl text
 
   -- the stage of a hub that is there
-  pub at_hub : (old : Option (Hub X H)) (hub : Hub X H) (line : Line) (new : Stage (DynBox X Global H)) (reply : List ℕ) → old ≡ Some hub → MakesReply hearing (Serving (seen hub)) line new reply
+  pub at_hub : (old : Option (Hub X H)) (hub : Hub X H) (line : Line) (new : HubStage (DynBox X Global H)) (reply : List ℕ) → old ≡ Some hub → MakesReply hearing (Serving (seen hub)) line new reply
       → MakesReply hearing (stage_in old listeners) line new reply
   at_hub old hub line new reply is made = subst (λ (o : Option (Hub X H)). MakesReply hearing (stage_in o listeners) line new reply) (sym is) made
 
-  pub at_none : (old : Option (Hub X H)) (line : Line) (new : Stage (DynBox X Global H)) (reply : List ℕ) → old ≡ None → MakesReply hearing (Waiting listeners) line new reply
+  pub at_none : (old : Option (Hub X H)) (line : Line) (new : HubStage (DynBox X Global H)) (reply : List ℕ) → old ≡ None → MakesReply hearing (Waiting listeners) line new reply
       → MakesReply hearing (stage_in old listeners) line new reply
   at_none old line new reply none made = subst (λ (o : Option (Hub X H)). MakesReply hearing (stage_in o listeners) line new reply) (sym none) made
 
@@ -147,12 +147,12 @@ module _ {X : Type 0} {H : X → Type 0} (hearing : DynBox X Global H → Hearin
   still_there old hub line reply is made = subst (λ (o : Option (Hub X H)). MakesReply hearing (stage_in o listeners) line (stage_in o listeners) reply) (sym is) made
 
   -- a line that was played on a hub that is there
-  module _ (told_sink : Type 0) (old : Option (Hub X H)) (hub : Hub X H) (is : old ≡ Some hub) (line : Line) (new : Stage (DynBox X Global H)) (written now : List ℕ) where
+  module _ (told_sink : Type 0) (old : Option (Hub X H)) (hub : Hub X H) (is : old ≡ Some hub) (line : Line) (new : HubStage (DynBox X Global H)) (written now : List ℕ) where
     pub line_at_hub : PlaysLine hearing told_sink (Serving (seen hub)) line new written now → PlaysLine hearing told_sink (stage_in old listeners) line new written now
     line_at_hub plays = subst (λ (o : Option (Hub X H)). PlaysLine hearing told_sink (stage_in o listeners) line new written now) (sym is) plays
 
-    pub unheard_at_hub : PlaysUnheard hearing told_sink (Serving (seen hub)) line new written now → PlaysUnheard hearing told_sink (stage_in old listeners) line new written now
-    unheard_at_hub plays = subst (λ (o : Option (Hub X H)). PlaysUnheard hearing told_sink (stage_in o listeners) line new written now) (sym is) plays
+    pub unwritten_at_hub : PlaysUnwritten hearing told_sink (Serving (seen hub)) line new written now → PlaysUnwritten hearing told_sink (stage_in old listeners) line new written now
+    unwritten_at_hub plays = subst (λ (o : Option (Hub X H)). PlaysUnwritten hearing told_sink (stage_in o listeners) line new written now) (sym is) plays
 
   -- and that left it as it was
   module _ (told_sink : Type 0) (old : Option (Hub X H)) (hub : Hub X H) (is : old ≡ Some hub) (source : ℕ) (within : source < sources_in (seen hub)) (written now : List ℕ) where
@@ -165,10 +165,10 @@ module _ {X : Type 0} {H : X → Type 0} (hearing : DynBox X Global H → Hearin
         (one_played hearing told_sink (Serving (seen hub)) (Serving (seen hub)) (heard source) written now (words_of_heard (counts_of hearing (listed there.0))) [] (Counted there.0 within there.1)
         (if_some (slice_get (seen hub).chains source) there.0 (λ (members : List (DynBox X Global H)). told_sink → now ≡ written ++ reply_line (words_of_heard (counts_of hearing (listed members)))) there.1 text))
 
-    pub counted_unheard : IfSome (slice_get (seen hub).chains source) (λ members. told_sink → IsPartWritten (reply_line (words_of_heard (counts_of hearing (listed members)))) written now)
-        → PlaysUnheard hearing told_sink (stage_in old listeners) (heard source) (stage_in old listeners) written now
-    counted_unheard text = subst (λ (o : Option (Hub X H)). PlaysUnheard hearing told_sink (stage_in o listeners) (heard source) (stage_in o listeners) written now) (sym is)
-        (one_unheard hearing told_sink (Serving (seen hub)) (Serving (seen hub)) (heard source) written now (words_of_heard (counts_of hearing (listed there.0))) [] (Counted there.0 within there.1)
+    pub counted_unwritten : IfSome (slice_get (seen hub).chains source) (λ members. told_sink → IsPartWritten (reply_line (words_of_heard (counts_of hearing (listed members)))) written now)
+        → PlaysUnwritten hearing told_sink (stage_in old listeners) (heard source) (stage_in old listeners) written now
+    counted_unwritten text = subst (λ (o : Option (Hub X H)). PlaysUnwritten hearing told_sink (stage_in o listeners) (heard source) (stage_in o listeners) written now) (sym is)
+        (one_unwritten hearing told_sink (Serving (seen hub)) (Serving (seen hub)) (heard source) written now (words_of_heard (counts_of hearing (listed there.0))) [] (Counted there.0 within there.1)
         (if_some (slice_get (seen hub).chains source) there.0 (λ (members : List (DynBox X Global H)). told_sink → IsPartWritten (reply_line (words_of_heard (counts_of hearing (listed members)))) written now) there.1 text))
 
 module _ {L : Type 0} (hearing : L → Hearing) (hub : HubState L) where
@@ -225,7 +225,7 @@ module _ {L : Type 0} (hearing : L → Hearing) (listeners : List L) (hex bytes 
   pub no_table : (why : HestError) → refusal bytes ≡ Some why → reply ≡ reply_line (refused (words_of_refusal (Table why))) → MakesReply hearing (Waiting listeners) (hest hex) (Waiting listeners) reply
   no_table why refusal is = refuses hearing (Waiting listeners) (hest hex) (refused (words_of_refusal (Table why))) reply (NoTable bytes why decoded refusal) is
 
-  pub opens : (n : ℕ) (table : List HestSource) (new : Stage L) → n ≤ length bytes → IsHest table (take n bytes) → OpensFor listeners table new reply → MakesReply hearing (Waiting listeners) (hest hex) new reply
+  pub opens : (n : ℕ) (table : List HestSource) (new : HubStage L) → n ≤ length bytes → IsHest table (take n bytes) → OpensFor listeners table new reply → MakesReply hearing (Waiting listeners) (hest hex) new reply
   opens n table new within begins is = elim is as (λ new reply is. MakesReply hearing (Waiting listeners) (hest hex) new reply) [
     | NotOpened why refusal ↦ record { words = refused (words_of_refusal (why_not.Hub why)); calls = []; plays = NoOpening bytes n table why decoded within begins refusal; text = refl }
     | IsOpen hub admits opened ↦ record { words = _; calls = []; plays = Opened bytes n table hub decoded within begins admits opened; text = refl }

@@ -12,7 +12,7 @@ use Rattle.ghes_hub.specs.Opens.{IsOpened}
 use Rattle.ghes_hub.specs.Refusals.{generics, layout_of}
 use Rattle.hub_script.specs.HubGrammar.{Line}
 use Rattle.hub_script.specs.Replies.{text_of_replies}
-use Rattle.hub_script.specs.Stages.{Stage, Waiting, Serving}
+use Rattle.hub_script.specs.Stages.{HubStage, Waiting, Serving}
 use Rattle.hub_script.specs.Plays.{Plays}
 
 -- a line that was played: its replies, its calls of the hub, and the stage after it
@@ -20,15 +20,15 @@ pub record Played (L : Type 0) : Type 0 where
   pub line : Line
   pub said : List (List ℕ)
   pub calls : List Call
-  pub left : Stage L
+  pub left : HubStage L
 
 -- each line is played from the stage that the one before it left
-abbrev pub Follows : {L : Type 0} → (L → Hearing) → Stage L → List (Played L) → Stage L → Type 0
+abbrev pub Follows : {L : Type 0} → (L → Hearing) → HubStage L → List (Played L) → HubStage L → Type 0
 Follows hearing first [] last = last ≡ first
 Follows hearing first (played ∷ rest) last = Plays hearing first played.line played.said played.calls played.left × Follows hearing played.left rest last
 
 -- the stage behind some lines
-abbrev pub stage_behind : {L : Type 0} → Stage L → List (Played L) → Stage L
+abbrev pub stage_behind : {L : Type 0} → HubStage L → List (Played L) → HubStage L
 stage_behind first [] = first
 stage_behind first (played ∷ rest) = stage_behind played.left rest
 
@@ -42,7 +42,7 @@ text_of_played {L} lines = flat_map (λ (played : Played L). text_of_replies pla
 
 -- What became of the listeners that a script was given, and of the blocks of which they were told. No hub was opened, and they wait; or one
 -- was opened for a table, and each of its sources is served as its own blocks, turns and removals alone say, whatever stands between
-pub data AreServed {L : Type 0} (hearing : L → Hearing) (listeners : List L) (calls : List Call) : Stage L → Type 0 where
+pub data AreServed {L : Type 0} (hearing : L → Hearing) (listeners : List L) (calls : List Call) : HubStage L → Type 0 where
   NoHub : calls ≡ [] → AreServed hearing listeners calls (Waiting listeners)
   ByHub : (table : List HestSource) (first last : HubState L) → IsOpened table listeners first → DoAll hearing calls first last
       → ((i : ℕ) (source : Ghes) → slice_get (generics table) i ≡ Some source

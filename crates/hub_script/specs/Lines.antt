@@ -9,13 +9,13 @@ use Rattle.ghes_hub.specs.Hubs.{Call}
 use Rattle.hub_script.specs.HubGrammar.{Line, blank, comment, hest, turns}
 use Rattle.hub_script.specs.HubText.{IsWritten}
 use Rattle.hub_script.specs.Replies.{text_of_replies, reply_line, words_of_turns}
-use Rattle.hub_script.specs.Stages.{Stage, Waiting, Serving}
+use Rattle.hub_script.specs.Stages.{HubStage, Waiting, Serving}
 use Rattle.hub_script.specs.Plays.{Plays, AllNamed}
 use Rattle.hub_script.specs.declared.hub_line.HubLine.{HubLine}
 use Rattle.hub_script.specs.declared.hub_line.HubLine.TheVariants.{Hest}
 
 -- a line was played, and its replies written
-pub record PlaysLine {L : Type 0} (hearing : L → Hearing) (told_sink : Type 0) (old : Stage L) (line : Line) (new : Stage L) (written written_now : List ℕ) : Type 0 where
+pub record PlaysLine {L : Type 0} (hearing : L → Hearing) (told_sink : Type 0) (old : HubStage L) (line : Line) (new : HubStage L) (written written_now : List ℕ) : Type 0 where
   pub said : List (List ℕ)
   pub calls : List Call
   pub plays : Plays hearing old line said calls new
@@ -40,14 +40,14 @@ abbrev pub ArePartlyWritten : List (List ℕ) → List ℕ → List ℕ → List
 ArePartlyWritten before last written written_now = (n : ℕ) × (written_now ≡ written ++ text_of_replies before ++ take n (reply_line last))
 
 -- each pair of turns that a hub may make names a source
-abbrev pub PairsAreNamed : {L : Type 0} → Stage L → Line → Type 0
+abbrev pub PairsAreNamed : {L : Type 0} → HubStage L → Line → Type 0
 PairsAreNamed (Serving hub) (turns pairs) = AllNamed hub pairs
 PairsAreNamed (Serving hub) line = Unit {0}
 PairsAreNamed (Waiting listeners) line = Unit {0}
 
 -- A line was played, or what is left of it, and the sink refused a reply. Less than the whole line is left only of turns each of whose pairs
 -- names a source: with a pair that names none, no turn is made
-pub record PlaysUnheard {L : Type 0} (hearing : L → Hearing) (told_sink : Type 0) (old : Stage L) (line : Line) (new : Stage L) (written written_now : List ℕ) : Type 0 where
+pub record PlaysUnwritten {L : Type 0} (hearing : L → Hearing) (told_sink : Type 0) (old : HubStage L) (line : Line) (new : HubStage L) (written written_now : List ℕ) : Type 0 where
   pub made : Line
   pub said : List (List ℕ)
   pub calls : List Call

@@ -11,22 +11,22 @@ use Rattle.ghes_hub.specs.Refusals.{hub_refusal}
 use Rattle.hub_script.specs.HubGrammar.{Line}
 use Rattle.hub_script.specs.RefusalWords.{words_of_refusal}
 use Rattle.hub_script.specs.Replies.{reply_line, refused, words_of_opened}
-use Rattle.hub_script.specs.Stages.{Stage, Waiting, Serving, stage_in}
+use Rattle.hub_script.specs.Stages.{HubStage, Waiting, Serving, stage_in}
 use Rattle.hub_script.specs.Plays.{Plays}
 use Rattle.hub_script.specs.declared.player.HubPlayer.{HubPlayer}
 use Rattle.hub_script.specs.declared.refusals.HubRefusal.TheVariants.{Hub}
 
-abbrev pub stage_of : {X : Type 0} {H : X → Type 0} → HubPlayer X H → Stage (DynBox X Global H)
+abbrev pub stage_of : {X : Type 0} {H : X → Type 0} → HubPlayer X H → HubStage (DynBox X Global H)
 stage_of player = stage_in player.hub player.listeners.items
 
 -- a line of one reply was played, and its reply made
-pub record MakesReply {L : Type 0} (hearing : L → Hearing) (old : Stage L) (line : Line) (new : Stage L) (reply : List ℕ) : Type 0 where
+pub record MakesReply {L : Type 0} (hearing : L → Hearing) (old : HubStage L) (line : Line) (new : HubStage L) (reply : List ℕ) : Type 0 where
   pub words : List ℕ
   pub calls : List Call
   pub plays : Plays hearing old line (words ∷ []) calls new
   pub text : reply ≡ reply_line words
 
 -- a table was given to listeners that wait, and the reply made: no hub is opened for it, or one is
-pub data OpensFor {L : Type 0} (listeners : List L) (table : List HestSource) : Stage L → List ℕ → Type 0 where
+pub data OpensFor {L : Type 0} (listeners : List L) (table : List HestSource) : HubStage L → List ℕ → Type 0 where
   NotOpened : (why : HubError) → hub_refusal table ≡ Some why → OpensFor listeners table (Waiting listeners) (reply_line (refused (words_of_refusal (Hub why))))
   IsOpen : (hub : HubState L) → hub_refusal table ≡ None → IsOpened table listeners hub → OpensFor listeners table (Serving hub) (reply_line (words_of_opened (sources_in hub)))

@@ -18,7 +18,7 @@ use Rattle.script_text.specs.Turns.{side_of}
 use Rattle.hub_script.specs.HubGrammar.{Line, blank, comment, hest, error, turns, heard, removal}
 use Rattle.hub_script.specs.RefusalWords.{words_of_refusal}
 use Rattle.hub_script.specs.Replies.{refused, words_of_opened, words_of_queued, words_of_block, words_of_turns, words_of_heard, words_of_dropped}
-use Rattle.hub_script.specs.Stages.{Stage, Waiting, Serving}
+use Rattle.hub_script.specs.Stages.{HubStage, Waiting, Serving}
 use Rattle.hub_script.specs.declared.refusals.HubRefusal.{HubRefusal}
 use Rattle.hub_script.specs.declared.refusals.HubRefusal.TheVariants.{Open, Table, Hub, NoHub, Nobody, Submit}
 
@@ -38,19 +38,19 @@ abbrev pub listed : {L : Type 0} → List L → List L
 listed members = take most_listed members
 
 -- nothing is said and done
-pub record IsQuiet {L : Type 0} (old : Stage L) (said : List (List ℕ)) (calls : List Call) (new : Stage L) : Type 0 where
+pub record IsQuiet {L : Type 0} (old : HubStage L) (said : List (List ℕ)) (calls : List Call) (new : HubStage L) : Type 0 where
   pub said_is : said ≡ []
   pub calls_are : calls ≡ []
   pub stays : new ≡ old
 
 -- a line is refused, which changes nothing
-pub record IsRefused {L : Type 0} (why : HubRefusal) (old : Stage L) (said : List (List ℕ)) (calls : List Call) (new : Stage L) : Type 0 where
+pub record IsRefused {L : Type 0} (why : HubRefusal) (old : HubStage L) (said : List (List ℕ)) (calls : List Call) (new : HubStage L) : Type 0 where
   pub said_is : said ≡ refused (words_of_refusal why) ∷ []
   pub calls_are : calls ≡ []
   pub stays : new ≡ old
 
 -- a table, for listeners that wait: it is none, no hub is opened for it, or one is
-pub data Opens {L : Type 0} (listeners : List L) (hex : List ℕ) : List (List ℕ) → List Call → Stage L → Type 0 where
+pub data Opens {L : Type 0} (listeners : List L) (hex : List ℕ) : List (List ℕ) → List Call → HubStage L → Type 0 where
   NoTable : (bytes : List ℕ) (why : HestError) → decode_of hex ≡ Ok bytes → refusal bytes ≡ Some why
       → Opens listeners hex (refused (words_of_refusal (Table why)) ∷ []) [] (Waiting listeners)
   NoOpening : (bytes : List ℕ) (n : ℕ) (table : List HestSource) (why : HubError) → decode_of hex ≡ Ok bytes → n ≤ length bytes → IsHest table (take n bytes)
@@ -59,7 +59,7 @@ pub data Opens {L : Type 0} (listeners : List L) (hex : List ℕ) : List (List �
       → hub_refusal table ≡ None → IsOpened table listeners hub → Opens listeners hex (words_of_opened (sources_in hub) ∷ []) [] (Serving hub)
 
 -- a block for the firmware of a source
-pub data Queues {L : Type 0} (hub : HubState L) (source : ℕ) (hex : List ℕ) : List (List ℕ) → List Call → Stage L → Type 0 where
+pub data Queues {L : Type 0} (hub : HubState L) (source : ℕ) (hex : List ℕ) : List (List ℕ) → List Call → HubStage L → Type 0 where
   NoSource : sources_in hub ≤ source → Queues hub source hex (refused (words_of_refusal Nobody) ∷ []) [] (Serving hub)
   NotTaken : (block : List ℕ) (handover : Source) (why : SubmitError) → source < sources_in hub → decode_of hex ≡ Ok block
       → slice_get hub.sources.list source ≡ Some handover → refusal_of handover block ≡ Some why
@@ -83,20 +83,20 @@ abbrev pub AllNamed : {L : Type 0} → HubState L → List ℕ → Type 0
 AllNamed hub pairs = (at : ℕ) → 2 * at < length pairs → named_at pairs at < sources_in hub
 
 -- turns, none of which is made where a pair names no source
-pub data TakesTurns {L : Type 0} (hearing : L → Hearing) (hub : HubState L) (pairs : List ℕ) : List (List ℕ) → List Call → Stage L → Type 0 where
+pub data TakesTurns {L : Type 0} (hearing : L → Hearing) (hub : HubState L) (pairs : List ℕ) : List (List ℕ) → List Call → HubStage L → Type 0 where
   NotNamed : (at : ℕ) → 2 * at < length pairs → sources_in hub ≤ named_at pairs at
       → TakesTurns hearing hub pairs (refused (words_of_refusal Nobody) ∷ []) [] (Serving hub)
   AllTurned : (calls : List Call) (events : List Event) (said : List (List ℕ)) (new : HubState L) → AllNamed hub pairs → Turned hearing hub pairs calls events said new
       → TakesTurns hearing hub pairs (said ++ words_of_turns events ∷ []) calls (Serving new)
 
 -- how often the listeners of a source have heard
-pub data Counts {L : Type 0} (hearing : L → Hearing) (hub : HubState L) (source : ℕ) : List (List ℕ) → List Call → Stage L → Type 0 where
+pub data Counts {L : Type 0} (hearing : L → Hearing) (hub : HubState L) (source : ℕ) : List (List ℕ) → List Call → HubStage L → Type 0 where
   NoneToCount : sources_in hub ≤ source → Counts hearing hub source (refused (words_of_refusal Nobody) ∷ []) [] (Serving hub)
   Counted : (members : List L) → source < sources_in hub → slice_get hub.chains source ≡ Some members
       → Counts hearing hub source (words_of_heard (counts_of hearing (listed members)) ∷ []) [] (Serving hub)
 
 -- a listener of a source is dropped
-pub data Drops {L : Type 0} (hub : HubState L) (source at : ℕ) : List (List ℕ) → List Call → Stage L → Type 0 where
+pub data Drops {L : Type 0} (hub : HubState L) (source at : ℕ) : List (List ℕ) → List Call → HubStage L → Type 0 where
   NoneToDrop : sources_in hub ≤ source → Drops hub source at (refused (words_of_refusal Nobody) ∷ []) [] (Serving hub)
   NoListener : (members : List L) → source < sources_in hub → slice_get hub.chains source ≡ Some members → length (listed members) ≤ at
       → Drops hub source at (refused (words_of_refusal Nobody) ∷ []) [] (Serving hub)
@@ -104,7 +104,7 @@ pub data Drops {L : Type 0} (hub : HubState L) (source at : ℕ) : List (List �
       → HubRemoves source at hub new → Drops hub source at (words_of_dropped source at ∷ []) (Removes source at ∷ []) (Serving new)
 
 -- what each line makes of each stage
-abbrev pub Plays : {L : Type 0} → (L → Hearing) → Stage L → Line → List (List ℕ) → List Call → Stage L → Type 0
+abbrev pub Plays : {L : Type 0} → (L → Hearing) → HubStage L → Line → List (List ℕ) → List Call → HubStage L → Type 0
 Plays hearing old blank said calls new = IsQuiet old said calls new
 Plays hearing old (comment rest) said calls new = IsQuiet old said calls new
 Plays hearing (Waiting listeners) (hest hex) said calls new = Opens listeners hex said calls new

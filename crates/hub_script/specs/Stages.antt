@@ -8,21 +8,21 @@ use Rattle.ghes_hub.specs.Hubs.{HubState}
 use Rattle.ghes_hub.specs.Seen.{seen}
 
 -- the listeners wait for a hub, or a hub serves its sources
-pub data Stage (L : Type 0) : Type 0 where
-  Waiting : List L → Stage L
-  Serving : HubState L → Stage L
+pub data HubStage (L : Type 0) : Type 0 where
+  Waiting : List L → HubStage L
+  Serving : HubState L → HubStage L
 
 -- no hub was opened yet
-abbrev pub IsWaiting : {L : Type 0} → Stage L → Type 0
+abbrev pub IsWaiting : {L : Type 0} → HubStage L → Type 0
 IsWaiting (Waiting listeners) = Unit {0}
 IsWaiting (Serving hub) = ⊥
 
 -- the listeners that are left: source by source where a hub was opened
-abbrev pub members_in : {L : Type 0} → Stage L → List L
+abbrev pub members_in : {L : Type 0} → HubStage L → List L
 members_in (Waiting listeners) = listeners
 members_in (Serving hub) = in_order hub.chains
 
 -- what is seen of a hub, if there is one, and of the listeners that wait
-abbrev pub stage_in : {X : Type 0} {H : X → Type 0} → Option (Hub X H) → List (DynBox X Global H) → Stage (DynBox X Global H)
+abbrev pub stage_in : {X : Type 0} {H : X → Type 0} → Option (Hub X H) → List (DynBox X Global H) → HubStage (DynBox X Global H)
 stage_in None listeners = Waiting listeners
 stage_in (Some hub) listeners = Serving (seen hub)

@@ -17,6 +17,6 @@ pub record TakesTurn {L : Type 0} (hearing : L → Hearing) (told_sink : Type 0)
   pub text : told_sink → written_now ≡ written ++ text_of_replies (map (words_of_block source) (told_at event (last_in new.sources source)))
 
 -- the sink refused the line of the block
-pub record TakesUnheard {L : Type 0} (hearing : L → Hearing) (told_sink : Type 0) (source : ℕ) (side : Side) (old new : HubState L) (written written_now : List ℕ) : Type 0 where
+pub record TakesUnwritten {L : Type 0} (hearing : L → Hearing) (told_sink : Type 0) (source : ℕ) (side : Side) (old new : HubState L) (written written_now : List ℕ) : Type 0 where
   pub turned : HubTurns hearing source side Took old new
   pub text : told_sink → IsPartWritten (reply_line (words_of_block source (last_in new.sources source))) written written_now

@@ -3,7 +3,6 @@
 #![tactic(auto)]
 
 mod blocks;
-mod desk;
 mod heard;
 mod hub_line;
 mod laws;
@@ -12,6 +11,7 @@ mod player;
 mod refusals;
 mod reply;
 mod script;
+mod session;
 mod turns;
 
 pub use hub_line::HubLine;

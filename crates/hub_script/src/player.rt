@@ -9,16 +9,16 @@ ghost use Rattle.hub_script.specs.HubGrammar.{IsLine, IsValid, text_of, hest, er
 ghost use Rattle.hub_script.specs.HubText.{line_of};
 ghost use Rattle.hub_script.specs.Turns.{AreTurns};
 ghost use Rattle.hub_script.specs.Stages.{Waiting, members_in};
-ghost use Rattle.hub_script.specs.Lines.{PlaysLine, PlaysUnheard, TextIs, BringsTable, GivesTable, IsTable};
+ghost use Rattle.hub_script.specs.Lines.{PlaysLine, PlaysUnwritten, TextIs, BringsTable, GivesTable, IsTable};
 ghost use Rattle.hub_script.specs.Made.{stage_of, MakesReply, OpensFor};
 
-use crate::desk::Desk;
 use crate::heard::show_heard;
 use crate::hub_line::HubLine;
 use crate::refusals::HubRefusal;
 use crate::reply::{end_line, refuse, write_refusal};
+use crate::session::Session;
 use crate::turns::{are_named, take_turns};
-use apei_bytes::{Memory, Sink, SinkFault, write_all};
+use apei_bytes::{OutOfMemory, Sink, SinkFault, write_all};
 use apei_notify::Listener;
 use ghes_hub::{Hub, HubError, HubRefused};
 use hest_sources::{Hest, HestError};
@@ -50,7 +50,7 @@ pub struct HubPlayer {
     hub: Option<Hub>,
     /// Those that wait for a hub.
     listeners: Vec<Box<dyn Listener>>,
-    desk: Desk,
+    session: Session,
     alloc: Global,
 }
 
@@ -63,13 +63,13 @@ impl HubPlayer {
         ensures stage { IfOk result (λ player. stage_of player ≡ Waiting listeners.items) }
         ensures back { IfErr result (λ refused. refused.items ≡ listeners.items) }
     {
-        let Ok(desk) = Desk::new(alloc) else {
+        let Ok(session) = Session::new(alloc) else {
             return Err(listeners);
         };
         Ok(HubPlayer {
             hub: None,
             listeners,
-            desk,
+            session,
             alloc,
         })
     }
@@ -78,7 +78,7 @@ impl HubPlayer {
     pub fn play<O: Sink>(&mut self, line: &[u8], out: &mut O) -> Result<(), HubStop>
         requires { length line.now ≤ LONGEST_LINE }
         ensures played { OnOk result (TextIs line.now (λ asked. PlaysLine hearing O.tells (stage_of self.old) asked (stage_of self.new) (O.written out.old) (O.written out.new))) }
-        ensures unheard { result ≡ Err HubStop.SinkFault → TextIs line.now (λ asked. PlaysUnheard hearing O.tells (stage_of self.old) asked (stage_of self.new) (O.written out.old) (O.written out.new)) }
+        ensures unwritten { result ≡ Err HubStop.SinkFault → TextIs line.now (λ asked. PlaysUnwritten hearing O.tells (stage_of self.old) asked (stage_of self.new) (O.written out.old) (O.written out.new)) }
         ensures bad { (column : ℕ) → result ≡ Err (HubStop.BadLine column) → BreaksAt IsLine line.now column }
         ensures memory { result ≡ Err HubStop.Memory → GivesTable line.now }
         ensures waits { result ≡ Err HubStop.Memory → self.old.hub ≡ None }
@@ -97,7 +97,7 @@ impl HubPlayer {
         requires valid { IsValid (line_of line) }
         requires fits { length (text_of (line_of line)) ≤ LONGEST_LINE }
         ensures played { OnOk result (PlaysLine hearing O.tells (stage_of self.old) (line_of line.entry) (stage_of self.new) (O.written out.old) (O.written out.new)) }
-        ensures unheard { result ≡ Err HubStop.SinkFault → PlaysUnheard hearing O.tells (stage_of self.old) (line_of line.entry) (stage_of self.new) (O.written out.old) (O.written out.new) }
+        ensures unwritten { result ≡ Err HubStop.SinkFault → PlaysUnwritten hearing O.tells (stage_of self.old) (line_of line.entry) (stage_of self.new) (O.written out.old) (O.written out.new) }
         ensures bad { (column : ℕ) → result ≢ Err (HubStop.BadLine column) }
         ensures memory { result ≡ Err HubStop.Memory → IsTable line.entry }
         ensures waits { result ≡ Err HubStop.Memory → self.old.hub ≡ None }
@@ -111,66 +111,66 @@ impl HubPlayer {
                 let Ok(()) = self.open(hex) else {
                     return Err(HubStop::Memory);
                 };
-                Ok(write_all(out, self.desk.reply.text())?)
+                Ok(write_all(out, self.session.reply.text())?)
             }
             HubLine::Error { source, hex } => {
                 self.submit(source, hex);
-                Ok(write_all(out, self.desk.reply.text())?)
+                Ok(write_all(out, self.session.reply.text())?)
             }
             HubLine::Turns { pairs } => Ok(self.turn(pairs, out)?),
             HubLine::Heard { source } => Ok(self.tell_heard(source, out)?),
             HubLine::Drop { source, at } => {
                 self.remove(source, at);
-                Ok(write_all(out, self.desk.reply.text())?)
+                Ok(write_all(out, self.session.reply.text())?)
             }
         }
     }
 
     /// Opens a hub for the table that the bytes of a line begin with.
-    fn open(&mut self, hex: &[u8]) -> Result<(), Memory>
+    fn open(&mut self, hex: &[u8]) -> Result<(), OutOfMemory>
         requires pairs { IsPairs hex.now }
         requires fits { length hex.now ≤ LONGEST_LINE }
-        ensures made { OnOk result (MakesReply hearing (stage_of self.old) (hest hex.now) (stage_of self.new) self.new.desk.reply) }
+        ensures made { OnOk result (MakesReply hearing (stage_of self.old) (hest hex.now) (stage_of self.new) self.new.session.reply) }
         ensures memory { OnErr result (BringsTable hex.now) }
         ensures waits { OnErr result (self.old.hub ≡ None) }
         ensures stays { OnErr result (stage_of self.new ≡ stage_of self.old) }
     {
         if self.hub.is_some() {
-            refuse(&mut self.desk.reply, &HubRefusal::Open);
+            refuse(&mut self.session.reply, &HubRefusal::Open);
             return Ok(());
         }
-        let len = decode_line(hex, &mut self.desk.bytes);
-        match Hest::decode(self.alloc, &self.desk.bytes[..len]) {
+        let len = decode_line(hex, &mut self.session.bytes);
+        match Hest::decode(self.alloc, &self.session.bytes[..len]) {
             Ok((table, _)) => self.serve(&table),
-            Err(HestError::Memory) => Err(Memory),
+            Err(HestError::Memory) => Err(OutOfMemory),
             Err(why) => {
-                refuse(&mut self.desk.reply, &HubRefusal::Table(why));
+                refuse(&mut self.session.reply, &HubRefusal::Table(why));
                 Ok(())
             }
         }
     }
 
     /// Serves the sources of a table, with the listeners that wait.
-    fn serve(&mut self, table: &Hest) -> Result<(), Memory>
+    fn serve(&mut self, table: &Hest) -> Result<(), OutOfMemory>
         requires { self.old.hub ≡ None }
-        ensures made { OnOk result (OpensFor self.old.listeners.items table.now (stage_of self.new) self.new.desk.reply) }
+        ensures made { OnOk result (OpensFor self.old.listeners.items table.now (stage_of self.new) self.new.session.reply) }
         ensures stays { OnErr result (stage_of self.new ≡ stage_of self.old) }
     {
         let listeners = replace(&mut self.listeners, Vec::new(self.alloc));
         match Hub::open(self.alloc, table, listeners) {
             Ok(hub) => {
-                self.desk.reply.begin(b"hub ");
-                self.desk.reply.add_number(u64::from(hub.sources()));
-                end_line(&mut self.desk.reply);
+                self.session.reply.begin(b"hub ");
+                self.session.reply.add_number(u64::from(hub.sources()));
+                end_line(&mut self.session.reply);
                 put(&mut self.hub, hub);
                 Ok(())
             }
             Err(HubRefused { why, listeners }) => {
                 self.listeners = listeners;
                 match why {
-                    HubError::Memory => Err(Memory),
+                    HubError::Memory => Err(OutOfMemory),
                     why => {
-                        refuse(&mut self.desk.reply, &HubRefusal::Hub(why));
+                        refuse(&mut self.session.reply, &HubRefusal::Hub(why));
                         Ok(())
                     }
                 }
@@ -182,24 +182,24 @@ impl HubPlayer {
     fn submit(&mut self, source: u64, hex: &[u8])
         requires pairs { IsPairs hex.now }
         requires fits { length hex.now ≤ LONGEST_LINE }
-        ensures { MakesReply hearing (stage_of self.old) (error source hex.now) (stage_of self.new) self.new.desk.reply }
+        ensures { MakesReply hearing (stage_of self.old) (error source hex.now) (stage_of self.new) self.new.session.reply }
     {
         let Some(hub) = &mut self.hub else {
-            refuse(&mut self.desk.reply, &HubRefusal::NoHub);
+            refuse(&mut self.session.reply, &HubRefusal::NoHub);
             return;
         };
         if source >= u64::from(hub.sources()) {
-            refuse(&mut self.desk.reply, &HubRefusal::Nobody);
+            refuse(&mut self.session.reply, &HubRefusal::Nobody);
             return;
         }
-        let len = decode_line(hex, &mut self.desk.bytes);
-        match hub.submit(source as u32, &self.desk.bytes[..len]) {
+        let len = decode_line(hex, &mut self.session.bytes);
+        match hub.submit(source as u32, &self.session.bytes[..len]) {
             Ok(waiting) => {
-                self.desk.reply.begin(b"queued ");
-                self.desk.reply.add_number(u64::from(waiting));
-                end_line(&mut self.desk.reply);
+                self.session.reply.begin(b"queued ");
+                self.session.reply.add_number(u64::from(waiting));
+                end_line(&mut self.session.reply);
             }
-            Err(why) => refuse(&mut self.desk.reply, &HubRefusal::Submit(why)),
+            Err(why) => refuse(&mut self.session.reply, &HubRefusal::Submit(why)),
         }
     }
 
@@ -207,57 +207,57 @@ impl HubPlayer {
     fn turn<O: Sink>(&mut self, pairs: &[u8], out: &mut O) -> Result<(), SinkFault>
         requires { AreTurns pairs.now }
         ensures played { OnOk result (PlaysLine hearing O.tells (stage_of self.old) (turns pairs.now) (stage_of self.new) (O.written out.old) (O.written out.new)) }
-        ensures unheard { OnErr result (PlaysUnheard hearing O.tells (stage_of self.old) (turns pairs.now) (stage_of self.new) (O.written out.old) (O.written out.new)) }
+        ensures unwritten { OnErr result (PlaysUnwritten hearing O.tells (stage_of self.old) (turns pairs.now) (stage_of self.new) (O.written out.old) (O.written out.new)) }
         ensures cause { HasCause (O.faults out.old) (O.faults out.new) result }
     {
         let Some(hub) = &mut self.hub else {
-            return write_refusal(&mut self.desk.reply, &HubRefusal::NoHub, out);
+            return write_refusal(&mut self.session.reply, &HubRefusal::NoHub, out);
         };
         if !are_named(hub, pairs) {
-            return write_refusal(&mut self.desk.reply, &HubRefusal::Nobody, out);
+            return write_refusal(&mut self.session.reply, &HubRefusal::Nobody, out);
         }
-        take_turns(hub, pairs, &mut self.desk, out)
+        take_turns(hub, pairs, &mut self.session, out)
     }
 
     /// Tells how often the listeners of a source have heard.
     fn tell_heard<O: Sink>(&mut self, source: u64, out: &mut O) -> Result<(), SinkFault>
         ensures played { OnOk result (PlaysLine hearing O.tells (stage_of self.old) (heard source) (stage_of self.new) (O.written out.old) (O.written out.new)) }
-        ensures unheard { OnErr result (PlaysUnheard hearing O.tells (stage_of self.old) (heard source) (stage_of self.new) (O.written out.old) (O.written out.new)) }
+        ensures unwritten { OnErr result (PlaysUnwritten hearing O.tells (stage_of self.old) (heard source) (stage_of self.new) (O.written out.old) (O.written out.new)) }
         ensures cause { HasCause (O.faults out.old) (O.faults out.new) result }
     {
         let Some(hub) = &self.hub else {
-            return write_refusal(&mut self.desk.reply, &HubRefusal::NoHub, out);
+            return write_refusal(&mut self.session.reply, &HubRefusal::NoHub, out);
         };
         if source >= u64::from(hub.sources()) {
-            return write_refusal(&mut self.desk.reply, &HubRefusal::Nobody, out);
+            return write_refusal(&mut self.session.reply, &HubRefusal::Nobody, out);
         }
-        show_heard(hub, source as u32, &mut self.desk.reply, out)
+        show_heard(hub, source as u32, &mut self.session.reply, out)
     }
 
     /// Drops a listener of a source.
     fn remove(&mut self, source: u64, at: u64)
-        ensures { MakesReply hearing (stage_of self.old) (removal source at) (stage_of self.new) self.new.desk.reply }
+        ensures { MakesReply hearing (stage_of self.old) (removal source at) (stage_of self.new) self.new.session.reply }
     {
         let Some(hub) = &mut self.hub else {
-            refuse(&mut self.desk.reply, &HubRefusal::NoHub);
+            refuse(&mut self.session.reply, &HubRefusal::NoHub);
             return;
         };
         let sources = u64::from(hub.sources());
         if source >= sources {
-            refuse(&mut self.desk.reply, &HubRefusal::Nobody);
+            refuse(&mut self.session.reply, &HubRefusal::Nobody);
             return;
         }
         let listeners = u64::from(hub.listeners(source as u32));
         if at >= listeners {
-            refuse(&mut self.desk.reply, &HubRefusal::Nobody);
+            refuse(&mut self.session.reply, &HubRefusal::Nobody);
             return;
         }
         hub.remove(source as u32, at as u32);
-        self.desk.reply.begin(b"dropped ");
-        self.desk.reply.add_number(source);
-        self.desk.reply.add(b" ");
-        self.desk.reply.add_number(at);
-        end_line(&mut self.desk.reply);
+        self.session.reply.begin(b"dropped ");
+        self.session.reply.add_number(source);
+        self.session.reply.add(b" ");
+        self.session.reply.add_number(at);
+        end_line(&mut self.session.reply);
     }
 
     /// The listeners that are left: source by source where a hub was opened, and else in their order.
@@ -268,7 +268,7 @@ impl HubPlayer {
         let HubPlayer {
             hub,
             listeners,
-            desk: _,
+            session: _,
             alloc: _,
         } = self;
         match hub {

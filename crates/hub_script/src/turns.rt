@@ -7,12 +7,12 @@ ghost use Rattle.hub_script.specs.HubGrammar.{turns};
 ghost use Rattle.hub_script.specs.Turns.{AreTurns};
 ghost use Rattle.hub_script.specs.Stages.{Serving};
 ghost use Rattle.hub_script.specs.Plays.{source_of, named_at, AllNamed};
-ghost use Rattle.hub_script.specs.Lines.{PlaysLine, PlaysUnheard};
-ghost use Rattle.hub_script.specs.TurnLines.{TakesTurn, TakesUnheard};
+ghost use Rattle.hub_script.specs.Lines.{PlaysLine, PlaysUnwritten};
+ghost use Rattle.hub_script.specs.TurnLines.{TakesTurn, TakesUnwritten};
 
 use crate::blocks::show_block;
-use crate::desk::Desk;
 use crate::reply::end_line;
+use crate::session::Session;
 use apei_bytes::{Sink, SinkFault, write_all};
 use ghes_ack::{Event, Side};
 use ghes_hub::Hub;
@@ -51,23 +51,23 @@ pub fn are_named(hub: &Hub, pairs: &[u8]) -> bool
 pub fn take_turns<O: Sink>(
     hub: &mut Hub,
     pairs: &[u8],
-    desk: &mut Desk,
+    session: &mut Session,
     out: &mut O,
 ) -> Result<(), SinkFault>
     requires valid { AreTurns pairs.now }
     requires named { AllNamed (seen hub.old) pairs.now }
     ensures played { OnOk result (PlaysLine (boxed hearing) O.tells (Serving (seen hub.old)) (turns pairs.now) (Serving (seen hub.new)) (O.written out.old) (O.written out.new)) }
-    ensures unheard { OnErr result (PlaysUnheard (boxed hearing) O.tells (Serving (seen hub.old)) (turns pairs.now) (Serving (seen hub.new)) (O.written out.old) (O.written out.new)) }
+    ensures unwritten { OnErr result (PlaysUnwritten (boxed hearing) O.tells (Serving (seen hub.old)) (turns pairs.now) (Serving (seen hub.new)) (O.written out.old) (O.written out.new)) }
     ensures cause { HasCause (O.faults out.old) (O.faults out.new) result }
 {
-    desk.events.begin(b"turns");
+    session.events.begin(b"turns");
     'turning: for at in 0..pairs.len() / 2 {
         let source = source_of(pairs[2 * at]);
         let side = side_of(pairs[2 * at + 1]);
-        take_turn(hub, source, side, desk, out)?;
+        take_turn(hub, source, side, session, out)?;
     }
-    end_line(&mut desk.events);
-    write_all(out, desk.events.text())
+    end_line(&mut session.events);
+    write_all(out, session.events.text())
 }
 
 /// A turn of a side of a source.
@@ -75,20 +75,20 @@ fn take_turn<O: Sink>(
     hub: &mut Hub,
     source: u32,
     side: Side,
-    desk: &mut Desk,
+    session: &mut Session,
     out: &mut O,
 ) -> Result<(), SinkFault>
     requires source { source < sources_in (seen hub.old) }
-    requires room { length desk.old.events + 8 ≤ 131264 }
-    ensures turned { OnOk result (TakesTurn (boxed hearing) O.tells source side (seen hub.old) (seen hub.new) desk.old.events desk.new.events (O.written out.old) (O.written out.new)) }
-    ensures unheard { OnErr result (TakesUnheard (boxed hearing) O.tells source side (seen hub.old) (seen hub.new) (O.written out.old) (O.written out.new)) }
+    requires room { length session.old.events + 8 ≤ 131264 }
+    ensures turned { OnOk result (TakesTurn (boxed hearing) O.tells source side (seen hub.old) (seen hub.new) session.old.events session.new.events (O.written out.old) (O.written out.new)) }
+    ensures unwritten { OnErr result (TakesUnwritten (boxed hearing) O.tells source side (seen hub.old) (seen hub.new) (O.written out.old) (O.written out.new)) }
     ensures cause { HasCause (O.faults out.old) (O.faults out.new) result }
 {
     let event = hub.turn(source, side);
-    desk.events.add(b" ");
-    desk.events.add(word_of(event));
+    session.events.add(b" ");
+    session.events.add(word_of(event));
     if is_taking(event) {
-        return show_block(&mut desk.reply, source, hub.taken(source), out);
+        return show_block(&mut session.reply, source, hub.taken(source), out);
     }
     Ok(())
 }

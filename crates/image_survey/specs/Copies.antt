@@ -4,7 +4,7 @@ use Rattle.std.specs.declared.alloc.Global.{Global}
 use Rattle.std.specs.declared.vec.Vec.{Vec}
 use Rattle.base_model.specs.Faults.{Rose}
 use Rattle.flash_model.specs.declared.geometry.Geometry.{Geometry}
-use Rattle.base_model.specs.Flash.{FlashState, StaysLit, next_count}
+use Rattle.base_model.specs.Flash.{FlashState, StaysPowered, next_count}
 use Rattle.record_slots.specs.Slots.{Fits}
 use Rattle.record_slots.specs.declared.scanning.ScanError.{ScanError}
 use Rattle.record_slots.specs.declared.scanning.ScanError.TheVariants.{Size, Flash, Memory}
@@ -16,7 +16,7 @@ pub record LeavesAlone (tells : Type 0) (old new : FlashState) : Type 0 where
   pub sector_size : new.sector_size ≡ old.sector_size
   pub steps : new.steps ≡ old.steps
   pub power : new.powered ≡ old.powered
-  pub lit : StaysLit old new
+  pub lit : StaysPowered old new
 
 -- another size is answered exactly where the flash has one, and a fault only where the count of faults rose, by one. Bytes and a
 -- fault come of one read, and the other answers of none

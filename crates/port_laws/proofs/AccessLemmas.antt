@@ -11,13 +11,13 @@ use Rattle.erst_device.specs.Actions.{Acts}
 use Rattle.erst_entries.specs.Actions.{action_of}
 use Rattle.erst_device.specs.DeviceState.{DeviceState}
 use Rattle.erst_machine.specs.declared.areas.Area.TheVariants.{LogRange as InRange}
-use Rattle.erst_machine.specs.declared.areas.Spot.{Spot as MachineSpot}
-use Rattle.erst_machine.specs.declared.areas.Spot.TheVariants.{Inside}
-use Rattle.erst_machine.specs.Areas.{memory_spot}
+use Rattle.erst_machine.specs.declared.areas.Location.{Location as MachineLocation}
+use Rattle.erst_machine.specs.declared.areas.Location.TheVariants.{Inside}
+use Rattle.erst_machine.specs.Areas.{memory_location}
 use Rattle.erst_machine.specs.Allowed.{Allows, ActsOn, bytes_read as machine_read, bytes_stored as machine_stored}
 use Rattle.erst_port.specs.declared.errors.PortError.{PortError}
 use Rattle.erst_port.specs.declared.windows.Addresses.{Addresses}
-use Rattle.erst_port.specs.declared.windows.Spot.{Spot}
+use Rattle.erst_port.specs.declared.windows.Location.{Location}
 use Rattle.erst_port.specs.declared.windows.Window.{Window}
 use Rattle.erst_port.specs.declared.windows.Window.TheVariants.{Registers, LogRange}
 use Rattle.erst_port.specs.Places.{are_apart}
@@ -117,7 +117,7 @@ module _ (addresses : Addresses) (old new : SpaceState) where
         acts = subst (λ (d : DeviceState). Acts (Unit {0}) old.port.device old.port.range (action_of code) d new.port.range) (sym left) acted.acts;
         effect = acted.effect;
         copies = λ told. acted.copies;
-        range = same_range before.range after.range acted.effect.alike.layout;
+        range = same_range before.range after.range acted.effect.equivalent.layout;
         memory = refl;
         handover = refl;
         waited = takes.waited;
@@ -139,38 +139,38 @@ module _ (addresses : Addresses) (old new : SpaceState) where
   -- bytes of the log range, from byte k of it on
   module _ (at machine_at k : ℕ) (is : at ≡ addresses.range + k) where
     pub bytes_written : (bytes : List ℕ) (answer : Result (Unit {0}) SpaceFault) → 0 < length bytes → k + length bytes ≤ length old.port.range
-        → memory_spot (length old.port.range) machine_at (length bytes) ≡ Inside InRange k → Goes addresses old (WriteBytes at bytes answer) new
+        → memory_location (length old.port.range) machine_at (length bytes) ≡ Inside InRange k → Goes addresses old (WriteBytes at bytes answer) new
         → (answer ≡ Ok tt) × Allows (Unit {0}) (machine_of old) (WriteBytes machine_at bytes answer) (machine_of new) × (length new.port.range ≡ length old.port.range)
-    bytes_written bytes answer some fits spot goes =
+    bytes_written bytes answer some fits location goes =
         let place = in_range addresses old goes.there at k goes.before.apart is (omega (arith, some, fits)) in
         let bytes_at = range-bytes (length old.port.range) k (length bytes) fits in
         let answer_is : answer ≡ Ok tt =
-        goes.does.0 ∙ ap (λ (p : Option (Window × ℕ)). (bytes_stored_at p (caught_up old).port at bytes).0) place ∙ ap (λ (s : Spot). as_told at B8 (bytes_stored s (caught_up old).port bytes).0) bytes_at in
+        goes.does.0 ∙ ap (λ (p : Option (Window × ℕ)). (bytes_stored_at p (caught_up old).port at bytes).0) place ∙ ap (λ (s : Location). as_told at B8 (bytes_stored s (caught_up old).port bytes).0) bytes_at in
         let new_is : new ≡ record (caught_up old) { port = with_bytes k bytes (caught_up old).port } =
         goes.does.1 ∙ ap (λ (p : Option (Window × ℕ)). record (caught_up old) { port = (bytes_stored_at p (caught_up old).port at bytes).1 }) place
-        ∙ ap (λ (s : Spot). record (caught_up old) { port = (bytes_stored s (caught_up old).port bytes).1 }) bytes_at in (
+        ∙ ap (λ (s : Location). record (caught_up old) { port = (bytes_stored s (caught_up old).port bytes).1 }) bytes_at in (
           answer_is,
           (
-            answer_is ∙ sym (ap (λ (s : MachineSpot). (machine_stored s (machine_of old) machine_at bytes).0) spot),
-            ap machine_of new_is ∙ sym (ap (λ (s : MachineSpot). (machine_stored s (machine_of old) machine_at bytes).1) spot),
+            answer_is ∙ sym (ap (λ (s : MachineLocation). (machine_stored s (machine_of old) machine_at bytes).0) location),
+            ap machine_of new_is ∙ sym (ap (λ (s : MachineLocation). (machine_stored s (machine_of old) machine_at bytes).1) location),
           ),
           ap (λ (s : SpaceState). length s.port.range) new_is ∙ length-put_at old.port.range k bytes fits,
         )
 
     pub bytes_told : (before after : List ℕ) (answer : Result (Unit {0}) SpaceFault) → 0 < length before → k + length before ≤ length old.port.range
-        → memory_spot (length old.port.range) machine_at (length before) ≡ Inside InRange k → Goes addresses old (ReadBytes at before after answer) new
+        → memory_location (length old.port.range) machine_at (length before) ≡ Inside InRange k → Goes addresses old (ReadBytes at before after answer) new
         → (answer ≡ Ok tt) × Allows (Unit {0}) (machine_of old) (ReadBytes machine_at before after answer) (machine_of new)
-    bytes_told before after answer some fits spot goes =
+    bytes_told before after answer some fits location goes =
         let place = in_range addresses old goes.there at k goes.before.apart is (omega (arith, some, fits)) in
         let bytes_at = range-bytes (length old.port.range) k (length before) fits in
         let answer_is : answer ≡ Ok tt =
-        goes.does.0 ∙ ap (λ (p : Option (Window × ℕ)). (bytes_read_at p (caught_up old).port at before).0) place ∙ ap (λ (s : Spot). as_told at B8 (bytes_read s (caught_up old).port before).0) bytes_at in
+        goes.does.0 ∙ ap (λ (p : Option (Window × ℕ)). (bytes_read_at p (caught_up old).port at before).0) place ∙ ap (λ (s : Location). as_told at B8 (bytes_read s (caught_up old).port before).0) bytes_at in
         let after_is : after ≡ part old.port.range k (length before) =
-        goes.does.1 ∙ ap (λ (p : Option (Window × ℕ)). (bytes_read_at p (caught_up old).port at before).1) place ∙ ap (λ (s : Spot). (bytes_read s (caught_up old).port before).1) bytes_at in (
+        goes.does.1 ∙ ap (λ (p : Option (Window × ℕ)). (bytes_read_at p (caught_up old).port at before).1) place ∙ ap (λ (s : Location). (bytes_read s (caught_up old).port before).1) bytes_at in (
           answer_is,
           (
-            answer_is ∙ sym (ap (λ (s : MachineSpot). (machine_read s (machine_of old) machine_at before).0) spot),
-            after_is ∙ sym (ap (λ (s : MachineSpot). (machine_read s (machine_of old) machine_at before).1) spot),
+            answer_is ∙ sym (ap (λ (s : MachineLocation). (machine_read s (machine_of old) machine_at before).0) location),
+            after_is ∙ sym (ap (λ (s : MachineLocation). (machine_read s (machine_of old) machine_at before).1) location),
             ap machine_of goes.does.2,
           ),
         )

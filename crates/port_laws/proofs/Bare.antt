@@ -14,10 +14,10 @@ use Rattle.erst_device.specs.Drafts.{draft_at}
 use Rattle.erst_device.specs.Starts.{named}
 use Rattle.erst_device.specs.DeviceState.{is_busy}
 use Rattle.erst_device.specs.Actions.{told_by}
-use Rattle.erst_commands.specs.Alike.{DeviceOutline}
+use Rattle.erst_commands.specs.Equivalence.{DeviceOutline}
 use Rattle.erst_commands.proofs.StoreOutlines.{write_pending}
 use Rattle.erst_commands.proofs.DeviceOutlines.{running, giving_up, start_by, start_write, show_record, find_record, start_read, start_clear, start, step_on, go_on, find_next, tell, become, range_shown, range_after, looks, IsFound, found_once, Became}
-use Rattle.port_laws.specs.Alike.{bare}
+use Rattle.port_laws.specs.Equivalence.{bare}
 
 by_test : (b : Bool) (x y other also : DeviceOutline) → bare x ≡ bare other → bare y ≡ bare also → bare (if b then x else y) ≡ bare (if b then other else also)
 by_test true x y other also one two = one
@@ -105,16 +105,16 @@ looks_bare None o = refl
 -- two devices whose bare outlines are the same
 pub became_alike : (action : Option Action) (one other : DeviceOutline) (range : List ℕ) (one_after : DeviceOutline) (one_range : List ℕ) (other_after : DeviceOutline) (other_range : List ℕ)
     → bare one ≡ bare other → Became action one range one_after one_range → Became action other range other_after other_range → (bare one_after ≡ bare other_after) × (one_range ≡ other_range)
-became_alike action one other range one_after one_range other_after other_range alike first second =
-    let sought : looks action one ≡ looks action other = looks_bare action one ∙ ap (looks action) alike ∙ sym (looks_bare action other) in
-    let records : one.store.records ≡ other.store.records = ap (λ (o : DeviceOutline). o.store.records) alike in
+became_alike action one other range one_after one_range other_after other_range equivalent first second =
+    let sought : looks action one ≡ looks action other = looks_bare action one ∙ ap (looks action) equivalent ∙ sym (looks_bare action other) in
+    let records : one.store.records ≡ other.store.records = ap (λ (o : DeviceOutline). o.store.records) equivalent in
     let back : IsFound (looks action one) one.store.records second.next =
     subst (λ (l : Option ℕ). IsFound l one.store.records second.next) (sym sought)
     (subst (λ (map : Stored). IsFound (looks action other) map second.next) (sym records) second.is_found) in
     let same = found_once (looks action one) one.store.records first.next second.next first.is_found back in (
       ap bare first.outline ∙ become_bare action one range first.next
           ∙ ap (λ (n : Option ℕ). bare (become action (bare one) range n)) same
-          ∙ ap (λ (o : DeviceOutline). bare (become action o range second.next)) alike
+          ∙ ap (λ (o : DeviceOutline). bare (become action o range second.next)) equivalent
           ∙ sym (become_bare action other range second.next) ∙ sym (ap bare second.outline),
-      first.range_is ∙ range_bare action one range ∙ ap (λ (o : DeviceOutline). range_after action o range) alike ∙ sym (range_bare action other range) ∙ sym second.range_is,
+      first.range_is ∙ range_bare action one range ∙ ap (λ (o : DeviceOutline). range_after action o range) equivalent ∙ sym (range_bare action other range) ∙ sym second.range_is,
     )

@@ -16,9 +16,9 @@ use Rattle.erst_port.specs.declared.errors.PortError.{PortError}
 use Rattle.erst_port.specs.declared.windows.Addresses.{Addresses}
 use Rattle.erst_port.specs.Changes.{NotesMade}
 use Rattle.erst_port.specs.Moves.{Moves}
-use Rattle.erst_port.specs.declared.windows.Spot.{Spot}
-use Rattle.erst_port.specs.declared.windows.Spot.TheVariants.{Action, Value, LowHalf, HighHalf, Bytes, Nowhere}
-use Rattle.erst_port.specs.Places.{range_spot, spot_of}
+use Rattle.erst_port.specs.declared.windows.Location.{Location}
+use Rattle.erst_port.specs.declared.windows.Location.TheVariants.{Action, Value, LowHalf, HighHalf, Bytes, Nowhere}
+use Rattle.erst_port.specs.Places.{range_location, location_of}
 use Rattle.erst_port.specs.PortState.{PortState, flash_of}
 use Rattle.erst_port.specs.Accesses.{NumberWritten, ActionWritten, bytes_stored, Resets}
 use Rattle.port_laws.specs.Calls.{Call, Writes, Puts, Restarts, MovesTo, Looks, Makes, Does}
@@ -75,7 +75,7 @@ by_effect old new range code effect origin =
     record {
       leaves = subst (λ (m : Stored). Leaves (told_of old) (told_of new) (λ image. (shown_by old image ≡ records_of old) ⊎ (shown_by old image ≡ m))) is (effect.crash tt);
       made_is = λ still. effect.made tt still ∙ is;
-      layout = effect.alike.layout;
+      layout = effect.equivalent.layout;
       origin = origin;
     }
 
@@ -89,8 +89,8 @@ by_action old new value answer (inr taken) =
     (by_effect old new old.range (value % 2 ^ 32) taken.2.acted.effect (ap (λ (p : PortState). p.origin) taken.2.others), ap (λ (p : PortState). p.made) taken.2.others)
 
 -- a write of a number
-by_write : (spot : Spot) (old new : PortState) (width : Width) (value : ℕ) (answer : Result (Unit {0}) PortError) → NumberWritten spot old width value answer new
-    → IsOneCall old (completed_at spot old value answer) new × (new.made ≡ old.made)
+by_write : (location : Location) (old new : PortState) (width : Width) (value : ℕ) (answer : Result (Unit {0}) PortError) → NumberWritten location old width value answer new
+    → IsOneCall old (completed_at location old value answer) new × (new.made ≡ old.made)
 by_write Action old new width value answer h = by_action old new value answer h
 by_write Value old new width value answer h = (by_port old new _ h.1 refl refl, ap (λ (p : PortState). p.made) h.1)
 by_write LowHalf old new width value answer h = (by_port old new _ h.1 refl refl, ap (λ (p : PortState). p.made) h.1)
@@ -99,7 +99,7 @@ by_write (Bytes start) old new width value answer h = (by_port old new _ h.1 ref
 by_write Nowhere old new width value answer h = (by_port old new _ h.1 refl refl, ap (λ (p : PortState). p.made) h.1)
 
 -- bytes of the log range
-stored_store : (spot : Spot) (old : PortState) (bytes : List ℕ) → (bytes_stored spot old bytes).1.device.store ≡ old.device.store
+stored_store : (location : Location) (old : PortState) (bytes : List ℕ) → (bytes_stored location old bytes).1.device.store ≡ old.device.store
 stored_store Action old bytes = refl
 stored_store Value old bytes = refl
 stored_store LowHalf old bytes = refl
@@ -107,7 +107,7 @@ stored_store HighHalf old bytes = refl
 stored_store (Bytes start) old bytes = refl
 stored_store Nowhere old bytes = refl
 
-stored_origin : (spot : Spot) (old : PortState) (bytes : List ℕ) → (bytes_stored spot old bytes).1.origin ≡ old.origin
+stored_origin : (location : Location) (old : PortState) (bytes : List ℕ) → (bytes_stored location old bytes).1.origin ≡ old.origin
 stored_origin Action old bytes = refl
 stored_origin Value old bytes = refl
 stored_origin LowHalf old bytes = refl
@@ -115,7 +115,7 @@ stored_origin HighHalf old bytes = refl
 stored_origin (Bytes start) old bytes = refl
 stored_origin Nowhere old bytes = refl
 
-stored_made : (spot : Spot) (old : PortState) (bytes : List ℕ) → (bytes_stored spot old bytes).1.made ≡ old.made
+stored_made : (location : Location) (old : PortState) (bytes : List ℕ) → (bytes_stored location old bytes).1.made ≡ old.made
 stored_made Action old bytes = refl
 stored_made Value old bytes = refl
 stored_made LowHalf old bytes = refl
@@ -131,8 +131,8 @@ by_reset old new answer (inr done) =
     let kept : Leaves (told_of old) (told_of new) (λ image. shown_by old image ≡ records_of old) = resets.leaves.kept tt in (
       record {
         leaves = Leaves-weaker (told_of old) (told_of new) _ _ kept (λ image same. inl same);
-        made_is = λ _. ap (λ (l : Layout). records_in l (told_of new).image) resets.leaves.alike.layout ∙ Leaves-exit (told_of old) (told_of new) _ kept;
-        layout = resets.leaves.alike.layout;
+        made_is = λ _. ap (λ (l : Layout). records_in l (told_of new).image) resets.leaves.equivalent.layout ∙ Leaves-exit (told_of old) (told_of new) _ kept;
+        layout = resets.leaves.equivalent.layout;
         origin = ap (λ (p : PortState). p.origin) resets.others;
       },
       ap (λ (p : PortState). p.made) resets.others,
@@ -155,10 +155,10 @@ made_after (Makes kind at bytes) made = made + 1
 made_after call made = made
 
 pub one_call : (old : PortState) (call : Call) (new : PortState) → Does old call new → IsOneCall old (completed old call) new × (new.made ≡ made_after call old.made)
-one_call old (Writes window offset width value answer) new h = by_write (spot_of window (length old.range) offset width) old new width value answer h
+one_call old (Writes window offset width value answer) new h = by_write (location_of window (length old.range) offset width) old new width value answer h
 one_call old (Puts offset bytes answer) new h =
-    let spot = range_spot (length old.range) offset (length bytes) in
-    (by_port old new _ h.1 (stored_store spot old bytes) (stored_origin spot old bytes), ap (λ (p : PortState). p.made) h.1 ∙ stored_made spot old bytes)
+    let location = range_location (length old.range) offset (length bytes) in
+    (by_port old new _ h.1 (stored_store location old bytes) (stored_origin location old bytes), ap (λ (p : PortState). p.made) h.1 ∙ stored_made location old bytes)
 one_call old (Restarts answer) new h = by_reset old new answer h
 one_call old (MovesTo addresses answer) new h = by_move old addresses answer new h
 one_call old Looks new h = (by_port old new old h refl refl, ap (λ (p : PortState). p.made) h)

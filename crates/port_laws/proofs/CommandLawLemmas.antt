@@ -13,8 +13,8 @@ use Rattle.erst_client.specs.Timings.{enough_steps}
 use Rattle.erst_device.specs.Actions.{log_range_at}
 use Rattle.erst_device.specs.DeviceState.{records}
 use Rattle.erst_machine.specs.declared.areas.Area.TheVariants.{LogRange}
-use Rattle.erst_machine.specs.declared.areas.Spot.TheVariants.{Inside}
-use Rattle.erst_machine.specs.Areas.{memory_spot}
+use Rattle.erst_machine.specs.declared.areas.Location.TheVariants.{Inside}
+use Rattle.erst_machine.specs.Areas.{memory_location}
 use Rattle.erst_machine.specs.Allowed.{Allows}
 use Rattle.erst_machine.specs.MachineState.{MachineState, records_of, reach_in}
 use Rattle.erst_machine.proofs.PlaceLemmas.{area_found}
@@ -52,18 +52,18 @@ module _ (addresses : Addresses) (old new : SpaceState) where
       → Allows (Unit {0}) (machine_of old) (write_call (Memory 0x200000) B32 number answer) (machine_of new)
   code_written number answer not_address not_next goes = action_written addresses old new number (number % 2 ^ 32) answer refl not_address not_next goes
 
-  range_spot : IsPort old.port → (k n : ℕ) → 0 < n → k + n ≤ length old.port.range → memory_spot (length old.port.range) (log_range_at + k) n ≡ Inside LogRange k
-  range_spot port k n some fits = area_found (length old.port.range) LogRange k n (omega (arith, port.range, reach-few old.port.device.store.layout)) some fits
+  range_location : IsPort old.port → (k n : ℕ) → 0 < n → k + n ≤ length old.port.range → memory_location (length old.port.range) (log_range_at + k) n ≡ Inside LogRange k
+  range_location port k n some fits = area_found (length old.port.range) LogRange k n (omega (arith, port.range, reach-few old.port.device.store.layout)) some fits
 
   pub range_read : (k : ℕ) (before after : List ℕ) (answer : Result (Unit {0}) SpaceFault) → 0 < length before → k + length before ≤ length old.port.range → Goes addresses old (ReadBytes (addresses.range + k) before after answer) new
       → Allows (Unit {0}) (machine_of old) (ReadBytes (log_range_at + k) before after answer) (machine_of new)
   range_read k before after answer some fits goes =
-      (bytes_told addresses old new (addresses.range + k) (log_range_at + k) k refl before after answer some fits (range_spot goes.before k (length before) some fits) goes).1
+      (bytes_told addresses old new (addresses.range + k) (log_range_at + k) k refl before after answer some fits (range_location goes.before k (length before) some fits) goes).1
 
   pub range_written : (k : ℕ) (bytes : List ℕ) (answer : Result (Unit {0}) SpaceFault) → 0 < length bytes → k + length bytes ≤ length old.port.range → Goes addresses old (WriteBytes (addresses.range + k) bytes answer) new
       → Allows (Unit {0}) (machine_of old) (WriteBytes (log_range_at + k) bytes answer) (machine_of new)
   range_written k bytes answer some fits goes =
-      (bytes_written addresses old new (addresses.range + k) (log_range_at + k) k refl bytes answer some fits (range_spot goes.before k (length bytes) some fits) goes).1
+      (bytes_written addresses old new (addresses.range + k) (log_range_at + k) k refl bytes answer some fits (range_location goes.before k (length bytes) some fits) goes).1
 
 -- Commands
 

@@ -20,7 +20,7 @@ use Rattle.erst_commands.specs.OwnPrograms.{OwnProgramsRun}
 use Rattle.erst_commands.specs.Attached.{own_client}
 use Rattle.erst_commands.specs.Reads.{ReadMade, IsRead, IsRefused, IsFailed, ReadCommand, Answers, StopsBehind, StopsBefore}
 use Rattle.erst_commands.proofs.OwnProgramLemmas.{own_programs_run}
-use Rattle.erst_commands.proofs.RangeLemmas.{spot-start, spot-length, spot-mark, IsRecord, not_refused}
+use Rattle.erst_commands.proofs.RangeLemmas.{location-start, location-length, location-mark, IsRecord, not_refused}
 use Rattle.erst_commands.proofs.LimitLemmas.{reach-least}
 use Rattle.erst_commands.proofs.ReadLemmas.{read_command}
 use Rattle.erst_port.specs.declared.windows.Addresses.{Addresses}
@@ -85,7 +85,7 @@ module _ (first : SpaceState) (port : IsPort first.port) (bytes : List ℕ) (is 
       → put_at_start addresses answer new
   put addresses answer new goes =
       bytes_written addresses first new addresses.range 0x100000 0 (omega arith) bytes answer (omega (arith, is.least)) (omega (arith, is.fits))
-      (spot-start (length first.port.range) (length bytes) (omega (arith, is.least)) is.fits) goes
+      (location-start (length first.port.range) (length bytes) (omega (arith, is.least)) is.fits) goes
 
   mark_at : (addresses : Addresses) → first.port.addresses ≡ addresses → (addresses.range + 108) % 2 ^ 64 ≡ addresses.range + 108
   mark_at addresses there =
@@ -97,7 +97,7 @@ module _ (first : SpaceState) (port : IsPort first.port) (bytes : List ℕ) (is 
       → (answer ≡ Ok tt) × Allows (Unit {0}) (machine_of mid) (WriteBytes 0x10006C (codes "ER") answer) (machine_of new)
   mark addresses there mid same answer new goes =
       let done = bytes_written addresses mid new ((addresses.range + 108) % 2 ^ 64) 0x10006C 108 (mark_at addresses there) (codes "ER") answer (omega arith) (omega (arith, same, is.least, is.fits))
-      (spot-mark (length mid.port.range) (omega (arith, same, is.least, is.fits))) goes in
+      (location-mark (length mid.port.range) (omega (arith, same, is.least, is.fits))) goes in
       (done.0, done.1)
 
   puts_own : (result : Result (Unit {0}) ClientError) (mid : SpaceState) → Puts (Goes first.port.addresses) first.port.addresses.range bytes first result mid
@@ -134,16 +134,16 @@ writes_own first port bytes budget result left last writes =
 -- a read divides the flash as before
 read_divides : (first last : MachineState) (id : ℕ) (result : Result (Unit {0}) ClientError) → ReadMade first last id result → last.device.store.layout ≡ first.device.store.layout
 read_divides first last id result made = elim made as (λ result made. last.device.store.layout ≡ first.device.store.layout) [
-  | IsRead found body generation asked is_named here fits range cursor ↦ asked.leaves.alike.layout
-  | IsRefused refusal error asked refused is range cursor ↦ asked.leaves.alike.layout
-  | IsFailed leaves rose range cursor ↦ leaves.alike.layout
+  | IsRead found body generation asked is_named here fits range cursor ↦ asked.leaves.equivalent.layout
+  | IsRefused refusal error asked refused is range cursor ↦ asked.leaves.equivalent.layout
+  | IsFailed leaves rose range cursor ↦ leaves.equivalent.layout
 ]
 
 divides : (first last : MachineState) (id budget : ℕ) (result : Result (Unit {0}) ClientError) (left : ℕ) → ReadCommand first last id budget result left → last.device.store.layout ≡ first.device.store.layout
 divides first last id budget result left command = elim command as (λ result left command. last.device.store.layout ≡ first.device.store.layout) [
   | Answers result left made spent ↦ read_divides first last id result made
   | StopsBehind result made least short ↦ read_divides first last id result made
-  | StopsBefore leaves range cursor which short ↦ leaves.alike.layout
+  | StopsBefore leaves range cursor which short ↦ leaves.equivalent.layout
 ]
 
 module _ (addresses : Addresses) (mid : SpaceState) where
@@ -151,7 +151,7 @@ module _ (addresses : Addresses) (mid : SpaceState) where
       → Goes addresses mid (ReadBytes ((addresses.range + 20) % 2 ^ 64) (0 ∷ 0 ∷ 0 ∷ 0 ∷ []) field answer) new
       → (answer ≡ Ok tt) × Allows (Unit {0}) (machine_of mid) (ReadBytes 0x100014 (0 ∷ 0 ∷ 0 ∷ 0 ∷ []) field answer) (machine_of new)
   length_own below long field answer new goes =
-      bytes_told addresses mid new ((addresses.range + 20) % 2 ^ 64) 0x100014 20 (omega (arith, below, long)) (0 ∷ 0 ∷ 0 ∷ 0 ∷ []) field answer (omega arith) (omega (arith, long)) (spot-length (length mid.port.range) long) goes
+      bytes_told addresses mid new ((addresses.range + 20) % 2 ^ 64) 0x100014 20 (omega (arith, below, long)) (0 ∷ 0 ∷ 0 ∷ 0 ∷ []) field answer (omega arith) (omega (arith, long)) (location-length (length mid.port.range) long) goes
 
   copies_own : (before after : List ℕ) (answer : Result (Unit {0}) ClientError) (new : SpaceState) → 0 < length before → length before ≤ length mid.port.range
       → CopiesOut (Goes addresses) addresses.range before after mid answer new → CopiesOut (Allows (Unit {0})) 0x100000 before after (machine_of mid) answer (machine_of new)
@@ -162,7 +162,7 @@ module _ (addresses : Addresses) (mid : SpaceState) where
     where
       told : (answer : Result (Unit {0}) SpaceFault) (new : SpaceState) → Goes addresses mid (ReadBytes addresses.range before after answer) new
           → (answer ≡ Ok tt) × Allows (Unit {0}) (machine_of mid) (ReadBytes 0x100000 before after answer) (machine_of new)
-      told answer new goes = bytes_told addresses mid new addresses.range 0x100000 0 (omega arith) before after answer some (omega (arith, fits)) (spot-start (length mid.port.range) (length before) some fits) goes
+      told answer new goes = bytes_told addresses mid new addresses.range 0x100000 0 (omega arith) before after answer some (omega (arith, fits)) (location-start (length mid.port.range) (length before) some fits) goes
 
 pub reads_own : (first : SpaceState) → IsPort first.port → (id : ℕ) → id < 2 ^ 64 → (out : List ℕ) (budget : ℕ) (result : Result ℕ ClientError) (after : List ℕ) (left : ℕ) (last : SpaceState)
     → Reads (Goes first.port.addresses) (port_client first) id out budget first result after left last

@@ -211,7 +211,7 @@ all_met stored from ids again walks has next other some here = elim (has_or_not 
 
 -- one that was asked leaves the records
 kept : (first last : MachineState) → HasAsked first last → records_of last ≡ records_of first
-kept first last asked = kept_map first.device.store last.device.store asked.looked.kept asked.looked.alike
+kept first last asked = kept_map first.device.store last.device.store asked.looked.kept asked.looked.equivalent
 
 record IsNext (first last : MachineState) (id : ℕ) : Type 0 where
   behind : Behind (records_of first) first.device.cursor id

@@ -9,12 +9,12 @@ use Rattle.apei_space.specs.Windows.{address_of}
 use Rattle.erst_device.specs.DeviceState.{DeviceState}
 use Rattle.erst_port.specs.declared.errors.PortError.{PortError}
 use Rattle.erst_port.specs.declared.windows.Addresses.{Addresses}
-use Rattle.erst_port.specs.declared.windows.Spot.{Spot}
-use Rattle.erst_port.specs.declared.windows.Spot.TheVariants.{Action, Value, LowHalf, HighHalf, Bytes, Nowhere}
+use Rattle.erst_port.specs.declared.windows.Location.{Location}
+use Rattle.erst_port.specs.declared.windows.Location.TheVariants.{Action, Value, LowHalf, HighHalf, Bytes, Nowhere}
 use Rattle.erst_port.specs.declared.windows.Window.{Window}
 use Rattle.erst_port.specs.PortState.{PortState, IsPort}
 use Rattle.erst_port.specs.Accesses.{ActionWritten, NumberWritten, bytes_stored}
-use Rattle.port_laws.specs.PortSpaces.{SpaceState, place_in, WrittenAt, bytes_spot, bytes_stored_at, Does, caught_up, Goes}
+use Rattle.port_laws.specs.PortSpaces.{SpaceState, place_in, WrittenAt, bytes_location, bytes_stored_at, Does, caught_up, Goes}
 use Rattle.port_laws.specs.Others.{KeepsOthers}
 
 -- a port with another device, other bytes in its log range and another count of changes made
@@ -31,7 +31,7 @@ action_beside : (old : PortState) (code : ℕ) (answer : Result (Unit {0}) PortE
 action_beside old code answer new (inl due) = same_beside old new due.2
 action_beside old code answer new (inr taken) = beside_of old new new.device new.range old.made taken.2.others
 
-number_beside : (spot : Spot) (old : PortState) (width : Width) (value : ℕ) (answer : Result (Unit {0}) PortError) (new : PortState) → NumberWritten spot old width value answer new → IsBeside old new
+number_beside : (location : Location) (old : PortState) (width : Width) (value : ℕ) (answer : Result (Unit {0}) PortError) (new : PortState) → NumberWritten location old width value answer new → IsBeside old new
 number_beside Action old width value answer new wrote = action_beside old (value % 2 ^ 32) answer new wrote
 number_beside Value old width value answer new wrote = beside_of old new _ _ _ wrote.1
 number_beside LowHalf old width value answer new wrote = beside_of old new _ _ _ wrote.1
@@ -43,7 +43,7 @@ written_beside : (place : Option (Window × ℕ)) (old : PortState) (at : ℕ) (
 written_beside None old at width value answer new wrote = same_beside old new wrote.1
 written_beside (Some place) old at width value answer new wrote = number_beside _ old width value wrote.0 new wrote.2
 
-stored_beside : (spot : Spot) (old : PortState) (bytes : List ℕ) → IsBeside old (bytes_stored spot old bytes).1
+stored_beside : (location : Location) (old : PortState) (bytes : List ℕ) → IsBeside old (bytes_stored location old bytes).1
 stored_beside Action old bytes = refl
 stored_beside Value old bytes = refl
 stored_beside LowHalf old bytes = refl
@@ -53,7 +53,7 @@ stored_beside Nowhere old bytes = refl
 
 bytes_beside : (place : Option (Window × ℕ)) (old : PortState) (at : ℕ) (bytes : List ℕ) → IsBeside old (bytes_stored_at place old at bytes).1
 bytes_beside None old at bytes = refl
-bytes_beside (Some place) old at bytes = stored_beside (bytes_spot place.0 _ place.1 _) old bytes
+bytes_beside (Some place) old at bytes = stored_beside (bytes_location place.0 _ place.1 _) old bytes
 
 call_beside : (old : SpaceState) (call : Call) (new : SpaceState) → Does old call new → IsBeside old.port new.port
 call_beside old (Read at width answer) new does = same_beside old.port new.port (ap (λ (s : SpaceState). s.port) does.1)

@@ -5,10 +5,10 @@ use Rattle.std.proofs.lemmas.Bool.Decides.{nat_tests}
 use Rattle.apei_tables.specs.declared.registers.Place.TheVariants.{Memory}
 use Rattle.erst_machine.specs.Areas.{holds}
 use Rattle.erst_port.specs.declared.windows.Addresses.{Addresses}
-use Rattle.erst_port.specs.declared.windows.Spot.TheVariants.{Bytes, Nowhere}
+use Rattle.erst_port.specs.declared.windows.Location.TheVariants.{Bytes, Nowhere}
 use Rattle.erst_port.specs.declared.windows.Window.{Window}
 use Rattle.erst_port.specs.declared.windows.Window.TheVariants.{Registers, LogRange}
-use Rattle.erst_port.specs.Places.{are_apart, range_spot}
+use Rattle.erst_port.specs.Places.{are_apart, range_location}
 use Rattle.erst_port.specs.PortState.{PortState}
 use Rattle.port_laws.specs.PortSpaces.{place_in}
 
@@ -73,7 +73,7 @@ place-range port k apart small =
     ∙ held_in port.addresses.range (length port.range) k (holds port.addresses.range (length port.range) (port.addresses.range + k)) refl small LogRange None
 
 -- bytes that are in the log range
-pub range-bytes : (size k n : ℕ) → k + n ≤ size → range_spot size k n ≡ Bytes k
+pub range-bytes : (size k n : ℕ) → k + n ≤ size → range_location size k n ≡ Bytes k
 range-bytes size k n fits = by_test (nat_le (k + n) size) refl
   where
     by_test : (test : Bool) → nat_le (k + n) size ≡ test → (if test then Bytes k else Nowhere) ≡ Bytes k

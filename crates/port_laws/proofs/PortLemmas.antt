@@ -1,4 +1,4 @@
--- What two ports that are alike do.
+-- What two ports that are equivalent do.
 use Rattle.std.proofs.Common.{◌≡◌, ◌≢◌, ℕ, ◌+◌, ◌-◌, ◌*◌, ◌/◌, ◌%◌, ◌^◌, inl, inr, false, List, length, Option, Some, None, Result, Ok, Err, refl, sym, ap, subst, ◌∙◌, arith, ◌++◌, length-append}
 use Rattle.base_model.specs.Bytes.{spelled, part, number_at, put_at}
 use Rattle.apei_tables.specs.declared.widths.Width.{Width}
@@ -14,21 +14,21 @@ use Rattle.erst_device.specs.declared.status.CommandStatus.TheVariants.{Success}
 use Rattle.erst_device.specs.DeviceState.{DeviceState, given_up}
 use Rattle.erst_device.specs.StoreCalls.{FoundNext}
 use Rattle.erst_device.specs.Actions.{Acts, found}
-use Rattle.erst_commands.specs.Alike.{DeviceOutline, StoreOutline, device_outline, store_outline, unplaced, FailsNothing}
+use Rattle.erst_commands.specs.Equivalence.{DeviceOutline, StoreOutline, device_outline, store_outline, unplaced, FailsNothing}
 use Rattle.erst_commands.proofs.StoreOutlines.{only_looked, answers_ok}
 use Rattle.erst_commands.proofs.DeviceOutlines.{became, found_once}
 use Rattle.erst_port.specs.declared.errors.PortError.{PortError}
 use Rattle.erst_port.specs.declared.errors.PortError.TheVariants.{BadAccess}
 use Rattle.erst_port.specs.declared.windows.Addresses.{Addresses}
-use Rattle.erst_port.specs.declared.windows.Spot.{Spot}
-use Rattle.erst_port.specs.declared.windows.Spot.TheVariants.{Action, Value, LowHalf, HighHalf, Bytes, Nowhere}
+use Rattle.erst_port.specs.declared.windows.Location.{Location}
+use Rattle.erst_port.specs.declared.windows.Location.TheVariants.{Action, Value, LowHalf, HighHalf, Bytes, Nowhere}
 use Rattle.erst_port.specs.PortState.{PortState, IsMade}
 use Rattle.erst_port.specs.Accesses.{number_read, Tells, Address, Round, Number, Acted, ActsOn, ActionWritten, NumberWritten, with_value, with_bytes, bytes_read, bytes_stored, ResetsOn, reset_answer, Resets}
 use Rattle.erst_port.specs.Saved.{signature, head_size, saved_head, IsSaved}
 use Rattle.erst_port.specs.Loaded.{AreOfDevice, AreOfLayout, GoesOn}
 use Rattle.erst_port.proofs.SavedLemmas.{length-saved_head, HasNumbers, has_numbers}
 use Rattle.erst_port.proofs.LookLemmas.{Looked, looked as looked_by, IsBehind, behind, IsSecond, second}
-use Rattle.port_laws.specs.Alike.{bare, AlikePorts, FailedNothing}
+use Rattle.port_laws.specs.Equivalence.{bare, EquivalentPorts, FailedNothing}
 use Rattle.port_laws.proofs.Bare.{became_alike}
 
 -- The bytes of a saved port
@@ -58,7 +58,7 @@ is_taken port saved is =
 
 -- A port that goes on
 
-pub goes_on_alike : (old new : PortState) (saved : List ℕ) → IsSaved old saved → GoesOn old new → AlikePorts old new
+pub goes_on_alike : (old new : PortState) (saved : List ℕ) → IsSaved old saved → GoesOn old new → EquivalentPorts old new
 goes_on_alike old new saved is on =
     let device : new.device ≡ record old.device { store = new.device.store } = ap (λ (p : PortState). p.device) on.port in
     let pending : unplaced new.device.store.pending ≡ unplaced old.device.store.pending = ap unplaced on.ready.idle ∙ sym (ap unplaced is.still.no_change) in
@@ -76,49 +76,49 @@ goes_on_alike old new saved is on =
 
 -- VALUE
 
-same_value : (one other : PortState) → AlikePorts one other → one.device.value ≡ other.device.value
-same_value one other alike = ap (λ (o : DeviceOutline). o.value) alike.device
+same_value : (one other : PortState) → EquivalentPorts one other → one.device.value ≡ other.device.value
+same_value one other equivalent = ap (λ (o : DeviceOutline). o.value) equivalent.device
 
-pub reads_alike : (one other : PortState) (spot : Spot) (width : Width) → AlikePorts one other → number_read spot one width ≡ number_read spot other width
-reads_alike one other Action width alike = refl
-reads_alike one other Value width alike = ap (λ (n : ℕ). Ok n) (same_value one other alike)
-reads_alike one other LowHalf width alike = ap (λ (n : ℕ). Ok (n % 2 ^ 32)) (same_value one other alike)
-reads_alike one other HighHalf width alike = ap (λ (n : ℕ). Ok (n / 2 ^ 32)) (same_value one other alike)
-reads_alike one other (Bytes start) width alike = ap (λ (xs : List ℕ). Ok (number_at xs start (bits width / 8))) alike.range
-reads_alike one other Nowhere width alike = refl
+pub reads_alike : (one other : PortState) (location : Location) (width : Width) → EquivalentPorts one other → number_read location one width ≡ number_read location other width
+reads_alike one other Action width equivalent = refl
+reads_alike one other Value width equivalent = ap (λ (n : ℕ). Ok n) (same_value one other equivalent)
+reads_alike one other LowHalf width equivalent = ap (λ (n : ℕ). Ok (n % 2 ^ 32)) (same_value one other equivalent)
+reads_alike one other HighHalf width equivalent = ap (λ (n : ℕ). Ok (n / 2 ^ 32)) (same_value one other equivalent)
+reads_alike one other (Bytes start) width equivalent = ap (λ (xs : List ℕ). Ok (number_at xs start (bits width / 8))) equivalent.range
+reads_alike one other Nowhere width equivalent = refl
 
-pub gets_alike : (one other : PortState) (spot : Spot) (before : List ℕ) → AlikePorts one other → bytes_read spot one before ≡ bytes_read spot other before
-gets_alike one other (Bytes start) before alike = ap (λ (xs : List ℕ). (Ok tt, part xs start (length before))) alike.range
-gets_alike one other Action before alike = refl
-gets_alike one other Value before alike = refl
-gets_alike one other LowHalf before alike = refl
-gets_alike one other HighHalf before alike = refl
-gets_alike one other Nowhere before alike = refl
+pub gets_alike : (one other : PortState) (location : Location) (before : List ℕ) → EquivalentPorts one other → bytes_read location one before ≡ bytes_read location other before
+gets_alike one other (Bytes start) before equivalent = ap (λ (xs : List ℕ). (Ok tt, part xs start (length before))) equivalent.range
+gets_alike one other Action before equivalent = refl
+gets_alike one other Value before equivalent = refl
+gets_alike one other LowHalf before equivalent = refl
+gets_alike one other HighHalf before equivalent = refl
+gets_alike one other Nowhere before equivalent = refl
 
-with_value_alike : (one other : PortState) (number also : ℕ) → AlikePorts one other → number ≡ also → AlikePorts (with_value number one) (with_value also other)
-with_value_alike one other number also alike same = record {
-  device = ap (λ (o : DeviceOutline). record o { value = number }) alike.device ∙ ap (λ (n : ℕ). record (bare (device_outline other.device)) { value = n }) same;
-  range = alike.range;
-  table = alike.table;
-  addresses = alike.addresses;
+with_value_alike : (one other : PortState) (number also : ℕ) → EquivalentPorts one other → number ≡ also → EquivalentPorts (with_value number one) (with_value also other)
+with_value_alike one other number also equivalent same = record {
+  device = ap (λ (o : DeviceOutline). record o { value = number }) equivalent.device ∙ ap (λ (n : ℕ). record (bare (device_outline other.device)) { value = n }) same;
+  range = equivalent.range;
+  table = equivalent.table;
+  addresses = equivalent.addresses;
 }
 
-with_bytes_alike : (one other : PortState) (start : ℕ) (bytes : List ℕ) → AlikePorts one other → AlikePorts (with_bytes start bytes one) (with_bytes start bytes other)
-with_bytes_alike one other start bytes alike = record {
-  device = alike.device;
-  range = ap (λ (xs : List ℕ). put_at xs start bytes) alike.range;
-  table = alike.table;
-  addresses = alike.addresses;
+with_bytes_alike : (one other : PortState) (start : ℕ) (bytes : List ℕ) → EquivalentPorts one other → EquivalentPorts (with_bytes start bytes one) (with_bytes start bytes other)
+with_bytes_alike one other start bytes equivalent = record {
+  device = equivalent.device;
+  range = ap (λ (xs : List ℕ). put_at xs start bytes) equivalent.range;
+  table = equivalent.table;
+  addresses = equivalent.addresses;
 }
 
-pub puts_alike : (one other : PortState) (spot : Spot) (bytes : List ℕ) → AlikePorts one other
-    → ((bytes_stored spot one bytes).0 ≡ (bytes_stored spot other bytes).0) × AlikePorts (bytes_stored spot one bytes).1 (bytes_stored spot other bytes).1
-puts_alike one other (Bytes start) bytes alike = (refl, with_bytes_alike one other start bytes alike)
-puts_alike one other Action bytes alike = (refl, alike)
-puts_alike one other Value bytes alike = (refl, alike)
-puts_alike one other LowHalf bytes alike = (refl, alike)
-puts_alike one other HighHalf bytes alike = (refl, alike)
-puts_alike one other Nowhere bytes alike = (refl, alike)
+pub puts_alike : (one other : PortState) (location : Location) (bytes : List ℕ) → EquivalentPorts one other
+    → ((bytes_stored location one bytes).0 ≡ (bytes_stored location other bytes).0) × EquivalentPorts (bytes_stored location one bytes).1 (bytes_stored location other bytes).1
+puts_alike one other (Bytes start) bytes equivalent = (refl, with_bytes_alike one other start bytes equivalent)
+puts_alike one other Action bytes equivalent = (refl, equivalent)
+puts_alike one other Value bytes equivalent = (refl, equivalent)
+puts_alike one other LowHalf bytes equivalent = (refl, equivalent)
+puts_alike one other HighHalf bytes equivalent = (refl, equivalent)
+puts_alike one other Nowhere bytes equivalent = (refl, equivalent)
 
 -- The number that a port tells
 
@@ -183,26 +183,26 @@ other_code : (code : ℕ) → code ≡ code_of GetErrorLogAddressRange → code 
 other_code code is also = omega (arith, is, also)
 
 told_alike : (address code : ℕ) (one other one_new other_new : DeviceOutline) → bare one ≡ bare other → ToldBy address code one one_new → ToldBy address code other other_new → bare one_new ≡ bare other_new
-told_alike address code one other one_new other_new alike first later =
-    let value : one.value ≡ other.value = ap (λ (o : DeviceOutline). o.value) alike in
+told_alike address code one other one_new other_new equivalent first later =
+    let value : one.value ≡ other.value = ap (λ (o : DeviceOutline). o.value) equivalent in
     elim first as (λ one_new first. bare one_new ≡ bare other_new) [
       | ByAddress is ↦ elim later as (λ other_new later. bare (record one { value = address }) ≡ bare other_new) [
-        | ByAddress also ↦ ap (λ (o : DeviceOutline). record o { value = address }) alike
+        | ByAddress also ↦ ap (λ (o : DeviceOutline). record o { value = address }) equivalent
         | ByRound next also all least ↦ absurd (other_code code is also)
         | ByNumber tells looks ↦ absurd (tells is)
       ]
       | ByRound next is all least ↦ elim later as (λ other_new later. bare (next_told next one) ≡ bare other_new) [
         | ByAddress also ↦ absurd (other_code code also is)
         | ByRound found also all_found least_found ↦
-            let records : one.store.records ≡ other.store.records = ap (λ (o : DeviceOutline). o.store.records) alike in
+            let records : one.store.records ≡ other.store.records = ap (λ (o : DeviceOutline). o.store.records) equivalent in
             let same : next ≡ found = found_once (Some 0) one.store.records next found least (subst (λ (map : Stored). IsNextAbove 0 map found) (sym records) least_found) in
-            next_told_bare next one ∙ ap (λ (n : Option ℕ). next_told n (bare one)) same ∙ ap (next_told found) alike ∙ sym (next_told_bare found other)
+            next_told_bare next one ∙ ap (λ (n : Option ℕ). next_told n (bare one)) same ∙ ap (next_told found) equivalent ∙ sym (next_told_bare found other)
         | ByNumber tells looks ↦ absurd (looks is (sym value ∙ all))
       ]
       | ByNumber tells looks ↦ elim later as (λ other_new later. bare one ≡ bare other_new) [
         | ByAddress also ↦ absurd (tells also)
         | ByRound found also all least ↦ absurd (looks also (value ∙ all))
-        | ByNumber none other_looks ↦ alike
+        | ByNumber none other_looks ↦ equivalent
       ]
     ]
 
@@ -212,61 +212,61 @@ acted_alike : (one other : DeviceState) (range : List ℕ) (address code : ℕ) 
     → bare (device_outline one) ≡ bare (device_outline other)
     → Acted one range address code one_after one_range → FailsNothing one.store one_after.store → Acted other range address code other_after other_range → FailsNothing other.store other_after.store
     → (bare (device_outline one_after) ≡ bare (device_outline other_after)) × (one_range ≡ other_range)
-acted_alike one other range address code one_after one_range other_after other_range alike first quiet later also_quiet =
+acted_alike one other range address code one_after one_range other_after other_range equivalent first quiet later also_quiet =
     let a = split one range address code first.left one_range one_after first.acts first.told quiet in
     let b = split other range address code later.left other_range other_after later.acts later.told also_quiet in
-    let both = became_alike (action_of code) (device_outline one) (device_outline other) range (device_outline a.left) one_range (device_outline b.left) other_range alike
+    let both = became_alike (action_of code) (device_outline one) (device_outline other) range (device_outline a.left) one_range (device_outline b.left) other_range equivalent
     (became (Unit {0}) tt one range (action_of code) a.left one_range a.acts first.copies a.quiet)
     (became (Unit {0}) tt other range (action_of code) b.left other_range b.acts later.copies b.quiet) in
     (told_alike address code (device_outline a.left) (device_outline b.left) (device_outline one_after) (device_outline other_after) both.0 a.told b.told, both.1)
 
-acts_on_alike : (one other : PortState) (code : ℕ) (one_after other_after : PortState) → AlikePorts one other → ActsOn one code one_after → FailedNothing one one_after
-    → ActsOn other code other_after → FailedNothing other other_after → AlikePorts one_after other_after
-acts_on_alike one other code one_after other_after alike first quiet later also_quiet =
+acts_on_alike : (one other : PortState) (code : ℕ) (one_after other_after : PortState) → EquivalentPorts one other → ActsOn one code one_after → FailedNothing one one_after
+    → ActsOn other code other_after → FailedNothing other other_after → EquivalentPorts one_after other_after
+acts_on_alike one other code one_after other_after equivalent first quiet later also_quiet =
     let here : Acted other.device one.range one.addresses.range code other_after.device other_after.range =
-    subst (λ (range : List ℕ). Acted other.device range one.addresses.range code other_after.device other_after.range) (sym alike.range)
-    (subst (λ (places : Addresses). Acted other.device other.range places.range code other_after.device other_after.range) (sym alike.addresses) later.acted) in
-    let both = acted_alike one.device other.device one.range one.addresses.range code one_after.device one_after.range other_after.device other_after.range alike.device first.acted quiet here also_quiet in
+    subst (λ (range : List ℕ). Acted other.device range one.addresses.range code other_after.device other_after.range) (sym equivalent.range)
+    (subst (λ (places : Addresses). Acted other.device other.range places.range code other_after.device other_after.range) (sym equivalent.addresses) later.acted) in
+    let both = acted_alike one.device other.device one.range one.addresses.range code one_after.device one_after.range other_after.device other_after.range equivalent.device first.acted quiet here also_quiet in
     record {
       device = both.0;
       range = both.1;
-      table = ap (λ (p : PortState). p.table) first.others ∙ alike.table ∙ sym (ap (λ (p : PortState). p.table) later.others);
-      addresses = ap (λ (p : PortState). p.addresses) first.others ∙ alike.addresses ∙ sym (ap (λ (p : PortState). p.addresses) later.others);
+      table = ap (λ (p : PortState). p.table) first.others ∙ equivalent.table ∙ sym (ap (λ (p : PortState). p.table) later.others);
+      addresses = ap (λ (p : PortState). p.addresses) first.others ∙ equivalent.addresses ∙ sym (ap (λ (p : PortState). p.addresses) later.others);
     }
 
 -- A write
 
-action_alike : (one other : PortState) (code : ℕ) (answer also : Result (Unit {0}) PortError) (one_after other_after : PortState) → AlikePorts one other → IsMade one → IsMade other
+action_alike : (one other : PortState) (code : ℕ) (answer also : Result (Unit {0}) PortError) (one_after other_after : PortState) → EquivalentPorts one other → IsMade one → IsMade other
     → ActionWritten one code answer one_after → FailedNothing one one_after → ActionWritten other code also other_after → FailedNothing other other_after
-    → (answer ≡ also) × AlikePorts one_after other_after
-action_alike one other code answer also one_after other_after alike made also_made (inl due) quiet later also_quiet = absurd (due.1 made)
-action_alike one other code answer also one_after other_after alike made also_made (inr first) quiet (inl due) also_quiet = absurd (due.1 also_made)
-action_alike one other code answer also one_after other_after alike made also_made (inr first) quiet (inr later) also_quiet =
-    (first.0 ∙ sym later.0, acts_on_alike one other code one_after other_after alike first.2 quiet later.2 also_quiet)
+    → (answer ≡ also) × EquivalentPorts one_after other_after
+action_alike one other code answer also one_after other_after equivalent made also_made (inl due) quiet later also_quiet = absurd (due.1 made)
+action_alike one other code answer also one_after other_after equivalent made also_made (inr first) quiet (inl due) also_quiet = absurd (due.1 also_made)
+action_alike one other code answer also one_after other_after equivalent made also_made (inr first) quiet (inr later) also_quiet =
+    (first.0 ∙ sym later.0, acts_on_alike one other code one_after other_after equivalent first.2 quiet later.2 also_quiet)
 
 -- one that leaves a port as an equation says
 by_equations : (one other one_is other_is one_after other_after : PortState) (answer also done : Result (Unit {0}) PortError) → answer ≡ done → also ≡ done → one_after ≡ one_is → other_after ≡ other_is
-    → AlikePorts one_is other_is → (answer ≡ also) × AlikePorts one_after other_after
-by_equations one other one_is other_is one_after other_after answer also done is also_is first later alike =
-    (is ∙ sym also_is, subst (λ (p : PortState). AlikePorts p other_after) (sym first) (subst (AlikePorts one_is) (sym later) alike))
+    → EquivalentPorts one_is other_is → (answer ≡ also) × EquivalentPorts one_after other_after
+by_equations one other one_is other_is one_after other_after answer also done is also_is first later equivalent =
+    (is ∙ sym also_is, subst (λ (p : PortState). EquivalentPorts p other_after) (sym first) (subst (EquivalentPorts one_is) (sym later) equivalent))
 
-pub writes_alike : (one other : PortState) (spot : Spot) (width : Width) (value : ℕ) (answer also : Result (Unit {0}) PortError) (one_after other_after : PortState) → AlikePorts one other → IsMade one → IsMade other
-    → NumberWritten spot one width value answer one_after → FailedNothing one one_after → NumberWritten spot other width value also other_after → FailedNothing other other_after
-    → (answer ≡ also) × AlikePorts one_after other_after
-writes_alike one other Action width value answer also one_after other_after alike made also_made first quiet later also_quiet =
-    action_alike one other (value % 2 ^ 32) answer also one_after other_after alike made also_made first quiet later also_quiet
-writes_alike one other Value width value answer also one_after other_after alike made also_made first quiet later also_quiet =
-    by_equations one other _ _ one_after other_after answer also (Ok tt) first.0 later.0 first.1 later.1 (with_value_alike one other value value alike refl)
-writes_alike one other LowHalf width value answer also one_after other_after alike made also_made first quiet later also_quiet =
-    by_equations one other _ _ one_after other_after answer also (Ok tt) first.0 later.0 first.1 later.1 (with_value_alike one other (value % 2 ^ 32) (value % 2 ^ 32) alike refl)
-writes_alike one other HighHalf width value answer also one_after other_after alike made also_made first quiet later also_quiet =
+pub writes_alike : (one other : PortState) (location : Location) (width : Width) (value : ℕ) (answer also : Result (Unit {0}) PortError) (one_after other_after : PortState) → EquivalentPorts one other → IsMade one → IsMade other
+    → NumberWritten location one width value answer one_after → FailedNothing one one_after → NumberWritten location other width value also other_after → FailedNothing other other_after
+    → (answer ≡ also) × EquivalentPorts one_after other_after
+writes_alike one other Action width value answer also one_after other_after equivalent made also_made first quiet later also_quiet =
+    action_alike one other (value % 2 ^ 32) answer also one_after other_after equivalent made also_made first quiet later also_quiet
+writes_alike one other Value width value answer also one_after other_after equivalent made also_made first quiet later also_quiet =
+    by_equations one other _ _ one_after other_after answer also (Ok tt) first.0 later.0 first.1 later.1 (with_value_alike one other value value equivalent refl)
+writes_alike one other LowHalf width value answer also one_after other_after equivalent made also_made first quiet later also_quiet =
+    by_equations one other _ _ one_after other_after answer also (Ok tt) first.0 later.0 first.1 later.1 (with_value_alike one other (value % 2 ^ 32) (value % 2 ^ 32) equivalent refl)
+writes_alike one other HighHalf width value answer also one_after other_after equivalent made also_made first quiet later also_quiet =
     by_equations one other _ _ one_after other_after answer also (Ok tt) first.0 later.0 first.1 later.1
-    (with_value_alike one other (2 ^ 32 * (value % 2 ^ 32) + one.device.value % 2 ^ 32) (2 ^ 32 * (value % 2 ^ 32) + other.device.value % 2 ^ 32) alike
-    (ap (λ (n : ℕ). 2 ^ 32 * (value % 2 ^ 32) + n % 2 ^ 32) (same_value one other alike)))
-writes_alike one other (Bytes start) width value answer also one_after other_after alike made also_made first quiet later also_quiet =
-    by_equations one other _ _ one_after other_after answer also (Ok tt) first.0 later.0 first.1 later.1 (with_bytes_alike one other start (spelled (bits width / 8) value) alike)
-writes_alike one other Nowhere width value answer also one_after other_after alike made also_made first quiet later also_quiet =
-    by_equations one other one other one_after other_after answer also (Err BadAccess) first.0 later.0 first.1 later.1 alike
+    (with_value_alike one other (2 ^ 32 * (value % 2 ^ 32) + one.device.value % 2 ^ 32) (2 ^ 32 * (value % 2 ^ 32) + other.device.value % 2 ^ 32) equivalent
+    (ap (λ (n : ℕ). 2 ^ 32 * (value % 2 ^ 32) + n % 2 ^ 32) (same_value one other equivalent)))
+writes_alike one other (Bytes start) width value answer also one_after other_after equivalent made also_made first quiet later also_quiet =
+    by_equations one other _ _ one_after other_after answer also (Ok tt) first.0 later.0 first.1 later.1 (with_bytes_alike one other start (spelled (bits width / 8) value) equivalent)
+writes_alike one other Nowhere width value answer also one_after other_after equivalent made also_made first quiet later also_quiet =
+    by_equations one other one other one_after other_after answer also (Err BadAccess) first.0 later.0 first.1 later.1 equivalent
 
 -- A restart
 
@@ -297,24 +297,24 @@ restarts old new answer (Ok done) is on quiet = record {
 }
 restarts old new answer (Err error) is on quiet = absurd (answers_ok (Unit {0}) (doubted old.device.store) new.device.store error on.error quiet on.leaves.cause)
 
-restarted_alike : (one other : PortState) (answer also : Result (Unit {0}) PortError) (result outcome : Result (Unit {0}) StoreError) (one_after other_after : PortState) → AlikePorts one other
+restarted_alike : (one other : PortState) (answer also : Result (Unit {0}) PortError) (result outcome : Result (Unit {0}) StoreError) (one_after other_after : PortState) → EquivalentPorts one other
     → answer ≡ reset_answer result → ResetsOn one result one_after → FailedNothing one one_after → also ≡ reset_answer outcome → ResetsOn other outcome other_after → FailedNothing other other_after
-    → (answer ≡ also) × AlikePorts one_after other_after
-restarted_alike one other answer also result outcome one_after other_after alike is first quiet also_is later also_quiet =
+    → (answer ≡ also) × EquivalentPorts one_after other_after
+restarted_alike one other answer also result outcome one_after other_after equivalent is first quiet also_is later also_quiet =
     let a = restarts one one_after answer result is first quiet in
     let b = restarts other other_after also outcome also_is later also_quiet in (
       a.is_done ∙ sym b.is_done,
       record {
-        device = a.device ∙ ap restarted alike.device ∙ sym b.device;
-        range = ap (λ (p : PortState). p.range) first.others ∙ alike.range ∙ sym (ap (λ (p : PortState). p.range) later.others);
-        table = ap (λ (p : PortState). p.table) first.others ∙ alike.table ∙ sym (ap (λ (p : PortState). p.table) later.others);
-        addresses = ap (λ (p : PortState). p.addresses) first.others ∙ alike.addresses ∙ sym (ap (λ (p : PortState). p.addresses) later.others);
+        device = a.device ∙ ap restarted equivalent.device ∙ sym b.device;
+        range = ap (λ (p : PortState). p.range) first.others ∙ equivalent.range ∙ sym (ap (λ (p : PortState). p.range) later.others);
+        table = ap (λ (p : PortState). p.table) first.others ∙ equivalent.table ∙ sym (ap (λ (p : PortState). p.table) later.others);
+        addresses = ap (λ (p : PortState). p.addresses) first.others ∙ equivalent.addresses ∙ sym (ap (λ (p : PortState). p.addresses) later.others);
       },
     )
 
-pub resets_alike : (one other : PortState) (answer also : Result (Unit {0}) PortError) (one_after other_after : PortState) → AlikePorts one other → IsMade one → IsMade other
-    → Resets one answer one_after → FailedNothing one one_after → Resets other also other_after → FailedNothing other other_after → (answer ≡ also) × AlikePorts one_after other_after
-resets_alike one other answer also one_after other_after alike made also_made (inl due) quiet later also_quiet = absurd (due.1 made)
-resets_alike one other answer also one_after other_after alike made also_made (inr first) quiet (inl due) also_quiet = absurd (due.1 also_made)
-resets_alike one other answer also one_after other_after alike made also_made (inr first) quiet (inr later) also_quiet =
-    restarted_alike one other answer also first.1.0 later.1.0 one_after other_after alike first.1.1 first.1.2 quiet later.1.1 later.1.2 also_quiet
+pub resets_alike : (one other : PortState) (answer also : Result (Unit {0}) PortError) (one_after other_after : PortState) → EquivalentPorts one other → IsMade one → IsMade other
+    → Resets one answer one_after → FailedNothing one one_after → Resets other also other_after → FailedNothing other other_after → (answer ≡ also) × EquivalentPorts one_after other_after
+resets_alike one other answer also one_after other_after equivalent made also_made (inl due) quiet later also_quiet = absurd (due.1 made)
+resets_alike one other answer also one_after other_after equivalent made also_made (inr first) quiet (inl due) also_quiet = absurd (due.1 also_made)
+resets_alike one other answer also one_after other_after equivalent made also_made (inr first) quiet (inr later) also_quiet =
+    restarted_alike one other answer also first.1.0 later.1.0 one_after other_after equivalent first.1.1 first.1.2 quiet later.1.1 later.1.2 also_quiet

@@ -92,7 +92,7 @@ asked_first first last elsewhere left range after looks all same =
     by_result (Ok None) look allowed is =
         let there : left.store ≡ looks.store = ap (λ (d : DeviceState). d.store) is in
         let asked = has_asked {T = Option ℕ} (Unit {0}) tt first last looks.store None look.leaves (same ∙ there) elsewhere in
-        (asked, sym (ap stored same) ∙ kept_map first.device.store last.device.store asked.looked.kept asked.looked.alike)
+        (asked, sym (ap stored same) ∙ kept_map first.device.store last.device.store asked.looked.kept asked.looked.equivalent)
     by_result (Err error) look allowed is = absurd (let e : 0 ≡ 2 ^ 64 - 1 = sym (ap (λ (d : DeviceState). d.value) is) ∙ all in omega (arith, e))
 
 -- the action: so it is with the machine of the port

@@ -15,9 +15,9 @@ use Rattle.apei_space.specs.Accesses.{Trail}
 use Rattle.erst_port.specs.declared.errors.PortError.{PortError}
 use Rattle.erst_port.specs.declared.errors.PortError.TheVariants.{Due}
 use Rattle.erst_port.specs.declared.windows.Addresses.{Addresses}
-use Rattle.erst_port.specs.declared.windows.Spot.{Spot}
-use Rattle.erst_port.specs.declared.windows.Spot.TheVariants.{Action}
-use Rattle.erst_port.specs.Places.{spot_of}
+use Rattle.erst_port.specs.declared.windows.Location.{Location}
+use Rattle.erst_port.specs.declared.windows.Location.TheVariants.{Action}
+use Rattle.erst_port.specs.Places.{location_of}
 use Rattle.erst_port.specs.PortState.{PortState, flash_of, IsMade}
 use Rattle.erst_port.specs.Accesses.{NumberWritten, ActionWritten}
 use Rattle.erst_port.specs.Openings.{OpenedAs}
@@ -127,10 +127,10 @@ shows first (move ∷ rest) last is s image from crash = elim (cases_lt s (lengt
     none_more (suc n) made before = let no = no_less n move.left rest last is.1 in absurd (omega (arith, no, made, before))
 
 -- each call whose changes were made stands before
-taken_is_made : (spot : Spot) (old new : PortState) (width : Width) (value : ℕ) (answer : Result (Unit {0}) PortError) → spot ≡ Action → answer ≡ Ok tt
-    → NumberWritten spot old width value answer new → IsMade old
-taken_is_made spot old new width value answer is taken written =
-    by_answer (subst (λ (s : Spot). NumberWritten s old width value answer new) is written)
+taken_is_made : (location : Location) (old new : PortState) (width : Width) (value : ℕ) (answer : Result (Unit {0}) PortError) → location ≡ Action → answer ≡ Ok tt
+    → NumberWritten location old width value answer new → IsMade old
+taken_is_made location old new width value answer is taken written =
+    by_answer (subst (λ (s : Location). NumberWritten s old width value answer new) is written)
   where
     by_answer : ActionWritten old (value % 2 ^ 32) answer new → IsMade old
     by_answer (inl refused) = absurd (let other : Err Due ≡ Ok tt = sym refused.0 ∙ taken in cc)
@@ -138,7 +138,7 @@ taken_is_made spot old new width value answer is taken written =
 
 code_is_made : (old : Embedded) (call : Call) (new : Embedded) → Happens old call new → TakesCode old.port call → length (told_of old.port).past ≤ old.port.made
 code_is_made old (Writes window offset width value answer) new happens takes =
-    let made = taken_is_made (spot_of window (length old.port.range) offset width) old.port new.port width value answer takes.0 takes.1 happens.does in
+    let made = taken_is_made (location_of window (length old.port.range) offset width) old.port new.port width value answer takes.0 takes.1 happens.does in
     omega (arith, made, happens.counted)
 code_is_made old (Puts offset bytes answer) new happens takes = absurd takes
 code_is_made old (Restarts answer) new happens takes = absurd takes

@@ -8,7 +8,7 @@ use Rattle.erst_port.specs.declared.errors.BadAddresses.{BadAddresses}
 use Rattle.erst_port.specs.declared.errors.PortError.{PortError}
 use Rattle.erst_port.specs.declared.windows.Addresses.{Addresses}
 use Rattle.erst_port.specs.declared.windows.Window.{Window}
-use Rattle.erst_port.specs.Places.{range_spot, spot_of}
+use Rattle.erst_port.specs.Places.{range_location, location_of}
 use Rattle.erst_port.specs.PortState.{PortState, flash_of}
 use Rattle.erst_port.specs.Accesses.{NumberWritten, bytes_stored, Resets}
 use Rattle.erst_port.specs.Changes.{IsDueOn, NotesMade}
@@ -31,10 +31,10 @@ pub data Call : Type 0 where
 
 -- a port before a call and after it
 abbrev pub Does : PortState → Call → PortState → Type 0
-Does old (Writes window offset width value answer) new = NumberWritten (spot_of window (length old.range) offset width) old width value answer new
+Does old (Writes window offset width value answer) new = NumberWritten (location_of window (length old.range) offset width) old width value answer new
 Does old (Puts offset bytes answer) new =
-    (answer ≡ (bytes_stored (range_spot (length old.range) offset (length bytes)) old bytes).0)
-    × (new ≡ (bytes_stored (range_spot (length old.range) offset (length bytes)) old bytes).1)
+    (answer ≡ (bytes_stored (range_location (length old.range) offset (length bytes)) old bytes).0)
+    × (new ≡ (bytes_stored (range_location (length old.range) offset (length bytes)) old bytes).1)
 Does old (Restarts answer) new = Resets old answer new
 Does old (MovesTo addresses answer) new = Moves old addresses answer new
 Does old Looks new = new ≡ old

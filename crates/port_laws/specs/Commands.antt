@@ -8,9 +8,9 @@ use Rattle.erst_entries.specs.Actions.{action_of}
 use Rattle.erst_device.specs.DeviceState.{DeviceState, records}
 use Rattle.erst_device.specs.Effects.{makes_change}
 use Rattle.erst_port.specs.declared.errors.PortError.{PortError}
-use Rattle.erst_port.specs.declared.windows.Spot.{Spot}
-use Rattle.erst_port.specs.declared.windows.Spot.TheVariants.{Action}
-use Rattle.erst_port.specs.Places.{spot_of}
+use Rattle.erst_port.specs.declared.windows.Location.{Location}
+use Rattle.erst_port.specs.declared.windows.Location.TheVariants.{Action}
+use Rattle.erst_port.specs.Places.{location_of}
 use Rattle.erst_port.specs.PortState.{PortState}
 use Rattle.port_laws.specs.Calls.{Call, Writes}
 
@@ -30,13 +30,13 @@ completed_by layout (Clearing id) = Some (Clear id)
 abbrev pub completed_in : DeviceState → (code : ℕ) → Option Command
 completed_in device code = if makes_change (action_of code) device then completed_by device.store.layout device.store.pending else None
 
-abbrev pub completed_at : Spot → PortState → (value : ℕ) → Result (Unit {0}) PortError → Option Command
+abbrev pub completed_at : Location → PortState → (value : ℕ) → Result (Unit {0}) PortError → Option Command
 completed_at Action port value (Ok done) = completed_in port.device (value % 2 ^ 32)
-completed_at spot port value answer = None
+completed_at location port value answer = None
 
 -- the command that a call completes where the flash fails nothing
 abbrev pub completed : PortState → Call → Option Command
-completed port (Writes window offset width value answer) = completed_at (spot_of window (length port.range) offset width) port value answer
+completed port (Writes window offset width value answer) = completed_at (location_of window (length port.range) offset width) port value answer
 completed port call = None
 
 -- the records with it

@@ -9,4 +9,4 @@ pub mod PortClients
 pub mod Looks
 pub mod Listings
 pub mod Others
-pub mod Alike
+pub mod Equivalence

@@ -12,11 +12,11 @@ use Rattle.erst_machine.specs.Areas.{holds}
 use Rattle.erst_port.specs.declared.errors.PortError.{PortError}
 use Rattle.erst_port.specs.declared.errors.PortError.TheVariants.{BadAccess, Due, Flash}
 use Rattle.erst_port.specs.declared.windows.Addresses.{Addresses}
-use Rattle.erst_port.specs.declared.windows.Spot.{Spot}
-use Rattle.erst_port.specs.declared.windows.Spot.TheVariants.{Nowhere}
+use Rattle.erst_port.specs.declared.windows.Location.{Location}
+use Rattle.erst_port.specs.declared.windows.Location.TheVariants.{Nowhere}
 use Rattle.erst_port.specs.declared.windows.Window.{Window}
 use Rattle.erst_port.specs.declared.windows.Window.TheVariants.{Registers, LogRange}
-use Rattle.erst_port.specs.Places.{registers_size, range_spot, spot_of}
+use Rattle.erst_port.specs.Places.{registers_size, range_location, location_of}
 use Rattle.erst_port.specs.PortState.{PortState, IsPort, flash_of}
 use Rattle.erst_port.specs.Accesses.{number_read, NumberWritten, bytes_read, bytes_stored}
 
@@ -46,28 +46,28 @@ as_told at width (Err error) = Err (fault_of at width error)
 -- a read and a write of a number
 abbrev pub read_at : Option (Window × ℕ) → PortState → (at : ℕ) → Width → Result ℕ SpaceFault
 read_at None port at width = Err (faults.Unmapped at)
-read_at (Some place) port at width = as_told at width (number_read (spot_of place.0 (length port.range) place.1 width) port width)
+read_at (Some place) port at width = as_told at width (number_read (location_of place.0 (length port.range) place.1 width) port width)
 
 abbrev pub WrittenAt : Option (Window × ℕ) → PortState → (at : ℕ) → Width → (value : ℕ) → Result (Unit {0}) SpaceFault → PortState → Type 0
 WrittenAt None old at width value answer new = (answer ≡ Err (faults.Unmapped at)) × (new ≡ old)
 WrittenAt (Some place) old at width value answer new =
-    (told : Result (Unit {0}) PortError) × (answer ≡ as_told at width told) × NumberWritten (spot_of place.0 (length old.range) place.1 width) old width value told new
+    (told : Result (Unit {0}) PortError) × (answer ≡ as_told at width told) × NumberWritten (location_of place.0 (length old.range) place.1 width) old width value told new
 
 -- bytes go in and out of the log range alone
-abbrev pub bytes_spot : Window → (size offset n : ℕ) → Spot
-bytes_spot Registers size offset n = Nowhere
-bytes_spot LogRange size offset n = range_spot size offset n
+abbrev pub bytes_location : Window → (size offset n : ℕ) → Location
+bytes_location Registers size offset n = Nowhere
+bytes_location LogRange size offset n = range_location size offset n
 
 abbrev pub bytes_read_at : Option (Window × ℕ) → PortState → (at : ℕ) → List ℕ → Result (Unit {0}) SpaceFault × List ℕ
 bytes_read_at None port at before = (Err (faults.Unmapped at), before)
 bytes_read_at (Some place) port at before =
-    let outcome = bytes_read (bytes_spot place.0 (length port.range) place.1 (length before)) port before in
+    let outcome = bytes_read (bytes_location place.0 (length port.range) place.1 (length before)) port before in
     (as_told at B8 outcome.0, outcome.1)
 
 abbrev pub bytes_stored_at : Option (Window × ℕ) → PortState → (at : ℕ) → List ℕ → Result (Unit {0}) SpaceFault × PortState
 bytes_stored_at None old at bytes = (Err (faults.Unmapped at), old)
 bytes_stored_at (Some place) old at bytes =
-    let outcome = bytes_stored (bytes_spot place.0 (length old.range) place.1 (length bytes)) old bytes in
+    let outcome = bytes_stored (bytes_location place.0 (length old.range) place.1 (length bytes)) old bytes in
     (as_told at B8 outcome.0, outcome.1)
 
 -- before, a call with its answer, after. A copy is made between plain memory, and a port has none

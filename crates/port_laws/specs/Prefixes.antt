@@ -4,8 +4,8 @@ use Rattle.base_model.specs.Faults.{Rose}
 use Rattle.record_model.specs.Records.{Stored}
 use Rattle.record_model.specs.RecordMap.{Command, made_by}
 use Rattle.apei_space.specs.Accesses.{Move}
-use Rattle.erst_port.specs.declared.windows.Spot.TheVariants.{Action}
-use Rattle.erst_port.specs.Places.{spot_of}
+use Rattle.erst_port.specs.declared.windows.Location.TheVariants.{Action}
+use Rattle.erst_port.specs.Places.{location_of}
 use Rattle.erst_port.specs.PortState.{PortState, flash_of}
 use Rattle.port_laws.specs.Calls.{Embedded, Call, Writes}
 use Rattle.port_laws.specs.Commands.{records_of, completed, made_with}
@@ -41,7 +41,7 @@ pub record IsHistory (now : Embedded) (calls : Calls) : Type 0 where
 
 -- ACTION took a code. A status is told by such a call
 abbrev pub TakesCode : PortState → Call → Type 0
-TakesCode port (Writes window offset width value answer) = (spot_of window (length port.range) offset width ≡ Action) × (answer ≡ Ok tt)
+TakesCode port (Writes window offset width value answer) = (location_of window (length port.range) offset width ≡ Action) × (answer ≡ Ok tt)
 TakesCode port call = ⊥
 
 -- call number n is one for which ACTION took a code

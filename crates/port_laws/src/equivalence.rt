@@ -1,14 +1,14 @@
-// Laws on two ports that are alike: the functions do nothing, and their clauses are the laws.
+// Laws on two ports that are equivalent: the functions do nothing, and their clauses are the laws.
 ghost use Rattle.std.specs.Prelude.{◌≡◌, ℕ, ◌+◌, List, length, Result};
 ghost use Rattle.apei_tables.specs.declared.widths.Width.{Width};
 ghost use Rattle.erst_port.specs.declared.errors.PortError.{PortError};
-ghost use Rattle.erst_port.specs.declared.windows.Spot.{Spot};
+ghost use Rattle.erst_port.specs.declared.windows.Location.{Location};
 ghost use Rattle.erst_port.specs.PortState.{PortState, IsMade};
 ghost use Rattle.erst_port.specs.Accesses.{number_read, NumberWritten, bytes_read, bytes_stored, Resets};
 ghost use Rattle.base_model.specs.Layout.{room_of, reach_of};
 ghost use Rattle.erst_port.specs.Saved.{head_size, IsSaved};
 ghost use Rattle.erst_port.specs.Loaded.{AreOfDevice, AreOfLayout, GoesOn};
-ghost use Rattle.port_laws.specs.Alike.{AlikePorts, FailedNothing};
+ghost use Rattle.port_laws.specs.Equivalence.{EquivalentPorts, FailedNothing};
 
 /// The bytes as which a port was saved are taken over every flash that is divided as its own.
 pub fn a_saved_port_is_taken()
@@ -16,33 +16,33 @@ pub fn a_saved_port_is_taken()
         → AreOfDevice saved × AreOfLayout saved port.device.store.layout × (length saved ≡ head_size + reach_of (room_of port.device.store.layout)) }
 {}
 
-/// A port that goes on as one that was saved is alike to that one.
-pub fn a_loaded_port_is_alike()
-    ensures { (old new : PortState) (saved : List ℕ) → IsSaved old saved → GoesOn old new → AlikePorts old new }
+/// A port that goes on as one that was saved is equivalent to that one.
+pub fn a_loaded_port_is_equivalent()
+    ensures { (old new : PortState) (saved : List ℕ) → IsSaved old saved → GoesOn old new → EquivalentPorts old new }
 {}
 
-/// Two ports that are alike answer each read the same.
-pub fn alike_ports_read_alike()
-    ensures numbers { (one other : PortState) (spot : Spot) (width : Width) → AlikePorts one other → number_read spot one width ≡ number_read spot other width }
-    ensures bytes { (one other : PortState) (spot : Spot) (before : List ℕ) → AlikePorts one other → bytes_read spot one before ≡ bytes_read spot other before }
+/// Two ports that are equivalent answer each read the same.
+pub fn equivalent_ports_read_alike()
+    ensures numbers { (one other : PortState) (location : Location) (width : Width) → EquivalentPorts one other → number_read location one width ≡ number_read location other width }
+    ensures bytes { (one other : PortState) (location : Location) (before : List ℕ) → EquivalentPorts one other → bytes_read location one before ≡ bytes_read location other before }
 {}
 
-/// Two ports that are alike, whose mediums have made every change and whose flashes fail nothing, answer each write the same, an action too, and are
+/// Two ports that are equivalent, whose mediums have made every change and whose flashes fail nothing, answer each write the same, an action too, and are
 /// alike behind it.
-pub fn alike_ports_write_alike()
-    ensures numbers { (one other : PortState) (spot : Spot) (width : Width) (value : ℕ) (answer also : Result (Unit {0}) PortError) (one_after other_after : PortState)
-        → AlikePorts one other → IsMade one → IsMade other
-        → NumberWritten spot one width value answer one_after → FailedNothing one one_after
-        → NumberWritten spot other width value also other_after → FailedNothing other other_after
-        → (answer ≡ also) × AlikePorts one_after other_after }
-    ensures bytes { (one other : PortState) (spot : Spot) (bytes : List ℕ) → AlikePorts one other
-        → ((bytes_stored spot one bytes).0 ≡ (bytes_stored spot other bytes).0) × AlikePorts (bytes_stored spot one bytes).1 (bytes_stored spot other bytes).1 }
+pub fn equivalent_ports_write_alike()
+    ensures numbers { (one other : PortState) (location : Location) (width : Width) (value : ℕ) (answer also : Result (Unit {0}) PortError) (one_after other_after : PortState)
+        → EquivalentPorts one other → IsMade one → IsMade other
+        → NumberWritten location one width value answer one_after → FailedNothing one one_after
+        → NumberWritten location other width value also other_after → FailedNothing other other_after
+        → (answer ≡ also) × EquivalentPorts one_after other_after }
+    ensures bytes { (one other : PortState) (location : Location) (bytes : List ℕ) → EquivalentPorts one other
+        → ((bytes_stored location one bytes).0 ≡ (bytes_stored location other bytes).0) × EquivalentPorts (bytes_stored location one bytes).1 (bytes_stored location other bytes).1 }
 {}
 
 /// Restarts of such ports are answered the same, and leave them alike.
-pub fn alike_ports_reset_alike()
+pub fn equivalent_ports_reset_alike()
     ensures { (one other : PortState) (answer also : Result (Unit {0}) PortError) (one_after other_after : PortState)
-        → AlikePorts one other → IsMade one → IsMade other
+        → EquivalentPorts one other → IsMade one → IsMade other
         → Resets one answer one_after → FailedNothing one one_after → Resets other also other_after → FailedNothing other other_after
-        → (answer ≡ also) × AlikePorts one_after other_after }
+        → (answer ≡ also) × EquivalentPorts one_after other_after }
 {}

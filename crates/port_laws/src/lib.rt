@@ -1,4 +1,4 @@
-//! Laws on the port: what power lost at its medium leaves, what a client of its table is answered, and that alike ports do alike.
+//! Laws on the port: what power lost at its medium leaves, what a client of its table is answered, and that equivalent ports do alike.
 #![tactic(auto)]
 
 mod commands;
@@ -17,6 +17,6 @@ pub use durability::{
     lost_power_leaves_a_crash_image, records_change_by_commands,
 };
 pub use equivalence::{
-    a_loaded_port_is_alike, a_saved_port_is_taken, alike_ports_read_alike, alike_ports_reset_alike,
-    alike_ports_write_alike,
+    a_loaded_port_is_equivalent, a_saved_port_is_taken, equivalent_ports_read_alike,
+    equivalent_ports_reset_alike, equivalent_ports_write_alike,
 };

@@ -3,7 +3,7 @@ use Rattle.std.proofs.Common.{◌≡◌, ℕ, ◌-◌, ◌*◌, ◌<◌, ◌≤�
 use Rattle.std.specs.Prelude.{vec_capacity, not}
 use Rattle.std.specs.List.{list_any}
 use Rattle.std.specs.VecDeque.{deque_len, deque_capacity}
-use Rattle.base_model.specs.Flash.{FlashState, StaysLit, raised}
+use Rattle.base_model.specs.Flash.{FlashState, StaysPowered, raised}
 use Rattle.record_model.specs.Records.{entry_at, slot_at}
 use Rattle.record_slots.specs.declared.found.Found.{Found}
 use Rattle.record_slots.specs.declared.found.Look.{Look}
@@ -25,7 +25,7 @@ pub record HasLooked (tells : Type 0) (slot_size n first_room now_room : ℕ) (l
   pub unread : n ≡ 0 → now.reads ≡ old.reads
   pub counted : 0 < n → now.reads ≡ raised (2 * n) old.reads
   pub powered : 0 < n → now.powered ≡ true
-  pub lit : StaysLit old now
+  pub lit : StaysPowered old now
   pub faults : now.faults ≡ old.faults
   pub seen : tells → AreSeen (slot_at slot_size old.told.image) n looks
 
@@ -46,7 +46,7 @@ pub record HasSettled (tells : Type 0) (slots slot_size n : ℕ) (found : Found)
   pub sector_size : now.sector_size ≡ old.sector_size
   pub reads : now.reads ≡ old.reads
   pub power : now.powered ≡ old.powered
-  pub lit : StaysLit old now
+  pub lit : StaysPowered old now
   pub later : old.steps ≤ now.steps
   pub faults : now.faults ≡ old.faults
   pub crash : tells → KeepsRecords slot_size slots old.told now.told

@@ -1,7 +1,7 @@
 -- What a scan leaves.
 use Rattle.std.specs.Prelude.{◌≡◌, ℕ, ◌+◌, ◌*◌, ◌<◌, ◌≤◌, true, Result, OnOk, OnErr}
 use Rattle.base_model.specs.Faults.{HasCause}
-use Rattle.base_model.specs.Flash.{Told, FlashState, MayChange, Leaves, LosesOnlyByChange, StaysLit, raised, next_count}
+use Rattle.base_model.specs.Flash.{Told, FlashState, MayChange, Leaves, LosesOnlyByChange, StaysPowered, raised, next_count}
 use Rattle.record_model.specs.Records.{entry_at, stored_in, OnlyFirstUp, NearlyOnlyFirstUp, second_copies}
 use Rattle.record_slots.specs.declared.found.Found.{Found}
 use Rattle.record_slots.specs.Listed.{AreListed, free_slots, first_records}
@@ -49,6 +49,6 @@ pub record KeepsShape {T E : Type 0} (slots : ℕ) (old new : FlashState) (resul
   pub counted : OnOk result (new.reads ≡ raised (2 * slots) old.reads)
   pub power : LosesOnlyByChange old new
   pub powered : OnOk result (new.powered ≡ true)
-  pub lit : StaysLit old new
+  pub lit : StaysPowered old new
   pub cause : HasCause old.faults new.faults result
   pub once : OnErr result (new.faults ≡ next_count old.faults)

@@ -1,7 +1,7 @@
 -- How far the third pass of a scan has come.
 use Rattle.std.specs.Prelude.{◌≡◌, ℕ, ◌+◌, ◌-◌, ◌<◌, ◌≤◌, true, Result, OnOk, OnErr}
 use Rattle.base_model.specs.Faults.{HasCause}
-use Rattle.base_model.specs.Flash.{FlashState, LosesOnlyByChange, StaysLit, next_count}
+use Rattle.base_model.specs.Flash.{FlashState, LosesOnlyByChange, StaysPowered, next_count}
 use Rattle.record_model.specs.Records.{entry_at, slot_at, is_up, second_copies}
 use Rattle.record_slots.specs.declared.found.Found.{Found}
 use Rattle.record_slots.specs.Listed.{AreListed, HasFirst}
@@ -26,6 +26,6 @@ pub record OnlyChanges {T E : Type 0} (old new : FlashState) (result : Result T 
   pub power : LosesOnlyByChange old new
   pub same_power : OnOk result (new.powered ≡ old.powered)
   pub later : OnOk result (old.steps ≤ new.steps)
-  pub lit : StaysLit old new
+  pub lit : StaysPowered old new
   pub cause : HasCause old.faults new.faults result
   pub once : OnErr result (new.faults ≡ next_count old.faults)

@@ -1,6 +1,6 @@
 // A scan of all slots.
 ghost use Rattle.std.specs.Prelude.{◌≡◌, ◌*◌, ◌≤◌, true, OnOk, OnErr, IfOk, IfErr, length};
-ghost use Rattle.base_model.specs.Flash.{LosesOnlyByChange, StaysLit, raised};
+ghost use Rattle.base_model.specs.Flash.{LosesOnlyByChange, StaysPowered, raised};
 ghost use Rattle.record_slots.specs.Slots.{Fits};
 ghost use Rattle.record_slots.specs.Answers.{IsAnswer, IsOneFault};
 ghost use Rattle.record_slots.specs.Listed.{AreSlots, IsIndex};
@@ -70,7 +70,7 @@ pub fn scan<F: Flash>(alloc: Global, flash: &mut F, geometry: &Geometry) -> Resu
     ensures counted { OnOk result ((F.state flash.new).reads ≡ raised (2 * geometry.now.slots) (F.state flash.old).reads) }
     ensures power { LosesOnlyByChange (F.state flash.old) (F.state flash.new) }
     ensures powered { OnOk result ((F.state flash.new).powered ≡ true) }
-    ensures lit { StaysLit (F.state flash.old) (F.state flash.new) }
+    ensures lit { StaysPowered (F.state flash.old) (F.state flash.new) }
     ensures once { IfErr result (IsOneFault (F.state flash.old) (F.state flash.new)) }
 {
     let size = flash.size();

@@ -28,8 +28,8 @@ use Rattle.record_store.specs.Kept.{IsStore, IsWrite, IsUnderWay, Knows, KnowsSl
 use Rattle.record_store.specs.Start.{IsPlanned, IsRefusedBy, ReadsTimes, ReadsToPlan, generation_over}
 use Rattle.record_store.specs.declared.errors.StoreError.{StoreError}
 use Rattle.record_store.specs.declared.errors.StoreError.TheVariants.{NoSpace, LastGeneration, NotFound, Empty, Flash, Small}
-use Rattle.record_store.specs.declared.work.Work.{Work}
-use Rattle.record_store.specs.declared.work.Work.TheVariants as works
+use Rattle.record_store.specs.declared.work.Begun.{Begun}
+use Rattle.record_store.specs.declared.work.Begun.TheVariants as works
 use Rattle.record_store.proofs.StartLemmas.{planned_draft, planned_takes, planned_stands, planned_generation, planned_replaces, planned_newest, planned_taken, first_made, refused_no_space, refused_at_last}
 use Rattle.record_store.proofs.FaultLemmas.{ends_refused, ends_read, ends_read_failed}
 use Rattle.record_store.proofs.StoreLemmas.{idle_work, ready_inside, looks_ready, starts_by}
@@ -104,7 +104,7 @@ module _ (tells : Type 0) (geometry : Geometry) (flash : FlashState) (found : Fo
             (planned_stands tells geometry found flash.told.image id bytes draft replaced is begins.least begins.most told);
       }
 
-  pub begun_store : (new : FlashState) (buffer : List ℕ) (doubt : Bool) (work : Work) (v : StoreView) → Begins
+  pub begun_store : (new : FlashState) (buffer : List ℕ) (doubt : Bool) (work : Begun) (v : StoreView) → Begins
       → IsStore tells geometry flash found buffer doubt work → view_of geometry flash doubt (pending_of (layout_of geometry) buffer work) ≡ v → IsReady v → length written ≡ length buffer
       → (tells → new.told ≡ flash.told) → new.size ≡ flash.size → new.sector_size ≡ flash.sector_size
       → IsStore tells geometry new found written doubt (works.Write draft stage replaced)
@@ -133,7 +133,7 @@ module _ (tells : Type 0) (geometry : Geometry) (flash : FlashState) (found : Fo
       ∙ ap (λ (n : ℕ). Writing draft.id bytes (slots_in draft) (is_some replaced) n) none
       ∙ ap (λ (n : ℕ). Writing n bytes (slots_in draft) (is_some replaced) 0) begins.is.of_id
 
-  pub begun_answer : (new : FlashState) (buffer : List ℕ) (doubt : Bool) (work : Work) (v : StoreView) (x : Unit {0}) → Begins
+  pub begun_answer : (new : FlashState) (buffer : List ℕ) (doubt : Bool) (work : Begun) (v : StoreView) (x : Unit {0}) → Begins
       → IsStore tells geometry flash found buffer doubt work → view_of geometry flash doubt (pending_of (layout_of geometry) buffer work) ≡ v → IsReady v → (tells → new.told ≡ flash.told)
       → (tells → length flash.told.image ≡ geometry.slot_size * geometry.slots) → tells
       → StartsWrite v (view_of geometry new doubt (pending_of (layout_of geometry) written (works.Write draft stage replaced))) id bytes (Ok x)
@@ -194,14 +194,14 @@ refused_by_lists tells count v id bytes error ready other answer still ended dou
         ended = ended looks.ended;
         at_most = looks.at_most;
         doubt = doubt;
-        alike = looks.alike;
+        equivalent = looks.equivalent;
         power = looks.power;
         cause = cause;
         ends = ends_refused {T = Unit {0}} v.flash v.flash tt error other looks.ends;
       };
     }
 
-pub refused_start : (tells : Type 0) (count : Unit {0} → ℕ) (reads : ℕ) (geometry : Geometry) (flash new : FlashState) (found : Found) (buffer : List ℕ) (doubt : Bool) (work : Work) (v : StoreView) (id : ℕ) (bytes : List ℕ)
+pub refused_start : (tells : Type 0) (count : Unit {0} → ℕ) (reads : ℕ) (geometry : Geometry) (flash new : FlashState) (found : Found) (buffer : List ℕ) (doubt : Bool) (work : Begun) (v : StoreView) (id : ℕ) (bytes : List ℕ)
     (error : StoreError) (T : Type 0) → IsStore tells geometry flash found buffer doubt work → view_of geometry flash doubt (pending_of (layout_of geometry) buffer work) ≡ v → IsReady v
     → (tells → length flash.told.image ≡ geometry.slot_size * geometry.slots) → IsRefusedBy geometry found id (length bytes) error
     → ReadsToPlan {T = T} tells reads flash new (Err error)
@@ -257,7 +257,7 @@ plan_frame T tells count old new Empty same = same_frame tells old new same
 plan_frame T tells count old new Flash read = record { told = read.told; size = read.size; sector_size = read.sector_size }
 plan_frame T tells count old new (Small need) same = same_frame tells old new same
 
-pub refused_store : (tells : Type 0) (reads : ℕ) (geometry : Geometry) (flash new : FlashState) (found : Found) (buffer : List ℕ) (doubt after : Bool) (work : Work) (v : StoreView)
+pub refused_store : (tells : Type 0) (reads : ℕ) (geometry : Geometry) (flash new : FlashState) (found : Found) (buffer : List ℕ) (doubt after : Bool) (work : Begun) (v : StoreView)
     (error : StoreError) (T : Type 0) → IsStore tells geometry flash found buffer doubt work → view_of geometry flash doubt (pending_of (layout_of geometry) buffer work) ≡ v → IsReady v
     → ReadsToPlan {T = T} tells reads flash new (Err error) → IsStore tells geometry new found buffer after work
 refused_store tells reads geometry flash new found buffer doubt after work v error T store is ready read =
@@ -269,7 +269,7 @@ refused_store tells reads geometry flash new found buffer doubt after work v err
       listing = store.listing;
       room = store.room;
       form = store.form;
-      certain = λ busy. absurd (subst (λ (w : Work). IsUnderWay w) idle busy);
+      certain = λ busy. absurd (subst (λ (w : Begun). IsUnderWay w) idle busy);
       knows = λ told sure. subst (λ (t : Told). Knows geometry found buffer t.image work) (sym (frame.told told)) (store.knows told certain);
       spare = λ told. subst (λ (t : Told). NearlyOnlyFirstUp geometry.slot_size geometry.slots t.image) (sym (frame.told told)) (store.spare told);
     }

@@ -18,8 +18,8 @@ use Rattle.record_slots.specs.declared.found.Found.{Found}
 use Rattle.record_store.specs.Store.{StoreView, changes_before_gate}
 use Rattle.record_store.specs.Answers.{copies_in, copies_pending}
 use Rattle.record_store.specs.Kept.{IsStore, IsWork, Knows, view_of, pending_of}
-use Rattle.record_store.specs.declared.work.Work.{Work}
-use Rattle.record_store.specs.declared.work.Work.TheVariants as works
+use Rattle.record_store.specs.declared.work.Begun.{Begun}
+use Rattle.record_store.specs.declared.work.Begun.TheVariants as works
 use Rattle.record_store.proofs.WorkLemmas.{fill_early, up_here, older_not_first}
 
 not_behind : (before made : ℕ) → made ≤ before → cond {A = ℕ} (nat_lt before made) 1 0 ≡ 0
@@ -37,14 +37,14 @@ at_or_before geometry draft body (Fill number step) is form =
     omega arith
 at_or_before geometry draft body Gate is form = let gate = made_before_gate (layout_of geometry) (plan_of draft body) is.plan in omega arith
 
-pub copies_stand : (tells : Type 0) (geometry : Geometry) (flash : FlashState) (found : Found) (buffer : List ℕ) (doubt : Bool) (work : Work) (v : StoreView)
+pub copies_stand : (tells : Type 0) (geometry : Geometry) (flash : FlashState) (found : Found) (buffer : List ℕ) (doubt : Bool) (work : Begun) (v : StoreView)
     → IsStore tells geometry flash found buffer doubt work → view_of geometry flash doubt (pending_of (layout_of geometry) buffer work) ≡ v → tells → v.in_doubt ≡ false
     → copies_in v ≡ copies_pending v.layout v.pending
 copies_stand tells geometry flash found buffer doubt work v store is told sure =
     subst (λ (u : StoreView). copies_in u ≡ copies_pending u.layout u.pending) is
     (by_work work store.form (store.knows told (ap (λ (u : StoreView). u.in_doubt) is ∙ sure)))
   where
-    by_work : (w : Work) → IsWork geometry found buffer w → Knows geometry found buffer flash.told.image w
+    by_work : (w : Begun) → IsWork geometry found buffer w → Knows geometry found buffer flash.told.image w
         → second_copies geometry.slot_size geometry.slots flash.told.image ≡ copies_pending (layout_of geometry) (pending_of (layout_of geometry) buffer w)
     by_work works.Nothing form known = second_copies-none geometry.slot_size geometry.slots flash.told.image known.only
     by_work (works.Write draft stage replaced) form known =

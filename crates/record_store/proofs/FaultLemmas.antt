@@ -1,6 +1,6 @@
 -- Calls that end at their first fault, one after another.
 use Rattle.std.proofs.Common.{◌≡◌, ℕ, ◌≤◌, Bool, cond, Result, Ok, Err, refl, sym, ap, subst, ◌∙◌, arith, inl, inr}
-use Rattle.base_model.specs.Flash.{FlashState, IsOneChange, AsksChange, LosesOnlyByChange, StaysLit, next_count}
+use Rattle.base_model.specs.Flash.{FlashState, IsOneChange, AsksChange, LosesOnlyByChange, StaysPowered, next_count}
 use Rattle.base_model.proofs.PowerLemmas.{lit_none, lit_then}
 use Rattle.record_store.specs.Answers.{EndsAtFault, FailsOnce, UnlessFlash}
 use Rattle.record_store.specs.Start.{ReadsTimes}
@@ -46,9 +46,9 @@ pub ends_read_failed : {T U E : Type 0} (tells : Type 0) (count : ℕ) (old new 
 ends_read_failed tells count old new e reads = record { once = reads.once; lit = reads.lit; same_power = tt; later = tt }
 
 -- a change that was asked for restarts nothing, and finds power where there was some
-pub asks_lit : {T E : Type 0} (tells : Type 0) (at len : ℕ) (old new : FlashState) (result : Result T E) → AsksChange tells at len old new result → StaysLit old new
+pub asks_lit : {T E : Type 0} (tells : Type 0) (at len : ℕ) (old new : FlashState) (result : Result T E) → AsksChange tells at len old new result → StaysPowered old new
 asks_lit tells at len old new result asks =
-    record { restarts = asks.restarts; dark = λ on. asks.dark ∙ ap (λ (b : Bool). cond {A = ℕ} b old.dark (next_count old.dark)) on }
+    record { restarts = asks.restarts; unpowered = λ on. asks.unpowered ∙ ap (λ (b : Bool). cond {A = ℕ} b old.unpowered (next_count old.unpowered)) on }
 
 -- one change, whatever its Ok answers
 pub one_change : {T U E D : Type 0} (old new : FlashState) (x : T) (y : U) → IsOneChange {T = T} {E = E} old new (Ok x) → IsOneChange {T = U} {E = D} old new (Ok y)

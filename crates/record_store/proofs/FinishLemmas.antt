@@ -18,7 +18,7 @@ use Rattle.record_store.specs.declared.errors.StoreError.{StoreError}
 use Rattle.record_store.specs.declared.errors.StoreError.TheVariants.{NoSpace, LastGeneration, NotFound, Empty, Flash, Small}
 use Rattle.record_store.specs.Finish.{IsUnfinished, changes_left, map_at_end, PlacedAtEnd, PlacesAlike, IsOnWay, IsFinished}
 use Rattle.record_store.proofs.FaultLemmas.{ends_then, loses_then}
-use Rattle.record_store.proofs.StoreLemmas.{kept_map, alike_refl, alike_then}
+use Rattle.record_store.proofs.StoreLemmas.{kept_map, equivalent_refl, equivalent_then}
 
 -- the tests of a write that has made so many changes, of which so many come before the gate
 record Tests (made before all : ℕ) (at_gate at_end early later : Bool) : Type 0 where
@@ -172,7 +172,7 @@ IsOnWay-none tells v some = record {
   power = refl;
   lit = lit_none v.flash;
   later = omega arith;
-  alike = alike_refl v;
+  equivalent = equivalent_refl v;
   places = λ image at_end. at_end;
   end = λ told. refl;
   crash = λ told. Leaves-none v.flash.told (λ image. (records_of v.layout image ≡ stored v) ⊎ (records_of v.layout image ≡ map_at_end v.layout v.pending (stored v))) (inl refl);
@@ -191,19 +191,19 @@ way_crash tells old mid new way told step =
       | inl kept ↦ at_mid image kept
       | inr made ↦ elim (step_map mid.layout mid.pending (stored mid)) [
         | inl same ↦ at_mid image (made ∙ same)
-        | inr ends ↦ inr (alike_stored image ∙ made ∙ ends ∙ way.end told)
+        | inr ends ↦ inr (equivalent_stored image ∙ made ∙ ends ∙ way.end told)
       ]
     ]))
   where
-    alike_stored : (image : List ℕ) → records_of old.layout image ≡ records_of mid.layout image
-    alike_stored image = ap (λ (l : Layout). records_of l image) (sym way.alike.layout)
+    equivalent_stored : (image : List ℕ) → records_of old.layout image ≡ records_of mid.layout image
+    equivalent_stored image = ap (λ (l : Layout). records_of l image) (sym way.equivalent.layout)
 
     at_mid : (image : List ℕ) → records_of mid.layout image ≡ stored mid
         → (records_of old.layout image ≡ stored old) ⊎ (records_of old.layout image ≡ map_at_end old.layout old.pending (stored old))
     at_mid image same = elim (Leaves-exit old.flash.told mid.flash.told
         (λ x. (records_of old.layout x ≡ stored old) ⊎ (records_of old.layout x ≡ map_at_end old.layout old.pending (stored old))) (way.crash told)) [
-          | inl first ↦ inl (alike_stored image ∙ same ∙ sym (alike_stored mid.flash.told.image) ∙ first)
-          | inr last ↦ inr (alike_stored image ∙ same ∙ sym (alike_stored mid.flash.told.image) ∙ last)
+          | inl first ↦ inl (equivalent_stored image ∙ same ∙ sym (equivalent_stored mid.flash.told.image) ∙ first)
+          | inr last ↦ inr (equivalent_stored image ∙ same ∙ sym (equivalent_stored mid.flash.told.image) ∙ last)
         ]
 
 -- one more change was made, and it was not the last
@@ -211,8 +211,8 @@ pub IsOnWay-more : (tells : Type 0) (old mid new : StoreView) → IsOnWay tells 
     → (tells → stored new ≡ map_after mid.layout mid.pending (stored mid)) → (tells → KeepsOrMakes mid new (map_after mid.layout mid.pending (stored mid)))
     → new.flash.steps ≡ mid.flash.steps + 1 → DividesAlike mid new → new.flash.faults ≡ mid.flash.faults → new.flash.reads ≡ mid.flash.reads
     → {T : Type 0} (x : T) → EndsAtFault {T = T} mid.flash new.flash (Ok x) → IsOnWay tells old new
-IsOnWay-more tells old mid new way pending goes_on made crash step alike faults reads x ends =
-    let layout : new.layout ≡ mid.layout = alike.layout in
+IsOnWay-more tells old mid new way pending goes_on made crash step equivalent faults reads x ends =
+    let layout : new.layout ≡ mid.layout = equivalent.layout in
     let at_new : changes_left new.layout new.pending ≡ changes_left mid.layout (pending_after mid.layout mid.pending) =
     ap (λ (l : Layout). changes_left l new.pending) layout ∙ ap (changes_left mid.layout) pending in
     let one = step_left mid.layout mid.pending way.unfinished in
@@ -226,11 +226,11 @@ IsOnWay-more tells old mid new way pending goes_on made crash step alike faults 
       power = ends.same_power ∙ way.power;
       lit = lit_then old.flash mid.flash new.flash way.power way.lit ends.lit;
       later = let before = way.later in omega arith;
-      alike = alike_then old mid new way.alike alike;
+      equivalent = equivalent_then old mid new way.equivalent equivalent;
       places = λ image at_end. way.places image
-          (subst (λ (l : Layout). PlacedAtEnd l mid.pending image) way.alike.layout
+          (subst (λ (l : Layout). PlacedAtEnd l mid.pending image) way.equivalent.layout
           (step_places mid.layout mid.pending way.unfinished (λ idle. goes_on (pending ∙ idle)) image
-          (subst (λ (l : Layout). PlacedAtEnd l (pending_after mid.layout mid.pending) image) (sym way.alike.layout)
+          (subst (λ (l : Layout). PlacedAtEnd l (pending_after mid.layout mid.pending) image) (sym way.equivalent.layout)
           (subst (λ (p : Pending). PlacedAtEnd old.layout p image) pending at_end))));
       end = λ told.
           ap (λ (l : Layout). map_at_end l new.pending (stored new)) layout ∙ ap (λ (p : Pending). map_at_end mid.layout p (stored new)) pending
@@ -243,7 +243,7 @@ IsOnWay-more tells old mid new way pending goes_on made crash step alike faults 
 pub way_placed : (tells : Type 0) (old mid new : StoreView) → IsOnWay tells old mid → new.pending ≡ pending_after mid.layout mid.pending → new.pending ≡ Idle
     → PlacedAfter mid.layout mid.pending new.flash.told.image → PlacedAtEnd old.layout old.pending new.flash.told.image
 way_placed tells old mid new way pending ends placed =
-    way.places new.flash.told.image (subst (λ (l : Layout). PlacedAtEnd l mid.pending new.flash.told.image) way.alike.layout
+    way.places new.flash.told.image (subst (λ (l : Layout). PlacedAtEnd l mid.pending new.flash.told.image) way.equivalent.layout
     (last_placed mid.layout mid.pending new.flash.told.image way.unfinished (sym pending ∙ ends) placed))
 
 -- a command that was refused, or failed before its first change
@@ -254,19 +254,19 @@ kept_or_made old new made kept =
 
 -- a command that was begun, and then made
 begun_then : (old mid new : StoreView) (made end : Stored) → KeepsMap old mid → DividesAlike old mid → end ≡ made → KeepsOrMakes mid new end → KeepsOrMakes old new made
-begun_then old mid new made end kept alike is makes =
+begun_then old mid new made end kept equivalent is makes =
     Leaves-then old.flash.told mid.flash.told new.flash.told (λ image. (records_of old.layout image ≡ stored old) ⊎ (records_of old.layout image ≡ made))
     (kept_or_made old mid made kept)
     (Leaves-weaker mid.flash.told new.flash.told
     (λ image. (records_of mid.layout image ≡ stored mid) ⊎ (records_of mid.layout image ≡ end))
     (λ image. (records_of old.layout image ≡ stored old) ⊎ (records_of old.layout image ≡ made)) makes
     (λ image either. elim either [
-      | inl same ↦ inl (alike_stored image ∙ same ∙ sym (alike_stored mid.flash.told.image) ∙ Leaves-exit old.flash.told mid.flash.told (λ x. records_of old.layout x ≡ stored old) kept)
-      | inr ends ↦ inr (alike_stored image ∙ ends ∙ is)
+      | inl same ↦ inl (equivalent_stored image ∙ same ∙ sym (equivalent_stored mid.flash.told.image) ∙ Leaves-exit old.flash.told mid.flash.told (λ x. records_of old.layout x ≡ stored old) kept)
+      | inr ends ↦ inr (equivalent_stored image ∙ ends ∙ is)
     ]))
   where
-    alike_stored : (image : List ℕ) → records_of old.layout image ≡ records_of mid.layout image
-    alike_stored image = ap (λ (l : Layout). records_of l image) (sym alike.layout)
+    equivalent_stored : (image : List ℕ) → records_of old.layout image ≡ records_of mid.layout image
+    equivalent_stored image = ap (λ (l : Layout). records_of l image) (sym equivalent.layout)
 
 -- the map at the end of a write that has begun, or of a clear, is the one after the command
 write_end : (old mid : StoreView) (id : ℕ) (bytes slots : List ℕ) (replaces : Bool) → mid.pending ≡ Writing id bytes slots replaces 0 → stored mid ≡ stored old
@@ -323,8 +323,8 @@ refused_steps old new command refusal refused same =
 -- a write that is taken makes as many changes as are left once it has begun
 write_steps : (old mid : StoreView) (id : ℕ) (bytes slots : List ℕ) (kept : Option (List ℕ × ℕ)) → mid.layout ≡ old.layout → get (stored old) id ≡ kept → mid.pending ≡ Writing id bytes slots (is_some kept) 0
     → refusal_of old.layout (Write id bytes) (stored old) ≡ None → changes_left mid.layout mid.pending ≡ changes_of old.layout (Write id bytes) (stored old)
-write_steps old mid id bytes slots kept alike is pending taken =
-    ap (changes_left mid.layout) pending ∙ ap (λ (l : Layout). changes_left l (Writing id bytes slots (is_some kept) 0)) alike ∙ by_kept kept is
+write_steps old mid id bytes slots kept equivalent is pending taken =
+    ap (changes_left mid.layout) pending ∙ ap (λ (l : Layout). changes_left l (Writing id bytes slots (is_some kept) 0)) equivalent ∙ by_kept kept is
   where
     by_kept : (o : Option (List ℕ × ℕ)) → get (stored old) id ≡ o → changes_left old.layout (Writing id bytes slots (is_some o) 0) ≡ changes_of old.layout (Write id bytes) (stored old)
     by_kept None none = (omega arith) ∙ sym (changes_of-new old.layout id bytes (stored old) taken none)
@@ -344,7 +344,7 @@ changes_begun : (tells : Type 0) (old mid new : StoreView) (command : Command) (
     → (tells → changes_left mid.layout mid.pending ≡ changes_of old.layout command (stored old)) → Changes tells old new command result
 changes_begun tells old mid new command x result starts finished end left = let over = finished.over in record {
   crash = λ told.
-      begun_then old mid new (after old.layout command (stored old)) (map_at_end mid.layout mid.pending (stored mid)) (starts.kept told) starts.alike (end told) (finished.crash told);
+      begun_then old mid new (after old.layout command (stored old)) (map_at_end mid.layout mid.pending (stored mid)) (starts.kept told) starts.equivalent (end told) (finished.crash told);
   steps = λ told.
       unless_flash result (new.flash.steps ≡ old.flash.steps + (copies_of old + changes_of old.layout command (stored old))) finished.error
       (on_ok_weaker result (λ took. in_all mid.flash.steps new.flash.steps old.flash.steps (copies_of old) (changes_left mid.layout mid.pending) (changes_of old.layout command (stored old)) (starts.ended told) took (left told))
@@ -355,7 +355,7 @@ changes_begun tells old mid new command x result starts finished end left = let 
   over = record {
     doubt = over.doubt;
     idle = over.idle;
-    alike = alike_then old mid new starts.alike over.alike;
+    equivalent = equivalent_then old mid new starts.equivalent over.equivalent;
     power = loses_then old.flash mid.flash new.flash starts.ends.same_power starts.ends.later over.power;
     powered = over.powered;
     cause = finish_cause old.flash.faults mid.flash.faults new.flash.faults result finished.error starts.cause over.cause;
@@ -381,7 +381,7 @@ changes_refused tells old new command error starts steps doubt idle = record {
   steps = steps;
   few = λ told. let few = starts.few told in omega arith;
   at_most = λ told. let few = starts.at_most told in omega arith;
-  over = record { doubt = doubt; idle = idle; alike = starts.alike; power = starts.power; powered = tt; cause = starts.cause; ends = starts.ends };
+  over = record { doubt = doubt; idle = idle; equivalent = starts.equivalent; power = starts.power; powered = tt; cause = starts.cause; ends = starts.ends };
 }
 
 pub write_refused : (tells : Type 0) (old new : StoreView) (id : ℕ) (bytes : List ℕ) (error : StoreError) → OnlyStarts tells old new (Err error)
@@ -421,16 +421,16 @@ write_made tells old mid new id bytes x result starts begun slots finished = rec
   answer = λ told.
       write_answers old new id bytes result finished.error (begun told).0 (on_ok_weaker result (λ made. made told ∙ end told) finished.made);
   placed = on_ok_weaker result (λ placed told.
-      subst (λ (l : Layout). StandsIn l new.flash.told.image id (slots_for old (length bytes))) starts.alike.layout
+      subst (λ (l : Layout). StandsIn l new.flash.told.image id (slots_for old (length bytes))) starts.equivalent.layout
       (subst (λ (xs : List ℕ). StandsIn mid.layout new.flash.told.image id xs) (slots told)
       (subst (λ (p : Pending). PlacedAtEnd mid.layout p new.flash.told.image) (begun told).1 (placed told)))) finished.placed;
   leaves = changes_begun tells old mid new (Write id bytes) x result starts finished end
-      (λ told. write_steps old mid id bytes (slots_for mid (length bytes)) (get (stored old) id) starts.alike.layout refl (begun told).1 (begun told).0);
+      (λ told. write_steps old mid id bytes (slots_for mid (length bytes)) (get (stored old) id) starts.equivalent.layout refl (begun told).1 (begun told).0);
 }
   where
     end : tells → map_at_end mid.layout mid.pending (stored mid) ≡ after old.layout (Write id bytes) (stored old)
     end told =
-        write_end old mid id bytes (slots_for mid (length bytes)) (is_some (get (stored old) id)) (begun told).1 (kept_map old mid (starts.kept told) starts.alike) (begun told).0
+        write_end old mid id bytes (slots_for mid (length bytes)) (is_some (get (stored old) id)) (begun told).1 (kept_map old mid (starts.kept told) starts.equivalent) (begun told).0
 
 -- a whole clear
 pub record ClearMade (tells : Type 0) (old new : StoreView) (id : ℕ) (result : Result (Unit {0}) StoreError) : Type 0 where
@@ -448,7 +448,7 @@ clear_made tells old mid new id x result starts begun finished = record {
 }
   where
     end : tells → map_at_end mid.layout mid.pending (stored mid) ≡ after old.layout (Clear id) (stored old)
-    end told = clear_end old mid id (begun told).1 (kept_map old mid (starts.kept told) starts.alike) (begun told).0
+    end told = clear_end old mid id (begun told).1 (kept_map old mid (starts.kept told) starts.equivalent) (begun told).0
 
 -- the reads of a whole command are those of its start
 pub finish_reads : (more : Unit {0} → ℕ → ℕ) (old mid new : StoreView) (x : Unit {0}) (result : Result (Unit {0}) StoreError) → TakesReads more old mid (Ok x) → FailsByFlash result

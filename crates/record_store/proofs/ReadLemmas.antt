@@ -1,7 +1,7 @@
 -- Reads of a flash, one after another.
 use Rattle.std.proofs.Common.{◌≡◌, ℕ, ◌+◌, ◌-◌, ◌^◌, ◌<◌, min, Ok, refl, ap, ◌∙◌, arith, inl, inr}
 use Rattle.std.proofs.lemmas.Bool.{cases_eq}
-use Rattle.base_model.specs.Flash.{FlashState, OnlyReads, StaysLit, raised}
+use Rattle.base_model.specs.Flash.{FlashState, OnlyReads, StaysPowered, raised}
 use Rattle.base_model.proofs.PowerLemmas.{lit_none, lit_then}
 use Rattle.record_store.specs.Start.{ReadsTimes}
 
@@ -12,7 +12,7 @@ pub record HasRead (tells : Type 0) (n : ℕ) (old now : FlashState) : Type 0 wh
   pub sector_size : now.sector_size ≡ old.sector_size
   pub steps : now.steps ≡ old.steps
   pub power : now.powered ≡ old.powered
-  pub lit : StaysLit old now
+  pub lit : StaysPowered old now
   pub unread : n ≡ 0 → now.reads ≡ old.reads
   pub counted : 0 < n → now.reads ≡ raised n old.reads
   pub faults : now.faults ≡ old.faults

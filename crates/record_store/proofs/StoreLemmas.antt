@@ -4,7 +4,7 @@ use Rattle.std.specs.Prelude.{is_some}
 use Rattle.std.specs.FinMap.{get}
 use Rattle.flash_model.specs.declared.geometry.Geometry.{Geometry}
 use Rattle.flash_model.specs.Layouts.{layout_of}
-use Rattle.base_model.specs.Flash.{Told, FlashState, Leaves, LosesOnlyByChange, StaysLit, restart, raised, next_count}
+use Rattle.base_model.specs.Flash.{Told, FlashState, Leaves, LosesOnlyByChange, StaysPowered, restart, raised, next_count}
 use Rattle.base_model.specs.Layout.{Layout, room_of}
 use Rattle.base_model.proofs.CrashLemmas.{Leaves-none, Leaves-exit}
 use Rattle.base_model.specs.Faults.{Rose}
@@ -24,8 +24,8 @@ use Rattle.record_store.specs.Start.{ReadsTimes}
 use Rattle.record_store.specs.Kept.{IsStore, IsWork, IsUnderWay, Knows, KnowsSlots, MayMake, view_of, pending_of}
 use Rattle.record_store.specs.declared.errors.StoreError.{StoreError}
 use Rattle.record_store.specs.declared.errors.StoreError.TheVariants.{NoSpace, LastGeneration, NotFound, Empty, Flash, Small}
-use Rattle.record_store.specs.declared.work.Work.{Work}
-use Rattle.record_store.specs.declared.work.Work.TheVariants as works
+use Rattle.record_store.specs.declared.work.Begun.{Begun}
+use Rattle.record_store.specs.declared.work.Begun.TheVariants as works
 use Rattle.record_store.proofs.FaultLemmas.{ends_none, ends_refused, ends_then, ends_read, ends_read_failed}
 
 -- power lost in nothing, or in what kept the records
@@ -47,22 +47,22 @@ may_exit geometry flash doubt pending v new is may =
     ⊎ (records_of (layout_of geometry) image ≡ map_after (layout_of geometry) pending (records_of (layout_of geometry) flash.told.image))) may)
 
 -- where nothing is seen to be pending nothing is
-pub idle_work : (layout : Layout) (buffer : List ℕ) (work : Work) → pending_of layout buffer work ≡ Idle → work ≡ works.Nothing
+pub idle_work : (layout : Layout) (buffer : List ℕ) (work : Begun) → pending_of layout buffer work ≡ Idle → work ≡ works.Nothing
 idle_work layout buffer works.Nothing is = refl
 idle_work layout buffer (works.Write draft stage replaced) is = absurd (cc)
 idle_work layout buffer (works.OldCopy draft place) is = absurd (cc)
 idle_work layout buffer (works.Clear id place) is = absurd (cc)
 
 -- what a store that is not in doubt knows, where nothing is pending
-pub ready_inside : (tells : Type 0) (geometry : Geometry) (flash : FlashState) (found : Found) (buffer : List ℕ) (doubt : Bool) (work : Work) (v : StoreView)
+pub ready_inside : (tells : Type 0) (geometry : Geometry) (flash : FlashState) (found : Found) (buffer : List ℕ) (doubt : Bool) (work : Begun) (v : StoreView)
     → IsStore tells geometry flash found buffer doubt work → view_of geometry flash doubt (pending_of (layout_of geometry) buffer work) ≡ v → IsReady v → tells
     → KnowsSlots (layout_of geometry) flash.told.image found
 ready_inside tells geometry flash found buffer doubt work v store is ready told =
     let certain : doubt ≡ false = ap (λ (u : StoreView). u.in_doubt) is ∙ ready.certain in
     let idle = idle_work (layout_of geometry) buffer work (ap (λ (u : StoreView). u.pending) is ∙ ready.idle) in
-    subst (λ (w : Work). Knows geometry found buffer flash.told.image w) idle (store.knows told certain)
+    subst (λ (w : Begun). Knows geometry found buffer flash.told.image w) idle (store.knows told certain)
 
-pub ready_knows : (tells : Type 0) (geometry : Geometry) (flash : FlashState) (found : Found) (buffer : List ℕ) (doubt : Bool) (work : Work) (v : StoreView)
+pub ready_knows : (tells : Type 0) (geometry : Geometry) (flash : FlashState) (found : Found) (buffer : List ℕ) (doubt : Bool) (work : Begun) (v : StoreView)
     → IsStore tells geometry flash found buffer doubt work → view_of geometry flash doubt (pending_of (layout_of geometry) buffer work) ≡ v → IsReady v → tells
     → KnowsSlots v.layout v.flash.told.image found
 ready_knows tells geometry flash found buffer doubt work v store is ready told =
@@ -80,18 +80,18 @@ pub record KnowsMap (tells : Type 0) (old now : StoreView) (found : Found) : Typ
   pub map : tells → selected (entry_at now.layout.slot_size now.layout.slots now.flash.told.image) now.layout.slots ≡ stored old
 
 pub kept_map : (old now : StoreView) → KeepsMap old now → DividesAlike old now → stored now ≡ stored old
-kept_map old now kept alike =
-    ap (λ (layout : Layout). records_of layout now.flash.told.image) alike.layout
+kept_map old now kept equivalent =
+    ap (λ (layout : Layout). records_of layout now.flash.told.image) equivalent.layout
     ∙ Leaves-exit old.flash.told now.flash.told (λ image. records_of old.layout image ≡ stored old) kept
 
-pub looked : {T : Type 0} {tells : Type 0} {geometry : Geometry} {flash : FlashState} {found : Found} {buffer : List ℕ} {doubt : Bool} {work : Work} {old now : StoreView} {x : T}
+pub looked : {T : Type 0} {tells : Type 0} {geometry : Geometry} {flash : FlashState} {found : Found} {buffer : List ℕ} {doubt : Bool} {work : Begun} {old now : StoreView} {x : T}
     → IsStore tells geometry flash found buffer doubt work → view_of geometry flash doubt (pending_of (layout_of geometry) buffer work) ≡ now
     → OnlyLooks {T = T} tells old now (Ok x) → KnowsMap tells old now found
 looked {T} {tells} {geometry} {flash} {found} {buffer} {doubt} {work} {old} {now} store is leaves = record {
   listing = subst (λ (u : StoreView). IsListing u.layout.slots u.layout.slot_size found) is store.listing;
   knows = λ told. ready_knows tells geometry flash found buffer doubt work now store is leaves.doubt told;
-  layout = leaves.alike.layout;
-  map = λ told. sym (unfold_stored now.layout.slot_size now.layout.slots now.flash.told.image) ∙ kept_map old now (leaves.kept told) leaves.alike;
+  layout = leaves.equivalent.layout;
+  map = λ told. sym (unfold_stored now.layout.slot_size now.layout.slots now.flash.told.image) ∙ kept_map old now (leaves.kept told) leaves.equivalent;
 }
 
 -- what is said of the map of the slots is said of the map at first
@@ -103,11 +103,11 @@ of_old tells old now found P is told here =
 
 -- A look, and no more
 
-pub alike_refl : (v : StoreView) → DividesAlike v v
-alike_refl v = record { layout = refl; size = refl; sector_size = refl }
+pub equivalent_refl : (v : StoreView) → DividesAlike v v
+equivalent_refl v = record { layout = refl; size = refl; sector_size = refl }
 
-pub alike_then : (old mid new : StoreView) → DividesAlike old mid → DividesAlike mid new → DividesAlike old new
-alike_then old mid new first second = record {
+pub equivalent_then : (old mid new : StoreView) → DividesAlike old mid → DividesAlike mid new → DividesAlike old new
+equivalent_then old mid new first second = record {
   layout = second.layout ∙ first.layout;
   size = second.size ∙ first.size;
   sector_size = second.sector_size ∙ first.sector_size;
@@ -132,7 +132,7 @@ looks_ready tells v x ready = record {
   at_most = λ told. let same = none_ended v ready.certain in omega arith;
   doubt = ready;
   idle = ready.idle;
-  alike = alike_refl v;
+  equivalent = equivalent_refl v;
   power = power_refl v.flash;
   cause = refl;
   ends = ends_none v.flash x;
@@ -167,7 +167,7 @@ looks_scanned tells geometry old new doubt after pending y scanned unsure idle e
       omega arith;
   doubt = has_doubt;
   idle = idle;
-  alike = record { layout = refl; size = scanned.size; sector_size = scanned.sector_size };
+  equivalent = record { layout = refl; size = scanned.size; sector_size = scanned.sector_size };
   power = scanned.power;
   cause = cause;
   ends = ends;
@@ -184,7 +184,7 @@ looks_again {T} tells geometry old new found doubt pending v x is unsure idle sc
 
 pub looks_failed : {T : Type 0} (tells : Type 0) (geometry : Geometry) (old new : FlashState) (doubt : Bool) (pending : Pending) (v : StoreView) → view_of geometry old doubt pending ≡ v
     → doubt ≡ true → pending ≡ Idle → IsScanned tells geometry old new → old.faults ≤ new.faults → Rose old.faults new.faults
-    → StaysLit old new → new.faults ≡ next_count old.faults → OnlyLooks {T = T} tells v (view_of geometry new doubt pending) (Err Flash)
+    → StaysPowered old new → new.faults ≡ next_count old.faults → OnlyLooks {T = T} tells v (view_of geometry new doubt pending) (Err Flash)
 looks_failed {T} tells geometry old new doubt pending v is unsure idle scanned up rose lit once =
     subst (λ (u : StoreView). OnlyLooks {T = T} tells u (view_of geometry new doubt pending) (Err Flash)) is
     (looks_scanned {T = T} tells geometry old new doubt doubt pending (Err Flash) scanned unsure idle (λ told. tt) (record { doubt = unsure; idle = idle }) (up, rose) (record { once = once; lit = lit; same_power = tt; later = tt }))
@@ -255,7 +255,7 @@ looks_read tells old mid new count x z y had reads layout ready = record {
   at_most = λ told. let before = had.at_most told in let same = reads.steps in omega arith;
   doubt = ready;
   idle = ready.idle;
-  alike = record { layout = layout ∙ had.alike.layout; size = reads.size ∙ had.alike.size; sector_size = reads.sector_size ∙ had.alike.sector_size };
+  equivalent = record { layout = layout ∙ had.equivalent.layout; size = reads.size ∙ had.equivalent.size; sector_size = reads.sector_size ∙ had.equivalent.sector_size };
   power = power_read old.flash mid.flash new.flash reads.power reads.steps had.power;
   cause = reads.cause.ok ∙ had.cause;
   ends = ends_then old.flash mid.flash new.flash x (Ok y) had.cause had.ends (ends_read tells count mid.flash new.flash z y reads);
@@ -270,7 +270,7 @@ looks_read_failed tells old mid new count x e had reads layout doubt = record {
   at_most = λ told. let before = had.at_most told in let same = reads.steps in omega arith;
   doubt = doubt;
   idle = doubt.idle;
-  alike = record { layout = layout ∙ had.alike.layout; size = reads.size ∙ had.alike.size; sector_size = reads.sector_size ∙ had.alike.sector_size };
+  equivalent = record { layout = layout ∙ had.equivalent.layout; size = reads.size ∙ had.equivalent.size; sector_size = reads.sector_size ∙ had.equivalent.sector_size };
   power = power_read old.flash mid.flash new.flash reads.power reads.steps had.power;
   cause = (let up = reads.cause.never_falls in let same = had.cause in omega arith, subst (λ (f : ℕ). Rose f new.flash.faults) had.cause reads.cause.err);
   ends = ends_then old.flash mid.flash new.flash x (Err Flash) had.cause had.ends (ends_read_failed tells count mid.flash new.flash e reads);
@@ -297,13 +297,13 @@ same_slots_for old new len layout free =
 -- what a store that knows its records leaves of a start, whatever it answers
 pub starts_by : (tells : Type 0) (old mid new : StoreView) (x : Unit {0}) (y : Result (Unit {0}) StoreError) → OnlyLooks tells old mid (Ok x) → (tells → new.flash.told ≡ mid.flash.told) → new.flash.steps ≡ mid.flash.steps
     → new.flash.powered ≡ mid.flash.powered → DividesAlike mid new → HasDoubtAtStart new y → HasFaultsOf old.flash.faults new.flash.faults y → (tells → EndsCopies old new y) → EndsAtFault old.flash new.flash y → OnlyStarts tells old new y
-starts_by tells old mid new x y had told steps power alike doubt cause ended ends = record {
+starts_by tells old mid new x y had told steps power equivalent doubt cause ended ends = record {
   kept = λ t. same_told (λ image. records_of old.layout image ≡ stored old) old.flash.told mid.flash.told new.flash.told (told t) (had.kept t);
   few = λ t. let before = had.few t in omega arith;
   ended = ended;
   at_most = λ t. let before = had.at_most t in omega arith;
   doubt = doubt;
-  alike = alike_then old mid new had.alike alike;
+  equivalent = equivalent_then old mid new had.equivalent equivalent;
   power = power_read old.flash mid.flash new.flash power steps had.power;
   cause = cause;
   ends = ends;
@@ -313,35 +313,35 @@ starts_by tells old mid new x y had told steps power alike doubt cause ended end
 pub starts_then : (count : Unit {0} → ℕ) (tells : Type 0) (old mid new : StoreView) (x : Unit {0}) (y : Result (Unit {0}) StoreError) → OnlyLooks tells old mid (Ok x) → ReadsExactly tells count mid new y
     → OnlyStarts tells mid new y → OnlyStarts tells old new y
 starts_then count tells old mid new x (Ok done) had still starts =
-    starts_by tells old mid new x (Ok done) had still.only.told still.only.steps still.only.power starts.alike starts.doubt (starts.cause ∙ had.cause) (λ told. still.only.steps ∙ had.ended told) (ends_then old.flash mid.flash new.flash x (Ok done) had.cause had.ends starts.ends)
+    starts_by tells old mid new x (Ok done) had still.only.told still.only.steps still.only.power starts.equivalent starts.doubt (starts.cause ∙ had.cause) (λ told. still.only.steps ∙ had.ended told) (ends_then old.flash mid.flash new.flash x (Ok done) had.cause had.ends starts.ends)
 starts_then count tells old mid new x (Err (NoSpace free)) had still starts =
     let steps : new.flash.steps ≡ mid.flash.steps = ap (λ (v : StoreView). v.flash.steps) still in
-    starts_by tells old mid new x (Err (NoSpace free)) had (λ t. ap (λ (v : StoreView). v.flash.told) still) steps (ap (λ (v : StoreView). v.flash.powered) still) starts.alike starts.doubt (starts.cause ∙ had.cause)
+    starts_by tells old mid new x (Err (NoSpace free)) had (λ t. ap (λ (v : StoreView). v.flash.told) still) steps (ap (λ (v : StoreView). v.flash.powered) still) starts.equivalent starts.doubt (starts.cause ∙ had.cause)
     (λ told. steps ∙ had.ended told) (ends_then old.flash mid.flash new.flash x (Err (NoSpace free)) had.cause had.ends starts.ends)
 starts_then count tells old mid new x (Err (LastGeneration id)) had still starts =
     let steps : new.flash.steps ≡ mid.flash.steps = ap (λ (v : StoreView). v.flash.steps) still in
-    starts_by tells old mid new x (Err (LastGeneration id)) had (λ t. ap (λ (v : StoreView). v.flash.told) still) steps (ap (λ (v : StoreView). v.flash.powered) still) starts.alike starts.doubt (starts.cause ∙ had.cause)
+    starts_by tells old mid new x (Err (LastGeneration id)) had (λ t. ap (λ (v : StoreView). v.flash.told) still) steps (ap (λ (v : StoreView). v.flash.powered) still) starts.equivalent starts.doubt (starts.cause ∙ had.cause)
     (λ told. steps ∙ had.ended told) (ends_then old.flash mid.flash new.flash x (Err (LastGeneration id)) had.cause had.ends starts.ends)
 starts_then count tells old mid new x (Err NotFound) had still starts =
     let steps : new.flash.steps ≡ mid.flash.steps = ap (λ (v : StoreView). v.flash.steps) still in
-    starts_by tells old mid new x (Err NotFound) had (λ t. ap (λ (v : StoreView). v.flash.told) still) steps (ap (λ (v : StoreView). v.flash.powered) still) starts.alike starts.doubt (starts.cause ∙ had.cause)
+    starts_by tells old mid new x (Err NotFound) had (λ t. ap (λ (v : StoreView). v.flash.told) still) steps (ap (λ (v : StoreView). v.flash.powered) still) starts.equivalent starts.doubt (starts.cause ∙ had.cause)
     (λ told. steps ∙ had.ended told) (ends_then old.flash mid.flash new.flash x (Err NotFound) had.cause had.ends starts.ends)
 starts_then count tells old mid new x (Err Empty) had still starts =
     let steps : new.flash.steps ≡ mid.flash.steps = ap (λ (v : StoreView). v.flash.steps) still in
-    starts_by tells old mid new x (Err Empty) had (λ t. ap (λ (v : StoreView). v.flash.told) still) steps (ap (λ (v : StoreView). v.flash.powered) still) starts.alike starts.doubt (starts.cause ∙ had.cause)
+    starts_by tells old mid new x (Err Empty) had (λ t. ap (λ (v : StoreView). v.flash.told) still) steps (ap (λ (v : StoreView). v.flash.powered) still) starts.equivalent starts.doubt (starts.cause ∙ had.cause)
     (λ told. steps ∙ had.ended told) (ends_then old.flash mid.flash new.flash x (Err Empty) had.cause had.ends starts.ends)
 starts_then count tells old mid new x (Err Flash) had still starts =
     let cause = starts.cause in
     let same = had.cause in
-    starts_by tells old mid new x (Err Flash) had still.told still.steps still.power starts.alike starts.doubt
+    starts_by tells old mid new x (Err Flash) had still.told still.steps still.power starts.equivalent starts.doubt
     (let up : mid.flash.faults ≤ new.flash.faults = cause.0 in omega arith, subst (λ (f : ℕ). Rose f new.flash.faults) same cause.1) (λ told. tt) (ends_then old.flash mid.flash new.flash x (Err Flash) had.cause had.ends starts.ends)
 starts_then count tells old mid new x (Err (Small need)) had still starts =
     let steps : new.flash.steps ≡ mid.flash.steps = ap (λ (v : StoreView). v.flash.steps) still in
-    starts_by tells old mid new x (Err (Small need)) had (λ t. ap (λ (v : StoreView). v.flash.told) still) steps (ap (λ (v : StoreView). v.flash.powered) still) starts.alike starts.doubt (starts.cause ∙ had.cause)
+    starts_by tells old mid new x (Err (Small need)) had (λ t. ap (λ (v : StoreView). v.flash.told) still) steps (ap (λ (v : StoreView). v.flash.powered) still) starts.equivalent starts.doubt (starts.cause ∙ had.cause)
     (λ told. steps ∙ had.ended told) (ends_then old.flash mid.flash new.flash x (Err (Small need)) had.cause had.ends starts.ends)
 
 pub starts_refused : (tells : Type 0) (old mid : StoreView) (x : Unit {0}) → OnlyLooks {T = Unit {0}} tells old mid (Ok x) → OnlyStarts tells old mid (Err NotFound)
-starts_refused tells old mid x had = record { kept = had.kept; few = had.few; ended = had.ended; at_most = had.at_most; doubt = had.doubt; alike = had.alike; power = had.power; cause = had.cause; ends = ends_refused old.flash mid.flash x NotFound (λ e. cc) had.ends }
+starts_refused tells old mid x had = record { kept = had.kept; few = had.few; ended = had.ended; at_most = had.at_most; doubt = had.doubt; equivalent = had.equivalent; power = had.power; cause = had.cause; ends = ends_refused old.flash mid.flash x NotFound (λ e. cc) had.ends }
 
 -- what a start answered a store that knows its records is the answer to the store at first
 at_old : (old mid : StoreView) → mid.layout ≡ old.layout → stored mid ≡ stored old → (P : Layout → Stored → Type 0) → P mid.layout (stored mid) → P old.layout (stored old)
@@ -361,7 +361,7 @@ start_from old mid new id bytes (Err Flash) layout same h = h
 start_from old mid new id bytes (Err (Small need)) layout same h = h
 
 -- a clearing has begun
-pub clearing_store : (tells : Type 0) (geometry : Geometry) (flash : FlashState) (found : Found) (buffer : List ℕ) (doubt : Bool) (work : Work) (v : StoreView) (id : ℕ) (place : SlotOf)
+pub clearing_store : (tells : Type 0) (geometry : Geometry) (flash : FlashState) (found : Found) (buffer : List ℕ) (doubt : Bool) (work : Begun) (v : StoreView) (id : ℕ) (place : SlotOf)
     → IsStore tells geometry flash found buffer doubt work → view_of geometry flash doubt (pending_of (layout_of geometry) buffer work) ≡ v → IsReady v
     → IsWithin geometry.slots geometry.slot_size place → ((entry : ℕ → Option Entry) → IsListOf entry geometry.slots found → IsPlaceFound entry geometry.slots id (Some place))
     → IsStore tells geometry flash found buffer doubt (works.Clear id place)
@@ -378,7 +378,7 @@ clearing_store tells geometry flash found buffer doubt work v id place store is 
 }
 
 -- a record was read by way of the buffer, and nothing is pending
-pub read_store : (tells : Type 0) (geometry : Geometry) (flash new : FlashState) (found : Found) (buffer read : List ℕ) (doubt after : Bool) (work : Work) (v : StoreView)
+pub read_store : (tells : Type 0) (geometry : Geometry) (flash new : FlashState) (found : Found) (buffer read : List ℕ) (doubt after : Bool) (work : Begun) (v : StoreView)
     → IsStore tells geometry flash found buffer doubt work → view_of geometry flash doubt (pending_of (layout_of geometry) buffer work) ≡ v → IsReady v → length read ≡ length buffer
     → (tells → new.told ≡ flash.told) → new.size ≡ flash.size → new.sector_size ≡ flash.sector_size
     → IsStore tells geometry new found read after work
@@ -388,19 +388,19 @@ read_store tells geometry flash new found buffer read doubt after work v store i
       fits = record { size = new_size ∙ store.fits.size; sector_size = new_sector ∙ store.fits.sector_size };
       listing = store.listing;
       room = long ∙ store.room;
-      form = subst (λ (w : Work). IsWork geometry found read w) (sym idle) tt;
-      certain = λ busy. absurd (subst (λ (w : Work). IsUnderWay w) idle busy);
+      form = subst (λ (w : Begun). IsWork geometry found read w) (sym idle) tt;
+      certain = λ busy. absurd (subst (λ (w : Begun). IsUnderWay w) idle busy);
       knows = λ told sure.
-          subst (λ (w : Work). Knows geometry found read new.told.image w) (sym idle)
+          subst (λ (w : Begun). Knows geometry found read new.told.image w) (sym idle)
           (subst (λ (t : Told). KnowsSlots (layout_of geometry) t.image found) (sym (same told)) (ready_inside tells geometry flash found buffer doubt work v store is ready told));
       spare = λ told. subst (λ (t : Told). NearlyOnlyFirstUp geometry.slot_size geometry.slots t.image) (sym (same told)) (store.spare told);
     }
 
-idle_still : (layout : Layout) (buffer read : List ℕ) (work : Work) → pending_of layout buffer work ≡ Idle → pending_of layout read work ≡ Idle
+idle_still : (layout : Layout) (buffer read : List ℕ) (work : Begun) → pending_of layout buffer work ≡ Idle → pending_of layout read work ≡ Idle
 idle_still layout buffer read work is = ap (pending_of layout read) (idle_work layout buffer work is)
 
 -- what a read leaves of a store that has looked
-pub read_leaves : {T V U E : Type 0} (tells : Type 0) (geometry : Geometry) (flash new : FlashState) (buffer read : List ℕ) (doubt : Bool) (work : Work) (old v : StoreView) (count : ℕ) (x : T) (z : U) (y : V)
+pub read_leaves : {T V U E : Type 0} (tells : Type 0) (geometry : Geometry) (flash new : FlashState) (buffer read : List ℕ) (doubt : Bool) (work : Begun) (old v : StoreView) (count : ℕ) (x : T) (z : U) (y : V)
     → view_of geometry flash doubt (pending_of (layout_of geometry) buffer work) ≡ v → OnlyLooks {T = T} tells old v (Ok x) → ReadsTimes {T = U} {E = E} tells count flash new (Ok z)
     → OnlyLooks {T = V} tells old (view_of geometry new doubt (pending_of (layout_of geometry) read work)) (Ok y)
 read_leaves {T} {V} tells geometry flash new buffer read doubt work old v count x z y is had reads =
@@ -411,7 +411,7 @@ read_leaves {T} {V} tells geometry flash new buffer read doubt work old v count 
       idle = idle_still (layout_of geometry) buffer read work (ap (λ (u : StoreView). u.pending) is ∙ had.idle);
     })
 
-pub read_failed_leaves : {T V U E : Type 0} (tells : Type 0) (geometry : Geometry) (flash new : FlashState) (buffer read : List ℕ) (doubt : Bool) (work : Work) (old v : StoreView) (count : ℕ) (x : T) (e : E)
+pub read_failed_leaves : {T V U E : Type 0} (tells : Type 0) (geometry : Geometry) (flash new : FlashState) (buffer read : List ℕ) (doubt : Bool) (work : Begun) (old v : StoreView) (count : ℕ) (x : T) (e : E)
     → view_of geometry flash doubt (pending_of (layout_of geometry) buffer work) ≡ v → OnlyLooks {T = T} tells old v (Ok x) → ReadsTimes {T = U} {E = E} tells count flash new (Err e)
     → OnlyLooks {T = V} tells old (view_of geometry new true (pending_of (layout_of geometry) read work)) (Err Flash)
 read_failed_leaves {T} {V} tells geometry flash new buffer read doubt work old v count x e is had reads =

@@ -3,7 +3,7 @@ use Rattle.std.specs.Prelude.{◌≡◌, ℕ, ◌+◌, ◌*◌, ◌<◌, ◌≤�
 use Rattle.std.specs.FinMap.{get}
 use Rattle.base_model.specs.Faults.{Rose}
 use Rattle.flash_model.specs.declared.geometry.Geometry.{Geometry}
-use Rattle.base_model.specs.Flash.{FlashState, StaysLit, raised, next_count}
+use Rattle.base_model.specs.Flash.{FlashState, StaysPowered, raised, next_count}
 use Rattle.base_model.specs.Layout.{Layout, room_of}
 use Rattle.record_model.specs.Records.{second_copies, parts_in}
 use Rattle.record_model.specs.RecordMap.{Command, Write, Clear, Read, Failed, NoSpace as no_space, NotFound as not_found, Empty as empty, LAST_GENERATION, refusal_of, after, changes_of}
@@ -160,7 +160,7 @@ FailsOnce before after (Err (Small need)) = Unit {0}
 -- restarted, and no call found it without power that had it at the start
 pub record EndsAtFault {T : Type 0} (old new : FlashState) (result : Result T StoreError) : Type 0 where
   pub once : FailsOnce old.faults new.faults result
-  pub lit : StaysLit old new
+  pub lit : StaysPowered old new
   pub same_power : UnlessFlash result (new.powered ≡ old.powered)
   pub later : UnlessFlash result (old.steps ≤ new.steps)
 

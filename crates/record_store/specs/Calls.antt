@@ -15,7 +15,7 @@ pub record OnlyLooks {T : Type 0} (tells : Type 0) (old new : StoreView) (result
   pub at_most : tells → new.flash.steps ≤ old.flash.steps + copies_of old
   pub doubt : HasDoubtOf new result
   pub idle : new.pending ≡ Idle
-  pub alike : DividesAlike old new
+  pub equivalent : DividesAlike old new
   pub power : LosesOnlyByChange old.flash new.flash
   pub cause : HasFaultsOf old.flash.faults new.flash.faults result
   pub ends : EndsAtFault old.flash new.flash result
@@ -27,7 +27,7 @@ pub record OnlyStarts (tells : Type 0) (old new : StoreView) (result : Result (U
   pub ended : tells → EndsCopies old new result
   pub at_most : tells → new.flash.steps ≤ old.flash.steps + copies_of old
   pub doubt : HasDoubtAtStart new result
-  pub alike : DividesAlike old new
+  pub equivalent : DividesAlike old new
   pub power : LosesOnlyByChange old.flash new.flash
   pub cause : HasFaultsOf old.flash.faults new.flash.faults result
   pub ends : EndsAtFault old.flash new.flash result
@@ -37,7 +37,7 @@ pub record OnlyStarts (tells : Type 0) (old new : StoreView) (result : Result (U
 pub record IsOver (old new : StoreView) (result : Result (Unit {0}) StoreError) : Type 0 where
   pub doubt : HasDoubtOf new result
   pub idle : new.pending ≡ Idle
-  pub alike : DividesAlike old new
+  pub equivalent : DividesAlike old new
   pub power : LosesOnlyByChange old.flash new.flash
   pub powered : OnOk result (new.flash.powered ≡ true)
   pub cause : HasFaultsOf old.flash.faults new.flash.faults result

@@ -1,6 +1,6 @@
 -- What is left of a command that is pending.
 use Rattle.std.specs.Prelude.{◌≡◌, ℕ, ◌+◌, ◌-◌, ◌<◌, ◌≤◌, nat_le, if◌then◌else◌, List, Result, OnOk}
-use Rattle.base_model.specs.Flash.{StaysLit}
+use Rattle.base_model.specs.Flash.{StaysPowered}
 use Rattle.base_model.specs.Layout.{Layout}
 use Rattle.record_model.specs.Records.{Stored}
 use Rattle.record_model.specs.RecordMap.{Write, Clear, made_by}
@@ -45,9 +45,9 @@ pub record IsOnWay (tells : Type 0) (old now : StoreView) : Type 0 where
   pub faults : now.flash.faults ≡ old.flash.faults
   pub reads : now.flash.reads ≡ old.flash.reads
   pub power : now.flash.powered ≡ old.flash.powered
-  pub lit : StaysLit old.flash now.flash
+  pub lit : StaysPowered old.flash now.flash
   pub later : old.flash.steps ≤ now.flash.steps
-  pub alike : DividesAlike old now
+  pub equivalent : DividesAlike old now
   pub places : PlacesAlike old.layout old.pending now.pending
   pub end : tells → map_at_end now.layout now.pending (stored now) ≡ map_at_end old.layout old.pending (stored old)
   pub crash : tells → KeepsOrMakes old now (map_at_end old.layout old.pending (stored old))

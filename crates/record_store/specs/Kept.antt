@@ -17,8 +17,8 @@ use Rattle.record_slots.specs.declared.found.SlotOf.{SlotOf}
 use Rattle.record_slots.specs.Listed.{IsPlaceOf, IsWithin}
 use Rattle.record_store.specs.Index.{IsListing, IsListOf, IsEntryOf, IsPlaceFound}
 use Rattle.record_store.specs.Store.{StoreView, Pending, Idle, Writing, Clearing, records_of, IsAt, map_after, pending_after, changes_before_gate, PlacedAfter}
-use Rattle.record_store.specs.declared.work.Work.{Work}
-use Rattle.record_store.specs.declared.work.Work.TheVariants.{Nothing, Write, OldCopy, Clear}
+use Rattle.record_store.specs.declared.work.Begun.{Begun}
+use Rattle.record_store.specs.declared.work.Begun.TheVariants.{Nothing, Write, OldCopy, Clear}
 
 -- the slots of a draft, the first one first
 abbrev pub further_in : Draft → List ℕ
@@ -37,7 +37,7 @@ opened_place draft = record {
 }
 
 -- what is seen of what is pending. The record stands at the start of a buffer
-abbrev pub pending_of : Layout → List ℕ → Work → Pending
+abbrev pub pending_of : Layout → List ℕ → Begun → Pending
 pending_of layout buffer Nothing = Idle
 pending_of layout buffer (Write draft stage replaced) =
     Writing draft.id (take draft.len buffer) (slots_in draft) (is_some replaced) (made_at layout (plan_of draft (take draft.len buffer)) (stage_of stage))
@@ -58,20 +58,20 @@ pub record IsWrite (geometry : Geometry) (found : Found) (body : List ℕ) (draf
   pub over : IfSome replaced (IsWithin geometry.slots geometry.slot_size)
 
 -- what is pending has its places in a store of this geometry
-abbrev pub IsWork : Geometry → Found → List ℕ → Work → Type 0
+abbrev pub IsWork : Geometry → Found → List ℕ → Begun → Type 0
 IsWork geometry found buffer Nothing = Unit {0}
 IsWork geometry found buffer (Write draft stage replaced) = IsWrite geometry found (take draft.len buffer) draft stage replaced
 IsWork geometry found buffer (OldCopy draft place) = IsWithin geometry.slots geometry.slot_size place
 IsWork geometry found buffer (Clear id place) = IsWithin geometry.slots geometry.slot_size place
 
-abbrev pub is_nothing : Work → Bool
+abbrev pub is_nothing : Begun → Bool
 is_nothing Nothing = true
 is_nothing (Write draft stage replaced) = false
 is_nothing (OldCopy draft place) = false
 is_nothing (Clear id place) = false
 
 -- a change is to be made
-abbrev pub IsUnderWay : Work → Type 0
+abbrev pub IsUnderWay : Begun → Type 0
 IsUnderWay Nothing = ⊥
 IsUnderWay (Write draft stage replaced) = Unit {0}
 IsUnderWay (OldCopy draft place) = Unit {0}
@@ -91,7 +91,7 @@ pub record KnowsDraft (geometry : Geometry) (found : Found) (image body : List �
   pub stands : StandsAtStage (layout_of geometry) (plan_of draft body) image (stage_of stage)
 
 -- what is pending after a gate was opened
-abbrev pub work_after : Draft → Option SlotOf → Work
+abbrev pub work_after : Draft → Option SlotOf → Begun
 work_after draft None = Nothing
 work_after draft (Some place) = OldCopy draft place
 
@@ -113,7 +113,7 @@ pub record KnowsCleared (geometry : Geometry) (found : Found) (image : List ℕ)
   pub held : IsPlaceOf (entry_at geometry.slot_size geometry.slots image) geometry.slots id place
 
 -- what a store that is not in doubt knows
-abbrev pub Knows : Geometry → Found → List ℕ → List ℕ → Work → Type 0
+abbrev pub Knows : Geometry → Found → List ℕ → List ℕ → Begun → Type 0
 Knows geometry found buffer image Nothing = KnowsSlots (layout_of geometry) image found
 Knows geometry found buffer image (Write draft stage replaced) = KnowsDraft geometry found image (take draft.len buffer) draft stage replaced
 Knows geometry found buffer image (OldCopy draft place) = KnowsOldCopy geometry found image draft place
@@ -130,7 +130,7 @@ view_of geometry flash in_doubt pending = record {
 
 -- what holds of a store between two calls, in doubt or not: at most one upright slot is not the first slot of its
 -- identifier's record
-pub record IsStore (tells : Type 0) (geometry : Geometry) (flash : FlashState) (found : Found) (buffer : List ℕ) (in_doubt : Bool) (work : Work) : Type 0 where
+pub record IsStore (tells : Type 0) (geometry : Geometry) (flash : FlashState) (found : Found) (buffer : List ℕ) (in_doubt : Bool) (work : Begun) : Type 0 where
   pub fits : Fits geometry flash
   pub listing : IsListing geometry.slots geometry.slot_size found
   pub room : length buffer ≡ reach_of (geometry.slot_size - 64)
@@ -146,7 +146,7 @@ MayMake geometry pending old new = Leaves old new (λ image.
     ⊎ (records_of (layout_of geometry) image ≡ map_after (layout_of geometry) pending (records_of (layout_of geometry) old.image)))
 
 -- the next change of what was pending was made
-pub record HasMade (tells : Type 0) (geometry : Geometry) (buffer : List ℕ) (old new : List ℕ) (found : Found) (work next : Work) : Type 0 where
+pub record HasMade (tells : Type 0) (geometry : Geometry) (buffer : List ℕ) (old new : List ℕ) (found : Found) (work next : Begun) : Type 0 where
   pub form : IsWork geometry found buffer next
   pub pending : pending_of (layout_of geometry) buffer next ≡ pending_after (layout_of geometry) (pending_of (layout_of geometry) buffer work)
   pub knows : tells → Knows geometry found buffer new next

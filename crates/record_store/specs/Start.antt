@@ -2,7 +2,7 @@
 use Rattle.std.specs.Prelude.{◌≡◌, ◌≢◌, ℕ, ◌+◌, ◌*◌, ◌-◌, ◌^◌, ◌<◌, ◌≤◌, ◌==◌, Bool, false, List, length, slice_index, slice_index_or, Option, Some, None, IfSome, Result, Ok, Err, OnOk, OnErr}
 use Rattle.base_model.specs.Faults.{HasCause}
 use Rattle.flash_model.specs.declared.geometry.Geometry.{Geometry}
-use Rattle.base_model.specs.Flash.{FlashState, StaysLit, raised, next_count}
+use Rattle.base_model.specs.Flash.{FlashState, StaysPowered, raised, next_count}
 use Rattle.record_model.specs.Records.{Entry, parts_of, tail_at, is_reserved, tail_mark}
 use Rattle.record_model.specs.RecordMap.{LAST_GENERATION}
 use Rattle.record_store.specs.declared.draft.Draft.{Draft}
@@ -77,7 +77,7 @@ pub record ReadsTimes {T E : Type 0} (tells : Type 0) (count : ℕ) (old new : F
   pub steps : new.steps ≡ old.steps
   pub power : new.powered ≡ old.powered
   pub counted : OnOk result (new.reads ≡ raised count old.reads)
-  pub lit : StaysLit old new
+  pub lit : StaysPowered old new
   pub cause : HasCause old.faults new.faults result
   pub once : OnErr result (new.faults ≡ next_count old.faults)
 

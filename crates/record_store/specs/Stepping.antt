@@ -3,17 +3,17 @@ use Rattle.std.specs.Prelude.{ℕ, List, Result, IfOk}
 use Rattle.flash_model.specs.declared.flash.FlashFailed.{FlashFailed}
 use Rattle.flash_model.specs.declared.geometry.Geometry.{Geometry}
 use Rattle.flash_model.specs.Layouts.{layout_of}
-use Rattle.base_model.specs.Flash.{FlashState, IsOneChange, StaysLit}
+use Rattle.base_model.specs.Flash.{FlashState, IsOneChange, StaysPowered}
 use Rattle.record_model.specs.Records.{NearlyOnlyFirstUp}
 use Rattle.record_slots.specs.declared.found.Found.{Found}
 use Rattle.record_store.specs.Kept.{HasMade, MayMake, pending_of}
-use Rattle.record_store.specs.declared.work.Work.{Work}
+use Rattle.record_store.specs.declared.work.Begun.{Begun}
 
 -- the next change of what is pending was asked for. An Ok has made it, with these lists; power lost in it leaves the records
 -- from before it or those after it; and at most one upright slot is no record's first
-pub record MakesChange (tells : Type 0) (geometry : Geometry) (buffer : List ℕ) (old new : FlashState) (found : Found) (work : Work) (result : Result Work FlashFailed) : Type 0 where
+pub record MakesChange (tells : Type 0) (geometry : Geometry) (buffer : List ℕ) (old new : FlashState) (found : Found) (work : Begun) (result : Result Begun FlashFailed) : Type 0 where
   pub made : IfOk result (HasMade tells geometry buffer old.told.image new.told.image found work)
   pub crash : tells → MayMake geometry (pending_of (layout_of geometry) buffer work) old.told new.told
   pub spare : tells → NearlyOnlyFirstUp geometry.slot_size geometry.slots new.told.image
   pub change : IsOneChange old new result
-  pub lit : StaysLit old new
+  pub lit : StaysPowered old new

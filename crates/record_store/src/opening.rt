@@ -1,6 +1,6 @@
 // The opening of a flash: all memory of a store, and a look at each slot.
 ghost use Rattle.std.specs.Prelude.{◌≡◌, ◌+◌, ◌*◌, ◌≤◌, ◌-◌, length, OnOk, IfOk, IfErr};
-ghost use Rattle.base_model.specs.Flash.{LosesOnlyByChange, StaysLit, raised};
+ghost use Rattle.base_model.specs.Flash.{LosesOnlyByChange, StaysPowered, raised};
 ghost use Rattle.base_model.specs.Layout.{reach_of};
 ghost use Rattle.flash_model.specs.Layouts.{layout_of};
 ghost use Rattle.record_slots.specs.Slots.{Fits};
@@ -35,7 +35,7 @@ pub fn open<F: Flash>(
     ensures order { F.tells → KillsBelow geometry.now.slot_size (F.state flash.old).told geometry.now.slots (F.state flash.new).told }
     ensures reads { OnOk result ((F.state flash.new).reads ≡ raised (2 * geometry.now.slots) (F.state flash.old).reads) }
     ensures power { LosesOnlyByChange (F.state flash.old) (F.state flash.new) }
-    ensures lit { StaysLit (F.state flash.old) (F.state flash.new) }
+    ensures lit { StaysPowered (F.state flash.old) (F.state flash.new) }
     ensures once { IfErr result (IsOneFault (F.state flash.old) (F.state flash.new)) }
     ensures size { (F.state flash.new).size ≡ (F.state flash.old).size }
     ensures sector_size { (F.state flash.new).sector_size ≡ (F.state flash.old).sector_size }

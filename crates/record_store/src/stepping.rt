@@ -12,7 +12,7 @@ ghost use Rattle.record_store.specs.Kept.{IsWork, IsWrite, IsUnderWay, KnowsDraf
 ghost use Rattle.record_store.specs.Stepping.{MakesChange};
 
 use crate::index::{copy_killed, record_cleared, record_opened};
-use crate::work::Work;
+use crate::work::Begun;
 use crate::{Draft, Stage, Step, prepare, publish};
 use flash_model::{Flash, FlashFailed, Geometry};
 use record_slots::{Found, RecordId, SlotOf, kill};
@@ -23,8 +23,8 @@ pub fn make_change<F: Flash>(
     geometry: &Geometry,
     found: &mut Found,
     buffer: &[u8],
-    work: &Work,
-) -> Result<Work, FlashFailed>
+    work: &Begun,
+) -> Result<Begun, FlashFailed>
     requires fits { Fits geometry.now (F.state flash.old) }
     requires listing { IsListing geometry.now.slots geometry.now.slot_size found.old }
     requires buffer { length buffer.now ≡ reach_of (geometry.now.slot_size - 64) }
@@ -35,21 +35,21 @@ pub fn make_change<F: Flash>(
     ensures makes { MakesChange F.tells geometry.now buffer.now (F.state flash.old) (F.state flash.new) found.new work.now result }
 {
     match work {
-        Work::Nothing => unreachable!(),
-        Work::Write {
+        Begun::Nothing => unreachable!(),
+        Begun::Write {
             draft,
             stage: Stage::Fill { number, step },
             replaced,
         } => fill_slot(
             flash, geometry, found, buffer, draft, *number, *step, *replaced,
         ),
-        Work::Write {
+        Begun::Write {
             draft,
             stage: Stage::Gate,
             replaced,
         } => open_slot(flash, geometry, found, buffer, draft, *replaced),
-        Work::OldCopy { draft, place } => end_old_copy(flash, geometry, found, draft, *place),
-        Work::Clear { id, place } => end_record(flash, geometry, found, *id, *place),
+        Begun::OldCopy { draft, place } => end_old_copy(flash, geometry, found, draft, *place),
+        Begun::Clear { id, place } => end_record(flash, geometry, found, *id, *place),
     }
 }
 
@@ -63,17 +63,17 @@ fn fill_slot<F: Flash>(
     number: u32,
     step: Step,
     replaced: Option<SlotOf>,
-) -> Result<Work, FlashFailed>
+) -> Result<Begun, FlashFailed>
     requires fits { Fits geometry.now (F.state flash.old) }
     requires buffer { length buffer.now ≡ reach_of (geometry.now.slot_size - 64) }
     requires form { IsWrite geometry.now found.now (take draft.now.len buffer.now) draft.now (Stage.Fill number step) replaced }
     requires knows { F.tells → KnowsDraft geometry.now found.now (F.state flash.old).told.image (take draft.now.len buffer.now) draft.now (Stage.Fill number step) replaced }
     ensures makes { MakesChange F.tells geometry.now buffer.now (F.state flash.old) (F.state flash.new) found.now
-        (Work.Write draft.now (Stage.Fill number step) replaced) result }
+        (Begun.Write draft.now (Stage.Fill number step) replaced) result }
 {
     let len = draft.len as usize;
     let next = prepare(flash, geometry, draft, number, step, &buffer[..len])?;
-    Ok(Work::Write {
+    Ok(Begun::Write {
         draft: *draft,
         stage: next,
         replaced,
@@ -88,7 +88,7 @@ fn open_slot<F: Flash>(
     buffer: &[u8],
     draft: &Draft,
     replaced: Option<SlotOf>,
-) -> Result<Work, FlashFailed>
+) -> Result<Begun, FlashFailed>
     requires fits { Fits geometry.now (F.state flash.old) }
     requires listing { IsListing geometry.now.slots geometry.now.slot_size found.old }
     requires buffer { length buffer.now ≡ reach_of (geometry.now.slot_size - 64) }
@@ -96,7 +96,7 @@ fn open_slot<F: Flash>(
     requires knows { F.tells → KnowsDraft geometry.now found.old (F.state flash.old).told.image (take draft.now.len buffer.now) draft.now Stage.Gate replaced }
     ensures listing { IsListing geometry.now.slots geometry.now.slot_size found.new }
     ensures makes { MakesChange F.tells geometry.now buffer.now (F.state flash.old) (F.state flash.new) found.new
-        (Work.Write draft.now Stage.Gate replaced) result }
+        (Begun.Write draft.now Stage.Gate replaced) result }
 {
     let len = draft.len as usize;
     publish(flash, geometry, draft, &buffer[..len])?;
@@ -120,15 +120,15 @@ fn opened_place(draft: Draft) -> SlotOf
 }
 
 // What is pending once the gate is open: the end of the record that was replaced.
-fn after_gate(draft: &Draft, replaced: Option<SlotOf>) -> Work
+fn after_gate(draft: &Draft, replaced: Option<SlotOf>) -> Begun
     ensures { result ≡ work_after draft.now replaced }
 {
     match replaced {
-        Some(place) => Work::OldCopy {
+        Some(place) => Begun::OldCopy {
             draft: *draft,
             place,
         },
-        None => Work::Nothing,
+        None => Begun::Nothing,
     }
 }
 
@@ -139,18 +139,18 @@ fn end_old_copy<F: Flash>(
     found: &mut Found,
     draft: &Draft,
     place: SlotOf,
-) -> Result<Work, FlashFailed>
+) -> Result<Begun, FlashFailed>
     requires fits { Fits geometry.now (F.state flash.old) }
     requires listing { IsListing geometry.now.slots geometry.now.slot_size found.old }
     requires place { IsWithin geometry.now.slots geometry.now.slot_size place }
     requires knows { F.tells → KnowsOldCopy geometry.now found.old (F.state flash.old).told.image draft.now place }
     ensures listing { IsListing geometry.now.slots geometry.now.slot_size found.new }
     ensures makes { (buffer : List ℕ)
-        → MakesChange F.tells geometry.now buffer (F.state flash.old) (F.state flash.new) found.new (Work.OldCopy draft.now place) result }
+        → MakesChange F.tells geometry.now buffer (F.state flash.old) (F.state flash.new) found.new (Begun.OldCopy draft.now place) result }
 {
     kill(flash, geometry, place.slot)?;
     copy_killed(found, geometry, place);
-    Ok(Work::Nothing)
+    Ok(Begun::Nothing)
 }
 
 // Kills the first slot of the record of an identifier, and lists its slots as free and the identifier no more.
@@ -160,16 +160,16 @@ fn end_record<F: Flash>(
     found: &mut Found,
     id: RecordId,
     place: SlotOf,
-) -> Result<Work, FlashFailed>
+) -> Result<Begun, FlashFailed>
     requires fits { Fits geometry.now (F.state flash.old) }
     requires listing { IsListing geometry.now.slots geometry.now.slot_size found.old }
     requires place { IsWithin geometry.now.slots geometry.now.slot_size place }
     requires knows { F.tells → KnowsCleared geometry.now found.old (F.state flash.old).told.image id place }
     ensures listing { IsListing geometry.now.slots geometry.now.slot_size found.new }
     ensures makes { (buffer : List ℕ)
-        → MakesChange F.tells geometry.now buffer (F.state flash.old) (F.state flash.new) found.new (Work.Clear id place) result }
+        → MakesChange F.tells geometry.now buffer (F.state flash.old) (F.state flash.new) found.new (Begun.Clear id place) result }
 {
     kill(flash, geometry, place.slot)?;
     record_cleared(found, geometry, id);
-    Ok(Work::Nothing)
+    Ok(Begun::Nothing)
 }

@@ -1,7 +1,7 @@
 // The store.
 ghost use Rattle.std.specs.Prelude.{◌≡◌, ◌↔◌, ◌⊎◌, ℕ, ◌+◌, ◌-◌, ◌*◌, ◌<◌, ◌≤◌, List, true, false, length, IsOk, OnOk, OnErr, IfOk, IfErr};
 ghost use Rattle.std.specs.FinMap.{len};
-ghost use Rattle.base_model.specs.Flash.{LosesOnlyByChange, StaysLit, raised, next_count};
+ghost use Rattle.base_model.specs.Flash.{LosesOnlyByChange, StaysPowered, raised, next_count};
 ghost use Rattle.base_model.specs.Layout.{room_of, reach_of};
 ghost use Rattle.flash_model.specs.Layouts.{layout_of};
 ghost use Rattle.record_model.specs.Records.{second_copies, parts_of};
@@ -21,7 +21,7 @@ use crate::opening::open;
 use crate::reading::read_record;
 use crate::starting::{plan_write, put_front};
 use crate::stepping::make_change;
-use crate::work::Work;
+use crate::work::Begun;
 use flash_model::{Flash, FlashFailed, Geometry};
 use record_slots::{Found, RecordId, ScanError, rescan};
 use std::alloc::Global;
@@ -37,7 +37,7 @@ pub struct Store<F: Flash> {
     // As long as a record can be: it holds the one that is written or was read.
     buffer: Vec<u8>,
     in_doubt: bool,
-    work: Work,
+    work: Begun,
 }
 
 impl<F: Flash> Model for Store<F> {
@@ -81,8 +81,8 @@ impl<F: Flash> Store<F> {
         ensures back { IfErr result (λ refused. F.tells → KeepsRecordsOf geometry (F.state flash) (F.state refused.flash)) }
         ensures power { IfOk result (λ store. LosesOnlyByChange (F.state flash) store.flash) }
         ensures power_back { IfErr result (λ refused. LosesOnlyByChange (F.state flash) (F.state refused.flash)) }
-        ensures lit { IfOk result (λ store. StaysLit (F.state flash) store.flash) }
-        ensures lit_back { IfErr result (λ refused. StaysLit (F.state flash) (F.state refused.flash)) }
+        ensures lit { IfOk result (λ store. StaysPowered (F.state flash) store.flash) }
+        ensures lit_back { IfErr result (λ refused. StaysPowered (F.state flash) (F.state refused.flash)) }
         ensures once { IfErr result (λ refused. IsOneFault (F.state flash) (F.state refused.flash) refused.why) }
     {
         let size = flash.size();
@@ -102,7 +102,7 @@ impl<F: Flash> Store<F> {
                 found,
                 buffer,
                 in_doubt: false,
-                work: Work::Nothing,
+                work: Begun::Nothing,
             }),
             Err(why) => Err(StoreRefused { why, flash }),
         }
@@ -147,7 +147,7 @@ impl<F: Flash> Store<F> {
         let Some(place) = place_of(&self.found, id) else {
             return Err(StoreError::NotFound);
         };
-        self.work = Work::Clear { id, place };
+        self.work = Begun::Clear { id, place };
         Ok(())
     }
 
@@ -165,7 +165,7 @@ impl<F: Flash> Store<F> {
         ensures at_most { self.new.flash.steps ≤ self.old.flash.steps + 1 }
         ensures reads { self.new.flash.reads ≡ self.old.flash.reads }
         ensures error { FailsByFlash result }
-        ensures alike { DividesAlike self.old self.new }
+        ensures equivalent { DividesAlike self.old self.new }
         ensures power { LosesOnlyByChange self.old.flash self.new.flash }
         ensures powered { OnOk result (self.new.flash.powered ≡ true) }
         ensures cause { HasFaultsOf self.old.flash.faults self.new.flash.faults result }
@@ -185,7 +185,7 @@ impl<F: Flash> Store<F> {
                 Ok(last)
             }
             Err(FlashFailed) => {
-                self.work = Work::Nothing;
+                self.work = Begun::Nothing;
                 self.in_doubt = true;
                 Err(StoreError::Flash)
             }
@@ -232,7 +232,7 @@ impl<F: Flash> Store<F> {
         ensures copies { F.tells → self.old.in_doubt ≡ false → copies_in self.old ≡ copies_pending self.old.layout self.old.pending }
     {
         if !self.work.is_nothing() {
-            self.work = Work::Nothing;
+            self.work = Begun::Nothing;
             self.in_doubt = true;
         }
     }
@@ -342,12 +342,12 @@ impl<F: Flash> Store<F> {
         ensures settled { OnOk result (F.tells → IsSettled self.new) }
         ensures reads { OnOk result (self.new.flash.reads ≡ raised (2 * self.old.layout.slots) self.old.flash.reads) }
         ensures powered { OnOk result (self.new.flash.powered ≡ true) }
-        ensures lit { StaysLit self.old.flash self.new.flash }
+        ensures lit { StaysPowered self.old.flash self.new.flash }
 
         // It leaves what a call that looks leaves of a store in doubt.
         ensures leaves { OnlyLooks F.tells (doubted self.old) self.new result }
     {
-        self.work = Work::Nothing;
+        self.work = Begun::Nothing;
         self.in_doubt = true;
         self.settle()?;
         Ok(())
@@ -364,7 +364,7 @@ impl<F: Flash> Store<F> {
         ensures back { (self.new.flash.powered ≡ true) ⊎ (self.old.flash.steps < self.new.flash.steps) }
 
         // It comes back first, by one restart: no call of the remount finds the flash without power.
-        ensures lit { self.new.flash.dark ≡ self.old.flash.dark }
+        ensures lit { self.new.flash.unpowered ≡ self.old.flash.unpowered }
         ensures once { self.new.flash.restarts ≡ next_count self.old.flash.restarts }
 
         ensures leaves { OnlyLooks F.tells (restarted self.old) self.new result }
@@ -448,7 +448,7 @@ impl<F: Flash> Store<F> {
             Ok((draft, replaced)) => {
                 put_front(&mut self.buffer, bytes);
                 let stage = first_stage(&draft);
-                self.work = Work::Write {
+                self.work = Begun::Write {
                     draft,
                     stage,
                     replaced,

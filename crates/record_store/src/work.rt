@@ -6,7 +6,7 @@ use record_slots::{RecordId, SlotOf};
 
 /// What is pending.
 #[derive(Clone, Copy, Debug, PartialEq, Eq)]
-pub enum Work {
+pub enum Begun {
     Nothing,
     /// The write of a record, up to its gate, and the place of the record that it replaces.
     Write {
@@ -26,13 +26,13 @@ pub enum Work {
     },
 }
 
-impl Work {
+impl Begun {
     ghost use Rattle.record_store.specs.Kept.{is_nothing};
 
     /// Whether nothing is pending.
     pub fn is_nothing(&self) -> bool
         ensures { result ≡ is_nothing self.now }
     {
-        matches!(self, Work::Nothing)
+        matches!(self, Begun::Nothing)
     }
 }

@@ -7,7 +7,7 @@ ghost use Rattle.script_lines.specs.Lines.{Line, Reading, lines_of, ended_lines_
 
 use crate::LONGEST_LINE;
 use crate::ending::ScriptEnd;
-use apei_bytes::{Memory, ReadFailed, Source};
+use apei_bytes::{OutOfMemory, ReadFailed, Source};
 use memchr::memchr;
 use std::alloc::Global;
 use std::marker::Model;
@@ -63,7 +63,7 @@ impl Model for LineReader {
 
 impl LineReader {
     /// A reader at the start of a script. It takes all the memory that it will have.
-    pub fn new(alloc: Global) -> Result<LineReader, Memory>
+    pub fn new(alloc: Global) -> Result<LineReader, OutOfMemory>
         ensures { IfOk result (λ reader. reader ≡ record { line = []; number = 0; end = 0; pending = []; at_end = false }) }
     {
         Ok(LineReader {

@@ -5,7 +5,7 @@ ghost use Rattle.hex.specs.Hex.{encode_lower};
 ghost use Rattle.script_text.specs.ReplyWords.{word_of};
 ghost use Rattle.script_text.specs.Shown.{AreShown, IsPartWritten};
 
-use apei_bytes::{Memory, Sink, SinkFault, write_all};
+use apei_bytes::{OutOfMemory, Sink, SinkFault, write_all};
 use ghes_ack::Event;
 use hex::encode_to_slice;
 use itoa::Buffer;
@@ -36,7 +36,7 @@ impl Model for Reply {
 
 impl Reply {
     /// An empty reply. It takes all the memory that it will have.
-    pub fn new(alloc: Global) -> Result<Reply, Memory>
+    pub fn new(alloc: Global) -> Result<Reply, OutOfMemory>
         ensures { IfOk result (λ reply. reply ≡ []) }
     {
         Ok(Reply {

@@ -4,7 +4,7 @@ ghost use Rattle.base_model.specs.Faults.{HasCause};
 ghost use Rattle.apei_notify.specs.Chains.{members_of};
 ghost use Rattle.script_text.specs.ScriptText.{line_of};
 ghost use Rattle.apei_script.specs.Plays.{IsPlayable, names_command};
-ghost use Rattle.apei_script.specs.Desks.{state_of};
+ghost use Rattle.apei_script.specs.Sessions.{state_of};
 ghost use Rattle.apei_cli.specs.Commands.{line_for, HasSize};
 ghost use Rattle.apei_cli.specs.Generated.{IsAsked, PlaysCommands, is_refusal};
 ghost use Rattle.apei_cli.specs.Summaries.{IsGenerated};
@@ -26,7 +26,7 @@ pub fn generate<F: Flash, O: Sink>(
     seed: u64,
     out: &mut O,
 ) -> Result<(), SinkFault>
-    ensures generated { IsGenerated F.tells O.tells (state_of player.old.desk) seed count (state_of player.new.desk) (O.written out.old) (O.written out.new) result }
+    ensures generated { IsGenerated F.tells O.tells (state_of player.old.session) seed count (state_of player.new.session) (O.written out.old) (O.written out.new) result }
     ensures listeners { members_of player.new.chain ≡ members_of player.old.chain }
     ensures cause { HasCause (O.faults out.old) (O.faults out.new) result }
 {
@@ -39,7 +39,7 @@ pub fn generate<F: Flash, O: Sink>(
 
 /// Plays the commands, and tallies them.
 fn play_commands<F: Flash>(player: &mut Player<F>, count: u64, seed: u64) -> Tally
-    ensures played { PlaysCommands F.tells (state_of player.old.desk) seed count (state_of player.new.desk) result }
+    ensures played { PlaysCommands F.tells (state_of player.old.session) seed count (state_of player.new.session) result }
     ensures listeners { members_of player.new.chain ≡ members_of player.old.chain }
 {
     let mut number = seed;
@@ -56,8 +56,8 @@ fn play_commands<F: Flash>(player: &mut Player<F>, count: u64, seed: u64) -> Tal
 /// Plays one command, and answers whether it was refused.
 fn play<F: Flash>(player: &mut Player<F>, command: Command) -> bool
     requires { HasSize command }
-    ensures asked { IsAsked F.tells (state_of player.old.desk) (line_for command) (state_of player.new.desk) player.new.desk.buffers.reply }
-    ensures refused { result ≡ is_refusal player.new.desk.buffers.reply }
+    ensures asked { IsAsked F.tells (state_of player.old.session) (line_for command) (state_of player.new.session) player.new.session.buffers.reply }
+    ensures refused { result ≡ is_refusal player.new.session.buffers.reply }
     ensures listeners { members_of player.new.chain ≡ members_of player.old.chain }
 {
     match command {
@@ -77,8 +77,8 @@ fn play<F: Flash>(player: &mut Player<F>, command: Command) -> bool
 fn ask<F: Flash>(player: &mut Player<F>, line: &ScriptLine<'_>) -> bool
     requires playable { IsPlayable (line_of line.now) }
     requires command { names_command (line_of line.now) ≡ true }
-    ensures asked { IsAsked F.tells (state_of player.old.desk) (line_of line.now) (state_of player.new.desk) player.new.desk.buffers.reply }
-    ensures refused { result ≡ is_refusal player.new.desk.buffers.reply }
+    ensures asked { IsAsked F.tells (state_of player.old.session) (line_of line.now) (state_of player.new.session) player.new.session.buffers.reply }
+    ensures refused { result ≡ is_refusal player.new.session.buffers.reply }
     ensures listeners { members_of player.new.chain ≡ members_of player.old.chain }
 {
     match player.answer(line) {

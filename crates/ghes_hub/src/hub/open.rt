@@ -11,7 +11,7 @@ use crate::hub::Hub;
 use crate::joins::join_all;
 use crate::plans::{count, plan};
 use crate::sources::Sources;
-use apei_bytes::Memory;
+use apei_bytes::OutOfMemory;
 use apei_notify::{Chain, Listener};
 use apei_space::Ram;
 use hest_sources::{Hest, HestSource};
@@ -83,7 +83,7 @@ fn lists_for(
         Vec<Chain>,
         Vec<Box<dyn Listener>>,
     ),
-    Memory,
+    OutOfMemory,
 >
     ensures lists { IfOk result (λ ready. AreEmpty count many ready.0.items) }
     ensures chains { IfOk result (λ ready. ready.1.items ≡ []) }

@@ -8,7 +8,7 @@ ghost use Rattle.ghes_hub.specs.PlainSides.{Turns};
 
 use crate::plain::map::PlainMap;
 use crate::plain::turns::one_turn;
-use apei_bytes::Memory;
+use apei_bytes::OutOfMemory;
 use apei_space::Ram;
 use ghes_ack::{Blocks, Ends, Event, Side, SubmitError, check_block};
 use std::alloc::Global;
@@ -35,7 +35,7 @@ impl Model for PlainHandover {
 
 impl PlainHandover {
     /// Begins a handover, with room for 66 blocks. No other call takes memory.
-    pub fn new(alloc: Global, map: PlainMap, ram: &mut Ram) -> Result<PlainHandover, Memory>
+    pub fn new(alloc: Global, map: PlainMap, ram: &mut Ram) -> Result<PlainHandover, OutOfMemory>
         requires { HasPlainWindows map ram.old }
         ensures fresh { IfOk result (λ handover. handover ≡ fresh map) }
         ensures stands { IfOk result (λ handover. PlainStands handover ram.new (started (plain_window map ram.old))) }

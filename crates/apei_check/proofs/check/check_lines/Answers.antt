@@ -2,7 +2,7 @@ use Rattle.std.proofs.Common.{◌≡◌, true, false, Err, refl, sym, ap, ◌∙
 use Rattle.script_lines.specs.Lines.{Reading}
 use Rattle.apei_check.proofs.TextLemmas.{writes_none}
 use Rattle.script_lines.proofs.EndLemmas.{source_cause, no_sink}
-use Rattle.apei_check.proofs.RunLemmas.{so_far_next, ends_none, ends_unheard, ends_memory, ends_bad}
+use Rattle.apei_check.proofs.RunLemmas.{so_far_next, ends_none, ends_unwritten, ends_memory, ends_bad}
 use Rattle.apei_check.proofs.check.check_lines.Goals as goal
 
 pub lines-init : goal.lines-init
@@ -49,7 +49,7 @@ pub returns-in-Err-SinkFault-clause-checked : goal.returns-in-Err-SinkFault-clau
 returns-in-Err-SinkFault-clause-checked g c =
     let inv = c.lines.invariant in
     let next = c.in-Ok.ensures.line in
-    ends_unheard _ _ _ _ _ _ _ _ _ _ inv.so_far _ c.in-Ok-parse.line next c.line.ensures c.in-Ok-parse.ensures _ (c.lines_are_read_in_order.ensures.stands _ _ _ _ _ _ inv.so_far.read next)
+    ends_unwritten _ _ _ _ _ _ _ _ _ _ inv.so_far _ c.in-Ok-parse.line next c.line.ensures c.in-Ok-parse.ensures _ (c.lines_are_read_in_order.ensures.stands _ _ _ _ _ _ inv.so_far.read next)
     (c.in-Err-SinkFault.ensures.part (ap Err c.in-Err-SinkFault.field-0-is))
 
 pub returns-in-Err-Memory-clause-checked : goal.returns-in-Err-Memory-clause-checked

@@ -7,8 +7,8 @@ use Rattle.field_lines.proofs.walk.add_fields.Given as goal
 
 abbrev pub invariant-loop-fields : goal.invariant-loop-fields
 invariant-loop-fields g l =
-    (l.out.items ++ fields_text (g.S.Style.text l.style l.spot.depth l.spot.base) l.valid_at (map field_of l.fields) l.body
-    ≡ l.initial.out.items ++ fields_text (g.S.Style.text l.style l.spot.depth l.spot.base) l.valid_at (map field_of l.initial.fields) l.body)
+    (l.out.items ++ fields_text (g.S.Style.text l.style l.location.depth l.location.base) l.valid_at (map field_of l.fields) l.body
+    ≡ l.initial.out.items ++ fields_text (g.S.Style.text l.style l.location.depth l.location.base) l.valid_at (map field_of l.initial.fields) l.body)
     × IsTrue (are_sound (map field_of l.fields))
     × (l.valid ≡ validation l.valid_at l.body)
 

@@ -2,7 +2,7 @@ use Rattle.std.proofs.Common.{◌≡◌, true, false, Err, refl, sym, ap, ◌∙
 use Rattle.script_lines.specs.Lines.{Reading}
 use Rattle.script_lines.specs.Reads.{last_line}
 use Rattle.script_lines.proofs.EndLemmas.{source_cause, no_sink}
-use Rattle.hub_script.proofs.ScriptLemmas.{is_short, start, so_far_next, ends_none, ends_bad, ends_unheard, ends_memory}
+use Rattle.hub_script.proofs.ScriptLemmas.{is_short, start, so_far_next, ends_none, ends_bad, ends_unwritten, ends_memory}
 use Rattle.hub_script.proofs.StageLemmas.{still_waiting}
 use Rattle.hub_script.proofs.script.play_lines.Goals as goal
 
@@ -55,8 +55,8 @@ pub returns-in-Err-SinkFault-clause-played : goal.returns-in-Err-SinkFault-claus
 returns-in-Err-SinkFault-clause-played g c =
     let inv = c.lines.invariant in
     let next = c.in-Ok.ensures.line in
-    ends_unheard _ _ _ _ _ _ _ _ _ _ _ _ inv.so_far _ next c.line.ensures _ _ (c.lines_are_read_in_order.ensures.stands _ _ _ _ _ _ inv.so_far.read next)
-    (c.in-Err-SinkFault.ensures.unheard (ap Err c.in-Err-SinkFault.field-0-is))
+    ends_unwritten _ _ _ _ _ _ _ _ _ _ _ _ inv.so_far _ next c.line.ensures _ _ (c.lines_are_read_in_order.ensures.stands _ _ _ _ _ _ inv.so_far.read next)
+    (c.in-Err-SinkFault.ensures.unwritten (ap Err c.in-Err-SinkFault.field-0-is))
 
 pub returns-in-Err-Memory-clause-played : goal.returns-in-Err-Memory-clause-played
 returns-in-Err-Memory-clause-played g c =

@@ -3,7 +3,7 @@ use Rattle.std.proofs.lemmas.Result.{on_ok_weaker, on_err_weaker}
 use Rattle.ghes_hub.specs.Seen.{seen}
 use Rattle.base_model.proofs.FaultLemmas.{on_err, same_cause}
 use Rattle.script_text.proofs.FaultLemmas.{handed_on}
-use Rattle.hub_script.proofs.PlayLemmas.{no_turn, turn_more, turn_cut, all_turned, all_unheard, lent_text, lent_part, said_longer, is_named}
+use Rattle.hub_script.proofs.PlayLemmas.{no_turn, turn_more, turn_cut, all_turned, all_unwritten, lent_text, lent_part, said_longer, is_named}
 use Rattle.hub_script.proofs.turns.take_turns.Goals as goal
 
 pub turning-init : goal.turning-init
@@ -26,12 +26,12 @@ take_turn-requires-clause-room g c =
     let most = c.requires.valid.most in
     omega (arith, short, test, most)
 
-pub returns-in_err-take_turn-clause-unheard : goal.returns-in_err-take_turn-clause-unheard
-returns-in_err-take_turn-clause-unheard g c =
+pub returns-in_err-take_turn-clause-unwritten : goal.returns-in_err-take_turn-clause-unwritten
+returns-in_err-take_turn-clause-unwritten g c =
     let test = c.turning-test.true in
     on_err c.from_residual.result
     (turn_cut _ _ _ _ _ c.args.pairs.now c.turning.at c.source_of-source.result c.side_of-side.result _ _ _ _ (omega (arith, test)) c.requires.named c.source_of-source.ensures c.side_of-side.ensures
-    c.turning.invariant.so c.in_err-take_turn.ensures.unheard)
+    c.turning.invariant.so c.in_err-take_turn.ensures.unwritten)
 
 pub returns-in_err-take_turn-clause-cause : goal.returns-in_err-take_turn-clause-cause
 returns-in_err-take_turn-clause-cause g c = handed_on _ _ _ _ c.from_residual.result _ c.from_residual.ensures.1 c.turning.invariant.faults c.in_err-take_turn.ensures.cause
@@ -63,7 +63,7 @@ returns g c =
     record {
       played = on_ok_weaker c.write_all.result
           (λ h. all_turned _ _ _ _ c.args.pairs.now c.turning.at _ _ _ _ all c.requires.named c.turning.invariant.so (lent_text _ _ _ _ _ c.text.ensures c.end_line.ensures h)) c.write_all.ensures.all;
-      unheard = on_err_weaker c.write_all.result
-          (λ h. all_unheard _ _ _ _ c.args.pairs.now c.turning.at _ _ _ _ all c.requires.named c.turning.invariant.so (lent_part _ _ _ _ _ c.text.ensures c.end_line.ensures h)) c.write_all.ensures.part;
+      unwritten = on_err_weaker c.write_all.result
+          (λ h. all_unwritten _ _ _ _ c.args.pairs.now c.turning.at _ _ _ _ all c.requires.named c.turning.invariant.so (lent_part _ _ _ _ _ c.text.ensures c.end_line.ensures h)) c.write_all.ensures.part;
       cause = same_cause _ _ _ c.write_all.result c.turning.invariant.faults c.write_all.ensures.cause;
     }

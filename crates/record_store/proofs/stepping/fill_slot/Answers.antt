@@ -3,7 +3,7 @@ use Rattle.flash_model.specs.Layouts.{layout_of}
 use Rattle.record_store.specs.declared.draft.Stage.TheVariants.{Fill}
 use Rattle.record_model.specs.Records.{NearlyOnlyFirstUp}
 use Rattle.record_store.specs.Kept.{MayMake, pending_of}
-use Rattle.record_store.specs.declared.work.Work.TheVariants.{Write}
+use Rattle.record_store.specs.declared.work.Begun.TheVariants.{Write}
 use Rattle.record_store.proofs.FaultLemmas.{asks_lit, one_change}
 use Rattle.record_store.proofs.WorkLemmas.{filled_may, filled_spare, filled_made}
 use Rattle.record_store.proofs.stepping.fill_slot.Given as given

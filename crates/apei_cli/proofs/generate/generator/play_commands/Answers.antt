@@ -1,12 +1,12 @@
 use Rattle.std.proofs.Common.{◌≡◌, ◌∙◌, ℕ, ◌+◌, refl, subst, sym, ap}
-use Rattle.apei_script.specs.Desks.{state_of}
+use Rattle.apei_script.specs.Sessions.{state_of}
 use Rattle.apei_cli.specs.Commands.{drawn_of, command_of, number_behind}
 use Rattle.apei_cli.proofs.GenerateLemmas.{SoFar, SoFar-start, SoFar-next}
 use Rattle.apei_cli.proofs.generate.generator.play_commands.Goals as goal
 
 pub loop-init : goal.loop-init
 loop-init g c = record {
-  so_far = SoFar-start g.F.Flash.tells (state_of c.args.player.now.desk) c.args.seed c.new-tally.result c.new-tally.ensures;
+  so_far = SoFar-start g.F.Flash.tells (state_of c.args.player.now.session) c.args.seed c.new-tally.result c.new-tally.ensures;
   listeners = refl;
 }
 
@@ -15,9 +15,9 @@ loop-preserved g c =
     let number : c.number_behind-number.result ≡ number_behind c.loop.number = c.number_behind-number.ensures in
     record {
       so_far =
-          subst (λ (x : ℕ). SoFar g.F.Flash.tells (state_of c.args.player.now.desk) c.args.seed (c.loop.counter + 1) (state_of c.play-refused.new.player.desk) x c.count.new.self) (sym number)
-          (SoFar-next g.F.Flash.tells (state_of c.args.player.now.desk) c.args.seed c.loop.counter (state_of c.loop.player.desk) (state_of c.play-refused.new.player.desk) c.loop.number c.loop.tally
-          c.count.new.self c.of-command.result c.play-refused.result c.play-refused.new.player.desk.buffers.reply c.loop.invariant.so_far
+          subst (λ (x : ℕ). SoFar g.F.Flash.tells (state_of c.args.player.now.session) c.args.seed (c.loop.counter + 1) (state_of c.play-refused.new.player.session) x c.count.new.self) (sym number)
+          (SoFar-next g.F.Flash.tells (state_of c.args.player.now.session) c.args.seed c.loop.counter (state_of c.loop.player.session) (state_of c.play-refused.new.player.session) c.loop.number c.loop.tally
+          c.count.new.self c.of-command.result c.play-refused.result c.play-refused.new.player.session.buffers.reply c.loop.invariant.so_far
           (c.of-command.ensures ∙ ap (λ (x : ℕ). command_of (drawn_of x)) number) c.play-refused.ensures.asked c.play-refused.ensures.refused c.count.ensures);
       listeners = c.play-refused.ensures.listeners ∙ c.loop.invariant.listeners;
     }

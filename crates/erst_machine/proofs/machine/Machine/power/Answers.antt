@@ -9,11 +9,11 @@ use Rattle.erst_machine.proofs.machine.Machine.power.Goals as goal
 pub invariant_of-self : goal.invariant_of-self
 invariant_of-self g c =
     kept_power _ c.count_records.new.device (memory_of c.clear.new.self) _ _ c.restart.new.self c.self.inside.waited c.self.invariant
-    (ap (λ (d : DeviceState). d.store.layout) c.count_records.ensures.same ∙ c.power-looked.ensures.leaves.alike.layout)
+    (ap (λ (d : DeviceState). d.store.layout) c.count_records.ensures.same ∙ c.power-looked.ensures.leaves.equivalent.layout)
     c.clear.ensures (with_items_is c.clear.new.self.range c.count_records.new.range (omega arith) ∙ c.count_records.ensures.range ∙ c.deref_mut.ensures.value) c.restart.ensures.elsewhere.windows
     (ap (λ (h : HandoverState). h.map) c.restart.ensures.fresh) (_, c.restart.ensures.stands)
 
 pub invariant_of-self-in-Err : goal.invariant_of-self-in-Err
 invariant_of-self-in-Err g c =
-    kept_power _ c.power-looked.new.self (memory_of c.clear.new.self) _ _ c.restart.new.self c.self.inside.waited c.self.invariant c.power-looked.ensures.leaves.alike.layout
+    kept_power _ c.power-looked.new.self (memory_of c.clear.new.self) _ _ c.restart.new.self c.self.inside.waited c.self.invariant c.power-looked.ensures.leaves.equivalent.layout
     c.clear.ensures refl c.restart.ensures.elsewhere.windows (ap (λ (h : HandoverState). h.map) c.restart.ensures.fresh) (_, c.restart.ensures.stands)

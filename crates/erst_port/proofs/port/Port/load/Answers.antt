@@ -9,8 +9,8 @@ returns-in-Ok-clause-loaded c =
     let opened = subst (λ (addresses : Addresses). OpenedOn c.args.medium.now addresses c.in-Ok.port) c.in_ok-state.ensures.state.places c.in-Ok.ensures.opened in
     loaded_by (OpenedOn c.args.medium.now) c.args.saved.now c.in-Ok.port c.resume.result opened c.resume.ensures.resumed
 
-pub returns-in-Ok-clause-alike : goal.returns-in-Ok-clause-alike
-returns-in-Ok-clause-alike c =
+pub returns-in-Ok-clause-equivalent : goal.returns-in-Ok-clause-equivalent
+returns-in-Ok-clause-equivalent c =
     let opened = subst (λ (addresses : Addresses). OpenedOn c.args.medium.now addresses c.in-Ok.port) c.in_ok-state.ensures.state.places c.in-Ok.ensures.opened in
     answers_on c.args.medium.now c.args.saved.now c.in-Ok.port c.resume.result opened c.resume.ensures.counted c.resume.ensures.resumed
 

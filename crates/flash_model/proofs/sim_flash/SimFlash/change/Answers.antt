@@ -48,7 +48,7 @@ pub returns-then-self-clause-after : goal.returns-then-self-clause-after
 returns-then-self-clause-after c =
     let steps = length-first_changes c.self.inside.journal c.self.inside.steps c.self.inside.image.items in
     let fate = fate_of-last (the_view c.self.inside) (steps ∙ c.if-self.true) in
-    rw (← c.self.view_is, fate, c.next_count-self-inside.ensures, c.count_dark-self-inside.ensures) refl
+    rw (← c.self.view_is, fate, c.next_count-self-inside.ensures, c.count_unpowered-self-inside.ensures) refl
 
 pub returns-then-self-clause-fails : goal.returns-then-self-clause-fails
 returns-then-self-clause-fails c =

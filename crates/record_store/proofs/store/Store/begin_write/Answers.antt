@@ -7,7 +7,7 @@ use Rattle.record_store.specs.Store.{StoreView, Idle, free_in}
 use Rattle.record_store.specs.Kept.{IsStore, pending_of, view_of, slots_in}
 use Rattle.record_store.specs.declared.draft.Draft.{Draft}
 use Rattle.record_slots.specs.declared.found.SlotOf.{SlotOf}
-use Rattle.record_store.specs.declared.work.Work.TheVariants.{Write}
+use Rattle.record_store.specs.declared.work.Begun.TheVariants.{Write}
 use Rattle.record_store.specs.Answers.{StartsWrite}
 use Rattle.record_store.proofs.BeginLemmas.{Begins, RefusedStart, written_back, new_length, front_is, begun_store, begun_pending, begun_answer, begun_starts, refused_start, refused_store}
 use Rattle.record_store.proofs.StoreLemmas.{same_free_in}

@@ -15,7 +15,7 @@ returns-in_err-step g c = record {
   steps = search rules;
   at_most = search rules;
   reads = search rules;
-  over = record { doubt = search rules; idle = search rules; alike = search rules; power = search rules; powered = search rules; cause = search rules; ends = search rules };
+  over = record { doubt = search rules; idle = search rules; equivalent = search rules; power = search rules; powered = search rules; cause = search rules; ends = search rules };
 }
 
 pub loop-preserved : goal.loop-preserved
@@ -23,7 +23,7 @@ loop-preserved g c =
     let stepped = c.in_ok-step.ensures.stepped in
     IsOnWay-more g.F.Flash.tells c.args.self.now c.loop.self c.step.new.self c.loop.invariant stepped.1
     (λ idle. elim stepped.2 [ inl last ↦ absurd (both_ways c.in_ok-step.field-0 c.if-not-branch.true last) | inr more ↦ more.1 idle ])
-    c.in_ok-step.ensures.answer c.step.ensures.crash c.in_ok-step.ensures.one c.step.ensures.alike c.in_ok-step.ensures.cause c.step.ensures.reads c.in_ok-step.field-0 c.in_ok-step.ensures.ends
+    c.in_ok-step.ensures.answer c.step.ensures.crash c.in_ok-step.ensures.one c.step.ensures.equivalent c.in_ok-step.ensures.cause c.step.ensures.reads c.in_ok-step.field-0 c.in_ok-step.ensures.ends
 
 pub returns : goal.returns
 returns g c =
@@ -36,5 +36,5 @@ returns g c =
       steps = search rules;
       at_most = search rules;
       reads = search rules;
-      over = record { doubt = search rules; idle = search rules; alike = search rules; power = search rules; powered = search rules; cause = search rules; ends = search rules };
+      over = record { doubt = search rules; idle = search rules; equivalent = search rules; power = search rules; powered = search rules; cause = search rules; ends = search rules };
     }

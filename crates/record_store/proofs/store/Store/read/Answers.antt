@@ -120,4 +120,4 @@ pub returns-in-Ok-clause-reads : goal.returns-in-Ok-clause-reads
 returns-in-Ok-clause-reads g c =
     let i = c.self.inside in
     read_reads i.geometry (g.F.Flash.state i.flash) (g.F.Flash.state c.read_record.new.flash) i.in_doubt (pending_of (layout_of i.geometry) i.buffer.items i.work) c.args.self.now c.settle.new.self c.in-Some.place.len
-    c.self.view_is c.in_ok-settle.ensures.leaves.alike.layout c.in_ok-settle.ensures.reads c.in-Ok.ensures.stays.counted
+    c.self.view_is c.in_ok-settle.ensures.leaves.equivalent.layout c.in_ok-settle.ensures.reads c.in-Ok.ensures.stays.counted

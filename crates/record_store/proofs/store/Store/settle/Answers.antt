@@ -2,7 +2,7 @@ use Rattle.std.proofs.Common.{false, refl, sym, ap, subst, ◌∙◌}
 use Rattle.flash_model.specs.Layouts.{layout_of}
 use Rattle.record_store.specs.Store.{StoreView}
 use Rattle.record_store.specs.Kept.{Knows, IsWork, pending_of}
-use Rattle.record_store.specs.declared.work.Work.{Work}
+use Rattle.record_store.specs.declared.work.Begun.{Begun}
 use Rattle.record_store.proofs.ScanLemmas.{IsListing-rescanned, KnowsSlots-recovered}
 use Rattle.record_store.proofs.StoreLemmas.{IsScanned, idle_work, ready_knows, looks_ready, looks_again, looks_failed, rescanned_spare, free_rescanned, ready_reads, looked_reads}
 use Rattle.record_store.proofs.store.Store.settle.Given as given
@@ -43,10 +43,10 @@ invariant_of-self g c =
       fits = record { size = c.rescan.ensures.shape.size ∙ c.self.invariant.fits.size; sector_size = c.rescan.ensures.shape.sector_size ∙ c.self.invariant.fits.sector_size };
       listing = IsListing-rescanned slots size i.found found c.rescan.ensures.index c.rescan.ensures.free c.rescan.ensures.few c.rescan.ensures.room c.self.invariant.listing.room;
       room = c.self.invariant.room;
-      form = subst (λ (w : Work). IsWork i.geometry found i.buffer.items w) (sym idle) tt;
+      form = subst (λ (w : Begun). IsWork i.geometry found i.buffer.items w) (sym idle) tt;
       certain = λ busy. refl;
       knows = λ tells sure.
-          subst (λ (w : Work). Knows i.geometry found i.buffer.items new.told.image w) (sym idle)
+          subst (λ (w : Begun). Knows i.geometry found i.buffer.items new.told.image w) (sym idle)
           (KnowsSlots-recovered (layout_of i.geometry) old new found (c.in-Ok.ensures.recovered tells));
       spare = λ tells. rescanned_spare size slots old.told new.told (c.rescan.ensures.nearly tells) (c.self.invariant.spare tells);
     }
@@ -59,7 +59,7 @@ invariant_of-self-in-Err g c =
       fits = record { size = c.rescan.ensures.shape.size ∙ c.self.invariant.fits.size; sector_size = c.rescan.ensures.shape.sector_size ∙ c.self.invariant.fits.sector_size };
       listing = IsListing-rescanned i.geometry.slots i.geometry.slot_size i.found c.rescan.new.found c.rescan.ensures.index c.rescan.ensures.free c.rescan.ensures.few c.rescan.ensures.room c.self.invariant.listing.room;
       room = c.self.invariant.room;
-      form = subst (λ (w : Work). IsWork i.geometry c.rescan.new.found i.buffer.items w) (sym idle) tt;
+      form = subst (λ (w : Begun). IsWork i.geometry c.rescan.new.found i.buffer.items w) (sym idle) tt;
       certain = c.self.invariant.certain;
       knows = λ tells sure. absurd (cc);
       spare = λ tells. rescanned_spare i.geometry.slot_size i.geometry.slots (g.F.Flash.state i.flash).told (g.F.Flash.state c.rescan.new.flash).told (c.rescan.ensures.nearly tells) (c.self.invariant.spare tells);

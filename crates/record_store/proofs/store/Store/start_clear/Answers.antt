@@ -9,7 +9,7 @@ pub returns-in_default-clause-answer : goal.returns-in_default-clause-answer
 returns-in_default-clause-answer g c tells = (
   clear_missing c.args.self.now.layout c.args.id (stored c.args.self.now) c.place_of.ensures.allowed
       (none_before c.args.id (looked c.self.invariant c.self.view_is c.in_ok-settle.ensures.leaves) tells c.in_default.ensures.place),
-  kept_map c.args.self.now c.settle.new.self (c.in_ok-settle.ensures.leaves.kept tells) c.in_ok-settle.ensures.leaves.alike,
+  kept_map c.args.self.now c.settle.new.self (c.in_ok-settle.ensures.leaves.kept tells) c.in_ok-settle.ensures.leaves.equivalent,
 )
 
 pub returns-in_default-clause-leaves : goal.returns-in_default-clause-leaves

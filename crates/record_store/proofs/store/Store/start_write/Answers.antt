@@ -10,8 +10,8 @@ use Rattle.record_store.proofs.store.Store.start_write.Goals as goal
 pub returns-clause-answer : goal.returns-clause-answer
 returns-clause-answer g c tells =
     let leaves = c.in_ok-settle.ensures.leaves in
-    let same = kept_map c.args.self.now c.settle.new.self (leaves.kept tells) leaves.alike in
-    start_from c.args.self.now c.settle.new.self c.begin_write.new.self c.args.id c.args.bytes.now c.begin_write.result leaves.alike.layout same (c.begin_write.ensures.answer tells)
+    let same = kept_map c.args.self.now c.settle.new.self (leaves.kept tells) leaves.equivalent in
+    start_from c.args.self.now c.settle.new.self c.begin_write.new.self c.args.id c.args.bytes.now c.begin_write.result leaves.equivalent.layout same (c.begin_write.ensures.answer tells)
 
 pub returns-clause-leaves : goal.returns-clause-leaves
 returns-clause-leaves g c =
@@ -20,11 +20,11 @@ returns-clause-leaves g c =
 pub returns-clause-slots : goal.returns-clause-slots
 returns-clause-slots g c =
     on_ok_weaker c.begin_write.result (λ free told.
-    same_slots_for c.args.self.now c.begin_write.new.self (length c.args.bytes.now) (c.begin_write.ensures.leaves.alike.layout ∙ c.in_ok-settle.ensures.leaves.alike.layout) (free told ∙ c.in_ok-settle.ensures.free told))
+    same_slots_for c.args.self.now c.begin_write.new.self (length c.args.bytes.now) (c.begin_write.ensures.leaves.equivalent.layout ∙ c.in_ok-settle.ensures.leaves.equivalent.layout) (free told ∙ c.in_ok-settle.ensures.free told))
     c.begin_write.ensures.free
 
 pub returns-clause-reads : goal.returns-clause-reads
 returns-clause-reads g c =
-    subst (λ (l : Layout). TakesReads (λ done. raised (2 * parts_of (room_of l) (length c.args.bytes.now))) c.args.self.now c.begin_write.new.self c.begin_write.result) c.in_ok-settle.ensures.leaves.alike.layout
+    subst (λ (l : Layout). TakesReads (λ done. raised (2 * parts_of (room_of l) (length c.args.bytes.now))) c.args.self.now c.begin_write.new.self c.begin_write.result) c.in_ok-settle.ensures.leaves.equivalent.layout
     (start_reads g.F.Flash.tells (2 * parts_of (room_of c.settle.new.self.layout) (length c.args.bytes.now)) c.args.self.now c.settle.new.self c.begin_write.new.self _ c.begin_write.result
     c.in_ok-settle.ensures.reads c.begin_write.ensures.still)

@@ -1,7 +1,0 @@
-use Rattle.erst_machine.specs.Allowed.{Allows}
-use Rattle.erst_commands.proofs.MachineDialogues.{done_alike}
-use Rattle.erst_commands.proofs.ClientDialogues.{count, counts_held}
-use Rattle.erst_commands.proofs.equivalence.alike_machines_count_alike.Goals as goal
-
-pub returns : goal.returns
-returns g c = λ told entries budget. done_alike g.F.Flash.tells told _ (count entries budget) (counts_held (Allows g.F.Flash.tells) entries budget)

@@ -1,6 +1,0 @@
-use Rattle.erst_commands.proofs.EventOutlines.{happens_alike}
-use Rattle.erst_commands.proofs.equivalence.alike_machines_go_on_alike.Goals as goal
-
-pub returns : goal.returns
-returns g c = λ told one machine other event also one_after other_after alike asks.
-    happens_alike one other alike g.F.Flash.tells told machine event also one_after other_after asks

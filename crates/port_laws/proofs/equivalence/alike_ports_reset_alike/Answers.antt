@@ -1,5 +1,0 @@
-use Rattle.port_laws.proofs.PortLemmas.{resets_alike}
-use Rattle.port_laws.proofs.equivalence.alike_ports_reset_alike.Goals as goal
-
-pub returns : goal.returns
-returns c = resets_alike
