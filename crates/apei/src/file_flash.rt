@@ -133,7 +133,8 @@ impl Flash for FileFlash {
         requires { sector * self.old.sector + self.old.sector ≤ (state_of self.old).size }
         ensures bytes { OnOk result (image_of self.new.medium
             ≡ put_at (image_of self.old.medium) (sector * self.old.sector) (replicate self.old.sector 0xFF)) }
-        ensures change { AsksChange ⊥ (sector * self.old.sector) self.old.sector (state_of self.old) (state_of self.new) result }
+        ensures change { AsksChange ⊥ (sector * self.old.sector) self.old.sector (state_of self.old)
+            (state_of self.new) result }
         ensures fails { IsErr result ↔ IsTrue self.new.failed }
         ensures unusable { IsUnusable self.old.medium → IsErr result × IsUnusable self.new.medium }
         ensures full { self.old.steps ≡ 2 ^ 64 - 1 → self.new.medium ≡ self.old.medium }

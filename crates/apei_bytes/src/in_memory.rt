@@ -34,7 +34,13 @@ impl MemSource {
     /// fail.
     pub fn new(bytes: Vec<u8>, piece: usize, failing: Vec<u64>) -> MemSource
         requires { 0 < piece }
-        ensures state { result ≡ record { rest = bytes.items; piece = piece; failing = failing.items; reads = 0; faults = 0 } }
+        ensures state { result ≡ record {
+          rest = bytes.items;
+          piece = piece;
+          failing = failing.items;
+          reads = 0;
+          faults = 0;
+        } }
         ensures told { ⟦<MemSource as Source>⟧.tells }
     {
         MemSource {
@@ -65,7 +71,8 @@ impl Source for MemSource {
 
         // What every source promises.
         ensures count { IfOk result (λ n. n ≤ length buf.new) }
-        ensures bytes { MatchResult result (λ n. self.old.rest ≡ take n buf.new ++ self.new.rest) (λ _. self.new.rest ≡ self.old.rest) }
+        ensures bytes { MatchResult result (λ n. self.old.rest ≡ take n buf.new ++ self.new.rest)
+            (λ _. self.new.rest ≡ self.old.rest) }
         ensures end { result ≡ Ok 0 → self.old.rest ≡ [] }
         ensures cause { HasCause self.old.faults self.new.faults result }
     {
@@ -140,7 +147,8 @@ impl Sink for MemSink {
 
     fn write(&mut self, bytes: &[u8]) -> Result<usize, WriteFailed>
         requires { 0 < length bytes.now }
-        ensures fails { IsErr result ↔ (Contains self.old.failing self.old.writes ⊎ Rose self.old.starved self.new.starved) }
+        ensures fails { IsErr result ↔ (Contains self.old.failing self.old.writes
+            ⊎ Rose self.old.starved self.new.starved) }
         ensures all { IfOk result (λ n. n ≡ length bytes.now) }
         ensures writes { self.new.writes ≡ counted self.old.writes }
         ensures faults { self.new.faults ≡ (if is_ok result then self.old.faults else counted self.old.faults) }
@@ -150,7 +158,8 @@ impl Sink for MemSink {
         // What every sink promises.
         ensures some { IfOk result (λ n. 0 < n) }
         ensures count { IfOk result (λ n. n ≤ length bytes.now) }
-        ensures bytes { MatchResult result (λ n. self.new.written ≡ self.old.written ++ take n bytes.now) (λ _. self.new.written ≡ self.old.written) }
+        ensures bytes { MatchResult result (λ n. self.new.written ≡ self.old.written ++ take n bytes.now)
+            (λ _. self.new.written ≡ self.old.written) }
         ensures cause { HasCause self.old.faults self.new.faults result }
     {
         let number = self.writes;

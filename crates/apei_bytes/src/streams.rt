@@ -29,7 +29,8 @@ pub trait Source {
     fn read(&mut self, buf: &mut [u8]) -> Result<usize, ReadFailed>
         requires { 0 < length buf.old }
         ensures count { IfOk result (λ n. n ≤ length buf.new) }
-        ensures bytes { tells → MatchResult result (λ n. rest self.old ≡ take n buf.new ++ rest self.new) (λ _. rest self.new ≡ rest self.old) }
+        ensures bytes { tells → MatchResult result (λ n. rest self.old ≡ take n buf.new ++ rest self.new)
+            (λ _. rest self.new ≡ rest self.old) }
         ensures end { tells → result ≡ Ok 0 → rest self.old ≡ [] }
         ensures cause { HasCause (faults self.old) (faults self.new) result };
 }
@@ -50,7 +51,8 @@ pub trait Sink {
         requires { 0 < length bytes.now }
         ensures some { IfOk result (λ n. 0 < n) }
         ensures count { IfOk result (λ n. n ≤ length bytes.now) }
-        ensures bytes { tells → MatchResult result (λ n. written self.new ≡ written self.old ++ take n bytes.now) (λ _. written self.new ≡ written self.old) }
+        ensures bytes { tells → MatchResult result (λ n. written self.new ≡ written self.old ++ take n bytes.now)
+            (λ _. written self.new ≡ written self.old) }
         ensures cause { HasCause (faults self.old) (faults self.new) result };
 }
 

@@ -104,7 +104,8 @@ pub extern "C" fn apei_c_check(
     parts: &mut u32,
     fault: &mut ItemFault,
 ) -> u32
-    ensures { (status : AnyStatus) × (result ≡ number_of status) × ChecksItem (item_of item) bytes.now parts.old fault.old status parts.new fault.new
+    ensures { (status : AnyStatus) × (result ≡ number_of status)
+        × ChecksItem (item_of item) bytes.now parts.old fault.old status parts.new fault.new
         × FindsItem (item_of item) bytes.now status parts.new }
 {
     check_item(alloc, item, bytes, parts, fault).number()
@@ -119,7 +120,8 @@ pub extern "C" fn apei_c_part_at(
     index: u32,
     part: &mut ItemPart,
 ) -> u32
-    ensures { (status : AnyStatus) × (result ≡ number_of status) × TellsPart (item_of item) bytes.now index part.old status part.new
+    ensures { (status : AnyStatus) × (result ≡ number_of status)
+        × TellsPart (item_of item) bytes.now index part.old status part.new
         × FindsPart (item_of item) bytes.now index status part.new }
 {
     tell_part(alloc, item, bytes, index, part).number()

@@ -20,7 +20,9 @@ pub extern "C" fn apei_c_erst_read(
     size: u32,
     value: &mut u64,
 ) -> u32
-    ensures { OnPort erst.old.owner.port result erst.new.owner.port (Looks (λ port status. ReadsNumber (window_of window) (width_of size) offset port value.old status value.new)) }
+    ensures { OnPort erst.old.owner.port result erst.new.owner.port
+        (Looks (λ port status. ReadsNumber (window_of window)
+        (width_of size) offset port value.old status value.new)) }
 {
     let Some(port) = erst.take(alloc) else {
         return Status::Closed.number();
@@ -40,7 +42,8 @@ pub extern "C" fn apei_c_erst_write(
     size: u32,
     value: u64,
 ) -> u32
-    ensures { OnPort erst.old.owner.port result erst.new.owner.port (WritesNumber (window_of window) (width_of size) offset value) }
+    ensures { OnPort erst.old.owner.port result erst.new.owner.port (WritesNumber (window_of window)
+        (width_of size) offset value) }
 {
     let Some(mut port) = erst.take(alloc) else {
         return Status::Closed.number();
@@ -58,7 +61,8 @@ pub extern "C" fn apei_c_erst_get(
     offset: u64,
     bytes: &mut [u8],
 ) -> u32
-    ensures { OnPort erst.old.owner.port result erst.new.owner.port (Looks (λ port status. GetsBytes offset bytes.old port status bytes.new)) }
+    ensures { OnPort erst.old.owner.port result erst.new.owner.port
+        (Looks (λ port status. GetsBytes offset bytes.old port status bytes.new)) }
 {
     let Some(port) = erst.take(alloc) else {
         return Status::Closed.number();
@@ -94,7 +98,8 @@ pub extern "C" fn apei_c_erst_change(
     change: &mut MediumChange,
     bytes: &mut [u8],
 ) -> u32
-    ensures { OnPort erst.old.owner.port result erst.new.owner.port (Looks (λ port status. TellsChange port change.old bytes.old status change.new bytes.new)) }
+    ensures { OnPort erst.old.owner.port result erst.new.owner.port
+        (Looks (λ port status. TellsChange port change.old bytes.old status change.new bytes.new)) }
 {
     let Some(port) = erst.take(alloc) else {
         return Status::Closed.number();
@@ -138,7 +143,8 @@ pub extern "C" fn apei_c_erst_table(
     table: &mut [u8],
     size: &mut u64,
 ) -> u32
-    ensures { OnPort erst.old.owner.port result erst.new.owner.port (Looks (λ port status. TellsTable table.old port status table.new size.new)) }
+    ensures { OnPort erst.old.owner.port result erst.new.owner.port
+        (Looks (λ port status. TellsTable table.old port status table.new size.new)) }
 {
     let Some(port) = erst.take(alloc) else {
         return Status::Closed.number();
@@ -151,7 +157,8 @@ pub extern "C" fn apei_c_erst_table(
 /// The size of the log range.
 #[unsafe(no_mangle)]
 pub extern "C" fn apei_c_erst_range_size(alloc: Global, erst: &mut Handle, size: &mut u64) -> u32
-    ensures { OnPort erst.old.owner.port result erst.new.owner.port (Looks (λ port status. TellsRangeSize port status size.new)) }
+    ensures { OnPort erst.old.owner.port result erst.new.owner.port
+        (Looks (λ port status. TellsRangeSize port status size.new)) }
 {
     let Some(port) = erst.take(alloc) else {
         return Status::Closed.number();
@@ -169,7 +176,8 @@ pub extern "C" fn apei_c_erst_image(
     offset: u64,
     bytes: &mut [u8],
 ) -> u32
-    ensures { OnPort erst.old.owner.port result erst.new.owner.port (Looks (λ port status. TellsImage offset bytes.old port status bytes.new)) }
+    ensures { OnPort erst.old.owner.port result erst.new.owner.port
+        (Looks (λ port status. TellsImage offset bytes.old port status bytes.new)) }
 {
     let Some(port) = erst.take(alloc) else {
         return Status::Closed.number();

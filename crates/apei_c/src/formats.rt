@@ -101,7 +101,8 @@ pub extern "C" fn apei_c_format_change(
     change: &mut MediumChange,
     bytes: &mut [u8],
 ) -> u32
-    ensures { (status : AnyStatus) × (result ≡ number_of status) × Formats geometry.now step change.old bytes.old status change.new bytes.new }
+    ensures { (status : AnyStatus) × (result ≡ number_of status)
+        × Formats geometry.now step change.old bytes.old status change.new bytes.new }
 {
     tell_change(geometry, step, change, bytes).number()
 }

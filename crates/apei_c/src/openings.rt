@@ -77,7 +77,8 @@ pub extern "C" fn apei_c_erst_open_raw(
     geometry: &MediumGeometry,
     addresses: &WindowAddresses,
 ) -> u32
-    ensures { OpensRaw geometry.now flash.now (addresses_of addresses.now) erst.old.owner.port result erst.new.owner.port }
+    ensures { OpensRaw geometry.now flash.now (addresses_of addresses.now) erst.old.owner.port result
+        erst.new.owner.port }
 {
     if erst.is_open {
         return Status::Open.number();

@@ -88,7 +88,8 @@ pub extern "C" fn apei_c_erst_save(
     bytes: &mut [u8],
     size: &mut u64,
 ) -> u32
-    ensures { OnPort erst.old.owner.port result erst.new.owner.port (Looks (λ port status. SavesBytes bytes.old size.old port status bytes.new size.new)) }
+    ensures { OnPort erst.old.owner.port result erst.new.owner.port
+        (Looks (λ port status. SavesBytes bytes.old size.old port status bytes.new size.new)) }
 {
     let Some(port) = erst.take(alloc) else {
         return Status::Closed.number();

@@ -29,7 +29,8 @@ fn check_lines<I: Source, O: Sink>(
     requires room { length buffer.old ≡ LONGEST_BYTES }
     ensures source { HasSourceCause (I.faults script.old) (I.faults script.new) (fault_of result) }
     ensures sink { HasSinkCause (O.faults out.old) (O.faults out.new) (fault_of result) }
-    ensures checked { ChecksScript I.tells O.tells show (I.rest script.old) (I.rest script.new) (O.written out.old) (O.written out.new) result }
+    ensures checked { ChecksScript I.tells O.tells show (I.rest script.old) (I.rest script.new) (O.written out.old)
+        (O.written out.new) result }
 {
     lines_are_read_in_order::<I>();
     'lines: loop {
@@ -66,12 +67,14 @@ pub fn check_script<I: Source, O: Sink>(
 ) -> ScriptEnd
     // Where there is no memory to begin with, nothing was touched.
     ensures checked { ((result ≡ ScriptEnd.Memory) × (script.new ≡ script.old) × (out.new ≡ out.old))
-        ⊎ ChecksScript I.tells O.tells show (I.rest script.old) (I.rest script.new) (O.written out.old) (O.written out.new) result }
+        ⊎ ChecksScript I.tells O.tells show (I.rest script.old) (I.rest script.new) (O.written out.old)
+        (O.written out.new) result }
     ensures source { HasSourceCause (I.faults script.old) (I.faults script.new) (fault_of result) }
     ensures sink { HasSinkCause (O.faults out.old) (O.faults out.new) (fault_of result) }
     // A script whose lines are all in the grammar and within the lengths is read to its end, want of memory aside.
-    ensures done { I.tells → AreInGrammar IsCheckLine (lines_of 0 (I.rest script.old)) → (Rose (I.faults script.old) (I.faults script.new) → ⊥)
-        → (Rose (O.faults out.old) (O.faults out.new) → ⊥) → (result ≡ ScriptEnd.Done) ⊎ (result ≡ ScriptEnd.Memory) }
+    ensures done { I.tells → AreInGrammar IsCheckLine (lines_of 0 (I.rest script.old))
+        → (Rose (I.faults script.old) (I.faults script.new) → ⊥) → (Rose (O.faults out.old) (O.faults out.new) → ⊥)
+        → (result ≡ ScriptEnd.Done) ⊎ (result ≡ ScriptEnd.Memory) }
 {
     let Ok(mut lines) = LineReader::new(alloc) else {
         return ScriptEnd::Memory;

@@ -24,8 +24,10 @@ pub fn show_line<O: Sink>(
     requires valid { IsValidCheck (checked_line_of line.now) }
     requires fits { length (check_text_of (checked_line_of line.now)) ≤ LONGEST_LINE }
     requires room { length buffer.old ≡ LONGEST_BYTES }
-    ensures shown { OnOk result (Shows O.tells (AreShownBy show (checked_line_of line.now)) (O.written out.old) (O.written out.new)) }
-    ensures part { result ≡ Err CheckStop.SinkFault → ShowsPart O.tells (AreShownBy show (checked_line_of line.now)) (O.written out.old) (O.written out.new) }
+    ensures shown { OnOk result (Shows O.tells (AreShownBy show (checked_line_of line.now)) (O.written out.old)
+        (O.written out.new)) }
+    ensures part { result ≡ Err CheckStop.SinkFault → ShowsPart O.tells (AreShownBy show (checked_line_of line.now))
+        (O.written out.old) (O.written out.new) }
     ensures memory { result ≡ Err CheckStop.Memory → TakesMemory (checked_line_of line.now) × (out.new ≡ out.old) }
     ensures cause { HasStopCause (O.faults out.old) (O.faults out.new) result }
 {

@@ -45,9 +45,11 @@ struct NotBooted<F: Flash> {
 fn boot_machine<F: Flash>(alloc: Global, plan: &Plan, flash: F) -> Result<Machine<F>, NotBooted<F>>
     requires { ⊤ }
     ensures booted { IfOk result (λ machine. IsBootOf F.tells (order_of plan.now) (F.state flash) machine) }
-    ensures refused { IfErr result (λ none. HasNotBegun F.tells (order_of plan.now) (F.state flash) (F.state none.flash) none.status) }
+    ensures refused { IfErr result (λ none. HasNotBegun F.tells (order_of plan.now) (F.state flash)
+        (F.state none.flash) none.status) }
     ensures geometry { IfErr result (λ none. IsOnGeometry (order_of plan.now) (F.state flash) none.status) }
-    ensures cause { IfErr result (λ none. HasFlashCause (F.state flash).faults (F.state none.flash).faults none.status) }
+    ensures cause { IfErr result (λ none. HasFlashCause (F.state flash).faults (F.state none.flash).faults
+        none.status) }
 {
     let refused = Status::BadGeometry {
         sector: plan.sector,
@@ -78,12 +80,15 @@ pub fn boot_player<F: Flash>(
     listeners: Vec<Box<dyn Listener>>,
 ) -> Result<Player<F>, NotBegun<F>>
     requires { ⊤ }
-    ensures booted { IfOk result (λ player. HasBooted F.tells (order_of plan.now) (F.state flash) (state_of player.session)) }
+    ensures booted { IfOk result (λ player. HasBooted F.tells (order_of plan.now) (F.state flash)
+        (state_of player.session)) }
     ensures members { IfOk result (λ player. members_of player.chain ≡ listeners.items) }
-    ensures refused { IfErr result (λ none. HasNotBegun F.tells (order_of plan.now) (F.state flash) (F.state none.flash) none.status) }
+    ensures refused { IfErr result (λ none. HasNotBegun F.tells (order_of plan.now) (F.state flash)
+        (F.state none.flash) none.status) }
     ensures listeners_back { IfErr result (λ none. none.listeners.items ≡ listeners.items) }
     ensures geometry { IfErr result (λ none. IsOnGeometry (order_of plan.now) (F.state flash) none.status) }
-    ensures cause { IfErr result (λ none. HasFlashCause (F.state flash).faults (F.state none.flash).faults none.status) }
+    ensures cause { IfErr result (λ none. HasFlashCause (F.state flash).faults (F.state none.flash).faults
+        none.status) }
 {
     let mut machine = match boot_machine(alloc, plan, flash) {
         Ok(machine) => machine,

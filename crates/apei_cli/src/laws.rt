@@ -6,6 +6,8 @@ ghost use Rattle.apei_cli.specs.declared.job.Plan.{Plan};
 
 /// Words ask for one plan: any two of the same words have the same fields, and an image of the same path.
 pub fn words_ask_for_one_plan()
-    ensures plan { (words : List (String Global)) (one other : Plan) → IsPlanOf words one → IsPlanOf words other → one ≡ record other { image = one.image } }
-    ensures path { (words : List (String Global)) (one other : Plan) → IsPlanOf words one → IsPlanOf words other → option_map string_bytes one.image ≡ option_map string_bytes other.image }
+    ensures plan { (words : List (String Global)) (one other : Plan) → IsPlanOf words one → IsPlanOf words other
+        → one ≡ record other { image = one.image } }
+    ensures path { (words : List (String Global)) (one other : Plan) → IsPlanOf words one → IsPlanOf words other
+        → option_map string_bytes one.image ≡ option_map string_bytes other.image }
 {}

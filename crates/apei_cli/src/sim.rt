@@ -14,8 +14,10 @@ const NO_SECTOR: u32 = 256;
 /// The flash that a `sim` or `gen` plays on: its bytes are erased, and its calls fail where the plan says, and for want of
 /// memory. For another job, and where the geometry is outside its limits, it is empty.
 pub fn sim_flash(alloc: Global, plan: &Plan) -> Result<SimFlash, OutOfMemory>
-    ensures erased { simulates plan.now.job ≡ true → IsGeometry plan.now.sector plan.now.per_slot plan.now.slots → IfOk result (IsErasedFlash plan.now) }
-    ensures empty { ¬ IsGeometry plan.now.sector plan.now.per_slot plan.now.slots → IfOk result (IsEmptyFlash plan.now) }
+    ensures erased { simulates plan.now.job ≡ true → IsGeometry plan.now.sector plan.now.per_slot plan.now.slots
+        → IfOk result (IsErasedFlash plan.now) }
+    ensures empty { ¬ IsGeometry plan.now.sector plan.now.per_slot plan.now.slots
+        → IfOk result (IsEmptyFlash plan.now) }
     ensures other { simulates plan.now.job ≡ false → IfOk result (IsEmptyFlash plan.now) }
 {
     let failing = failing_changes(alloc, plan)?;

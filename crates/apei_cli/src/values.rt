@@ -21,7 +21,8 @@ const MOST_COMMANDS: u64 = 100_000;
 
 /// The job that is named.
 pub(crate) fn job(matches: &ArgMatches<'_>) -> Result<Job, WordsError>
-    ensures { MatchResult result (λ job. job_in (rows_of (found_of matches.now)) ≡ Some job) (λ error. (error ≡ BadWords) × (job_in (rows_of (found_of matches.now)) ≡ None)) }
+    ensures { MatchResult result (λ job. job_in (rows_of (found_of matches.now)) ≡ Some job)
+        (λ error. (error ≡ BadWords) × (job_in (rows_of (found_of matches.now)) ≡ None)) }
 {
     let Some(name) = job_text(matches) else {
         return Err(WordsError::BadWords);
@@ -69,7 +70,8 @@ pub(crate) fn image(
     job: Job,
 ) -> Result<Option<String>, WordsError>
     ensures image { IfOk result (IsImage job (given Image (rows_of (found_of matches.now)))) }
-    ensures bad_words { result ≡ Err BadWords → NoneFits (IsImage job (given Image (rows_of (found_of matches.now)))) BadWords }
+    ensures bad_words { result ≡ Err BadWords
+        → NoneFits (IsImage job (given Image (rows_of (found_of matches.now)))) BadWords }
 {
     match text(matches, Setting::Image) {
         Some(path) => {
@@ -89,7 +91,8 @@ pub(crate) fn image(
 
 /// How many commands are made.
 pub(crate) fn count(matches: &ArgMatches<'_>, job: Job) -> Result<u64, WordsError>
-    ensures { MatchResult result (IsCount job (given Count (rows_of (found_of matches.now)))) (NoneFits (IsCount job (given Count (rows_of (found_of matches.now))))) }
+    ensures { MatchResult result (IsCount job (given Count (rows_of (found_of matches.now))))
+        (NoneFits (IsCount job (given Count (rows_of (found_of matches.now))))) }
 {
     match number_of(matches, Setting::Count, MOST_COMMANDS)? {
         Some(count) => Ok(count),
@@ -104,7 +107,8 @@ pub(crate) fn count(matches: &ArgMatches<'_>, job: Job) -> Result<u64, WordsErro
 
 /// What is shown of a checked item.
 pub(crate) fn show(matches: &ArgMatches<'_>) -> Result<Show, WordsError>
-    ensures { MatchResult result (IsShow (given TheShow (rows_of (found_of matches.now)))) (NoneFits (IsShow (given TheShow (rows_of (found_of matches.now))))) }
+    ensures { MatchResult result (IsShow (given TheShow (rows_of (found_of matches.now))))
+        (NoneFits (IsShow (given TheShow (rows_of (found_of matches.now))))) }
 {
     match text(matches, Setting::Show) {
         Some(names) => match from_str_strict::<Show>(names) {
@@ -122,7 +126,8 @@ pub(crate) fn number_or(
     default: u64,
     most: u64,
 ) -> Result<u64, WordsError>
-    ensures { MatchResult result (IsGivenOr default most (given setting (rows_of (found_of matches.now)))) (NoneFits (IsGivenOr default most (given setting (rows_of (found_of matches.now))))) }
+    ensures { MatchResult result (IsGivenOr default most (given setting (rows_of (found_of matches.now))))
+        (NoneFits (IsGivenOr default most (given setting (rows_of (found_of matches.now))))) }
 {
     Ok(number_of(matches, setting, most)?.unwrap_or(default))
 }
@@ -133,7 +138,8 @@ pub(crate) fn number_of(
     setting: Setting,
     most: u64,
 ) -> Result<Option<u64>, WordsError>
-    ensures { MatchResult result (IsGiven most (given setting (rows_of (found_of matches.now)))) (NoneFits (IsGiven most (given setting (rows_of (found_of matches.now))))) }
+    ensures { MatchResult result (IsGiven most (given setting (rows_of (found_of matches.now))))
+        (NoneFits (IsGiven most (given setting (rows_of (found_of matches.now))))) }
 {
     match text(matches, setting) {
         Some(digits) => match number_up_to(digits.as_bytes(), most) {

@@ -62,9 +62,12 @@ impl<'a> Image<'a> {
         slot: u32,
     ) -> Result<Option<(Head, Vec<u8>)>, AllocError>
         requires { slot < self.now.geometry.now.slots }
-        ensures bytes { IfOk result (λ found. MatchOption found (kind_at self.now.geometry.now.slot_size self.now.geometry.now.slots self.now.bytes.now slot ≡ First → ⊥)
-            (λ stored. IsRecordOf self.now.geometry.now.slot_size self.now.geometry.now.slots self.now.bytes.now slot stored.1.items)) }
-        ensures head { IfOk result (λ found. IfSome found (λ stored. numbers_of stored.0 ≡ (slot_at self.now.geometry.now.slot_size self.now.bytes.now slot).head)) }
+        ensures bytes { IfOk result (λ found. MatchOption found (kind_at self.now.geometry.now.slot_size
+            self.now.geometry.now.slots self.now.bytes.now slot ≡ First → ⊥)
+            (λ stored. IsRecordOf self.now.geometry.now.slot_size self.now.geometry.now.slots self.now.bytes.now slot
+            stored.1.items)) }
+        ensures head { IfOk result (λ found. IfSome found (λ stored. numbers_of stored.0
+            ≡ (slot_at self.now.geometry.now.slot_size self.now.bytes.now slot).head)) }
     {
         let found = record_at(alloc, self.bytes, self.geometry, self.views, slot)?;
         match found {

@@ -115,7 +115,8 @@ fn most_of(is_guessed: bool, given: &Geometry) -> u64
 
 // The geometry that an image seems to have, or the one that was given.
 fn seeming(image: &[u8], given: Geometry) -> Geometry
-    ensures { (guess : Option Guess) × IsGuess image.now guess × (result ≡ option_map_or (λ seen. seen.geometry) guess given) }
+    ensures { (guess : Option Guess) × IsGuess image.now guess
+        × (result ≡ option_map_or (λ seen. seen.geometry) guess given) }
 {
     match best_guess(image) {
         Some(guess) => guess.geometry,

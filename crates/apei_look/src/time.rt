@@ -82,7 +82,8 @@ fn are_equal(one: &[u8], other: &[u8]) -> bool
 
 // So many seconds behind the start of 1970, in UTC.
 fn time_of_seconds(seconds: u64) -> Option<DateTime>
-    ensures { MatchOption result (IsTimestampNanos (nanos_since_1970 seconds) → ⊥) (λ time. civil_nanos time ≡ nanos_since_1970 seconds) }
+    ensures { MatchOption result (IsTimestampNanos (nanos_since_1970 seconds) → ⊥)
+        (λ time. civil_nanos time ≡ nanos_since_1970 seconds) }
 {
     let seconds = i64::try_from(seconds).ok()?;
     let instant = Timestamp::from_second(seconds).ok()?;

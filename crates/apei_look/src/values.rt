@@ -14,8 +14,11 @@ use std::alloc::Global;
 
 /// The path of the image, by the option or by itself, which is not empty.
 pub(crate) fn image(alloc: Global, matches: &ArgMatches<'_>) -> Result<String, WordsError>
-    ensures image { IfOk result (IsImage (one_of (first_of (codes "image") (rows_of (found_of matches.now))) (first_of (codes "file") (rows_of (found_of matches.now))))) }
-    ensures bad_words { result ≡ Err BadWords → NoneFits (IsImage (one_of (first_of (codes "image") (rows_of (found_of matches.now))) (first_of (codes "file") (rows_of (found_of matches.now))))) BadWords }
+    ensures image { IfOk result (IsImage (one_of (first_of (codes "image") (rows_of (found_of matches.now)))
+        (first_of (codes "file") (rows_of (found_of matches.now))))) }
+    ensures bad_words { result ≡ Err BadWords
+        → NoneFits (IsImage (one_of (first_of (codes "image") (rows_of (found_of matches.now)))
+        (first_of (codes "file") (rows_of (found_of matches.now))))) BadWords }
 {
     match path(matches) {
         Some(path) => {
@@ -30,7 +33,8 @@ pub(crate) fn image(alloc: Global, matches: &ArgMatches<'_>) -> Result<String, W
 
 // The path that is given once.
 fn path<'a>(matches: &ArgMatches<'a>) -> Option<&'a str>
-    ensures { option_map (λ text. text.now) result ≡ one_of (first_of (codes "image") (rows_of (found_of matches.now))) (first_of (codes "file") (rows_of (found_of matches.now))) }
+    ensures { option_map (λ text. text.now) result ≡ one_of (first_of (codes "image")
+        (rows_of (found_of matches.now))) (first_of (codes "file") (rows_of (found_of matches.now))) }
 {
     match text(matches, IMAGE) {
         Some(path) => match text(matches, FILE) {
@@ -47,7 +51,8 @@ pub(crate) fn number_or(
     name: &str,
     default: u64,
 ) -> Result<u64, WordsError>
-    ensures { MatchResult result (IsGivenOr default (first_of name.now (rows_of (found_of matches.now)))) (NoneFits (IsGivenOr default (first_of name.now (rows_of (found_of matches.now))))) }
+    ensures { MatchResult result (IsGivenOr default (first_of name.now (rows_of (found_of matches.now))))
+        (NoneFits (IsGivenOr default (first_of name.now (rows_of (found_of matches.now))))) }
 {
     match text(matches, name) {
         Some(digits) => match number(digits) {
@@ -60,8 +65,10 @@ pub(crate) fn number_or(
 
 /// One record, JSON, or text where neither is asked for. Both are none.
 pub(crate) fn show(matches: &ArgMatches<'_>) -> Result<Show, WordsError>
-    ensures { MatchResult result (IsShow (is_set (codes "json") (rows_of (found_of matches.now))) (first_of (codes "record") (rows_of (found_of matches.now))))
-        (NoneFits (IsShow (is_set (codes "json") (rows_of (found_of matches.now))) (first_of (codes "record") (rows_of (found_of matches.now))))) }
+    ensures { MatchResult result (IsShow (is_set (codes "json") (rows_of (found_of matches.now)))
+        (first_of (codes "record") (rows_of (found_of matches.now))))
+        (NoneFits (IsShow (is_set (codes "json") (rows_of (found_of matches.now)))
+        (first_of (codes "record") (rows_of (found_of matches.now))))) }
 {
     let json = is_set(matches, JSON);
     match text(matches, RECORD) {

@@ -85,7 +85,8 @@ fn make_bytes<F: Flash>(
 )
     requires few { len ≤ 4096 }
     requires room { 4096 ≤ length bytes.old }
-    ensures made { (words : List ℕ) × Happened F.tells machine.old (peek at len) (words ∷ []) [] machine.new × IsMade reply.new words }
+    ensures made { (words : List ℕ) × Happened F.tells machine.old (peek at len) (words ∷ []) [] machine.new
+        × IsMade reply.new words }
     ensures size { length bytes.new ≡ length bytes.old }
 {
     let out = &mut bytes[..len as usize];

@@ -71,8 +71,10 @@ pub fn bridged_turns<F: Flash, O: Sink>(
 ) -> Result<(), SinkFault>
     requires few { length letters.now ≤ 4096 }
     requires on { session.old.bridge ≢ Off }
-    ensures played { OnOk result (AreBridged hearing F.tells O.tells session.old chain.old letters.now session.new chain.new (O.written out.old) (O.written out.new)) }
-    ensures unwritten { OnErr result (AreBridgedUnwritten hearing F.tells O.tells session.old chain.old letters.now session.new chain.new (O.written out.old) (O.written out.new)) }
+    ensures played { OnOk result (AreBridged hearing F.tells O.tells session.old chain.old letters.now session.new
+        chain.new (O.written out.old) (O.written out.new)) }
+    ensures unwritten { OnErr result (AreBridgedUnwritten hearing F.tells O.tells session.old chain.old letters.now
+        session.new chain.new (O.written out.old) (O.written out.new)) }
     ensures cause { HasCause (O.faults out.old) (O.faults out.new) result }
 {
     own_programs_run_through::<F>();
@@ -136,8 +138,10 @@ fn say_made<O: Sink>(
     reply: &mut Reply,
     out: &mut O,
 ) -> Result<(), SinkFault>
-    ensures all { OnOk result (O.tells → O.written out.new ≡ O.written out.old ++ reply_at step (words_of_made made.now)) }
-    ensures part { OnErr result (O.tells → (n : ℕ) × (O.written out.new ≡ O.written out.old ++ take n (reply_at step (words_of_made made.now)))) }
+    ensures all { OnOk result (O.tells → O.written out.new
+        ≡ O.written out.old ++ reply_at step (words_of_made made.now)) }
+    ensures part { OnErr result (O.tells → (n : ℕ)
+        × (O.written out.new ≡ O.written out.old ++ take n (reply_at step (words_of_made made.now)))) }
     ensures cause { HasCause (O.faults out.old) (O.faults out.new) result }
 {
     reply.begin(b"turns");

@@ -60,7 +60,8 @@ fn run_command<F: Flash>(
     requires playable { IsPlayable (line_of line.now) }
     requires asks { asks_client (line_of line.now) ≡ true }
     requires room { length bytes.old ≡ LONGEST_BYTES }
-    ensures answers { Answers F.tells client.old (budget_by steps client.old) machine.old (line_of line.now) machine.new reply.new }
+    ensures answers { Answers F.tells client.old (budget_by steps client.old) machine.old (line_of line.now)
+        machine.new reply.new }
     ensures kept { client.new ≡ client.old }
     ensures size { length bytes.new ≡ length bytes.old }
 {

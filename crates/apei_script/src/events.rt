@@ -31,8 +31,10 @@ pub fn turns<F: Flash, O: Sink>(
     out: &mut O,
 ) -> Result<(), SinkFault>
     requires { length letters.now ≤ 4096 }
-    ensures occurred { OnOk result (AreTurned hearing F.tells O.tells session.old chain.old letters.now session.new chain.new (O.written out.old) (O.written out.new)) }
-    ensures unwritten { OnErr result (AreTurnedUnwritten hearing F.tells O.tells session.old chain.old letters.now session.new chain.new (O.written out.old) (O.written out.new)) }
+    ensures occurred { OnOk result (AreTurned hearing F.tells O.tells session.old chain.old letters.now session.new
+        chain.new (O.written out.old) (O.written out.new)) }
+    ensures unwritten { OnErr result (AreTurnedUnwritten hearing F.tells O.tells session.old chain.old letters.now
+        session.new chain.new (O.written out.old) (O.written out.new)) }
     ensures clients { SameClients session.old session.new }
     ensures bridge { session.new.bridge ≡ session.old.bridge }
     ensures cause { HasCause (O.faults out.old) (O.faults out.new) result }
@@ -73,8 +75,12 @@ pub fn hear_of_block<F: Flash, O: Sink>(
 ) -> Result<(), SinkFault>
     requires { Fits 4096 session.old.machine.handover.last }
     ensures told { AreTold hearing (session.old.machine.handover.last ∷ []) chain.old chain.new }
-    ensures all { OnOk result (O.tells → O.written out.new ≡ O.written out.old ++ reply_at (changes_in session.old.machine) (words_of_block session.old.machine.handover.last)) }
-    ensures part { OnErr result (O.tells → (n : ℕ) × (O.written out.new ≡ O.written out.old ++ take n (reply_at (changes_in session.old.machine) (words_of_block session.old.machine.handover.last)))) }
+    ensures all { OnOk result (O.tells → O.written out.new
+        ≡ O.written out.old ++ reply_at (changes_in session.old.machine)
+        (words_of_block session.old.machine.handover.last)) }
+    ensures part { OnErr result (O.tells → (n : ℕ)
+        × (O.written out.new ≡ O.written out.old ++ take n (reply_at (changes_in session.old.machine)
+        (words_of_block session.old.machine.handover.last)))) }
     ensures machine { session.new.machine ≡ session.old.machine }
     ensures clients { SameClients session.old session.new }
     ensures bridge { session.new.bridge ≡ session.old.bridge }
@@ -109,7 +115,8 @@ pub fn list_blocks<F: Flash, O: Sink>(
     out: &mut O,
 ) -> Result<(), SinkFault>
     ensures listed { OnOk result (Lists F.tells O.tells session.old.machine (O.written out.old) (O.written out.new)) }
-    ensures unwritten { OnErr result (ListsUnwritten F.tells O.tells session.old.machine (O.written out.old) (O.written out.new)) }
+    ensures unwritten { OnErr result (ListsUnwritten F.tells O.tells session.old.machine (O.written out.old)
+        (O.written out.new)) }
     ensures session { state_of session.new ≡ state_of session.old }
     ensures cause { HasCause (O.faults out.old) (O.faults out.new) result }
 {
@@ -146,10 +153,12 @@ fn show_block<F: Flash, O: Sink>(
 ) -> Result<(), SinkFault>
     requires head { at + 20 ≤ next }
     requires within { next ≤ 16384 }
-    ensures all { OnOk result (O.tells → O.written out.new ≡ O.written out.old
-        ++ reply_at (changes_in session.old.machine) (words_of_block (part session.old.machine.memory.region at (next - at)))) }
-    ensures part { OnErr result (O.tells → (n : ℕ) × (O.written out.new ≡ O.written out.old
-        ++ take n (reply_at (changes_in session.old.machine) (words_of_block (part session.old.machine.memory.region at (next - at)))))) }
+    ensures all { OnOk result (O.tells → O.written out.new
+        ≡ O.written out.old ++ reply_at (changes_in session.old.machine)
+        (words_of_block (part session.old.machine.memory.region at (next - at)))) }
+    ensures part { OnErr result (O.tells → (n : ℕ)
+        × (O.written out.new ≡ O.written out.old ++ take n (reply_at (changes_in session.old.machine)
+        (words_of_block (part session.old.machine.memory.region at (next - at)))))) }
     ensures session { state_of session.new ≡ state_of session.old }
     ensures cause { HasCause (O.faults out.old) (O.faults out.new) result }
 {
@@ -202,8 +211,11 @@ fn end_list<F: Flash, O: Sink>(
     count: u64,
     out: &mut O,
 ) -> Result<(), SinkFault>
-    ensures all { OnOk result (O.tells → O.written out.new ≡ O.written out.old ++ reply_at (changes_in session.old.machine) (words_of_bert count)) }
-    ensures part { OnErr result (O.tells → (n : ℕ) × (O.written out.new ≡ O.written out.old ++ take n (reply_at (changes_in session.old.machine) (words_of_bert count)))) }
+    ensures all { OnOk result (O.tells → O.written out.new
+        ≡ O.written out.old ++ reply_at (changes_in session.old.machine) (words_of_bert count)) }
+    ensures part { OnErr result (O.tells → (n : ℕ)
+        × (O.written out.new ≡ O.written out.old ++ take n (reply_at (changes_in session.old.machine)
+        (words_of_bert count)))) }
     ensures session { state_of session.new ≡ state_of session.old }
     ensures cause { HasCause (O.faults out.old) (O.faults out.new) result }
 {

@@ -30,52 +30,58 @@ use flash_model::Flash;
 /// order, with the flash changes that the definitions give them where no fault was counted. So power lost at any flash step shows the
 /// records after those that had ended by then, or as the next one leaves them: for every script, whatever its tables and actions.
 pub fn lines_are_one_list<F: Flash>()
-    ensures happened { (wants : List (ℕ → Bool)) (counts : List ℕ) (first : PlayerState) (played : List Played) (last : PlayerState)
-        → Follows F.tells wants counts first played last → HasHappened F.tells first.machine last.machine }
-    ensures shown { F.tells → (wants : List (ℕ → Bool)) (counts : List ℕ) (first : PlayerState) (played : List Played) (last : PlayerState)
-        → Follows F.tells wants counts first played last
-        → (trail : List (Move Event MachineState)) × Trail (Happens F.tells) first.machine trail last.machine × IsShown made_by_event first.machine trail last.machine }
+    ensures happened { (wants : List (ℕ → Bool)) (counts : List ℕ) (first : PlayerState) (played : List Played)
+        (last : PlayerState) → Follows F.tells wants counts first played last
+        → HasHappened F.tells first.machine last.machine }
+    ensures shown { F.tells → (wants : List (ℕ → Bool)) (counts : List ℕ) (first : PlayerState) (played : List Played)
+        (last : PlayerState) → Follows F.tells wants counts first played last
+        → (trail : List (Move Event MachineState)) × Trail (Happens F.tells) first.machine trail last.machine
+        × IsShown made_by_event first.machine trail last.machine }
 {}
 
 /// Lines lead from a machine's state to a machine's state, and keep how the flash is divided, the first client and the steps of a line.
 pub fn lines_keep_a_machine<F: Flash>()
-    ensures machine { (wants : List (ℕ → Bool)) (counts : List ℕ) (first : PlayerState) (played : List Played) (last : PlayerState)
-        → Follows F.tells wants counts first played last → IsMachine first.machine → IsMachine last.machine }
-    ensures layout { (wants : List (ℕ → Bool)) (counts : List ℕ) (first : PlayerState) (played : List Played) (last : PlayerState)
-        → Follows F.tells wants counts first played last → last.machine.device.store.layout ≡ first.machine.device.store.layout }
-    ensures own { (wants : List (ℕ → Bool)) (counts : List ℕ) (first : PlayerState) (played : List Played) (last : PlayerState)
-        → Follows F.tells wants counts first played last → last.own ≡ first.own }
-    ensures steps { (wants : List (ℕ → Bool)) (counts : List ℕ) (first : PlayerState) (played : List Played) (last : PlayerState)
-        → Follows F.tells wants counts first played last → last.steps ≡ first.steps }
+    ensures machine { (wants : List (ℕ → Bool)) (counts : List ℕ) (first : PlayerState) (played : List Played)
+        (last : PlayerState) → Follows F.tells wants counts first played last → IsMachine first.machine
+        → IsMachine last.machine }
+    ensures layout { (wants : List (ℕ → Bool)) (counts : List ℕ) (first : PlayerState) (played : List Played)
+        (last : PlayerState) → Follows F.tells wants counts first played last
+        → last.machine.device.store.layout ≡ first.machine.device.store.layout }
+    ensures own { (wants : List (ℕ → Bool)) (counts : List ℕ) (first : PlayerState) (played : List Played)
+        (last : PlayerState) → Follows F.tells wants counts first played last → last.own ≡ first.own }
+    ensures steps { (wants : List (ℕ → Bool)) (counts : List ℕ) (first : PlayerState) (played : List Played)
+        (last : PlayerState) → Follows F.tells wants counts first played last → last.steps ≡ first.steps }
 {}
 
 /// Lines end one after another. At the step at which each one ended the flash's image showed the records that it leaves, and past images
 /// stay. In a script of the clients of the machine's two tables, power lost at any flash step shows the records after the lines that had ended by then, or
 /// as the next one leaves them where nothing fails.
 pub fn lines_are_shown<F: Flash>()
-    ensures ends { F.tells → (wants : List (ℕ → Bool)) (counts : List ℕ) (first : PlayerState) (played : List Played) (last : PlayerState)
-        → Follows F.tells wants counts first played last
-        → ShowsEachLine last first played × IsLater (told_of first.machine) (told_of last.machine) }
-    ensures in_order { F.tells → (wants : List (ℕ → Bool)) (counts : List ℕ) (first : PlayerState) (played : List Played) (last : PlayerState)
-        → Follows F.tells wants counts first played last → EndInOrder (changes_of first.machine) played (changes_of last.machine) }
-    ensures crash { F.tells → (wants : List (ℕ → Bool)) (counts : List ℕ) (first : PlayerState) (played : List Played) (last : PlayerState)
-        → first.own ≡ own_client first.machine → GivenNoOther first → AreOwnLines played
-        → Follows F.tells wants counts first played last
-        → (s : ℕ) (image : List ℕ) → changes_of first.machine ≤ s → CrashImage (told_of last.machine) s image
-        → ShowsLines s first played (shown_by first.machine image) }
+    ensures ends { F.tells → (wants : List (ℕ → Bool)) (counts : List ℕ) (first : PlayerState) (played : List Played)
+        (last : PlayerState) → Follows F.tells wants counts first played last → ShowsEachLine last first played
+        × IsLater (told_of first.machine) (told_of last.machine) }
+    ensures in_order { F.tells → (wants : List (ℕ → Bool)) (counts : List ℕ) (first : PlayerState)
+        (played : List Played) (last : PlayerState) → Follows F.tells wants counts first played last
+        → EndInOrder (changes_of first.machine) played (changes_of last.machine) }
+    ensures crash { F.tells → (wants : List (ℕ → Bool)) (counts : List ℕ) (first : PlayerState) (played : List Played)
+        (last : PlayerState) → first.own ≡ own_client first.machine → GivenNoOther first → AreOwnLines played
+        → Follows F.tells wants counts first played last → (s : ℕ) (image : List ℕ) → changes_of first.machine ≤ s
+        → CrashImage (told_of last.machine) s image → ShowsLines s first played (shown_by first.machine image) }
 {}
 
 /// A record that is stored is shown by power lost at any step from then on until a line begins that writes or clears its identifier, or has
 /// a turn of the bridge that writes it; so is the record of each block that the bridge stored, from the end of the turn that stored it on.
 pub fn stored_blocks_stay<F: Flash>()
-    ensures records { F.tells → (wants : List (ℕ → Bool)) (counts : List ℕ) (first : PlayerState) (played : List Played) (last : PlayerState)
-        → IsMachine first.machine → first.own ≡ own_client first.machine → GivenNoOther first → AreOwnLines played
-        → Follows F.tells wants counts first played last → (s id : ℕ) (bytes : List ℕ) → SpareLines s id first played → IsStoredAs id bytes (records_of first.machine)
+    ensures records { F.tells → (wants : List (ℕ → Bool)) (counts : List ℕ) (first : PlayerState)
+        (played : List Played) (last : PlayerState) → IsMachine first.machine → first.own ≡ own_client first.machine
+        → GivenNoOther first → AreOwnLines played → Follows F.tells wants counts first played last
+        → (s id : ℕ) (bytes : List ℕ) → SpareLines s id first played → IsStoredAs id bytes (records_of first.machine)
         → (shown : Stored) → ShowsLines s first played shown → IsStoredAs id bytes shown }
-    ensures stored { F.tells → (wants : List (ℕ → Bool)) (counts : List ℕ) (first : PlayerState) (played : List Played) (last : PlayerState)
-        → IsMachine first.machine → first.own ≡ own_client first.machine → GivenNoOther first → AreOwnLines played
-        → Follows F.tells wants counts first played last
-        → (s : ℕ) (shown : Stored) → (changes_of first.machine ≤ s → ShowsLines s first played shown) → KeepsAll s first played shown }
+    ensures stored { F.tells → (wants : List (ℕ → Bool)) (counts : List ℕ) (first : PlayerState)
+        (played : List Played) (last : PlayerState) → IsMachine first.machine → first.own ≡ own_client first.machine
+        → GivenNoOther first → AreOwnLines played → Follows F.tells wants counts first played last
+        → (s : ℕ) (shown : Stored) → (changes_of first.machine ≤ s → ShowsLines s first played shown)
+        → KeepsAll s first played shown }
 {
     own_programs_run_through::<F>();
 }
@@ -83,19 +89,23 @@ pub fn stored_blocks_stay<F: Flash>()
 /// A bridge that is on stays in step with the handover, whatever the tables and actions of the lines; and in each line of turns the reader
 /// gives a block back behind the storing of its record: the block that it clears or acknowledges is the one that was stored last.
 pub fn lines_keep_in_step<F: Flash>()
-    ensures line { (counts : List ℕ) (old : PlayerState) (line : Line) (said : List Reply) (blocks : List (List ℕ)) (steps : List Step) (new : PlayerState)
-        → IsMachine old.machine → Plays F.tells counts old line said blocks steps new → IsInStep old → KeepOrder old.bridge steps × IsInStep new }
-    ensures lines { (wants : List (ℕ → Bool)) (counts : List ℕ) (first : PlayerState) (played : List Played) (last : PlayerState)
-        → IsMachine first.machine → Follows F.tells wants counts first played last → IsInStep first → AlwaysInStep first played }
-    ensures given_back { (wants : List (ℕ → Bool)) (counts : List ℕ) (first : PlayerState) (played : List Played) (last : PlayerState)
-        → IsMachine first.machine → Follows F.tells wants counts first played last → HasNoBridge first → AllGiveStoredBack None first played }
+    ensures line { (counts : List ℕ) (old : PlayerState) (line : Line) (said : List Reply) (blocks : List (List ℕ))
+        (steps : List Step) (new : PlayerState) → IsMachine old.machine
+        → Plays F.tells counts old line said blocks steps new → IsInStep old → KeepOrder old.bridge steps
+        × IsInStep new }
+    ensures lines { (wants : List (ℕ → Bool)) (counts : List ℕ) (first : PlayerState) (played : List Played)
+        (last : PlayerState) → IsMachine first.machine → Follows F.tells wants counts first played last
+        → IsInStep first → AlwaysInStep first played }
+    ensures given_back { (wants : List (ℕ → Bool)) (counts : List ℕ) (first : PlayerState) (played : List Played)
+        (last : PlayerState) → IsMachine first.machine → Follows F.tells wants counts first played last
+        → HasNoBridge first → AllGiveStoredBack None first played }
 {}
 
 /// A turn of the bridge keeps a block for a failure of the flash only where the flash's count of faults rose in that very turn, and where
 /// its steps are enough, never for want of steps or of time.
 pub fn kept_blocks_have_causes<F: Flash>()
-    ensures { (wants : List (ℕ → Bool)) (counts : List ℕ) (first : PlayerState) (played : List Played) (last : PlayerState)
-        → IsMachine first.machine → first.own ≡ own_client first.machine
+    ensures { (wants : List (ℕ → Bool)) (counts : List ℕ) (first : PlayerState) (played : List Played)
+        (last : PlayerState) → IsMachine first.machine → first.own ≡ own_client first.machine
         → Follows F.tells wants counts first played last → AllHaveCauses first played }
 {
     own_programs_run_through::<F>();
@@ -105,27 +115,31 @@ pub fn kept_blocks_have_causes<F: Flash>()
 /// none says that the flash failed; where its steps are enough none is stopped or late; and a script that neither runs an action nor gives a
 /// table of its own never leaves these two clients.
 pub fn each_line_is_the_maps<F: Flash>()
-    ensures mapped { F.tells → (wants : List (ℕ → Bool)) (counts : List ℕ) (first : PlayerState) (played : List Played) (last : PlayerState)
-        → Follows F.tells wants counts first played last → AreMapped first played }
-    ensures no_fault { (wants : List (ℕ → Bool)) (counts : List ℕ) (first : PlayerState) (played : List Played) (last : PlayerState)
-        → Follows F.tells wants counts first played last → FailedNothing first.machine last.machine → NoneSaysHardware first played }
-    ensures enough { (wants : List (ℕ → Bool)) (counts : List ℕ) (first : PlayerState) (played : List Played) (last : PlayerState)
-        → Follows F.tells wants counts first played last → AllGoThrough first played }
-    ensures either { (wants : List (ℕ → Bool)) (counts : List ℕ) (first : PlayerState) (played : List Played) (last : PlayerState)
-        → first.own ≡ own_client first.machine → GivenNoOther first → AreOwnLines played
+    ensures mapped { F.tells → (wants : List (ℕ → Bool)) (counts : List ℕ) (first : PlayerState)
+        (played : List Played) (last : PlayerState) → Follows F.tells wants counts first played last
+        → AreMapped first played }
+    ensures no_fault { (wants : List (ℕ → Bool)) (counts : List ℕ) (first : PlayerState) (played : List Played)
+        (last : PlayerState) → Follows F.tells wants counts first played last
+        → FailedNothing first.machine last.machine → NoneSaysHardware first played }
+    ensures enough { (wants : List (ℕ → Bool)) (counts : List ℕ) (first : PlayerState) (played : List Played)
+        (last : PlayerState) → Follows F.tells wants counts first played last → AllGoThrough first played }
+    ensures either { (wants : List (ℕ → Bool)) (counts : List ℕ) (first : PlayerState) (played : List Played)
+        (last : PlayerState) → first.own ≡ own_client first.machine → GivenNoOther first → AreOwnLines played
         → Follows F.tells wants counts first played last → AlwaysUsesEither first played }
 {}
 
 /// Players of the machines' own clients are equivalent where the machines are.
 pub fn equivalent_machines_make_equivalent_players()
-    ensures { (one also : MachineState) (steps : Option ℕ) → EquivalentMachines one also → EquivalentPlayers (own_player one steps) (own_player also steps) }
+    ensures { (one also : MachineState) (steps : Option ℕ) → EquivalentMachines one also
+        → EquivalentPlayers (own_player one steps) (own_player also steps) }
 {}
 
 /// The same lines of two players that are equivalent, over flashes that fail nothing: the replies are the same, at the same flash steps, and so
 /// are the blocks that the operating system takes and the records at the end. Where the records stand plays no part in it.
 pub fn scripts_play_alike<F: Flash>()
-    ensures { F.tells → (wants wants_too : List (ℕ → Bool)) (counts : List ℕ) (one also : PlayerState) (first second : List Played) (one_last also_last : PlayerState)
-        → WantAlike wants wants_too → EquivalentPlayers one also → IsMachine one.machine → lines_in first ≡ lines_in second
+    ensures { F.tells → (wants wants_too : List (ℕ → Bool)) (counts : List ℕ) (one also : PlayerState)
+        (first second : List Played) (one_last also_last : PlayerState) → WantAlike wants wants_too
+        → EquivalentPlayers one also → IsMachine one.machine → lines_in first ≡ lines_in second
         → Follows F.tells wants counts one first one_last → FailedNothing one.machine one_last.machine
         → Follows F.tells wants_too counts also second also_last → FailedNothing also.machine also_last.machine
         → PlayedAlike first second one_last also_last }
@@ -138,10 +152,11 @@ pub fn scripts_play_alike<F: Flash>()
 /// client, play the same lines alike where nothing fails.
 pub fn booted_scripts_play_alike<F: Flash>()
     ensures { F.tells → (geometry : AnyGeometry) (flash flash_too : FlashState) (one also : MachineState)
-        → records_in (layout_of geometry) flash.told.image ≡ records_in (layout_of geometry) flash_too.told.image → flash.steps ≡ flash_too.steps
-        → second_copies geometry.slot_size geometry.slots flash.told.image ≡ second_copies geometry.slot_size geometry.slots flash_too.told.image
-        → BootsFrom geometry flash one → BootsFrom geometry flash_too also
-        → (wants : List (ℕ → Bool)) (counts : List ℕ) (steps : Option ℕ) (first second : List Played) (one_last also_last : PlayerState) → lines_in first ≡ lines_in second
+        → records_in (layout_of geometry) flash.told.image ≡ records_in (layout_of geometry) flash_too.told.image
+        → flash.steps ≡ flash_too.steps → second_copies geometry.slot_size geometry.slots flash.told.image
+        ≡ second_copies geometry.slot_size geometry.slots flash_too.told.image → BootsFrom geometry flash one
+        → BootsFrom geometry flash_too also → (wants : List (ℕ → Bool)) (counts : List ℕ) (steps : Option ℕ)
+        (first second : List Played) (one_last also_last : PlayerState) → lines_in first ≡ lines_in second
         → Follows F.tells wants counts (own_player one steps) first one_last → FailedNothing one one_last.machine
         → Follows F.tells wants counts (own_player also steps) second also_last → FailedNothing also also_last.machine
         → PlayedAlike first second one_last also_last }

@@ -18,17 +18,21 @@ use flash_model::Flash;
 /// Where no fault was counted, whatever happened to a machine took exactly the flash changes that the definitions give it, one after
 /// another; and the count of faults never falls.
 pub fn events_take_their_changes<F: Flash>()
-    ensures never_falls { (first last : MachineState) (trail : List (Move Event MachineState)) → Trail (Happens F.tells) first trail last
+    ensures never_falls { (first last : MachineState) (trail : List (Move Event MachineState))
+        → Trail (Happens F.tells) first trail last
         → first.device.store.flash.faults ≤ last.device.store.flash.faults }
-    ensures exact { F.tells → (first last : MachineState) (trail : List (Move Event MachineState)) → Trail (Happens F.tells) first trail last
+    ensures exact { F.tells → (first last : MachineState) (trail : List (Move Event MachineState))
+        → Trail (Happens F.tells) first trail last
         → (Rose first.device.store.flash.faults last.device.store.flash.faults → ⊥)
         → last.device.store.flash.steps ≡ first.device.store.flash.steps + changes_along first trail }
 {}
 
 /// Whatever was played of a line is all that `LinePlayed` says of it.
 pub fn a_line_is_the_maps<F: Flash>()
-    ensures { (counts : List ℕ) (old : PlayerState) (line : Line) (said : List Reply) (blocks : List (List ℕ)) (steps : List Step) (new : PlayerState)
-        → IsMachine old.machine → IsValid line → Plays F.tells counts old line said blocks steps new → LinePlayed F.tells counts old line said blocks steps new }
+    ensures { (counts : List ℕ) (old : PlayerState) (line : Line) (said : List Reply) (blocks : List (List ℕ))
+        (steps : List Step) (new : PlayerState) → IsMachine old.machine → IsValid line
+        → Plays F.tells counts old line said blocks steps new
+        → LinePlayed F.tells counts old line said blocks steps new }
 {
     own_programs_run_through::<F>();
 }
@@ -41,18 +45,23 @@ pub fn a_failed_restart_has_happened<F: Flash>()
 
 /// A line leads from a machine's state to a machine's state, and keeps how the flash is divided, the first client and the steps of lines.
 pub fn a_line_keeps_a_machine<F: Flash>()
-    ensures machine { (counts : List ℕ) (old : PlayerState) (line : Line) (said : List Reply) (blocks : List (List ℕ)) (steps : List Step) (new : PlayerState)
-        → IsMachine old.machine → Plays F.tells counts old line said blocks steps new → IsMachine new.machine }
-    ensures layout { (counts : List ℕ) (old : PlayerState) (line : Line) (said : List Reply) (blocks : List (List ℕ)) (steps : List Step) (new : PlayerState)
-        → Plays F.tells counts old line said blocks steps new → new.machine.device.store.layout ≡ old.machine.device.store.layout }
-    ensures own { (counts : List ℕ) (old : PlayerState) (line : Line) (said : List Reply) (blocks : List (List ℕ)) (steps : List Step) (new : PlayerState)
-        → Plays F.tells counts old line said blocks steps new → new.own ≡ old.own }
-    ensures steps { (counts : List ℕ) (old : PlayerState) (line : Line) (said : List Reply) (blocks : List (List ℕ)) (steps : List Step) (new : PlayerState)
-        → Plays F.tells counts old line said blocks steps new → new.steps ≡ old.steps }
+    ensures machine { (counts : List ℕ) (old : PlayerState) (line : Line) (said : List Reply) (blocks : List (List ℕ))
+        (steps : List Step) (new : PlayerState) → IsMachine old.machine
+        → Plays F.tells counts old line said blocks steps new → IsMachine new.machine }
+    ensures layout { (counts : List ℕ) (old : PlayerState) (line : Line) (said : List Reply) (blocks : List (List ℕ))
+        (steps : List Step) (new : PlayerState) → Plays F.tells counts old line said blocks steps new
+        → new.machine.device.store.layout ≡ old.machine.device.store.layout }
+    ensures own { (counts : List ℕ) (old : PlayerState) (line : Line) (said : List Reply) (blocks : List (List ℕ))
+        (steps : List Step) (new : PlayerState) → Plays F.tells counts old line said blocks steps new
+        → new.own ≡ old.own }
+    ensures steps { (counts : List ℕ) (old : PlayerState) (line : Line) (said : List Reply) (blocks : List (List ℕ))
+        (steps : List Step) (new : PlayerState) → Plays F.tells counts old line said blocks steps new
+        → new.steps ≡ old.steps }
 {}
 
 /// The reply to a line that counts the records tells their number, or why it was refused.
 pub fn a_count_tells_a_number<F: Flash>()
-    ensures { (counts : List ℕ) (old : PlayerState) (words : List ℕ) (new : PlayerState) → Plays F.tells counts old count (said_at (step_of new) (words ∷ [])) [] [] new
-        → (answer : Result ℕ AnyError) × (words ≡ words_of_count answer) }
+    ensures { (counts : List ℕ) (old : PlayerState) (words : List ℕ) (new : PlayerState)
+        → Plays F.tells counts old count (said_at (step_of new) (words ∷ [])) [] [] new → (answer : Result ℕ AnyError)
+        × (words ≡ words_of_count answer) }
 {}

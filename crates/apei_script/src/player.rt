@@ -99,9 +99,13 @@ impl<F: Flash> Player<F> {
     /// Plays one line, and writes its replies.
     pub fn play<O: Sink>(&mut self, line: &ScriptLine<'_>, out: &mut O) -> Result<(), PlayStop>
         requires { IsPlayable (line_of line.now) }
-        ensures played { OnOk result (IsPlayed hearing F.tells O.tells self.old (line_of line.now) self.new (O.written out.old) (O.written out.new)) }
-        ensures unwritten { result ≡ Err PlayStop.SinkFault → IsUnwritten hearing F.tells O.tells self.old (line_of line.now) self.new (O.written out.old) (O.written out.new) }
-        ensures stopped { IfErr result (λ stop. stop ≢ PlayStop.SinkFault → IsStopped F.tells self.old (line_of line.now) self.new stop × (out.new ≡ out.old)) }
+        ensures played { OnOk result (IsPlayed hearing F.tells O.tells self.old (line_of line.now) self.new
+            (O.written out.old) (O.written out.new)) }
+        ensures unwritten { result ≡ Err PlayStop.SinkFault
+            → IsUnwritten hearing F.tells O.tells self.old (line_of line.now) self.new (O.written out.old)
+            (O.written out.new) }
+        ensures stopped { IfErr result (λ stop. stop ≢ PlayStop.SinkFault
+            → IsStopped F.tells self.old (line_of line.now) self.new stop × (out.new ≡ out.old)) }
         ensures fault { result ≡ Err PlayStop.SinkFault → Rose (O.faults out.old) (O.faults out.new) }
         ensures no_fault { result ≢ Err PlayStop.SinkFault → O.faults out.new ≡ O.faults out.old }
     {
@@ -121,8 +125,10 @@ impl<F: Flash> Player<F> {
     /// Makes the turns of a line: while the bridge is on, those of the reader are the bridge's.
     fn make_turns<O: Sink>(&mut self, letters: &[u8], out: &mut O) -> Result<(), SinkFault>
         requires { length letters.now ≤ 4096 }
-        ensures played { OnOk result (IsPlayed hearing F.tells O.tells self.old (turns_of letters.now) self.new (O.written out.old) (O.written out.new)) }
-        ensures unwritten { OnErr result (IsUnwritten hearing F.tells O.tells self.old (turns_of letters.now) self.new (O.written out.old) (O.written out.new)) }
+        ensures played { OnOk result (IsPlayed hearing F.tells O.tells self.old (turns_of letters.now) self.new
+            (O.written out.old) (O.written out.new)) }
+        ensures unwritten { OnErr result (IsUnwritten hearing F.tells O.tells self.old (turns_of letters.now) self.new
+            (O.written out.old) (O.written out.new)) }
         ensures cause { HasCause (O.faults out.old) (O.faults out.new) result }
     {
         if self.session.bridge.is_on() {
@@ -136,8 +142,10 @@ impl<F: Flash> Player<F> {
     pub fn answer(&mut self, line: &ScriptLine<'_>) -> Result<(), PlayStop>
         requires playable { IsPlayable (line_of line.now) }
         requires one { has_one_reply (line_of line.now) ≡ true }
-        ensures answered { OnOk result (LineAnswered F.tells (state_of self.old.session) (line_of line.now) (state_of self.new.session) self.new.session.buffers.reply) }
-        ensures stopped { IfErr result (Stops F.tells (state_of self.old.session) (line_of line.now) (state_of self.new.session)) }
+        ensures answered { OnOk result (LineAnswered F.tells (state_of self.old.session) (line_of line.now)
+            (state_of self.new.session) self.new.session.buffers.reply) }
+        ensures stopped { IfErr result (Stops F.tells (state_of self.old.session) (line_of line.now)
+            (state_of self.new.session)) }
         ensures listeners { members_of self.new.chain ≡ members_of self.old.chain }
     {
         a_line_is_the_maps::<F>();
@@ -155,7 +163,8 @@ impl<F: Flash> Player<F> {
         ensures machine { IsMachine (state_of self.now.session).machine }
 
         // The step behind each reply counts the changes that the flash tells.
-        ensures counted { F.tells → changes_of (state_of self.now.session).machine ≡ step_of (state_of self.now.session) }
+        ensures counted { F.tells → changes_of (state_of self.now.session).machine
+            ≡ step_of (state_of self.now.session) }
     {
         self.session.machine.stands();
     }

@@ -42,7 +42,8 @@ pub fn put_block(reply: &mut Reply, block: &[u8])
 fn put_bytes(reply: &mut Reply, word: &[u8], n: u64, bytes: &[u8])
     requires short { length word.now ≤ 16 }
     requires most { length bytes.now ≤ 65536 }
-    ensures { IsMade reply.new (word.now ++ decimal n ++ codes " " ++ decimal (length bytes.now) ++ codes " " ++ encode_lower bytes.now) }
+    ensures { IsMade reply.new (word.now ++ decimal n ++ codes " " ++ decimal (length bytes.now) ++ codes " " ++
+        encode_lower bytes.now) }
 {
     reply.begin(word);
     reply.add_number(n);

@@ -33,8 +33,10 @@ impl<F: Flash> Session<F> {
     pub fn carry_out(&mut self, line: &ScriptLine<'_>) -> Result<(), PlayStop>
         requires playable { IsPlayable (line_of line.now) }
         requires one { has_one_reply (line_of line.now) ≡ true }
-        ensures made { OnOk result (MakesReply F.tells (state_of self.old) (line_of line.now) (state_of self.new) self.new.buffers.reply) }
-        ensures stopped { IfErr result (λ stop. Stops F.tells (state_of self.old) (line_of line.now) (state_of self.new) stop) }
+        ensures made { OnOk result (MakesReply F.tells (state_of self.old) (line_of line.now)
+            (state_of self.new) self.new.buffers.reply) }
+        ensures stopped { IfErr result (λ stop. Stops F.tells (state_of self.old) (line_of line.now)
+            (state_of self.new) stop) }
     {
         match line {
             ScriptLine::Table { hex } => self.give_table(hex),
@@ -70,7 +72,8 @@ impl<F: Flash> Session<F> {
 
     /// Restarts the machine.
     fn reset(&mut self) -> Result<(), PlayStop>
-        ensures made { OnOk result (MakesReply F.tells (state_of self.old) reset (state_of self.new) self.new.buffers.reply) }
+        ensures made { OnOk result (MakesReply F.tells (state_of self.old) reset (state_of self.new)
+            self.new.buffers.reply) }
         ensures stopped { IfErr result (λ stop. Stops F.tells (state_of self.old) reset (state_of self.new) stop) }
     {
         let Ok(records) = self.machine.warm() else {
@@ -84,7 +87,8 @@ impl<F: Flash> Session<F> {
 
     /// Ends a loss of power.
     fn power(&mut self) -> Result<(), PlayStop>
-        ensures made { OnOk result (MakesReply F.tells (state_of self.old) power (state_of self.new) self.new.buffers.reply) }
+        ensures made { OnOk result (MakesReply F.tells (state_of self.old) power (state_of self.new)
+            self.new.buffers.reply) }
         ensures stopped { IfErr result (λ stop. Stops F.tells (state_of self.old) power (state_of self.new) stop) }
     {
         let Ok(records) = self.machine.power() else {

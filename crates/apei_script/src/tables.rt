@@ -26,8 +26,10 @@ impl<F: Flash> Session<F> {
     pub fn give_table(&mut self, hex: &[u8]) -> Result<(), PlayStop>
         requires pairs { IsPairs hex.now }
         requires fits { length hex.now ≤ LONGEST_LINE }
-        ensures made { OnOk result (MakesReply F.tells (state_of self.old) (table hex.now) (state_of self.new) self.new.buffers.reply) }
-        ensures stopped { IfErr result (λ stop. Stops F.tells (state_of self.old) (table hex.now) (state_of self.new) stop) }
+        ensures made { OnOk result (MakesReply F.tells (state_of self.old) (table hex.now)
+            (state_of self.new) self.new.buffers.reply) }
+        ensures stopped { IfErr result (λ stop. Stops F.tells (state_of self.old) (table hex.now)
+            (state_of self.new) stop) }
     {
         let len = decode_line(hex, &mut self.buffers.bytes);
         let table = match ErstTable::decode(self.alloc, &self.buffers.bytes[..len]) {
@@ -51,8 +53,10 @@ impl<F: Flash> Session<F> {
 
     /// Attaches a client to the machine's table whose own programs move the record: it takes the place of the one that a line gave before.
     pub fn use_shadow_table(&mut self) -> Result<(), PlayStop>
-        ensures made { OnOk result (MakesReply F.tells (state_of self.old) shadow_table (state_of self.new) self.new.buffers.reply) }
-        ensures stopped { IfErr result (λ stop. Stops F.tells (state_of self.old) shadow_table (state_of self.new) stop) }
+        ensures made { OnOk result (MakesReply F.tells (state_of self.old) shadow_table (state_of self.new)
+            self.new.buffers.reply) }
+        ensures stopped { IfErr result (λ stop. Stops F.tells (state_of self.old) shadow_table (state_of self.new)
+            stop) }
     {
         attaching_never_fails::<F>();
         self.machine.stands();

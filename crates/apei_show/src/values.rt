@@ -15,7 +15,8 @@ use std::alloc::{AllocError, Global};
 /// The paths of the files, at least one.
 pub(crate) fn files(alloc: Global, matches: &ArgMatches<'_>) -> Result<Vec<String>, WordsError>
     ensures files { IfOk result (AreFiles (all_of (codes "files") (rows_of (found_of matches.now)))) }
-    ensures bad_words { result ≡ Err BadWords → NoneFits (AreFiles (all_of (codes "files") (rows_of (found_of matches.now)))) BadWords }
+    ensures bad_words { result ≡ Err BadWords
+        → NoneFits (AreFiles (all_of (codes "files") (rows_of (found_of matches.now)))) BadWords }
 {
     match given(matches, FILES) {
         Some(paths) => Ok(owned(alloc, paths)?),
@@ -25,7 +26,8 @@ pub(crate) fn files(alloc: Global, matches: &ArgMatches<'_>) -> Result<Vec<Strin
 
 // The texts that an argument was given.
 fn given<'m, 'a>(matches: &'m ArgMatches<'a>, name: &str) -> Option<&'m [&'a str]>
-    ensures { option_map (λ texts. map (λ text. text.now) texts.now) result ≡ all_of name.now (rows_of (found_of matches.now)) }
+    ensures { option_map (λ texts. map (λ text. text.now) texts.now) result
+        ≡ all_of name.now (rows_of (found_of matches.now)) }
 {
     matches.get_strs(name)
 }
@@ -43,8 +45,10 @@ fn owned(alloc: Global, texts: &[&str]) -> Result<Vec<String>, AllocError>
 
 /// JSON, the first lines alone, or text where neither is asked for. Both are none.
 pub(crate) fn form(matches: &ArgMatches<'_>) -> Result<Form, WordsError>
-    ensures { MatchResult result (IsForm (is_set (codes "json") (rows_of (found_of matches.now))) (is_set (codes "brief") (rows_of (found_of matches.now))))
-        (NoneFits (IsForm (is_set (codes "json") (rows_of (found_of matches.now))) (is_set (codes "brief") (rows_of (found_of matches.now))))) }
+    ensures { MatchResult result (IsForm (is_set (codes "json") (rows_of (found_of matches.now)))
+        (is_set (codes "brief") (rows_of (found_of matches.now))))
+        (NoneFits (IsForm (is_set (codes "json") (rows_of (found_of matches.now)))
+        (is_set (codes "brief") (rows_of (found_of matches.now))))) }
 {
     let json = is_set(matches, JSON);
     let brief = is_set(matches, BRIEF);
@@ -58,7 +62,8 @@ pub(crate) fn form(matches: &ArgMatches<'_>) -> Result<Form, WordsError>
 
 /// When the output is coloured: on a terminal, where nothing else is asked for.
 pub(crate) fn color(matches: &ArgMatches<'_>) -> Result<Color, WordsError>
-    ensures { MatchResult result (IsColor (first_of (codes "color") (rows_of (found_of matches.now)))) (NoneFits (IsColor (first_of (codes "color") (rows_of (found_of matches.now))))) }
+    ensures { MatchResult result (IsColor (first_of (codes "color") (rows_of (found_of matches.now))))
+        (NoneFits (IsColor (first_of (codes "color") (rows_of (found_of matches.now))))) }
 {
     match text(matches, COLOR) {
         Some(word) => match color_named(word) {

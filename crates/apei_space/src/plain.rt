@@ -43,7 +43,11 @@ impl Ram {
     /// Memory of these windows, all bytes 0.
     pub fn new(alloc: Global, windows: &[Window]) -> Result<Ram, OutOfMemory>
         requires { AreApart windows.now }
-        ensures { IfOk result (λ ram. ram ≡ record { windows = windows.now; bytes = replicate (total windows.now) 0; waited = 0 }) }
+        ensures { IfOk result (λ ram. ram ≡ record {
+          windows = windows.now;
+          bytes = replicate (total windows.now) 0;
+          waited = 0;
+        }) }
     {
         let Some(len) = total_of(windows) else {
             return Err(OutOfMemory);
@@ -68,7 +72,8 @@ impl Ram {
 
     /// What `read` would answer.
     pub fn look(&self, at: Place, width: Width) -> Result<u64, SpaceFault>
-        ensures value { result ≡ number_in (located self.now.windows at (bits width / 8)) self.now.bytes (bits width / 8) }
+        ensures value { result ≡ number_in (located self.now.windows at (bits width / 8)) self.now.bytes
+            (bits width / 8) }
         ensures small { IfOk result (λ value. value < 2 ^ bits width) }
         ensures windows { FillsWindows self.now }
     {
@@ -84,9 +89,11 @@ impl Ram {
         keep: u64,
         set: u64,
     ) -> Result<u64, SpaceFault>
-        ensures value { result ≡ number_in (located self.old.windows at (bits width / 8)) self.old.bytes (bits width / 8) }
+        ensures value { result ≡ number_in (located self.old.windows at (bits width / 8)) self.old.bytes
+            (bits width / 8) }
         ensures small { IfOk result (λ value. value < 2 ^ bits width) }
-        ensures memory { self.new ≡ changed (located self.old.windows at (bits width / 8)) self.old (bits width / 8) keep set }
+        ensures memory { self.new ≡ changed (located self.old.windows at (bits width / 8)) self.old (bits width / 8)
+            keep set }
     {
         let start = self.locate(at, width.bytes())?;
         let value = get_number(&self.bytes, start, width);
@@ -97,7 +104,8 @@ impl Ram {
     /// What `read_bytes` would answer.
     pub fn look_bytes(&self, at: u64, out: &mut [u8]) -> Result<(), SpaceFault>
         ensures answer { result ≡ answer_of (located self.now.windows (Place.Memory at) (length out.old)) }
-        ensures bytes { out.new ≡ filled (located self.now.windows (Place.Memory at) (length out.old)) self.now.bytes out.old }
+        ensures bytes { out.new ≡ filled (located self.now.windows (Place.Memory at)
+            (length out.old)) self.now.bytes out.old }
         ensures windows { FillsWindows self.now }
     {
         let start = self.locate(Place::Memory(at), out.len())?;

@@ -49,7 +49,8 @@ impl Header {
     ) -> Result<(Header, &[u8]), TableError>
         requires { 36 ≤ fixed }
         ensures found { IfOk result (λ found. FindsTable signature fixed bytes.now found.0 found.1.now) }
-        ensures only { (header : _) (table rest : List ℕ) → bytes.now ≡ table ++ rest → IsHeader header → IsTable header table → header.signature ≡ signature → fixed ≤ length table → Finds header table result }
+        ensures only { (header : _) (table rest : List ℕ) → bytes.now ≡ table ++ rest → IsHeader header
+            → IsTable header table → header.signature ≡ signature → fixed ≤ length table → Finds header table result }
         ensures refused { Refuses signature fixed bytes.now result }
     {
         Header::find(bytes, signature, fixed)

@@ -15,7 +15,8 @@ pub fn matches_in<'a>(
 ) -> Result<ArgMatches<'a>, WordsError>
     requires { is_simple_and_free (app_of command) ≡ true }
     ensures taken { IfOk result (λ _. fault_of (app_of command.entry) (texts_of words.entry.now) ≡ []) }
-    ensures read { IfOk result (λ matches. rows_of (found_of matches) ≡ matches_of (app_of command.entry) (texts_of words.entry.now)) }
+    ensures read { IfOk result (λ matches. rows_of (found_of matches) ≡ matches_of (app_of command.entry)
+        (texts_of words.entry.now)) }
     ensures faulty { result ≡ Err BadWords → ¬ (fault_of (app_of command.entry) (texts_of words.entry.now) ≡ []) }
     ensures refused { result ≡ Err BadWords → ¬ (takes (app_of command.entry) (texts_of words.entry.now) ≡ true) }
 {

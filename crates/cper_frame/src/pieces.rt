@@ -33,7 +33,8 @@ fn step(
 ) -> Result<Progress, OutOfMemory>
     requires waits { Waits reader.old }
     requires some { 0 < length rest.now }
-    ensures { IfOk result (Stepped reader.old reader.new (contents records.old.items) (contents records.new.items) rest.now) }
+    ensures { IfOk result (Stepped reader.old reader.new (contents records.old.items)
+        (contents records.new.items) rest.now) }
 {
     match reader.feed(rest) {
         Err(error) => Ok(Progress::Stopped(error)),
@@ -57,7 +58,8 @@ fn feed_piece(
     piece: &[u8],
 ) -> Result<Option<FrameError>, OutOfMemory>
     requires { Waits reader.old }
-    ensures { IfOk result (Passed reader.old reader.new (contents records.old.items) (contents records.new.items) piece.now) }
+    ensures { IfOk result (Passed reader.old reader.new (contents records.old.items)
+        (contents records.new.items) piece.now) }
 {
     let mut at = 0;
     while at < piece.len() {
@@ -73,10 +75,13 @@ fn feed_piece(
 pub fn frames_in(alloc: Global, limit: u32, pieces: &[Vec<u8>]) -> Result<Frames, OutOfMemory>
     requires { 128 ≤ limit }
     // Up to a rest that is no whole record, or that is refused, the stream is these records.
-    ensures split { IfOk result (λ f. (rest : List ℕ) × (error : Error) × Splits limit (flat_map (λ v. v.items) pieces.now) (contents f.records.items) rest error × (f.refused ≡ refusal error)) }
+    ensures split { IfOk result (λ f. (rest : List ℕ) × (error : Error)
+        × Splits limit (flat_map (λ v. v.items) pieces.now) (contents f.records.items) rest error
+        × (f.refused ≡ refusal error)) }
     // No other records are, so it doesn't matter how the stream was cut into pieces.
     ensures only { IfOk result (λ f. (others : List (List ℕ)) (rest : List ℕ) (error : Error)
-        → Splits limit (flat_map (λ v. v.items) pieces.now) others rest error → (contents f.records.items ≡ others) × (f.refused ≡ refusal error)) }
+        → Splits limit (flat_map (λ v. v.items) pieces.now) others rest error → (contents f.records.items ≡ others)
+        × (f.refused ≡ refusal error)) }
 {
     let mut reader = FrameReader::new(alloc, limit)?;
     let mut records = Vec::new(alloc);

@@ -132,9 +132,11 @@ impl<'a> Record<'a> {
         // What is found is a record.
         ensures found { IfOk result (λ x. (x.1 ≤ length bytes.now) × IsRecord x.0 (take x.1 bytes.now)) }
         // What is a record is found.
-        ensures only { (value : RecordValue) (n : ℕ) → n ≤ length bytes.now → IsRecord value (take n bytes.now) → IsOkAnd result (λ x. (x.0 ≡ value) × (x.1 ≡ n)) }
+        ensures only { (value : RecordValue) (n : ℕ) → n ≤ length bytes.now → IsRecord value (take n bytes.now)
+            → IsOkAnd result (λ x. (x.0 ≡ value) × (x.1 ≡ n)) }
         // The error is the first check that fails.
-        ensures exact { MatchResult result (λ x. checked (2 ^ 32 - 1) bytes.now ≡ Ok x.1) (λ e. checked (2 ^ 32 - 1) bytes.now ≡ Err e) }
+        ensures exact { MatchResult result (λ x. checked (2 ^ 32 - 1) bytes.now ≡ Ok x.1)
+            (λ e. checked (2 ^ 32 - 1) bytes.now ≡ Err e) }
     {
         let length = checked_length(bytes, u32::MAX)? as usize;
         let record = Record {
@@ -184,5 +186,6 @@ impl<'a> Record<'a> {
 
 /// No record begins another, so where a record ends doesn't depend on what follows it.
 pub fn one_end()
-    ensures { (value other : RecordValue) (bytes more : List ℕ) → IsRecord value bytes → IsRecord other (bytes ++ more) → more ≡ [] }
+    ensures { (value other : RecordValue) (bytes more : List ℕ) → IsRecord value bytes
+        → IsRecord other (bytes ++ more) → more ≡ [] }
 {}

@@ -133,7 +133,8 @@ impl<'a> RecordWriter<'a> {
         requires left { given_to self.old < announced_to self.old }
         requires short { used_by self.old + length body.now < 2 ^ 32 }
         // The section is the next one of the record.
-        ensures written { OnOk result ((before : List ℕ) (head_of : Head) (given : List Given) → IsWriting before head_of given self.old
+        ensures written { OnOk result ((before : List ℕ) (head_of : Head) (given : List Given)
+            → IsWriting before head_of given self.old
             → IsWriting before head_of (given ++ record { head = head.now; body = body.now } ∷ []) self.new) }
         ensures used { OnOk result (used_by self.new ≡ used_by self.old + length body.now) }
         ensures given { OnOk result (given_to self.new ≡ given_to self.old + 1) }

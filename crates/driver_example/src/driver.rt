@@ -52,7 +52,8 @@ impl Driver {
     /// Erases a sector, and counts that.
     pub fn erase(&mut self, sector: u32)
         requires { sector * self.old.sector + self.old.sector ≤ length self.old.bytes.items }
-        ensures bytes { self.new.bytes.items ≡ put_at self.old.bytes.items (sector * self.old.sector) (replicate self.old.sector 0xFF) }
+        ensures bytes { self.new.bytes.items ≡ put_at self.old.bytes.items (sector * self.old.sector)
+            (replicate self.old.sector 0xFF) }
         ensures size { length self.new.bytes.items ≡ length self.old.bytes.items }
         ensures erases { self.new.erases.items ≡ erased_once_more self.old.erases.items sector }
         ensures sector { self.new.sector ≡ self.old.sector }

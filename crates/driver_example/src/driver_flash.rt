@@ -110,9 +110,12 @@ impl Flash for DriverFlash {
     fn erase(&mut self, sector: u32) -> Result<(), FlashFailed>
         requires { sector * self.old.driver.sector + self.old.driver.sector ≤ (state_of self.old).size }
         ensures bytes { OnOk result (self.new.driver.bytes.items
-            ≡ put_at self.old.driver.bytes.items (sector * self.old.driver.sector) (replicate self.old.driver.sector 0xFF)) }
-        ensures erases { OnOk result (self.new.driver.erases.items ≡ erased_once_more self.old.driver.erases.items sector) }
-        ensures change { AsksChange ⊥ (sector * self.old.driver.sector) self.old.driver.sector (state_of self.old) (state_of self.new) result }
+            ≡ put_at self.old.driver.bytes.items (sector * self.old.driver.sector)
+            (replicate self.old.driver.sector 0xFF)) }
+        ensures erases { OnOk result (self.new.driver.erases.items
+            ≡ erased_once_more self.old.driver.erases.items sector) }
+        ensures change { AsksChange ⊥ (sector * self.old.driver.sector) self.old.driver.sector (state_of self.old)
+            (state_of self.new) result }
         ensures fails { IsErr result ↔ IsTrue self.new.failed }
         ensures full { self.old.steps ≡ 2 ^ 64 - 1 → self.new.driver ≡ self.old.driver }
     {

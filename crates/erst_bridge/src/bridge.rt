@@ -88,7 +88,8 @@ impl Bridge {
         station: &mut S,
     ) -> BridgeEvent
         requires { self.old ≢ Off }
-        ensures bridges { Bridges S.state S.allows S.reads S.last client.old budget.old station.old self.old result self.new budget.new station.new }
+        ensures bridges { Bridges S.state S.allows S.reads S.last client.old budget.old station.old self.old result
+            self.new budget.new station.new }
         ensures on { self.new ≢ Off }
         ensures client { client.new ≡ client.old }
         // A fault of the device is the reason of `Kept` only where the space's count of faults rose.
@@ -127,7 +128,8 @@ fn turn_reader<S: Station>(
     requires named { 0 < id }
     requires has { HasRecord stage.old id (take size.old bytes.old) }
     ensures reads { S.reads station.old result station.new }
-    ensures state { state_of stage.new id (take size.new bytes.new) ≡ after_reader result id (S.last station.new) (state_of stage.old id (take size.old bytes.old)) }
+    ensures state { state_of stage.new id (take size.new bytes.new) ≡ after_reader result id (S.last station.new)
+        (state_of stage.old id (take size.old bytes.old)) }
     ensures within { size.new ≤ 4296 }
     ensures has { HasRecord stage.new id (take size.new bytes.new) }
 {
@@ -153,7 +155,8 @@ fn offer<S: Station>(
 ) -> BridgeEvent
     requires { 0 < id }
     ensures bridges { (block : List ℕ) → bytes.now ≡ bridged block id
-        → Bridges S.state S.allows S.reads S.last client.old budget.old station.old (Holds id block) result (after_offer result id block) budget.new station.new }
+        → Bridges S.state S.allows S.reads S.last client.old budget.old station.old (Holds id block) result
+        (after_offer result id block) budget.new station.new }
     ensures client { client.new ≡ client.old }
     ensures cause { OfEvent (S.faults (S.state station.old)) (S.faults (S.state station.new)) result }
 {

@@ -16,7 +16,8 @@ pub fn bridged_turns_are_one_list<F: Flash>()
 /// Power lost at any flash step shows the records after the turns that had ended by then, or as the next one leaves them where nothing
 /// fails: a turn that was answered `Stored` or `Kept` is a write of its own.
 pub fn bridged_turns_are_shown<F: Flash>()
-    ensures { F.tells → (run : BridgedRun) → IsByOwnClient run.client run.first → IsMadeRun F.tells run → EachLossShowsItsTurns run }
+    ensures { F.tells → (run : BridgedRun) → IsByOwnClient run.client run.first → IsMadeRun F.tells run
+        → EachLossShowsItsTurns run }
 {
     own_programs_run_through::<F>();
 }
@@ -25,11 +26,14 @@ pub fn bridged_turns_are_shown<F: Flash>()
 /// whatever turns come behind it. So does power lost while the reader gives the block back.
 pub fn a_stored_block_stays<F: Flash>()
     // From the turn that stored it on.
-    ensures stored { F.tells → (turn : BridgedTurn) → IsByOwnClient turn.client turn.old → IsMadeTurn F.tells turn → EachStoredBlockStays F.tells turn }
+    ensures stored { F.tells → (turn : BridgedTurn) → IsByOwnClient turn.client turn.old → IsMadeTurn F.tells turn
+        → EachStoredBlockStays F.tells turn }
     // Whenever the reader gives a block back, the record of the block that it took last is stored.
-    ensures covered { F.tells → (run : BridgedRun) → IsByOwnClient run.client run.first → IsMadeRun F.tells run → (m : HandoverMachine) → StaysCovered run m }
+    ensures covered { F.tells → (run : BridgedRun) → IsByOwnClient run.client run.first → IsMadeRun F.tells run
+        → (m : HandoverMachine) → StaysCovered run m }
     // And from there on too.
-    ensures stays { F.tells → (run : BridgedRun) → IsByOwnClient run.client run.first → IsMadeRun F.tells run → (id : ℕ) (bytes : List ℕ) → LeavesStored id bytes run }
+    ensures stays { F.tells → (run : BridgedRun) → IsByOwnClient run.client run.first → IsMadeRun F.tells run
+        → (id : ℕ) (bytes : List ℕ) → LeavesStored id bytes run }
 {
     own_programs_run_through::<F>();
 }
@@ -44,7 +48,8 @@ pub fn what_is_acknowledged_was_stored<F: Flash>()
 /// Also where nobody was told how far the turns came: power lost at any step from their start on shows the records from before them, with
 /// those of the first blocks that were held, or submitted and not yet taken.
 pub fn bridged_turns_show_a_prefix<F: Flash>()
-    ensures { F.tells → (run : BridgedRun) → IsByOwnClient run.client run.first → IsMadeRun F.tells run → (m : HandoverMachine) → EachLossShowsAPrefix run m }
+    ensures { F.tells → (run : BridgedRun) → IsByOwnClient run.client run.first → IsMadeRun F.tells run
+        → (m : HandoverMachine) → EachLossShowsAPrefix run m }
 {
     own_programs_run_through::<F>();
 }
@@ -54,9 +59,11 @@ pub fn bridged_turns_show_a_prefix<F: Flash>()
 /// time. `Out` comes exactly where the block's identifier would be 2^64 - 1.
 pub fn a_kept_block_has_its_cause<F: Flash>()
     ensures too_long { (turn : BridgedTurn) → IsMadeTurn F.tells turn → TooLongIsKept turn }
-    ensures fits { F.tells → (turn : BridgedTurn) → IsByOwnClient turn.client turn.old → IsMadeTurn F.tells turn → NoneThatFitsIsTooLong turn }
+    ensures fits { F.tells → (turn : BridgedTurn) → IsByOwnClient turn.client turn.old → IsMadeTurn F.tells turn
+        → NoneThatFitsIsTooLong turn }
     ensures hardware { (turn : BridgedTurn) → IsMadeTurn F.tells turn → HardwareRose turn }
-    ensures enough { (turn : BridgedTurn) → IsByOwnClient turn.client turn.old → IsMadeTurn F.tells turn → NeverForWantOfSteps turn }
+    ensures enough { (turn : BridgedTurn) → IsByOwnClient turn.client turn.old → IsMadeTurn F.tells turn
+        → NeverForWantOfSteps turn }
     ensures out { (turn : BridgedTurn) → IsMadeTurn F.tells turn → OutIsOfTheLast turn }
     ensures last { (turn : BridgedTurn) → IsMadeTurn F.tells turn → TheLastIsOut turn }
 {

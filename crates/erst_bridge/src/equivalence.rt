@@ -21,7 +21,8 @@ pub fn equivalent_machines_bridge_alike<F: Flash>()
 
 /// So is a turn of the firmware or of the bridge, whichever it was.
 pub fn equivalent_machines_turn_alike<F: Flash>()
-    ensures { F.tells → (client : ClientState) (bridge : BridgeState) (budget : ℕ) → EachTurnIsAlike F.tells client bridge budget }
+    ensures { F.tells → (client : ClientState) (bridge : BridgeState) (budget : ℕ)
+        → EachTurnIsAlike F.tells client bridge budget }
 {
     equivalent_machines_bridge_alike::<F>();
     equivalent_machines_hand_over_alike();
@@ -29,8 +30,10 @@ pub fn equivalent_machines_turn_alike<F: Flash>()
 
 /// So are turns of the same sides, one after another; and what is told of them is the same, with the flash changes behind each.
 pub fn equivalent_machines_make_turns_alike<F: Flash>()
-    ensures turns { F.tells → (client : ClientState) (bridge : BridgeState) (budget : ℕ) → EachRunIsAlike F.tells client bridge budget }
-    ensures made { F.tells → (client : ClientState) (bridge : BridgeState) (budget : ℕ) → EachRunIsToldAlike F.tells client bridge budget }
+    ensures turns { F.tells → (client : ClientState) (bridge : BridgeState) (budget : ℕ)
+        → EachRunIsAlike F.tells client bridge budget }
+    ensures made { F.tells → (client : ClientState) (bridge : BridgeState) (budget : ℕ)
+        → EachRunIsToldAlike F.tells client bridge budget }
 {
     equivalent_machines_turn_alike::<F>();
 }

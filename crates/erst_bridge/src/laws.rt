@@ -20,9 +20,9 @@ pub fn a_bridged_block_is_a_record()
 /// A bridge and the reader whose turns it makes stay in step: a block is held from the turn that took it until its record is stored, and
 /// only then does the reader go on to acknowledge it.
 pub fn a_bridge_stays_in_step()
-    ensures order { (len id : ℕ) (bridge : BridgeState) (m : Machine) → IsState len m → IsInStep bridge m → HoldsNone id bridge
-        → IsInOrder bridge (IsLine (turned OfReader m).0) }
-    ensures stays { (len id : ℕ) (bridge : BridgeState) (m : Machine) → IsState len m → IsInStep bridge m → HoldsNone id bridge
-        → (block : List ℕ) → block ≡ last_taken (turned OfReader m).1
+    ensures order { (len id : ℕ) (bridge : BridgeState) (m : Machine) → IsState len m → IsInStep bridge m
+        → HoldsNone id bridge → IsInOrder bridge (IsLine (turned OfReader m).0) }
+    ensures stays { (len id : ℕ) (bridge : BridgeState) (m : Machine) → IsState len m → IsInStep bridge m
+        → HoldsNone id bridge → (block : List ℕ) → block ≡ last_taken (turned OfReader m).1
         → IsInStep (after_reader (turned OfReader m).0 id block bridge) (turned OfReader m).1 }
 {}

@@ -48,7 +48,8 @@ pub fn turn_sides<F: Flash>(
 )
     requires on { bridge.old ≢ Off }
     requires room { length sides.now ≤ vec_capacity made.old }
-    ensures turns { MakesTurns F.tells client.old steps bridge.old machine.old sides.now made.new.items bridge.new machine.new }
+    ensures turns { MakesTurns F.tells client.old steps bridge.old machine.old sides.now made.new.items bridge.new
+        machine.new }
     ensures on { bridge.new ≢ Off }
     ensures client { client.new ≡ client.old }
 {

@@ -26,7 +26,8 @@ pub fn find<S: Space>(
     budget: &mut Budget,
     space: &mut S,
 ) -> Result<FoundRange, AttachError>
-    ensures { Attaches S.allows table.now budget.old (S.state space.old) (client_result table.now result) budget.new (S.state space.new) }
+    ensures { Attaches S.allows table.now budget.old (S.state space.old)
+        (client_result table.now result) budget.new (S.state space.new) }
 {
     let address = match ask(table, Action::GetErrorLogAddressRange, budget, space) {
         Ok(address) => address,
@@ -58,7 +59,8 @@ fn ask_timings<S: Space>(
     budget: &mut Budget,
     space: &mut S,
 ) -> Result<Option<(u32, u32)>, RunStop>
-    ensures { AsksTimings S.allows table.now.entries budget.old (S.state space.old) result budget.new (S.state space.new) }
+    ensures { AsksTimings S.allows table.now.entries budget.old (S.state space.old) result budget.new
+        (S.state space.new) }
 {
     if program_for(table, Action::GetExecuteOperationTimings).is_empty() {
         return Ok(None);

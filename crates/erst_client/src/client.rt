@@ -43,7 +43,8 @@ impl Client {
         budget: &mut Budget,
         space: &mut S,
     ) -> Result<Client, AttachError>
-        ensures attaches { Attaches S.allows table budget.old (S.state space.old) result budget.new (S.state space.new) }
+        ensures attaches { Attaches S.allows table budget.old (S.state space.old) result budget.new
+            (S.state space.new) }
         ensures reaches { Reaches S.allows (S.state space.old) (S.state space.new) }
         ensures cause { HasAttachCause (S.faults (S.state space.old)) (S.faults (S.state space.new)) result }
     {
@@ -85,7 +86,8 @@ impl Client {
         budget: &mut Budget,
         space: &mut S,
     ) -> Result<(), ClientError>
-        ensures writes { Writes S.allows self.old bytes.now budget.old (S.state space.old) result budget.new (S.state space.new) }
+        ensures writes { Writes S.allows self.old bytes.now budget.old (S.state space.old) result budget.new
+            (S.state space.new) }
         ensures reaches { Reaches S.allows (S.state space.old) (S.state space.new) }
         ensures cause { HasDeviceCause (S.faults (S.state space.old)) (S.faults (S.state space.new)) result }
         ensures kept { self.new ≡ self.old }
@@ -102,7 +104,8 @@ impl Client {
         budget: &mut Budget,
         space: &mut S,
     ) -> Result<usize, ClientError>
-        ensures reads { Reads S.allows self.old id out.old budget.old (S.state space.old) result out.new budget.new (S.state space.new) }
+        ensures reads { Reads S.allows self.old id out.old budget.old (S.state space.old) result out.new budget.new
+            (S.state space.new) }
         ensures reaches { Reaches S.allows (S.state space.old) (S.state space.new) }
         ensures cause { HasDeviceCause (S.faults (S.state space.old)) (S.faults (S.state space.new)) result }
         ensures kept { self.new ≡ self.old }
@@ -117,7 +120,8 @@ impl Client {
         budget: &mut Budget,
         space: &mut S,
     ) -> Result<(), ClientError>
-        ensures clears { Sequence S.allows self.old.table.entries self.old.timings (clear_requests id) budget.old (S.state space.old) result budget.new (S.state space.new) }
+        ensures clears { Sequence S.allows self.old.table.entries self.old.timings (clear_requests id) budget.old
+            (S.state space.old) result budget.new (S.state space.new) }
         ensures reaches { Reaches S.allows (S.state space.old) (S.state space.new) }
         ensures cause { HasDeviceCause (S.faults (S.state space.old)) (S.faults (S.state space.new)) result }
         ensures kept { self.new ≡ self.old }
@@ -127,7 +131,8 @@ impl Client {
 
     /// Goes through a write that stores nothing.
     pub fn dummy<S: Space>(&mut self, budget: &mut Budget, space: &mut S) -> Result<(), ClientError>
-        ensures dummy { Sequence S.allows self.old.table.entries self.old.timings dummy_requests budget.old (S.state space.old) result budget.new (S.state space.new) }
+        ensures dummy { Sequence S.allows self.old.table.entries self.old.timings dummy_requests budget.old
+            (S.state space.old) result budget.new (S.state space.new) }
         ensures reaches { Reaches S.allows (S.state space.old) (S.state space.new) }
         ensures cause { HasDeviceCause (S.faults (S.state space.old)) (S.faults (S.state space.new)) result }
         ensures kept { self.new ≡ self.old }
@@ -141,7 +146,8 @@ impl Client {
         budget: &mut Budget,
         space: &mut S,
     ) -> Result<u64, ClientError>
-        ensures counts { Counts S.allows self.old.table.entries budget.old (S.state space.old) result budget.new (S.state space.new) }
+        ensures counts { Counts S.allows self.old.table.entries budget.old (S.state space.old) result budget.new
+            (S.state space.new) }
         ensures reaches { Reaches S.allows (S.state space.old) (S.state space.new) }
         ensures cause { HasDeviceCause (S.faults (S.state space.old)) (S.faults (S.state space.new)) result }
         ensures kept { self.new ≡ self.old }
@@ -155,7 +161,8 @@ impl Client {
         budget: &mut Budget,
         space: &mut S,
     ) -> Result<Option<u64>, ClientError>
-        ensures names { Names S.allows self.old.table.entries budget.old (S.state space.old) result budget.new (S.state space.new) }
+        ensures names { Names S.allows self.old.table.entries budget.old (S.state space.old) result budget.new
+            (S.state space.new) }
         ensures reaches { Reaches S.allows (S.state space.old) (S.state space.new) }
         ensures cause { HasDeviceCause (S.faults (S.state space.old)) (S.faults (S.state space.new)) result }
         ensures kept { self.new ≡ self.old }

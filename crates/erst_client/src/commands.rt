@@ -33,7 +33,8 @@ pub fn write_record<S: Space>(
     budget: &mut Budget,
     space: &mut S,
 ) -> Result<(), ClientError>
-    ensures { Writes S.allows (client_with table.now found) bytes.now budget.old (S.state space.old) result budget.new (S.state space.new) }
+    ensures { Writes S.allows (client_with table.now found) bytes.now budget.old (S.state space.old) result budget.new
+        (S.state space.new) }
 {
     if let Some(error) = refusal(bytes, found.len) {
         return Err(error);
@@ -91,7 +92,8 @@ pub fn read_record<S: Space>(
     budget: &mut Budget,
     space: &mut S,
 ) -> Result<usize, ClientError>
-    ensures { Reads S.allows (client_with table.now found) id out.old budget.old (S.state space.old) result out.new budget.new (S.state space.new) }
+    ensures { Reads S.allows (client_with table.now found) id out.old budget.old (S.state space.old) result out.new
+        budget.new (S.state space.new) }
 {
     sequence(table, found.timings, &requests_to_read(id), budget, space)?;
     let mut field = [0; 4];
@@ -145,7 +147,8 @@ pub fn clear_record<S: Space>(
     budget: &mut Budget,
     space: &mut S,
 ) -> Result<(), ClientError>
-    ensures { Sequence S.allows table.now.entries found.timings (clear_requests id) budget.old (S.state space.old) result budget.new (S.state space.new) }
+    ensures { Sequence S.allows table.now.entries found.timings (clear_requests id) budget.old (S.state space.old)
+        result budget.new (S.state space.new) }
 {
     let requests = [
         plain(Action::BeginClearOperation),
@@ -165,7 +168,8 @@ pub fn write_dummy<S: Space>(
     budget: &mut Budget,
     space: &mut S,
 ) -> Result<(), ClientError>
-    ensures { Sequence S.allows table.now.entries found.timings dummy_requests budget.old (S.state space.old) result budget.new (S.state space.new) }
+    ensures { Sequence S.allows table.now.entries found.timings dummy_requests budget.old (S.state space.old) result
+        budget.new (S.state space.new) }
 {
     let requests = [
         plain(Action::BeginDummyWriteOperation),

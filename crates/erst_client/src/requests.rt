@@ -29,7 +29,8 @@ pub fn ask<S: Space>(
     budget: &mut Budget,
     space: &mut S,
 ) -> Result<u64, RunStop>
-    ensures { Performs S.allows table.now.entries action 0 budget.old (S.state space.old) result budget.new (S.state space.new) }
+    ensures { Performs S.allows table.now.entries action 0 budget.old (S.state space.old) result budget.new
+        (S.state space.new) }
 {
     perform(table, action, 0, budget, space)
 }
@@ -42,7 +43,8 @@ fn perform<S: Space>(
     budget: &mut Budget,
     space: &mut S,
 ) -> Result<u64, RunStop>
-    ensures { Performs S.allows table.now.entries action given budget.old (S.state space.old) result budget.new (S.state space.new) }
+    ensures { Performs S.allows table.now.entries action given budget.old (S.state space.old) result budget.new
+        (S.state space.new) }
 {
     run(&program_for(table, action), given, budget, space)
 }
@@ -55,7 +57,8 @@ pub fn ask_all<S: Space>(
     budget: &mut Budget,
     space: &mut S,
 ) -> Result<(), RunStop>
-    ensures { AsksAll S.allows table.now.entries requests.now budget.old (S.state space.old) result budget.new (S.state space.new) }
+    ensures { AsksAll S.allows table.now.entries requests.now budget.old (S.state space.old) result budget.new
+        (S.state space.new) }
 {
     for request in requests {
         match perform(table, request.action, request.given, budget, space) {

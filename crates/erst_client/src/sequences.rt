@@ -25,7 +25,8 @@ pub fn sequence<S: Space>(
     budget: &mut Budget,
     space: &mut S,
 ) -> Result<(), ClientError>
-    ensures { Sequence S.allows table.now.entries timings requests.now budget.old (S.state space.old) result budget.new (S.state space.new) }
+    ensures { Sequence S.allows table.now.entries timings requests.now budget.old (S.state space.old) result
+        budget.new (S.state space.new) }
 {
     let outcome = command(table, timings, requests, budget, space);
     let ended = ask(
@@ -52,7 +53,8 @@ fn command<S: Space>(
     budget: &mut Budget,
     space: &mut S,
 ) -> Result<(), ClientError>
-    ensures { UntilStatus S.allows table.now.entries timings requests.now budget.old (S.state space.old) result budget.new (S.state space.new) }
+    ensures { UntilStatus S.allows table.now.entries timings requests.now budget.old (S.state space.old) result
+        budget.new (S.state space.new) }
 {
     match ask_all(table, requests, budget, space) {
         Ok(()) => {}
@@ -73,7 +75,8 @@ fn wait<S: Space>(
     budget: &mut Budget,
     space: &mut S,
 ) -> Result<(), ClientError>
-    ensures { Waits S.allows table.now.entries timings budget.old (S.state space.old) result budget.new (S.state space.new) }
+    ensures { Waits S.allows table.now.entries timings budget.old (S.state space.old) result budget.new
+        (S.state space.new) }
 {
     let program = program_for(table, Action::CheckBusyStatus);
     let mut waited = 0;

@@ -43,7 +43,8 @@ pub fn equivalent_machines_show_alike<F: Flash>()
 
 /// A run of any program, with any given value and any budget, answers the same, with as many steps left, and leaves machines that are equivalent.
 pub fn equivalent_machines_run_alike<F: Flash>()
-    ensures { F.tells → (program : Listed) (given budget : ℕ) → IsDoneAlike {A = Result ℕ RunStop} (Run (Allows F.tells) program given budget) }
+    ensures { F.tells → (program : Listed) (given budget : ℕ)
+        → IsDoneAlike {A = Result ℕ RunStop} (Run (Allows F.tells) program given budget) }
 {}
 
 /// So do the programs of any table for some requests, one after another.
@@ -54,7 +55,8 @@ pub fn equivalent_machines_ask_alike<F: Flash>()
 
 /// Attaching to any table finds the same.
 pub fn equivalent_machines_attach_alike<F: Flash>()
-    ensures { F.tells → (table : Erst) (budget : ℕ) → IsDoneAlike {A = Result ClientState AttachError} (Attaches (Allows F.tells) table budget) }
+    ensures { F.tells → (table : Erst) (budget : ℕ)
+        → IsDoneAlike {A = Result ClientState AttachError} (Attaches (Allows F.tells) table budget) }
 {}
 
 /// A sequence of any requests, as those of a clear or a dummy write, is answered the same.
@@ -72,35 +74,42 @@ pub fn equivalent_machines_write_alike<F: Flash>()
 /// A client's read into buffers of the same length is answered the same, and the bytes of the record that they hold then are the same; and
 /// so are all bytes of buffers that held the same before.
 pub fn equivalent_machines_read_alike<F: Flash>()
-    ensures records { F.tells → (client : ClientState) (id budget : ℕ) → EachRecordIsReadAlike F.tells client id budget }
-    ensures buffers { F.tells → (client : ClientState) (id budget : ℕ) → EachBufferIsFilledAlike F.tells client id budget }
+    ensures records { F.tells → (client : ClientState) (id budget : ℕ)
+        → EachRecordIsReadAlike F.tells client id budget }
+    ensures buffers { F.tells → (client : ClientState) (id budget : ℕ)
+        → EachBufferIsFilledAlike F.tells client id budget }
 {}
 
 /// A count is the same.
 pub fn equivalent_machines_count_alike<F: Flash>()
-    ensures { F.tells → (entries : List Entry) (budget : ℕ) → IsDoneAlike {A = Result ℕ ClientError} (Counts (Allows F.tells) entries budget) }
+    ensures { F.tells → (entries : List Entry) (budget : ℕ)
+        → IsDoneAlike {A = Result ℕ ClientError} (Counts (Allows F.tells) entries budget) }
 {}
 
 /// Next names the same identifier, or none.
 pub fn equivalent_machines_name_alike<F: Flash>()
-    ensures { F.tells → (entries : List Entry) (budget : ℕ) → IsDoneAlike {A = Result (Option ℕ) ClientError} (Names (Allows F.tells) entries budget) }
+    ensures { F.tells → (entries : List Entry) (budget : ℕ)
+        → IsDoneAlike {A = Result (Option ℕ) ClientError} (Names (Allows F.tells) entries budget) }
 {}
 
 /// Calls of the handover and fatal blocks are answered the same, and leave machines that are equivalent, whatever the flashes do.
 pub fn equivalent_machines_hand_over_alike()
     ensures submits { (block : List ℕ) (one : MachineState) → IsAnsweredAlike (λ old. Submits old block) one }
     ensures turns { (side : AnySide) (one : MachineState) → IsAnsweredAlike (Turns side) one }
-    ensures lays { (block : List ℕ) (one : MachineState) → IsMachine one → IsAnsweredAlike (λ old. LaysFatal old block) one }
+    ensures lays { (block : List ℕ) (one : MachineState) → IsMachine one
+        → IsAnsweredAlike (λ old. LaysFatal old block) one }
 {}
 
 /// Restarts, calls of the handover and fatal blocks too are answered the same, and leave machines that are equivalent.
 pub fn equivalent_machines_go_on_alike<F: Flash>()
-    ensures { F.tells → (one : MachineState) → IsMachine one → IsMadeAlike asked_event answered_event (Happens F.tells) one }
+    ensures { F.tells → (one : MachineState) → IsMachine one
+        → IsMadeAlike asked_event answered_event (Happens F.tells) one }
 {}
 
 /// So does whatever happens to two machines that are equivalent, one event after another.
 pub fn equivalent_machines_stay_alike<F: Flash>()
-    ensures { F.tells → (one : MachineState) → IsMachine one → IsMadeAlike asked_by answered_by (Trail (Happens F.tells)) one }
+    ensures { F.tells → (one : MachineState) → IsMachine one
+        → IsMadeAlike asked_by answered_by (Trail (Happens F.tells)) one }
 {}
 
 /// Machines of one geometry that have just booted are equivalent where they hold the same records and their flashes have made as many changes;

@@ -61,7 +61,8 @@ pub fn a_clear_is_the_maps<F: Flash>()
 /// A client's write over the machine: bytes that are no one record, or too long, are refused and change nothing; a record is put into
 /// the log range, marked, and written as the map does.
 pub fn a_client_writes_as_the_map<F: Flash>()
-    ensures { F.tells → (first : MachineState) → IsMachine first → ClientWritesAsTheMap (own_table F.tells) (own_client first) first }
+    ensures { F.tells → (first : MachineState) → IsMachine first → ClientWritesAsTheMap (own_table F.tells)
+        (own_client first) first }
 {
     own_programs_run_through::<F>();
 }
@@ -83,7 +84,8 @@ pub fn a_read_is_the_maps<F: Flash>()
 /// A client's read over the machine: after its sequence the record's length is read from the log range, and so many bytes of it are
 /// copied out.
 pub fn a_client_reads_as_the_map<F: Flash>()
-    ensures { F.tells → (first : MachineState) → IsMachine first → ClientReadsAsTheMap (own_table F.tells) (own_client first) first }
+    ensures { F.tells → (first : MachineState) → IsMachine first → ClientReadsAsTheMap (own_table F.tells)
+        (own_client first) first }
 {
     own_programs_run_through::<F>();
 }
@@ -95,7 +97,8 @@ pub fn hardware_has_its_cause<F: Flash>()
     ensures count { (first : MachineState) → EachCountHasItsCause (own_table F.tells) first }
     ensures next { (first : MachineState) → EachNextHasItsCause (own_table F.tells) first }
     ensures write { (first : MachineState) → EachWriteHasItsCause (own_table F.tells) (own_client first) first }
-    ensures read { (first : MachineState) (id : ℕ) → EachReadHasItsCause (own_table F.tells) (own_client first) id first }
+    ensures read { (first : MachineState) (id : ℕ) → EachReadHasItsCause (own_table F.tells)
+        (own_client first) id first }
 {
     own_programs_run_through::<F>();
 }
@@ -106,8 +109,10 @@ pub fn enough_steps_go_through<F: Flash>()
     ensures sequence { (first : MachineState) → IsMachine first → EachSequenceGoesThrough (own_table F.tells) first }
     ensures count { (first : MachineState) → EachCountGoesThrough (own_table F.tells) first }
     ensures next { (first : MachineState) → EachNextGoesThrough (own_table F.tells) first }
-    ensures write { (first : MachineState) → IsMachine first → EachWriteGoesThrough (own_table F.tells) (own_client first) first }
-    ensures read { (first : MachineState) → IsMachine first → EachReadGoesThrough (own_table F.tells) (own_client first) first }
+    ensures write { (first : MachineState) → IsMachine first → EachWriteGoesThrough (own_table F.tells)
+        (own_client first) first }
+    ensures read { (first : MachineState) → IsMachine first → EachReadGoesThrough (own_table F.tells)
+        (own_client first) first }
 {
     own_programs_run_through::<F>();
 }

@@ -20,7 +20,8 @@ impl Registers {
     pub fn act<F: Flash>(&mut self, store: &mut Store<F>, action: Action, range: &mut [u8])
         requires runs { Runs F.tells self.old.running self.old.offset store.old }
         requires room { length range.old ≡ reach_of (room_of store.old.layout) }
-        ensures does { Acts F.tells (seen self.old store.old) range.old (Some action) (seen self.new store.new) range.new }
+        ensures does { Acts F.tells (seen self.old store.old) range.old (Some action)
+            (seen self.new store.new) range.new }
         ensures copies { F.tells → gives_up (Some action) ≡ true → KnowsCopies store.old }
         ensures runs { Runs F.tells self.new.running self.new.offset store.new }
     {
@@ -98,7 +99,8 @@ impl Registers {
     }
 
     fn end<F: Flash>(&mut self, store: &mut Store<F>)
-        ensures does { (range : List ℕ) → Acts F.tells (seen self.old store.old) range (Some EndOperation) (seen self.new store.new) range }
+        ensures does { (range : List ℕ) → Acts F.tells (seen self.old store.old) range (Some EndOperation)
+            (seen self.new store.new) range }
         ensures copies { F.tells → KnowsCopies store.old }
         ensures runs { Runs F.tells self.new.running self.new.offset store.new }
     {
@@ -109,7 +111,8 @@ impl Registers {
     fn execute<F: Flash>(&mut self, store: &mut Store<F>, range: &[u8])
         requires runs { Runs F.tells self.old.running self.old.offset store.old }
         requires room { length range.now ≡ reach_of (room_of store.old.layout) }
-        ensures does { Acts F.tells (seen self.old store.old) range.now (Some ExecuteOperation) (seen self.new store.new) range.now }
+        ensures does { Acts F.tells (seen self.old store.old) range.now (Some ExecuteOperation)
+            (seen self.new store.new) range.now }
         ensures runs { Runs F.tells self.new.running self.new.offset store.new }
     {
         if !self.is_still() {
@@ -125,7 +128,8 @@ impl Registers {
     }
 
     fn find_next<F: Flash>(&mut self, store: &mut Store<F>)
-        ensures does { (range : List ℕ) → Acts F.tells (seen self.old store.old) range (Some GetRecordIdentifier) (seen self.new store.new) range }
+        ensures does { (range : List ℕ) → Acts F.tells (seen self.old store.old) range (Some GetRecordIdentifier)
+            (seen self.new store.new) range }
         ensures copies { F.tells → KnowsCopies store.old }
         ensures runs { Runs F.tells self.new.running self.new.offset store.new }
     {
@@ -144,7 +148,8 @@ impl Registers {
     }
 
     fn count<F: Flash>(&mut self, store: &mut Store<F>)
-        ensures does { (range : List ℕ) → Acts F.tells (seen self.old store.old) range (Some GetRecordCount) (seen self.new store.new) range }
+        ensures does { (range : List ℕ) → Acts F.tells (seen self.old store.old) range (Some GetRecordCount)
+            (seen self.new store.new) range }
         ensures copies { F.tells → KnowsCopies store.old }
         ensures runs { Runs F.tells self.new.running self.new.offset store.new }
     {

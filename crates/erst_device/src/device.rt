@@ -102,7 +102,8 @@ impl<F: Flash> Device<F> {
         ensures registers { self.new ≡ at_first self.new.store }
         ensures error { FailsByFlash result }
         ensures settled { OnOk result (F.tells → IsSettled self.new.store) }
-        ensures reads { OnOk result (self.new.store.flash.reads ≡ raised (2 * self.old.store.layout.slots) self.old.store.flash.reads) }
+        ensures reads { OnOk result (self.new.store.flash.reads
+            ≡ raised (2 * self.old.store.layout.slots) self.old.store.flash.reads) }
         ensures powered { OnOk result (self.new.store.flash.powered ≡ true) }
         ensures lit { StaysPowered self.old.store.flash self.new.store.flash }
 
@@ -120,11 +121,13 @@ impl<F: Flash> Device<F> {
         ensures registers { self.new ≡ at_first self.new.store }
         ensures error { FailsByFlash result }
         ensures settled { OnOk result (F.tells → IsSettled self.new.store) }
-        ensures reads { OnOk result (self.new.store.flash.reads ≡ raised (2 * self.old.store.layout.slots) self.old.store.flash.reads) }
+        ensures reads { OnOk result (self.new.store.flash.reads
+            ≡ raised (2 * self.old.store.layout.slots) self.old.store.flash.reads) }
 
         // Power is back, unless a change on the way lost it again.
         ensures powered { OnOk result (self.new.store.flash.powered ≡ true) }
-        ensures back { (self.new.store.flash.powered ≡ true) ⊎ (self.old.store.flash.steps < self.new.store.flash.steps) }
+        ensures back { (self.new.store.flash.powered ≡ true)
+            ⊎ (self.old.store.flash.steps < self.new.store.flash.steps) }
 
         // It comes back before the slots are looked at: no call finds the flash without it.
         ensures lit { self.new.store.flash.unpowered ≡ self.old.store.flash.unpowered }

@@ -70,7 +70,8 @@ impl Registers {
         requires operation { self.old.operation ≡ Some Operation.Read }
         requires idle { store.old.pending ≡ Idle }
         requires room { reach ≡ reach_of (room_of store.old.layout) }
-        ensures starts { (range : List ℕ) → length range ≡ reach → Starts F.tells (seen self.old store.old) range (started result (seen self.new store.new)) }
+        ensures starts { (range : List ℕ) → length range ≡ reach
+            → Starts F.tells (seen self.old store.old) range (started result (seen self.new store.new)) }
         ensures runs { RunsAfter F.tells result self.old.offset store.new }
         ensures offset { self.new.offset ≡ self.old.offset }
         ensures nothing { self.new.running ≡ Running.Nothing }
@@ -91,7 +92,8 @@ impl Registers {
     fn start_clear<F: Flash>(&self, store: &mut Store<F>) -> Result<Running, CommandStatus>
         requires operation { self.now.operation ≡ Some Operation.Clear }
         requires idle { store.old.pending ≡ Idle }
-        ensures starts { (range : List ℕ) → Starts F.tells (seen self.now store.old) range (started result (seen self.now store.new)) }
+        ensures starts { (range : List ℕ) → Starts F.tells (seen self.now store.old) range
+            (started result (seen self.now store.new)) }
         ensures runs { RunsAfter F.tells result self.now.offset store.new }
     {
         let Some(id) = RecordId::new(self.id) else {

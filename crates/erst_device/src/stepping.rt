@@ -17,7 +17,8 @@ impl Registers {
     pub fn go_on<F: Flash>(&mut self, store: &mut Store<F>, range: &mut [u8])
         requires runs { Runs F.tells self.old.running self.old.offset store.old }
         requires room { length range.old ≡ reach_of (room_of store.old.layout) }
-        ensures does { Acts F.tells (seen self.old store.old) range.old (Some CheckBusyStatus) (seen self.new store.new) range.new }
+        ensures does { Acts F.tells (seen self.old store.old) range.old (Some CheckBusyStatus)
+            (seen self.new store.new) range.new }
         ensures runs { Runs F.tells self.new.running self.new.offset store.new }
     {
         match self.running {
@@ -31,7 +32,8 @@ impl Registers {
     fn step<F: Flash>(&mut self, store: &mut Store<F>)
         requires changing { self.old.running ≡ Running.Changing }
         requires busy { IsBusy store.old.pending }
-        ensures does { (range : List ℕ) → Acts F.tells (seen self.old store.old) range (Some CheckBusyStatus) (seen self.new store.new) range }
+        ensures does { (range : List ℕ) → Acts F.tells (seen self.old store.old) range (Some CheckBusyStatus)
+            (seen self.new store.new) range }
         ensures runs { Runs F.tells self.new.running self.new.offset store.new }
     {
         match store.step() {
@@ -53,7 +55,8 @@ impl Registers {
         requires running { self.old.running ≡ Running.Reading id }
         requires reading { IsReading F.tells id self.old.offset store.old }
         requires room { length range.old ≡ reach_of (room_of store.old.layout) }
-        ensures does { Acts F.tells (seen self.old store.old) range.old (Some CheckBusyStatus) (seen self.new store.new) range.new }
+        ensures does { Acts F.tells (seen self.old store.old) range.old (Some CheckBusyStatus)
+            (seen self.new store.new) range.new }
         ensures runs { Runs F.tells self.new.running self.new.offset store.new }
     {
         let Some(record_id) = RecordId::new(id) else {

@@ -63,8 +63,10 @@ impl ErstTable {
     /// The table that stands first in `bytes`, and how many bytes it has. Bytes behind it are left alone. The refusals
     /// are tried in the order of `ErstError`.
     pub fn decode(alloc: Global, bytes: &[u8]) -> Result<(ErstTable, usize), ErstError>
-        ensures found { IfOk result (λ found. IsErst found.0 (take found.1 bytes.now) × FitsErst found.0 × (found.1 ≤ length bytes.now)) }
-        ensures only { (erst : Erst) (table rest : List ℕ) → bytes.now ≡ table ++ rest → FitsErst erst → IsErst erst table → Gives erst (length table) result }
+        ensures found { IfOk result (λ found. IsErst found.0 (take found.1 bytes.now) × FitsErst found.0
+            × (found.1 ≤ length bytes.now)) }
+        ensures only { (erst : Erst) (table rest : List ℕ) → bytes.now ≡ table ++ rest → FitsErst erst
+            → IsErst erst table → Gives erst (length table) result }
         ensures refused { Refuses bytes.now result }
     {
         let (header, table) = match check(bytes) {

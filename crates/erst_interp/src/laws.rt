@@ -9,6 +9,8 @@ use apei_space::Space;
 
 /// A run of a straight program does what its entries do, one after another, or as many of them as it has steps for.
 pub fn a_straight_program_runs_through<S: Space>()
-    ensures { (program : Listed) (straight : AreStraight S.allows program.entries) (given budget : ℕ) (first : S.State) (answer : Result ℕ RunStop) (left : ℕ) (last : S.State) →
-        0 < length program.entries → Run S.allows program given budget first answer left last → RanStraight S.allows program straight given budget first answer left last }
+    ensures { (program : Listed) (straight : AreStraight S.allows program.entries) (given budget : ℕ)
+        (first : S.State) (answer : Result ℕ RunStop) (left : ℕ) (last : S.State) → 0 < length program.entries
+        → Run S.allows program given budget first answer left last
+        → RanStraight S.allows program straight given budget first answer left last }
 {}

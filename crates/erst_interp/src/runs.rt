@@ -28,7 +28,8 @@ pub fn run<S: Space>(
     ensures spends { budget.new ≤ budget.old }
     ensures spends_some { may_be_empty program.now.action ≡ false → OnOk result (budget.new < budget.old) }
     ensures never_falls { S.faults (S.state space.old) ≤ S.faults (S.state space.new) }
-    ensures device { (index : ℕ) → result ≡ Err (RunStop.Space index SpaceFault.Device) → Rose (S.faults (S.state space.old)) (S.faults (S.state space.new)) }
+    ensures device { (index : ℕ) → result ≡ Err (RunStop.Space index SpaceFault.Device)
+        → Rose (S.faults (S.state space.old)) (S.faults (S.state space.new)) }
 {
     walk(program, given, budget, space)
 }

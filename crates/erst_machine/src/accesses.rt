@@ -22,7 +22,8 @@ fn read_register<F: Flash>(
     width: Width,
 ) -> Result<u64, SpaceFault>
     requires { register ≡ Register.Value → width ≡ Width.B64 }
-    ensures value { (contents : Contents) (handover : HandoverState) (waited : ℕ) → result ≡ register_read register (state_of device.now contents handover waited) at width }
+    ensures value { (contents : Contents) (handover : HandoverState) (waited : ℕ)
+        → result ≡ register_read register (state_of device.now contents handover waited) at width }
     ensures small { IfOk result (λ value. value < 2 ^ bits width) }
 {
     match register {
@@ -41,7 +42,8 @@ fn read_area<F: Flash>(
     width: Width,
 ) -> Result<u64, SpaceFault>
     requires { (reach : ℕ) × HasSizes reach (memory_of contents.now) × (start + bits width / 8 ≤ size_of reach area) }
-    ensures value { (handover : HandoverState) (waited : ℕ) → result ≡ area_read area start (state_of device.now contents.now handover waited) at width }
+    ensures value { (handover : HandoverState) (waited : ℕ)
+        → result ≡ area_read area start (state_of device.now contents.now handover waited) at width }
     ensures small { IfOk result (λ value. value < 2 ^ bits width) }
 {
     match area {
@@ -59,7 +61,8 @@ pub fn read_number<F: Flash>(
     width: Width,
 ) -> Result<u64, SpaceFault>
     requires { (reach : ℕ) × HasSizes reach (memory_of contents.now) × IsPlaced reach (bits width / 8) location }
-    ensures value { (handover : HandoverState) (waited : ℕ) → result ≡ number_read location (state_of device.now contents.now handover waited) at width }
+    ensures value { (handover : HandoverState) (waited : ℕ)
+        → result ≡ number_read location (state_of device.now contents.now handover waited) at width }
     ensures small { IfOk result (λ value. value < 2 ^ bits width) }
 {
     match location {
@@ -79,7 +82,8 @@ fn write_register<F: Flash>(
     value: u64,
 ) -> Result<(), SpaceFault>
     requires { length contents.old.range.items ≡ reach_in device.old }
-    ensures { (handover : HandoverState) (waited : ℕ) → RegisterWritten F.tells register (state_of device.old contents.old handover waited) at width value result
+    ensures { (handover : HandoverState) (waited : ℕ)
+        → RegisterWritten F.tells register (state_of device.old contents.old handover waited) at width value result
         (state_of device.new contents.new handover waited) }
 {
     match register {
@@ -107,7 +111,8 @@ fn write_area<F: Flash>(
 ) -> Result<(), SpaceFault>
     requires sizes { HasSizes (reach_in device.old) (memory_of contents.old) }
     requires placed { start + bits width / 8 ≤ size_of (reach_in device.old) area }
-    ensures { (handover : HandoverState) (waited : ℕ) → AreaWritten F.tells area start (state_of device.old contents.old handover waited) at width value result
+    ensures { (handover : HandoverState) (waited : ℕ)
+        → AreaWritten F.tells area start (state_of device.old contents.old handover waited) at width value result
         (state_of device.new contents.new handover waited) }
 {
     match area {
@@ -138,7 +143,8 @@ pub fn write_number<F: Flash>(
 ) -> Result<(), SpaceFault>
     requires sizes { HasSizes (reach_in device.old) (memory_of contents.old) }
     requires placed { IsPlaced (reach_in device.old) (bits width / 8) location }
-    ensures { (handover : HandoverState) (waited : ℕ) → NumberWritten F.tells location (state_of device.old contents.old handover waited) at width value result
+    ensures { (handover : HandoverState) (waited : ℕ)
+        → NumberWritten F.tells location (state_of device.old contents.old handover waited) at width value result
         (state_of device.new contents.new handover waited) }
 {
     match location {
@@ -159,8 +165,9 @@ fn read_area_bytes(
     out: &mut [u8],
 ) -> Result<(), SpaceFault>
     requires { (reach : ℕ) × HasSizes reach (memory_of contents.now) × (start + length out.old ≤ size_of reach area) }
-    ensures { (device : DeviceState) (handover : HandoverState) (waited : ℕ) → let outcome = area_bytes area start (state_of device contents.now handover waited) at out.old in
-        (result ≡ outcome.0) × (out.new ≡ outcome.1) }
+    ensures { (device : DeviceState) (handover : HandoverState) (waited : ℕ)
+        → let outcome = area_bytes area start (state_of device contents.now handover waited) at out.old
+        in (result ≡ outcome.0) × (out.new ≡ outcome.1) }
 {
     match area {
         Area::Device => Err(SpaceFault::BadAccess {
@@ -182,8 +189,9 @@ pub fn read_bytes(
     out: &mut [u8],
 ) -> Result<(), SpaceFault>
     requires { (reach : ℕ) × HasSizes reach (memory_of contents.now) × IsPlaced reach (length out.old) location }
-    ensures { (device : DeviceState) (handover : HandoverState) (waited : ℕ) → let outcome = bytes_read location (state_of device contents.now handover waited) at out.old in
-        (result ≡ outcome.0) × (out.new ≡ outcome.1) }
+    ensures { (device : DeviceState) (handover : HandoverState) (waited : ℕ)
+        → let outcome = bytes_read location (state_of device contents.now handover waited) at out.old
+        in (result ≡ outcome.0) × (out.new ≡ outcome.1) }
 {
     match location {
         Location::Inside(area, start) => read_area_bytes(contents, area, start, at, out),
@@ -201,8 +209,9 @@ fn write_area_bytes(
     bytes: &[u8],
 ) -> Result<(), SpaceFault>
     requires { (reach : ℕ) × HasSizes reach (memory_of contents.old) × (start + length bytes.now ≤ size_of reach area) }
-    ensures { (device : DeviceState) (handover : HandoverState) (waited : ℕ) → let outcome = area_stored area start (state_of device contents.old handover waited) at bytes.now in
-        (result ≡ outcome.0) × (state_of device contents.new handover waited ≡ outcome.1) }
+    ensures { (device : DeviceState) (handover : HandoverState) (waited : ℕ)
+        → let outcome = area_stored area start (state_of device contents.old handover waited) at bytes.now
+        in (result ≡ outcome.0) × (state_of device contents.new handover waited ≡ outcome.1) }
 {
     match area {
         Area::Device | Area::Handover | Area::BootErrors => Err(SpaceFault::BadAccess {
@@ -224,8 +233,9 @@ pub fn write_bytes(
     bytes: &[u8],
 ) -> Result<(), SpaceFault>
     requires { (reach : ℕ) × HasSizes reach (memory_of contents.old) × IsPlaced reach (length bytes.now) location }
-    ensures { (device : DeviceState) (handover : HandoverState) (waited : ℕ) → let outcome = bytes_stored location (state_of device contents.old handover waited) at bytes.now in
-        (result ≡ outcome.0) × (state_of device contents.new handover waited ≡ outcome.1) }
+    ensures { (device : DeviceState) (handover : HandoverState) (waited : ℕ)
+        → let outcome = bytes_stored location (state_of device contents.old handover waited) at bytes.now
+        in (result ≡ outcome.0) × (state_of device contents.new handover waited ≡ outcome.1) }
 {
     match location {
         Location::Inside(area, start) => write_area_bytes(contents, area, start, at, bytes),
@@ -238,7 +248,8 @@ pub fn write_bytes(
 /// The place of a copy's source or target in plain memory.
 #[inline(always)]
 fn plain_place(location: Location, at: u64) -> Result<(Area, usize), SpaceFault>
-    ensures { MatchResult result (λ place. (copy_fault location at ≡ None) × (location ≡ Location.Inside place.0 place.1) × (is_plain place.0 ≡ true))
+    ensures { MatchResult result (λ place. (copy_fault location at ≡ None)
+        × (location ≡ Location.Inside place.0 place.1) × (is_plain place.0 ≡ true))
         (λ fault. copy_fault location at ≡ Some fault) }
 {
     match location {
@@ -270,9 +281,11 @@ pub fn copy_bytes(
     to: u64,
     n: usize,
 ) -> Result<(), SpaceFault>
-    requires { (reach : ℕ) × HasSizes reach (memory_of contents.old) × IsPlaced reach n source × IsPlaced reach n target }
-    ensures { (device : DeviceState) (handover : HandoverState) (waited : ℕ) → let outcome = copy_of source target (state_of device contents.old handover waited) from to n in
-        (result ≡ outcome.0) × (state_of device contents.new handover waited ≡ outcome.1) }
+    requires { (reach : ℕ) × HasSizes reach (memory_of contents.old) × IsPlaced reach n source
+        × IsPlaced reach n target }
+    ensures { (device : DeviceState) (handover : HandoverState) (waited : ℕ)
+        → let outcome = copy_of source target (state_of device contents.old handover waited) from to n
+        in (result ≡ outcome.0) × (state_of device contents.new handover waited ≡ outcome.1) }
 {
     let (source, start) = plain_place(source, from)?;
     let (target, place) = plain_place(target, to)?;

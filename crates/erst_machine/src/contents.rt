@@ -72,7 +72,8 @@ impl Contents {
     /// The number at a byte of an area.
     #[inline(always)]
     pub fn number(&self, area: Area, start: usize, width: Width) -> u64
-        requires sizes { (reach : ℕ) × HasSizes reach (memory_of self.now) × (start + bits width / 8 ≤ size_of reach area) }
+        requires sizes { (reach : ℕ) × HasSizes reach (memory_of self.now)
+            × (start + bits width / 8 ≤ size_of reach area) }
         requires readable { IsReadable area }
         ensures value { result ≡ number_at (bytes_in area (memory_of self.now)) start (bits width / 8) }
         ensures small { result < 2 ^ bits width }
@@ -89,7 +90,8 @@ impl Contents {
 
     /// Fills `out` with the bytes of an area from one on.
     pub fn part(&self, area: Area, start: usize, out: &mut [u8])
-        requires sizes { (reach : ℕ) × HasSizes reach (memory_of self.now) × (start + length out.old ≤ size_of reach area) }
+        requires sizes { (reach : ℕ) × HasSizes reach (memory_of self.now)
+            × (start + length out.old ≤ size_of reach area) }
         requires readable { IsReadable area }
         ensures { out.new ≡ part (bytes_in area (memory_of self.now)) start (length out.old) }
     {
@@ -105,7 +107,8 @@ impl Contents {
 
     /// Writes the low bits of a number.
     pub fn put_number(&mut self, area: Area, start: usize, width: Width, value: u64)
-        requires sizes { (reach : ℕ) × HasSizes reach (memory_of self.old) × (start + bits width / 8 ≤ size_of reach area) }
+        requires sizes { (reach : ℕ) × HasSizes reach (memory_of self.old)
+            × (start + bits width / 8 ≤ size_of reach area) }
         requires writable { IsWritable area }
         ensures { let bytes = put_at (bytes_in area (memory_of self.old)) start (spelled (bits width / 8) value) in
             memory_of self.new ≡ with_bytes area (memory_of self.old) bytes }
@@ -126,9 +129,11 @@ impl Contents {
 
     /// Writes bytes.
     pub fn put_part(&mut self, area: Area, start: usize, bytes: &[u8])
-        requires sizes { (reach : ℕ) × HasSizes reach (memory_of self.old) × (start + length bytes.now ≤ size_of reach area) }
+        requires sizes { (reach : ℕ) × HasSizes reach (memory_of self.old)
+            × (start + length bytes.now ≤ size_of reach area) }
         requires writable { IsWritable area }
-        ensures { memory_of self.new ≡ with_bytes area (memory_of self.old) (put_at (bytes_in area (memory_of self.old)) start bytes.now) }
+        ensures { memory_of self.new ≡ with_bytes area (memory_of self.old)
+            (put_at (bytes_in area (memory_of self.old)) start bytes.now) }
     {
         match area {
             Area::Scratch => {
@@ -146,11 +151,13 @@ impl Contents {
 
     /// Copies `n` bytes of plain memory, as if they were read whole first.
     pub fn copy(&mut self, source: Area, start: usize, target: Area, place: usize, n: usize)
-        requires sizes { (reach : ℕ) × HasSizes reach (memory_of self.old) × (start + n ≤ size_of reach source) × (place + n ≤ size_of reach target) }
+        requires sizes { (reach : ℕ) × HasSizes reach (memory_of self.old) × (start + n ≤ size_of reach source)
+            × (place + n ≤ size_of reach target) }
         requires source { is_plain source ≡ true }
         requires target { is_plain target ≡ true }
-        ensures { let bytes = put_at (bytes_in target (memory_of self.old)) place (part (bytes_in source (memory_of self.old)) start n) in
-            memory_of self.new ≡ with_bytes target (memory_of self.old) bytes }
+        ensures { let bytes = put_at (bytes_in target (memory_of self.old)) place
+            (part (bytes_in source (memory_of self.old)) start n)
+            in memory_of self.new ≡ with_bytes target (memory_of self.old) bytes }
     {
         match source {
             Area::Scratch => match target {

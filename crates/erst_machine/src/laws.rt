@@ -16,12 +16,14 @@ use flash_model::Flash;
 
 /// An access finds its bytes exactly where the areas of the map hold all of them, and else the address of the first that none holds.
 pub fn every_access_finds_its_bytes()
-    ensures { (reach : ℕ) (at : AnyPlace) (n : ℕ) → reach ≤ 65536 → 0 < n → FindsBytes (all_windows reach) at n (finds (place_location reach at n)) }
+    ensures { (reach : ℕ) (at : AnyPlace) (n : ℕ) → reach ≤ 65536 → 0 < n
+        → FindsBytes (all_windows reach) at n (finds (place_location reach at n)) }
 {}
 
 /// An access within an area is found in that area, at its index.
 pub fn an_area_has_its_bytes()
-    ensures { (reach : ℕ) (area : AnyArea) (k n : ℕ) → reach ≤ 65536 → 0 < n → k + n ≤ size_of reach area → place_location reach (further (place_of area) k) n ≡ Inside area k }
+    ensures { (reach : ℕ) (area : AnyArea) (k n : ℕ) → reach ≤ 65536 → 0 < n → k + n ≤ size_of reach area
+        → place_location reach (further (place_of area) k) n ≡ Inside area k }
 {}
 
 /// Whatever accesses a program, or several, make, in any order: power lost at any flash step shows the records after those
@@ -30,7 +32,8 @@ pub fn any_accesses_are_shown<F: Flash>()
     ensures trail { F.tells → (first last : MachineState) (trail : List (Move Call MachineState))
         → Trail (Allows F.tells) first trail last → IsShown made_by_call first trail last }
     ensures reached { F.tells → (first last : MachineState) → Reaches (Allows F.tells) first last
-        → (trail : List (Move Call MachineState)) × Trail (Allows F.tells) first trail last × IsShown made_by_call first trail last }
+        → (trail : List (Move Call MachineState)) × Trail (Allows F.tells) first trail last
+        × IsShown made_by_call first trail last }
 {}
 
 /// The same of accesses, restarts, calls of the handover and fatal blocks, in any order.
@@ -47,7 +50,8 @@ pub fn whatever_happens_is_one_list<F: Flash>()
     ensures one { (first last : MachineState) (event : Event) → Happens F.tells first event last
         → Trail (Happens F.tells) first ((record { event = event; left = last }) ∷ []) last }
     ensures more { (first mid last : MachineState) (one two : List (Move Event MachineState))
-        → Trail (Happens F.tells) first one mid → Trail (Happens F.tells) mid two last → Trail (Happens F.tells) first (one ++ two) last }
+        → Trail (Happens F.tells) first one mid → Trail (Happens F.tells) mid two last
+        → Trail (Happens F.tells) first (one ++ two) last }
 {}
 
 /// Accesses lead from a machine's state to a machine's state.
@@ -57,10 +61,12 @@ pub fn accesses_keep_a_machine<F: Flash>()
 
 /// And so does whatever happens.
 pub fn events_keep_a_machine<F: Flash>()
-    ensures { (first last : MachineState) (trail : List (Move Event MachineState)) → Trail (Happens F.tells) first trail last → IsMachine first → IsMachine last }
+    ensures { (first last : MachineState) (trail : List (Move Event MachineState))
+        → Trail (Happens F.tells) first trail last → IsMachine first → IsMachine last }
 {}
 
 /// Accesses never lower the flash's count of faults, whether it tells its content or not.
 pub fn accesses_never_lower_the_faults<F: Flash>()
-    ensures { (first last : MachineState) → Reaches (Allows F.tells) first last → first.device.store.flash.faults ≤ last.device.store.flash.faults }
+    ensures { (first last : MachineState) → Reaches (Allows F.tells) first last
+        → first.device.store.flash.faults ≤ last.device.store.flash.faults }
 {}

@@ -73,7 +73,8 @@ impl<F: Flash> Machine<F> {
         ensures fits { IsOk result → Fits geometry (F.state flash) }
         ensures flash { IfOk result (λ machine. IsFlashOf (F.state flash) machine.device.store.flash) }
         ensures settled { IfOk result (λ machine. F.tells → IsSettled machine.device.store) }
-        ensures reads { IfOk result (λ machine. machine.device.store.flash.reads ≡ raised (2 * geometry.slots) (F.state flash).reads) }
+        ensures reads { IfOk result (λ machine. machine.device.store.flash.reads ≡ raised (2 * geometry.slots)
+            (F.state flash).reads) }
 
         // One change for each upright slot that is not the first slot of its identifier's record, and no more where it fails.
         ensures steps { IfOk result (λ machine. F.tells → machine.device.store.flash.steps
@@ -82,10 +83,13 @@ impl<F: Flash> Machine<F> {
             ≤ (F.state flash).steps + second_copies geometry.slot_size geometry.slots (F.state flash).told.image) }
 
         // Power lost at any step on the way leaves the records of the flash.
-        ensures kept { IfOk result (λ machine. F.tells → KeepsRecordsOf geometry (F.state flash) machine.device.store.flash) }
+        ensures kept { IfOk result (λ machine. F.tells
+            → KeepsRecordsOf geometry (F.state flash) machine.device.store.flash) }
 
-        ensures refused { IfErr result (λ refused. RefusesBoot geometry (F.state flash) (F.state refused.flash) refused.why) }
-        ensures back { IfErr result (λ refused. F.tells → KeepsRecordsOf geometry (F.state flash) (F.state refused.flash)) }
+        ensures refused { IfErr result (λ refused. RefusesBoot geometry (F.state flash)
+            (F.state refused.flash) refused.why) }
+        ensures back { IfErr result (λ refused. F.tells → KeepsRecordsOf geometry (F.state flash)
+            (F.state refused.flash)) }
         ensures power { IfOk result (λ machine. LosesOnlyByChange (F.state flash) machine.device.store.flash) }
         ensures power_back { IfErr result (λ refused. LosesOnlyByChange (F.state flash) (F.state refused.flash)) }
 
@@ -94,7 +98,8 @@ impl<F: Flash> Machine<F> {
         ensures lit_back { IfErr result (λ refused. StaysPowered (F.state flash) (F.state refused.flash)) }
 
         // The fault that is answered is the only one: nothing is asked of the flash behind it.
-        ensures once { IfErr result (λ refused. refused.why ≡ BootError.Flash → (F.state refused.flash).faults ≡ next_count (F.state flash).faults) }
+        ensures once { IfErr result (λ refused. refused.why ≡ BootError.Flash
+            → (F.state refused.flash).faults ≡ next_count (F.state flash).faults) }
     {
         if let Some(why) = misfit(&flash, &geometry) {
             return Err(BootRefused { why, flash });
@@ -230,10 +235,11 @@ impl<F: Flash> Machine<F> {
     /// block begins there. The first block is at 0.
     pub fn bert_at(&self, at: u32) -> Result<Option<(Block<'_>, u32)>, BlockError>
         requires { at ≤ BOOT_ERRORS_LEN }
-        ensures exact { MatchResult result
-            (λ found. MatchOption found (next_from self.now.memory.region at ≡ Ok None) (λ x. next_from self.now.memory.region at ≡ Ok (Some x.1)))
+        ensures exact { MatchResult result (λ found. MatchOption found (next_from self.now.memory.region at ≡ Ok None)
+            (λ x. next_from self.now.memory.region at ≡ Ok (Some x.1)))
             (λ error. next_from self.now.memory.region at ≡ Err error) }
-        ensures block { IfOk result (λ found. IfSome found (λ x. IsBlock x.0 (part self.now.memory.region at (x.1 - at)))) }
+        ensures block { IfOk result (λ found. IfSome found
+            (λ x. IsBlock x.0 (part self.now.memory.region at (x.1 - at)))) }
     {
         ghes_block::take(&self.contents.region, at)
     }
@@ -282,7 +288,8 @@ fn misfit<F: Flash>(flash: &F, geometry: &Geometry) -> Option<BootError>
 /// The refusal of a store as that of a machine.
 fn refused_boot<F: Flash>(refused: StoreRefused<F>) -> BootRefused<F>
     ensures flash { F.state result.flash ≡ F.state refused.flash }
-    ensures why { (geometry : Geometry) (old : FlashState) → RefusesFlash geometry old (F.state refused.flash) refused.why
+    ensures why { (geometry : Geometry) (old : FlashState)
+        → RefusesFlash geometry old (F.state refused.flash) refused.why
         → RefusesBoot geometry old (F.state result.flash) result.why }
     ensures once { (old : FlashState) → IsOneFault old (F.state refused.flash) refused.why
         → result.why ≡ BootError.Flash → (F.state result.flash).faults ≡ next_count old.faults }
@@ -304,7 +311,8 @@ fn lay_block(region: &mut [u8], block: &[u8]) -> Result<u32, FatalError>
     requires small { length region.old < 2 ^ 32 }
     requires laid { IsLaid region.old }
     ensures exact { (blocks : List (List ℕ)) (left : ℕ) → IsLaidOut blocks left region.old
-        → MatchResult result (λ _. fatal_refusal left block.now ≡ None) (λ error. fatal_refusal left block.now ≡ Some error) }
+        → MatchResult result (λ _. fatal_refusal left block.now ≡ None)
+        (λ error. fatal_refusal left block.now ≡ Some error) }
     ensures laid { IfOk result (λ at. (blocks : List (List ℕ)) (left : ℕ) → IsLaidOut blocks left region.old
         → (at ≡ length (joined blocks)) × IsLaidOut (blocks ++ block.now ∷ []) (left - length block.now) region.new) }
     ensures kept { OnErr result (region.new ≡ region.old) }

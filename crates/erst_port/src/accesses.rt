@@ -38,7 +38,8 @@ impl Port {
         width: Width,
         value: u64,
     ) -> Result<(), PortError>
-        ensures { NumberWritten (location_of window (length self.old.range) offset width) self.old width value result self.new }
+        ensures { NumberWritten (location_of window (length self.old.range) offset width) self.old width value result
+            self.new }
     {
         match location_of(window, self.range.len(), offset, width) {
             Location::Action => self.act((value % HALF) as u32),
@@ -81,8 +82,10 @@ impl Port {
 
     /// Reads bytes of the log range, from an offset on.
     pub fn get(&self, offset: u64, out: &mut [u8]) -> Result<(), PortError>
-        ensures answer { result ≡ (bytes_read (range_location (length self.now.range) offset (length out.old)) self.now out.old).0 }
-        ensures bytes { out.new ≡ (bytes_read (range_location (length self.now.range) offset (length out.old)) self.now out.old).1 }
+        ensures answer { result ≡ (bytes_read (range_location (length self.now.range) offset (length out.old))
+            self.now out.old).0 }
+        ensures bytes { out.new ≡ (bytes_read (range_location (length self.now.range) offset (length out.old))
+            self.now out.old).1 }
     {
         match range_location(self.range.len(), offset, out.len()) {
             Location::Bytes(start) => {
@@ -95,8 +98,10 @@ impl Port {
 
     /// Writes bytes of the log range, from an offset on.
     pub fn put(&mut self, offset: u64, bytes: &[u8]) -> Result<(), PortError>
-        ensures answer { result ≡ (bytes_stored (range_location (length self.old.range) offset (length bytes.now)) self.old bytes.now).0 }
-        ensures port { self.new ≡ (bytes_stored (range_location (length self.old.range) offset (length bytes.now)) self.old bytes.now).1 }
+        ensures answer { result ≡ (bytes_stored (range_location (length self.old.range) offset (length bytes.now))
+            self.old bytes.now).0 }
+        ensures port { self.new ≡ (bytes_stored (range_location (length self.old.range) offset (length bytes.now))
+            self.old bytes.now).1 }
     {
         match range_location(self.range.len(), offset, bytes.len()) {
             Location::Bytes(start) => {

@@ -52,7 +52,8 @@ impl Port {
     ) -> Result<Port, LoadError>
         ensures loaded { IfOk result (LoadedBy (OpenedAs 0 geometry image.now) saved.now) }
         ensures equivalent { IfOk result (AnswersAsSaved image.now saved.now) }
-        ensures refused { IfErr result (RefusesLoad (OpenedAs 0 geometry image.now) (RefusesImage geometry image.now) saved.now) }
+        ensures refused { IfErr result (RefusesLoad (OpenedAs 0 geometry image.now)
+            (RefusesImage geometry image.now) saved.now) }
     {
         let state = state_in(saved)?;
         match Port::open_raw(alloc, image, geometry, state.addresses) {
@@ -172,7 +173,8 @@ fn registers_in(saved: &[u8], operation: Option<Operation>, status: CommandStatu
 
 // The operation of a number, or none.
 fn operation_of(number: u32) -> Option<Option<Operation>>
-    ensures { MatchOption result ((operation : Option AnyOperation) → operation_number operation ≡ number → ⊥) (λ operation. operation_number operation ≡ number) }
+    ensures { MatchOption result ((operation : Option AnyOperation) → operation_number operation ≡ number → ⊥)
+        (λ operation. operation_number operation ≡ number) }
 {
     match number {
         0 => Some(None),
@@ -186,7 +188,8 @@ fn operation_of(number: u32) -> Option<Option<Operation>>
 
 // The command status of a number (ACPI 6.4, section 18.5.1).
 fn status_of(number: u32) -> Option<CommandStatus>
-    ensures { MatchOption result ((status : AnyStatus) → number_of status ≡ number → ⊥) (λ status. number_of status ≡ number) }
+    ensures { MatchOption result ((status : AnyStatus) → number_of status ≡ number → ⊥)
+        (λ status. number_of status ≡ number) }
 {
     match number {
         0 => Some(CommandStatus::Success),

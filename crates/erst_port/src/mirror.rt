@@ -88,7 +88,8 @@ impl MirrorFlash {
 
     /// Change number `step`, from 0, where it is in the log or is the last one.
     pub fn change_at(&self, step: u64) -> Option<Due<'_>>
-        ensures told { IfSome result (λ due. IsDue (state_of self.now).sector_size (state_of self.now).told step due.kind due.at due.bytes.now) }
+        ensures told { IfSome result (λ due. IsDue (state_of self.now).sector_size (state_of self.now).told step
+            due.kind due.at due.bytes.now) }
         ensures last { step + 1 ≡ (state_of self.now).steps → IsSome result }
         ensures logged { IsLogged (state_of self.now) → step < (state_of self.now).steps → IsSome result }
     {
@@ -100,7 +101,8 @@ impl MirrorFlash {
 
     // Change number `step`, where it is in the log.
     fn logged_change(&self, step: u64) -> Option<Due<'_>>
-        ensures told { IfSome result (λ due. IsDue (state_of self.now).sector_size (state_of self.now).told step due.kind due.at due.bytes.now) }
+        ensures told { IfSome result (λ due. IsDue (state_of self.now).sector_size (state_of self.now).told step
+            due.kind due.at due.bytes.now) }
         ensures known { step < length self.now.log.entries.items → IsSome result }
     {
         let Some(entry) = self.log.entry(step) else {
@@ -117,7 +119,8 @@ impl MirrorFlash {
     // The last change.
     fn last_change(&self) -> Due<'_>
         requires { 0 < self.now.steps }
-        ensures { IsDue self.now.sector (state_of self.now).told (self.now.steps - 1) result.kind result.at result.bytes.now }
+        ensures { IsDue self.now.sector (state_of self.now).told (self.now.steps - 1) result.kind result.at
+            result.bytes.now }
     {
         Due {
             kind: self.last.kind,
@@ -133,7 +136,12 @@ impl MirrorFlash {
         ensures made { OnOk result (self.new.image.items ≡ put_at self.old.image.items at (bytes_of content.entry)) }
         ensures rest { SameOutside at (length (bytes_of content.entry)) self.old.image.items self.new.image.items }
         ensures noted { OnOk result (self.new.past.changes
-            ≡ self.old.past.changes ++ (record { before = self.old.image.items; at = at; len = length (bytes_of content.entry) }) ∷ []) }
+            ≡ self.old.past.changes ++ (record {
+              before = self.old.image.items;
+              at = at;
+              len = length
+                  (bytes_of content.entry);
+            }) ∷ []) }
         ensures refused { OnErr result ((state_of self.new).told ≡ (state_of self.old).told) }
         ensures size { length self.new.image.items ≡ length self.old.image.items }
         ensures sector { self.new.sector ≡ self.old.sector }

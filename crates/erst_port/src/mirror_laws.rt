@@ -8,8 +8,10 @@ ghost use Rattle.erst_port.specs.declared.due.Kind.{Kind};
 /// A medium that made the first `s` changes of its flash holds what the flash held then. With the bytes of the change that is due it
 /// holds what the flash held after it, and whatever power lost in that change leaves in its range is a crash image of the flash.
 pub fn medium_follows()
-    ensures made { (sector : ℕ) (told : Told) (s : ℕ) (kind : Kind) (at : ℕ) (bytes medium : List ℕ) → IsDue sector told s kind at bytes → medium ≡ image_at told s
+    ensures made { (sector : ℕ) (told : Told) (s : ℕ) (kind : Kind) (at : ℕ) (bytes medium : List ℕ)
+        → IsDue sector told s kind at bytes → medium ≡ image_at told s
         → put_at medium at bytes ≡ image_at told (s + 1) }
-    ensures torn { (sector : ℕ) (told : Told) (s : ℕ) (kind : Kind) (at : ℕ) (bytes medium left : List ℕ) → IsDue sector told s kind at bytes → medium ≡ image_at told s
-        → SameOutside at (length bytes) medium left → CrashImage told s left }
+    ensures torn { (sector : ℕ) (told : Told) (s : ℕ) (kind : Kind) (at : ℕ) (bytes medium left : List ℕ)
+        → IsDue sector told s kind at bytes → medium ≡ image_at told s → SameOutside at (length bytes) medium left
+        → CrashImage told s left }
 {}

@@ -100,8 +100,10 @@ fn device_of(
     ensures first { IfOk result (λ device. device ≡ at_first device.store) }
     ensures settled { IfOk result (λ device. IsSettled device.store) }
     ensures flash { IfOk result (λ device. IsFlashOf (first_state image.now geometry.sector) device.store.flash) }
-    ensures steps { IfOk result (λ device. device.store.flash.steps ≡ second_copies geometry.slot_size geometry.slots image.now) }
-    ensures kept { IfOk result (λ device. KeepsRecordsOf geometry (first_state image.now geometry.sector) device.store.flash) }
+    ensures steps { IfOk result (λ device. device.store.flash.steps
+        ≡ second_copies geometry.slot_size geometry.slots image.now) }
+    ensures kept { IfOk result (λ device. KeepsRecordsOf geometry (first_state image.now geometry.sector)
+        device.store.flash) }
     ensures known { IfOk result (λ device. IsLogged device.store.flash) }
 {
     let copy = copied(alloc, image)?;
@@ -121,7 +123,8 @@ fn store_of(
     ensures opened { IfOk result (λ store. IsOpened geometry store) }
     ensures settled { IfOk result (λ store. IsSettled store) }
     ensures flash { IfOk result (λ store. IsFlashOf (state_of flash) store.flash) }
-    ensures steps { IfOk result (λ store. store.flash.steps ≡ (state_of flash).steps + second_copies geometry.slot_size geometry.slots (state_of flash).told.image) }
+    ensures steps { IfOk result (λ store. store.flash.steps
+        ≡ (state_of flash).steps + second_copies geometry.slot_size geometry.slots (state_of flash).told.image) }
     ensures kept { IfOk result (λ store. KeepsRecordsOf geometry (state_of flash) store.flash) }
     ensures known { IfOk result (λ store. IsLogged store.flash) }
 {

@@ -35,7 +35,8 @@ impl Past {
     /// These changes, and one more.
     #[inline(always)]
     pub(crate) fn then(&self, _change: &Before<'_>) -> Past
-        ensures { result.changes ≡ self.now.changes ++ (record { before = _change.now.image.now; at = _change.now.at; len = _change.now.len }) ∷ [] }
+        ensures { result.changes ≡ self.now.changes ++
+            (record { before = _change.now.image.now; at = _change.now.at; len = _change.now.len }) ∷ [] }
     {
         Past {}
     }

@@ -64,8 +64,10 @@ fn operation_number(operation: Option<Operation>) -> u32
 }
 
 fn saved_head(geometry: &Geometry, addresses: &Addresses, registers: &Registers) -> [u8; HEAD]
-    ensures form { (store : StoreView) → result ≡ saved_head (layout_of geometry.now) addresses.now (seen registers.now store) }
-    ensures small { (store : StoreView) → HasSmallNumbers (layout_of geometry.now) addresses.now (seen registers.now store) }
+    ensures form { (store : StoreView) → result
+        ≡ saved_head (layout_of geometry.now) addresses.now (seen registers.now store) }
+    ensures small { (store : StoreView) → HasSmallNumbers (layout_of geometry.now) addresses.now
+        (seen registers.now store) }
 {
     let mut head = [0; HEAD];
     let version = write_u64(&mut head, 0, SIGNATURE);

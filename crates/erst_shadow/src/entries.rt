@@ -34,7 +34,8 @@ fn put_number(action: Action, address: u64, value: u64) -> Entry
 
 /// Uses a whole register of a move.
 fn use_register(action: Action, instruction: Instruction, address: u64) -> Entry
-    ensures { (code : ℕ) → instruction_of code ≡ Some instruction → result ≡ plain_entry action code (register_of 64 4 address) 0 18446744073709551615 }
+    ensures { (code : ℕ) → instruction_of code ≡ Some instruction
+        → result ≡ plain_entry action code (register_of 64 4 address) 0 18446744073709551615 }
 {
     entry_of(
         action,

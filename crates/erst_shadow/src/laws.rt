@@ -99,11 +99,14 @@ pub fn enough_steps_are_enough()
 /// On every flash, whether it tells its content or not: with those steps a command is never stopped, and never late. A count and a next are
 /// the machine's own, with a table of any number of pieces.
 pub fn enough_steps_go_through<F: Flash>()
-    ensures sequence { (first : MachineState) → IsMachine first → EachSequenceGoesThrough (table_in F.tells first) first }
+    ensures sequence { (first : MachineState) → IsMachine first
+        → EachSequenceGoesThrough (table_in F.tells first) first }
     ensures count { (pieces : ℕ) (first : MachineState) → EachCountGoesThrough (table_of F.tells pieces) first }
     ensures next { (pieces : ℕ) (first : MachineState) → EachNextGoesThrough (table_of F.tells pieces) first }
-    ensures write { (first : MachineState) → IsMachine first → EachWriteGoesThrough (table_in F.tells first) (shadow_client first) first }
-    ensures read { (first : MachineState) → IsMachine first → EachReadGoesThrough (table_in F.tells first) (shadow_client first) first }
+    ensures write { (first : MachineState) → IsMachine first → EachWriteGoesThrough (table_in F.tells first)
+        (shadow_client first) first }
+    ensures read { (first : MachineState) → IsMachine first → EachReadGoesThrough (table_in F.tells first)
+        (shadow_client first) first }
 {
     own_programs_run_through::<F>();
 }
@@ -111,11 +114,14 @@ pub fn enough_steps_go_through<F: Flash>()
 /// On every flash, whether it tells its content or not: its count of faults never falls, and a call is answered `Hardware` only where
 /// the count rose.
 pub fn hardware_has_its_cause<F: Flash>()
-    ensures sequence { (first : MachineState) → IsMachine first → EachSequenceHasItsCause (table_in F.tells first) first }
+    ensures sequence { (first : MachineState) → IsMachine first
+        → EachSequenceHasItsCause (table_in F.tells first) first }
     ensures count { (pieces : ℕ) (first : MachineState) → EachCountHasItsCause (table_of F.tells pieces) first }
     ensures next { (pieces : ℕ) (first : MachineState) → EachNextHasItsCause (table_of F.tells pieces) first }
-    ensures write { (first : MachineState) → IsMachine first → EachWriteHasItsCause (table_in F.tells first) (shadow_client first) first }
-    ensures read { (first : MachineState) → IsMachine first → (id : ℕ) → EachReadHasItsCause (table_in F.tells first) (shadow_client first) id first }
+    ensures write { (first : MachineState) → IsMachine first → EachWriteHasItsCause (table_in F.tells first)
+        (shadow_client first) first }
+    ensures read { (first : MachineState) → IsMachine first → (id : ℕ) → EachReadHasItsCause (table_in F.tells first)
+        (shadow_client first) id first }
 {
     own_programs_run_through::<F>();
 }

@@ -25,7 +25,8 @@ pub fn add_layout<S: Style>(
 ) -> Result<(), AllocError>
     requires sound { IsTrue (is_sound_structure (structure_of layout.now)) }
     requires place { base + length body.now < 2 ^ 64 }
-    ensures { OnOk result (out.new.items ≡ out.old.items ++ structure_text (S.text style.now) (S.heading style.now) base (structure_of layout.now) body.now) }
+    ensures { OnOk result (out.new.items ≡ out.old.items ++ structure_text (S.text style.now)
+        (S.heading style.now) base (structure_of layout.now) body.now) }
 {
     let location = Location { depth: 0, base };
     add_fields(style, location, layout.valid_at, layout.fields, body, out)?;
@@ -44,7 +45,8 @@ fn add_groups<S: Style>(
     requires sound { IsTrue (are_sound_groups (map group_of groups.now)) }
     requires place { base + length body.now < 2 ^ 64 }
     requires start { start ≤ length body.now }
-    ensures { OnOk result (out.new.items ≡ out.old.items ++ groups_text (S.text style.now) (S.heading style.now) base body.now (map group_of groups.entry.now) start) }
+    ensures { OnOk result (out.new.items ≡ out.old.items ++ groups_text (S.text style.now)
+        (S.heading style.now) base body.now (map group_of groups.entry.now) start) }
 {
     let mut at = start;
     while let [group, rest @ ..] = groups {
@@ -66,8 +68,10 @@ fn add_parts<S: Style>(
     requires sound { IsTrue (is_sound_group (group_of group.now)) }
     requires place { base + length body.now < 2 ^ 64 }
     requires start { start ≤ length body.now }
-    ensures text { OnOk result (out.new.items ≡ out.old.items ++ parts_text (S.text style.now) (S.heading style.now) base body.now (group_of group.now) (parts_told (group_of group.now) body.now) 0 start) }
-    ensures end { IfOk result (λ end. (end ≡ parts_end body.now (group_of group.now) (parts_told (group_of group.now) body.now) start) × (end ≤ length body.now)) }
+    ensures text { OnOk result (out.new.items ≡ out.old.items ++ parts_text (S.text style.now)
+        (S.heading style.now) base body.now (group_of group.now) (parts_told (group_of group.now) body.now) 0 start) }
+    ensures end { IfOk result (λ end. (end ≡ parts_end body.now (group_of group.now)
+        (parts_told (group_of group.now) body.now) start) × (end ≤ length body.now)) }
 {
     let mut left = parts_told(group, body);
     let mut index = 0;
@@ -136,7 +140,8 @@ fn add_part<S: Style>(
 ) -> Result<(), AllocError>
     requires sound { IsTrue (is_sound_group (group_of group.now)) }
     requires place { base + length bytes.now < 2 ^ 64 }
-    ensures { OnOk result (out.new.items ≡ out.old.items ++ part_text (S.text style.now) (S.heading style.now) (group_of group.now) index base bytes.now) }
+    ensures { OnOk result (out.new.items ≡ out.old.items ++ part_text (S.text style.now) (S.heading style.now)
+        (group_of group.now) index base bytes.now) }
 {
     let name = group.name;
     style.mark(
@@ -161,7 +166,8 @@ fn add_all_inside<S: Style>(
 ) -> Result<(), AllocError>
     requires sound { IsTrue (are_sound_inside (map inside_of inner.now)) }
     requires place { base + length bytes.now < 2 ^ 64 }
-    ensures { OnOk result (out.new.items ≡ out.old.items ++ all_inside_text (S.text style.now) (S.heading style.now) base valid bytes.now (map inside_of inner.entry.now)) }
+    ensures { OnOk result (out.new.items ≡ out.old.items ++ all_inside_text (S.text style.now)
+        (S.heading style.now) base valid bytes.now (map inside_of inner.entry.now)) }
 {
     while let [first, rest @ ..] = inner {
         if is_there(first, valid, bytes) {
@@ -183,7 +189,8 @@ fn add_inside<S: Style>(
     requires sound { IsTrue (are_sound (content_fields inner.now.content)) }
     requires place { base + length bytes.now < 2 ^ 64 }
     requires start { inner.now.at ≤ length bytes.now }
-    ensures { OnOk result (out.new.items ≡ out.old.items ++ inside_text (S.text style.now) (S.heading style.now) base bytes.now (inside_of inner.now)) }
+    ensures { OnOk result (out.new.items ≡ out.old.items ++ inside_text (S.text style.now)
+        (S.heading style.now) base bytes.now (inside_of inner.now)) }
 {
     let at = inner.at as usize;
     let start = base + at as u64;
@@ -210,7 +217,8 @@ fn add_content<S: Style>(
 ) -> Result<(), AllocError>
     requires sound { IsTrue (are_sound (content_fields content.now)) }
     requires place { location.base + length bytes.now < 2 ^ 64 }
-    ensures { OnOk result (out.new.items ≡ out.old.items ++ fields_text (S.text style.now location.depth location.base) 0 (content_fields content.now) bytes.now) }
+    ensures { OnOk result (out.new.items ≡ out.old.items ++ fields_text
+        (S.text style.now location.depth location.base) 0 (content_fields content.now) bytes.now) }
 {
     match *content {
         Content::Fields(fields) => add_fields(style, location, 0, fields, bytes, out),

@@ -49,9 +49,11 @@ pub trait Style {
         requires sound { IsTrue (is_sound (field_of field.now)) }
         requires within { field.now.at + field.now.width ≤ length body.now }
         requires place { location.base + length body.now < 2 ^ 64 }
-        ensures { OnOk result (out.new.items ≡ out.old.items ++ text self.now location.depth location.base (field_of field.now) body.now) };
+        ensures { OnOk result (out.new.items ≡ out.old.items ++ text self.now location.depth location.base
+            (field_of field.now) body.now) };
 
     /// Appends a mark.
     fn mark(&self, location: Location, mark: &Mark, out: &mut Vec<u8>) -> Result<(), AllocError>
-        ensures { OnOk result (out.new.items ≡ out.old.items ++ heading self.now location.depth location.base (heading_of mark.now)) };
+        ensures { OnOk result (out.new.items ≡ out.old.items ++ heading self.now location.depth location.base
+            (heading_of mark.now)) };
 }

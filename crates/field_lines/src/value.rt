@@ -24,7 +24,8 @@ pub(crate) fn end_with_value(
     out: &mut Vec<u8>,
 ) -> Result<(), AllocError>
     requires { IsTrue (fits (shown_of shape.now) (length bytes.now)) }
-    ensures { OnOk result (out.new.items ≡ out.old.items ++ codes ": " ++ value_text (shown_of shape.now) bytes.now ++ codes "\n") }
+    ensures { OnOk result (out.new.items ≡ out.old.items ++ codes ": " ++ value_text (shown_of shape.now) bytes.now ++
+        codes "\n") }
 {
     match *shape {
         Shape::Decimal => end_with_decimal(number_of(bytes), out),

@@ -22,7 +22,8 @@ pub fn add_fields<S: Style>(
 ) -> Result<(), AllocError>
     requires sound { IsTrue (are_sound (map field_of fields.now)) }
     requires place { location.base + length body.now < 2 ^ 64 }
-    ensures { OnOk result (out.new.items ≡ out.old.items ++ fields_text (S.text style.now location.depth location.base) valid_at (map field_of fields.entry.now) body.now) }
+    ensures { OnOk result (out.new.items ≡ out.old.items ++ fields_text
+        (S.text style.now location.depth location.base) valid_at (map field_of fields.entry.now) body.now) }
 {
     let valid = validation(body, valid_at);
     while let [field, rest @ ..] = fields {
@@ -45,7 +46,9 @@ pub(crate) fn add_registers<S: Style>(
 ) -> Result<(), AllocError>
     requires sound { IsTrue (are_sound (register_fields width 0 (map (λ name. name.now) names.now))) }
     requires place { location.base + length body.now < 2 ^ 64 }
-    ensures { OnOk result (out.new.items ≡ out.old.items ++ fields_text (S.text style.now location.depth location.base) 0 (register_fields width 0 (map (λ name. name.now) names.entry.now)) body.now) }
+    ensures { OnOk result (out.new.items ≡ out.old.items ++ fields_text
+        (S.text style.now location.depth location.base) 0
+        (register_fields width 0 (map (λ name. name.now) names.entry.now)) body.now) }
 {
     let mut at = 0;
     while let [name, rest @ ..] = names {

@@ -48,7 +48,8 @@ pub trait Flash {
         requires some { 0 < length bytes.now }
         requires within { at + length bytes.now ≤ (state self.old).size }
         requires erased { tells → IsErased (state self.old).told.image at (length bytes.now) }
-        ensures bytes { OnOk result (tells → (state self.new).told.image ≡ put_at (state self.old).told.image at bytes.now) }
+        ensures bytes { OnOk result (tells → (state self.new).told.image
+            ≡ put_at (state self.old).told.image at bytes.now) }
         ensures change { AsksChange tells at (length bytes.now) (state self.old) (state self.new) result }
         ensures fails { IsErr result ↔ change_fails self.old self.new };
 
@@ -56,8 +57,10 @@ pub trait Flash {
     fn erase(&mut self, sector: u32) -> Result<(), FlashFailed>
         requires { sector * (state self.old).sector_size + (state self.old).sector_size ≤ (state self.old).size }
         ensures bytes { OnOk result (tells → (state self.new).told.image
-            ≡ put_at (state self.old).told.image (sector * (state self.old).sector_size) (replicate (state self.old).sector_size 0xFF)) }
-        ensures change { AsksChange tells (sector * (state self.old).sector_size) (state self.old).sector_size (state self.old) (state self.new) result }
+            ≡ put_at (state self.old).told.image (sector * (state self.old).sector_size)
+            (replicate (state self.old).sector_size 0xFF)) }
+        ensures change { AsksChange tells (sector * (state self.old).sector_size)
+            (state self.old).sector_size (state self.old) (state self.new) result }
         ensures fails { IsErr result ↔ change_fails self.old self.new };
 
     /// The number of changes that were asked for so far, whatever they answered, up to 2^64 - 1.

@@ -65,7 +65,8 @@ impl Journal {
         at: usize,
         replaced: Replaced,
     ) -> Result<(), AllocError>
-        ensures ok { OnOk result (self.new ≡ self.old ++ (record { step = step; at = at; replaced = replaced.entry }) ∷ []) }
+        ensures ok { OnOk result (self.new ≡ self.old ++
+            (record { step = step; at = at; replaced = replaced.entry }) ∷ []) }
         ensures err { OnErr result (self.new ≡ self.old) }
     {
         let kept = replaced.kept;

@@ -231,9 +231,11 @@ impl Flash for SimFlash {
         requires { sector * self.old.sector_size + self.old.sector_size ≤ length self.old.told.image }
         ensures bytes { OnOk result (self.new.told.image
             ≡ put_at self.old.told.image (sector * self.old.sector_size) (replicate self.old.sector_size 0xFF)) }
-        ensures change { AsksChange (Unit {0}) (sector * self.old.sector_size) self.old.sector_size (state_of self.old) (state_of self.new) result }
+        ensures change { AsksChange (Unit {0})
+            (sector * self.old.sector_size) self.old.sector_size (state_of self.old) (state_of self.new) result }
         ensures fails { IsErr result ↔ ChangeFails self.old self.new }
-        ensures after { MayFollow (fate_of self.old) self.old (sector * self.old.sector_size) (replicate self.old.sector_size 0xFF) self.new }
+        ensures after { MayFollow (fate_of self.old) self.old (sector * self.old.sector_size)
+            (replicate self.old.sector_size 0xFF) self.new }
     {
         let len = self.sector as usize;
         self.change(sector as usize * len, Content::Fill { byte: ERASED, len })
@@ -245,7 +247,11 @@ impl Flash for SimFlash {
 
     fn restart(&mut self)
         ensures same { state_of self.new ≡ restart (state_of self.old) }
-        ensures power { self.new ≡ record self.old { power = power_restored self.old.power; restarts = next_count self.old.restarts } }
+        ensures power { self.new ≡ record self.old {
+          power = power_restored self.old.power;
+          restarts = next_count
+              self.old.restarts;
+        } }
     {
         self.power = self.power.restored();
         self.restarts = next_count(self.restarts);

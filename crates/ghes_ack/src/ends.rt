@@ -60,7 +60,8 @@ pub struct Ends {
 /// Begins a handover in a window: sets the block status to 0.
 pub fn begin<M: HasWindow>(map: &M, ram: &mut Ram) -> (MayWrite, MustLook)
     requires { HasBlock (M.window_of map.now) ram.old }
-    ensures { ram.new ≡ with_block (M.window_of map.now) ram.old (with_status (block_bytes (M.window_of map.now) ram.old) (spelled 4 0)) }
+    ensures { ram.new ≡ with_block (M.window_of map.now) ram.old
+        (with_status (block_bytes (M.window_of map.now) ram.old) (spelled 4 0)) }
 {
     map.window().show(ram, 0);
     (MayWrite { made: () }, MustLook { made: () })
@@ -84,7 +85,8 @@ impl MayWrite {
         requires block { HasBlock (M.window_of map.now) ram.old }
         requires fits { length block.now ≤ (M.window_of map.now).len }
         requires begins { 64 * piece < length block.now }
-        ensures { ram.new ≡ with_block (M.window_of map.now) ram.old (with_piece (block_bytes (M.window_of map.now) ram.old) block.now piece) }
+        ensures { ram.new ≡ with_block (M.window_of map.now) ram.old
+            (with_piece (block_bytes (M.window_of map.now) ram.old) block.now piece) }
     {
         map.window().fill(ram, block, piece);
     }
@@ -114,7 +116,9 @@ impl MayWrite {
     pub fn publish(self, map: &HandoverMap, ram: &mut Ram, block: &[u8]) -> MustWait
         requires windows { HasWindows map.now ram.old }
         requires head { 20 ≤ length block.now }
-        ensures memory { ram.new ≡ with_window map.now (with_ack map.now ram.old (with_clear map.now (ack_read map.now ram.old))) (with_status (window map.now ram.old) (take 4 block.now)) }
+        ensures memory { ram.new ≡ with_window map.now
+            (with_ack map.now ram.old (with_clear map.now (ack_read map.now ram.old)))
+            (with_status (window map.now ram.old) (take 4 block.now)) }
         ensures clear { IsClear map.now ram.new }
     {
         let MayWrite { made } = self;
@@ -127,7 +131,8 @@ impl MayWrite {
     pub fn show<M: HasWindow>(self, map: &M, ram: &mut Ram, block: &[u8]) -> MustWait
         requires block { HasBlock (M.window_of map.now) ram.old }
         requires head { 20 ≤ length block.now }
-        ensures { ram.new ≡ with_block (M.window_of map.now) ram.old (with_status (block_bytes (M.window_of map.now) ram.old) (take 4 block.now)) }
+        ensures { ram.new ≡ with_block (M.window_of map.now) ram.old
+            (with_status (block_bytes (M.window_of map.now) ram.old) (take 4 block.now)) }
     {
         let MayWrite { made } = self;
         map.window().show(ram, get_u32(block, 0));
@@ -156,7 +161,8 @@ impl MustWait {
     #[inline]
     pub fn poll_status<M: HasWindow>(self, map: &M, ram: &Ram) -> Result<MayWrite, MustWait>
         requires { HasBlock (M.window_of map.now) ram.now }
-        ensures { MatchResult result (λ _. block_status (M.window_of map.now) ram.now ≡ 0) (λ _. 0 < block_status (M.window_of map.now) ram.now) }
+        ensures { MatchResult result (λ _. block_status (M.window_of map.now) ram.now ≡ 0)
+            (λ _. 0 < block_status (M.window_of map.now) ram.now) }
     {
         if map.window().status_word(ram) == 0 {
             Ok(self.over())
@@ -181,7 +187,8 @@ impl MustLook {
     #[inline]
     pub fn poll<M: HasWindow>(self, map: &M, ram: &Ram) -> Result<MayRead, MustLook>
         requires { HasBlock (M.window_of map.now) ram.now }
-        ensures { MatchResult result (λ _. 0 < block_status (M.window_of map.now) ram.now) (λ _. block_status (M.window_of map.now) ram.now ≡ 0) }
+        ensures { MatchResult result (λ _. 0 < block_status (M.window_of map.now) ram.now)
+            (λ _. block_status (M.window_of map.now) ram.now ≡ 0) }
     {
         if map.window().status_word(ram) == 0 {
             return Err(self);
@@ -213,7 +220,8 @@ impl MayRead {
         requires block { HasBlock (M.window_of map.now) ram.now }
         requires begins { 64 * piece < length bytes.old }
         requires fits { length bytes.old ≤ (M.window_of map.now).len }
-        ensures { bytes.new ≡ put_at bytes.old (64 * piece) (part (block_bytes (M.window_of map.now) ram.now) (64 * piece) (min 64 (length bytes.old - 64 * piece))) }
+        ensures { bytes.new ≡ put_at bytes.old (64 * piece) (part (block_bytes (M.window_of map.now) ram.now)
+            (64 * piece) (min 64 (length bytes.old - 64 * piece))) }
     {
         let at = PIECE * piece as usize;
         let end = bytes.len().min(at + PIECE);
@@ -224,7 +232,8 @@ impl MayRead {
     #[inline]
     pub fn clear<M: HasWindow>(self, map: &M, ram: &mut Ram) -> MustAcknowledge
         requires { HasBlock (M.window_of map.now) ram.old }
-        ensures { ram.new ≡ with_block (M.window_of map.now) ram.old (with_status (block_bytes (M.window_of map.now) ram.old) (spelled 4 0)) }
+        ensures { ram.new ≡ with_block (M.window_of map.now) ram.old
+            (with_status (block_bytes (M.window_of map.now) ram.old) (spelled 4 0)) }
     {
         let MayRead { made } = self;
         map.window().show(ram, 0);
@@ -235,7 +244,8 @@ impl MayRead {
     #[inline]
     pub fn release<M: HasWindow>(self, map: &M, ram: &mut Ram) -> MustLook
         requires { HasBlock (M.window_of map.now) ram.old }
-        ensures { ram.new ≡ with_block (M.window_of map.now) ram.old (with_status (block_bytes (M.window_of map.now) ram.old) (spelled 4 0)) }
+        ensures { ram.new ≡ with_block (M.window_of map.now) ram.old
+            (with_status (block_bytes (M.window_of map.now) ram.old) (spelled 4 0)) }
     {
         let MustAcknowledge { made } = self.clear(map, ram);
         MustLook { made }

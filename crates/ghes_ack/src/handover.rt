@@ -60,8 +60,10 @@ impl Handover {
     pub fn submit(&mut self, block: &[u8]) -> Result<u32, SubmitError>
         ensures added { OnOk result (self.new ≡ record self.old { waiting = self.old.waiting ++ block.now ∷ [] }) }
         ensures number { IfOk result (λ waiting. waiting ≡ length self.new.waiting) }
-        ensures stands { OnOk result ((ram : RamState) (m : Machine) → StandsFor self.old ram m → StandsFor self.new ram (submitted m block.now)) }
-        ensures exact { MatchResult result (λ _. refusal self.old block.now ≡ None) (λ error. refusal self.old block.now ≡ Some error) }
+        ensures stands { OnOk result ((ram : RamState) (m : Machine) → StandsFor self.old ram m
+            → StandsFor self.new ram (submitted m block.now)) }
+        ensures exact { MatchResult result (λ _. refusal self.old block.now ≡ None)
+            (λ error. refusal self.old block.now ≡ Some error) }
         ensures refused { OnErr result (self.new ≡ self.old) }
     {
         if let Err(error) = check_block(block, self.blocks.map.len, self.blocks.waiting.len()) {
@@ -91,7 +93,8 @@ impl Handover {
     /// As many turns of a side as there are places for their events, over the memory that it was begun with.
     pub fn turns(&mut self, side: Side, events: &mut [Event], ram: &mut Ram)
         requires { (m : Machine) × StandsFor self.old ram.old m }
-        ensures turned { (m : Machine) → StandsFor self.old ram.old m → AreTurned side (length events.old) events.new self.new ram.new m }
+        ensures turned { (m : Machine) → StandsFor self.old ram.old m
+            → AreTurned side (length events.old) events.new self.new ram.new m }
         ensures memory { AreLeft self.old.map events.new ram.old ram.new }
         ensures elsewhere { SameWhere (IsOffBlock self.old.map) ram.old ram.new }
         ensures map { self.new.map ≡ self.old.map }
@@ -102,9 +105,8 @@ impl Handover {
     /// A turn that moves one piece, made in place; `None` where the turn is another one, and nothing is done then.
     fn move_piece(&mut self, side: Side, ram: &mut Ram) -> Option<Event>
         requires { Stands self.old ram.old }
-        ensures { MatchOption result
-            ((self.new ≡ self.old) × (ram.new ≡ ram.old))
-            (λ event. (m : Machine) → StandsFor self.old ram.old m → Turns side event self.old ram.old self.new ram.new m) }
+        ensures { MatchOption result ((self.new ≡ self.old) × (ram.new ≡ ram.old)) (λ event. (m : Machine)
+            → StandsFor self.old ram.old m → Turns side event self.old ram.old self.new ram.new m) }
     {
         match &self.ends {
             Some(ends) => piece_turn(side, ends, &mut self.blocks, ram),
@@ -115,7 +117,8 @@ impl Handover {
     /// As many turns of a side as there are places for their events. Both sides are taken out and put back.
     fn make_turns(&mut self, side: Side, events: &mut [Event], ram: &mut Ram)
         requires { Stands self.old ram.old }
-        ensures { (m : Machine) → StandsFor self.old ram.old m → MakesTurns side events.new self.old ram.old self.new ram.new m }
+        ensures { (m : Machine) → StandsFor self.old ram.old m
+            → MakesTurns side events.new self.old ram.old self.new ram.new m }
     {
         let Some(ends) = self.ends.take() else {
             unreachable!();

@@ -54,5 +54,6 @@ pub fn each_side_keeps()
 
 /// A block that a turn of the reader took has a head, and fits into the window.
 pub fn a_taken_block_fits()
-    ensures { (len : ℕ) (m : Machine) → IsState len m → OfTook ≡ (turned OfReader m).0 → Fits len (last_taken (turned OfReader m).1) }
+    ensures { (len : ℕ) (m : Machine) → IsState len m → OfTook ≡ (turned OfReader m).0
+        → Fits len (last_taken (turned OfReader m).1) }
 {}

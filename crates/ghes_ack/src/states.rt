@@ -119,7 +119,8 @@ impl FirmBlock {
         requires fits { length block.now ≤ self.len }
         requires status { 0 < number_at block.now 0 4 }
         requires filled { drop 4 (take (length block.now) (window self ram.old)) ≡ drop 4 block.now }
-        ensures memory { ram.new ≡ with_window self (with_ack self ram.old (with_clear self (ack_read self ram.old))) (with_status (window self ram.old) (take 4 block.now)) }
+        ensures memory { ram.new ≡ with_window self (with_ack self ram.old (with_clear self (ack_read self ram.old)))
+            (with_status (window self ram.old) (take 4 block.now)) }
         ensures clear { IsClear self ram.new }
         ensures map { result ≡ self }
     {
@@ -132,7 +133,8 @@ impl FirmBlock {
 impl AwaitAck {
     /// The block is the firmware's again exactly where the acknowledge bits are set.
     pub fn poll(self, ram: &Ram) -> Result<FirmBlock, AwaitAck>
-        ensures { MatchResult result (λ firm. (firm ≡ self) × IsSet self ram.now) (λ wait. (wait ≡ self) × (¬ IsSet self ram.now)) }
+        ensures { MatchResult result (λ firm. (firm ≡ self) × IsSet self ram.now)
+            (λ wait. (wait ≡ self) × (¬ IsSet self ram.now)) }
     {
         let AwaitAck { map, end } = self;
         match end.poll(&map, ram) {
@@ -146,7 +148,8 @@ impl OsIdle {
     /// There is a block exactly where the block status isn't 0.
     pub fn poll(self, ram: &Ram) -> Result<OsBlock, OsIdle>
         requires { HasWindows self ram.now }
-        ensures { MatchResult result (λ block. (block ≡ self) × (0 < status_word self ram.now)) (λ idle. (idle ≡ self) × (status_word self ram.now ≡ 0)) }
+        ensures { MatchResult result (λ block. (block ≡ self) × (0 < status_word self ram.now))
+            (λ idle. (idle ≡ self) × (status_word self ram.now ≡ 0)) }
     {
         let OsIdle { map, end } = self;
         match end.poll(&map, ram) {

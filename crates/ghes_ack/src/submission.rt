@@ -21,7 +21,8 @@ pub enum SubmitError {
 
 /// Whether a window of so many bytes takes a block, where so many blocks wait.
 pub fn check_block(block: &[u8], window: u32, waiting: usize) -> Result<(), SubmitError>
-    ensures exact { MatchResult result (λ _. refusal_of window block.now waiting ≡ None) (λ error. refusal_of window block.now waiting ≡ Some error) }
+    ensures exact { MatchResult result (λ _. refusal_of window block.now waiting ≡ None)
+        (λ error. refusal_of window block.now waiting ≡ Some error) }
     ensures fits { OnOk result (Fits window block.now) }
     ensures room { OnOk result (waiting < 64) }
 {

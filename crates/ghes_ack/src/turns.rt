@@ -51,7 +51,8 @@ pub fn all_turns(
     requires consistent { IsConsistent ends blocks.old }
     requires stands { Stands (handover_of ends blocks.old) ram.old }
     ensures consistent { IsConsistent result blocks.new }
-    ensures turns { (m : Machine) → StandsFor (handover_of ends blocks.old) ram.old m → MakesTurns side events.new (handover_of ends blocks.old) ram.old (handover_of result blocks.new) ram.new m }
+    ensures turns { (m : Machine) → StandsFor (handover_of ends blocks.old) ram.old m
+        → MakesTurns side events.new (handover_of ends blocks.old) ram.old (handover_of result blocks.new) ram.new m }
 {
     let mut stand = ends;
     let mut done: usize = 0;

@@ -84,7 +84,8 @@ impl BlockWindow {
         requires begins { 64 * piece < length block.now }
         requires some { 0 < count }
         requires few { 64 * count < length block.now - 64 * piece + 64 }
-        ensures { ram.new ≡ with_block self.now ram.old (with_pieces (block_bytes self.now ram.old) block.now piece count) }
+        ensures { ram.new ≡ with_block self.now ram.old (with_pieces (block_bytes self.now ram.old) block.now piece
+            count) }
     {
         let at = PIECE * piece as usize;
         let end = block.len().min(at + PIECE * count);

@@ -80,7 +80,8 @@ impl<M: HasWindow> Blocks<M> {
     #[inline]
     pub fn next(&mut self) -> Option<Vec<u8>>
         requires { HasRoom M.window_of 0 self.old }
-        ensures { MatchOption result (HoldsNone M.window_of self.old self.new) (λ block. TakesOut M.window_of self.old self.new block) }
+        ensures { MatchOption result (HoldsNone M.window_of self.old self.new)
+            (λ block. TakesOut M.window_of self.old self.new block) }
     {
         match self.at_work.take() {
             Some(block) => Some(block),

@@ -70,8 +70,9 @@ fn count_entries(content: &[u8]) -> Result<u32, BlockError>
 /// The length, where so many bytes are there, and the number of entries.
 fn sized_block(bytes: &[u8], size: u64, data_length: u32) -> Result<(usize, u32), BlockError>
     requires { 20 + data_length ≤ size }
-    ensures { let count = count_in (part bytes.now 20 data_length) in
-        MatchResult result (λ x. (length_if_there (length bytes.now) size count ≡ Ok x.0) × (count ≡ Ok x.1)) (λ e. length_if_there (length bytes.now) size count ≡ Err e) }
+    ensures { let count = count_in (part bytes.now 20 data_length)
+        in MatchResult result (λ x. (length_if_there (length bytes.now) size count ≡ Ok x.0) × (count ≡ Ok x.1))
+        (λ e. length_if_there (length bytes.now) size count ≡ Err e) }
 {
     let have = bytes.len() as u64;
     if have < size {
@@ -83,7 +84,8 @@ fn sized_block(bytes: &[u8], size: u64, data_length: u32) -> Result<(usize, u32)
 
 /// The length of the block that the bytes begin with, and the number of its entries.
 fn checked_block(bytes: &[u8]) -> Result<(usize, u32), BlockError>
-    ensures { MatchResult result (λ x. (checked bytes.now ≡ Ok x.0) × (entry_count bytes.now ≡ Ok x.1)) (λ e. checked bytes.now ≡ Err e) }
+    ensures { MatchResult result (λ x. (checked bytes.now ≡ Ok x.0) × (entry_count bytes.now ≡ Ok x.1))
+        (λ e. checked bytes.now ≡ Err e) }
 {
     if bytes.len() < HEADER {
         return Err(BlockError::Need {
@@ -119,7 +121,8 @@ impl<'a> Block<'a> {
         // What is found is a block.
         ensures found { IfOk result (λ x. (x.1 ≤ length bytes.now) × IsBlock x.0 (take x.1 bytes.now)) }
         // What is a block is found.
-        ensures only { (value : BlockValue) (n : ℕ) → n ≤ length bytes.now → IsBlock value (take n bytes.now) → IsOkAnd result (λ x. (x.0 ≡ value) × (x.1 ≡ n)) }
+        ensures only { (value : BlockValue) (n : ℕ) → n ≤ length bytes.now → IsBlock value (take n bytes.now)
+            → IsOkAnd result (λ x. (x.0 ≡ value) × (x.1 ≡ n)) }
         // The error is the first check that fails.
         ensures exact { MatchResult result (λ x. checked bytes.now ≡ Ok x.1) (λ e. checked bytes.now ≡ Err e) }
         // It has a head of 20 bytes, with a status other than 0.
@@ -193,7 +196,8 @@ impl<'a> Block<'a> {
     /// this call.
     pub fn entry_at(&self, at: u64) -> Option<(DataEntry<'a>, u64)>
         requires { IsPlace self.now.entries at }
-        ensures found { MatchOption result (at ≡ place_of self.now.entries (length self.now.entries)) (λ x. EntryAt self.now.entries at x.1 (value_of x.0)) }
+        ensures found { MatchOption result (at ≡ place_of self.now.entries (length self.now.entries))
+            (λ x. EntryAt self.now.entries at x.1 (value_of x.0)) }
         ensures next { IfSome result (λ x. IsPlace self.now.entries x.1) }
         // The next place is further on, within the block.
         ensures on { IfSome result (λ x. (at + 64 ≤ x.1) × (x.1 ≤ self.now.size)) }
@@ -209,5 +213,6 @@ impl<'a> Block<'a> {
 
 /// No block begins another, so where a block ends doesn't depend on what follows it.
 pub fn one_end()
-    ensures { (value other : BlockValue) (bytes more : List ℕ) → IsBlock value bytes → IsBlock other (bytes ++ more) → more ≡ [] }
+    ensures { (value other : BlockValue) (bytes more : List ℕ) → IsBlock value bytes → IsBlock other (bytes ++ more)
+        → more ≡ [] }
 {}

@@ -40,7 +40,8 @@ fn first_size(rest: &[u8]) -> Option<usize>
 
 /// Where the zeros behind the blocks begin.
 fn end_of(region: &[u8]) -> usize
-    ensures place { (blocks : List (List ℕ)) (left : ℕ) → IsLaidOut blocks left region.now → result ≡ length (joined blocks) }
+    ensures place { (blocks : List (List ℕ)) (left : ℕ) → IsLaidOut blocks left region.now
+        → result ≡ length (joined blocks) }
     ensures within { result ≤ length region.now }
 {
     let mut at = 0;
@@ -57,8 +58,9 @@ pub fn lay(region: &mut [u8], block: &[u8]) -> Result<u32, RegionFull>
     requires whole { IsOneBlock block.now }
     ensures laid { IfOk result (λ at. (blocks : List (List ℕ)) (left : ℕ) → IsLaidOut blocks left region.old →
         (at ≡ length (joined blocks)) × IsLaidOut (blocks ++ block.now ∷ []) (left - length block.now) region.new) }
-    ensures exact { (blocks : List (List ℕ)) (left : ℕ) → IsLaidOut blocks left region.old →
-        MatchResult result (λ _. length block.now ≤ left) (λ full. (full.need ≡ length block.now) × (left < length block.now)) }
+    ensures exact { (blocks : List (List ℕ)) (left : ℕ) → IsLaidOut blocks left region.old
+        → MatchResult result (λ _. length block.now ≤ left) (λ full. (full.need ≡ length block.now)
+        × (left < length block.now)) }
     ensures kept { OnErr result (region.new ≡ region.old) }
 {
     let at = end_of(region);
@@ -96,10 +98,12 @@ pub fn take(region: &[u8], at: u32) -> Result<Option<(Block<'_>, u32)>, BlockErr
 /// Calls of `take`, each from the place that the one before it answered, walk the region's list of blocks: from the end of
 /// some of them the next call finds the next block with all its bytes, or none where there is none.
 pub fn walks_the_list()
-    ensures { (region : List ℕ) (before after : List (List ℕ)) → IsListOf (before ++ after) region → FindsNext region (length (joined before)) after }
+    ensures { (region : List ℕ) (before after : List (List ℕ)) → IsListOf (before ++ after) region
+        → FindsNext region (length (joined before)) after }
 {}
 
 /// Whole blocks and then zeros are the region's list.
 pub fn what_is_laid_is_the_list()
-    ensures { (region : List ℕ) (blocks : List (List ℕ)) (left : ℕ) → IsLaidOut blocks left region → IsListOf blocks region }
+    ensures { (region : List ℕ) (blocks : List (List ℕ)) (left : ℕ) → IsLaidOut blocks left region
+        → IsListOf blocks region }
 {}

@@ -20,9 +20,11 @@ impl Bert {
         // What is found is such a table.
         ensures found { IfOk result (λ x. (x.1 ≤ length bytes.now) × IsBert x.0 (take x.1 bytes.now)) }
         // What is such a table is found.
-        ensures only { (bert : AnyBert) (n : ℕ) → n ≤ length bytes.now → IsBert bert (take n bytes.now) → IsOkAnd result (λ x. (x.0 ≡ bert) × (x.1 ≡ n)) }
+        ensures only { (bert : AnyBert) (n : ℕ) → n ≤ length bytes.now → IsBert bert (take n bytes.now)
+            → IsOkAnd result (λ x. (x.0 ≡ bert) × (x.1 ≡ n)) }
         // The error is the first reason that applies.
-        ensures refused { MatchResult result (λ _. refusal signature 48 bytes.now ≡ None) (λ error. refusal signature 48 bytes.now ≡ Some error) }
+        ensures refused { MatchResult result (λ _. refusal signature 48 bytes.now ≡ None)
+            (λ error. refusal signature 48 bytes.now ≡ Some error) }
     {
         match Header::decode(bytes, *b"BERT", 48) {
             Ok((_, table)) => {

@@ -147,10 +147,12 @@ impl<'a> BlockWriter<'a> {
         ensures used { OnOk result (used_by self.new ≡ used_by self.old + entry_length head.now (length body.now)) }
         ensures on { OnOk result (used_by self.old + 64 ≤ used_by self.new) }
         // It is refused exactly where there is no room for it.
-        ensures refused { NeedsRoom (used_by self.old + entry_length head.now (length body.now)) (room_of self.old) result }
+        ensures refused { NeedsRoom (used_by self.old + entry_length head.now (length body.now))
+            (room_of self.old) result }
         ensures unchanged { OnErr result (IsUnchanged self.old self.new) }
         ensures ready { IsBlockWriter self.new }
-        ensures same { (status_of self.new ≡ status_of self.old) × (severity_of self.new ≡ severity_of self.old) × (room_of self.new ≡ room_of self.old) }
+        ensures same { (status_of self.new ≡ status_of self.old) × (severity_of self.new ≡ severity_of self.old)
+            × (room_of self.new ≡ room_of self.old) }
         ensures same_slice { name_of self.new ≡ name_of self.old }
     {
         let need = self.end + entry_size_for(head, body.len());
@@ -166,8 +168,9 @@ impl<'a> BlockWriter<'a> {
         requires short { used_by self + length raw.now < 2 ^ 32 }
         // The first bytes are exactly the block of the entries that were given and this raw data, with the raw offset 0 where
         // there is no raw data.
-        ensures written { IfOk result (λ size. (before : List ℕ) (given : List EntryValue) → IsWriting before given self.entry
-            → IsWritten (written_block self.entry given raw.now size) (used_by self.entry) before self.exit.0.now) }
+        ensures written { IfOk result (λ size. (before : List ℕ) (given : List EntryValue)
+            → IsWriting before given self.entry → IsWritten (written_block self.entry given raw.now size)
+            (used_by self.entry) before self.exit.0.now) }
         ensures used { IfOk result (λ size. size ≡ used_by self.entry + length raw.now) }
         // It is refused exactly where there is no room for the raw data.
         ensures refused { NeedsRoom (used_by self.entry + length raw.now) (room_of self.entry) result }

@@ -55,7 +55,8 @@ pub fn plan(
     requires no_windows { windows.old.items ≡ [] }
     requires places { 16 ≤ vec_capacity layouts.old }
     requires room { 48 ≤ vec_capacity windows.old }
-    ensures exact { MatchResult result (λ _. sources_refusal [] 0 (generics sources.now) ≡ None) (λ error. sources_refusal [] 0 (generics sources.now) ≡ Some error) }
+    ensures exact { MatchResult result (λ _. sources_refusal [] 0 (generics sources.now) ≡ None)
+        (λ error. sources_refusal [] 0 (generics sources.now) ≡ Some error) }
     ensures planned { OnOk result (layouts.new.items ≡ layouts_from 0 (generics sources.now)) }
     ensures windows { OnOk result (windows.new.items ≡ all_windows layouts.new.items) }
 {
@@ -76,12 +77,15 @@ fn plan_one(
     requires few { vec_len layouts.old + length (generics (source.now ∷ [])) ≤ 16 }
     requires places { vec_len layouts.old + length (generics (source.now ∷ [])) ≤ vec_capacity layouts.old }
     requires room { vec_len windows.old + 3 * length (generics (source.now ∷ [])) ≤ vec_capacity windows.old }
-    ensures exact { (rest : List AnySource) → MatchResult result
-        (λ _. sources_refusal windows.old.items (vec_len layouts.old) (generics (source.now ∷ rest)) ≡ sources_refusal windows.new.items (vec_len layouts.new) (generics rest))
-        (λ error. sources_refusal windows.old.items (vec_len layouts.old) (generics (source.now ∷ rest)) ≡ Some error) }
-    ensures planned { OnOk result ((rest : List AnySource) →
-        layouts.new.items ++ layouts_from (vec_len layouts.new) (generics rest) ≡ layouts.old.items ++ layouts_from (vec_len layouts.old) (generics (source.now ∷ rest))) }
-    ensures windows { OnOk result (windows.old.items ≡ all_windows layouts.old.items → windows.new.items ≡ all_windows layouts.new.items) }
+    ensures exact { (rest : List AnySource)
+        → MatchResult result (λ _. sources_refusal windows.old.items (vec_len layouts.old)
+        (generics (source.now ∷ rest)) ≡ sources_refusal windows.new.items (vec_len layouts.new) (generics rest))
+        (λ error. sources_refusal windows.old.items (vec_len layouts.old) (generics (source.now ∷ rest))
+        ≡ Some error) }
+    ensures planned { OnOk result ((rest : List AnySource) → layouts.new.items ++ layouts_from (vec_len layouts.new)
+        (generics rest) ≡ layouts.old.items ++ layouts_from (vec_len layouts.old) (generics (source.now ∷ rest))) }
+    ensures windows { OnOk result (windows.old.items ≡ all_windows layouts.old.items
+        → windows.new.items ≡ all_windows layouts.new.items) }
     ensures count { OnOk result (vec_len layouts.new ≡ vec_len layouts.old + length (generics (source.now ∷ []))) }
     ensures len { vec_len windows.new ≤ vec_len windows.old + 3 * length (generics (source.now ∷ [])) }
     ensures layouts_room { vec_capacity layouts.new ≡ vec_capacity layouts.old }
@@ -105,8 +109,8 @@ fn plan_one(
 fn lay(index: usize, source: &Ghes, windows: &mut Vec<Window>) -> Result<Layout, HubError>
     requires few { index < 16 }
     requires room { vec_len windows.old + 3 ≤ vec_capacity windows.old }
-    ensures exact { MatchResult result
-        (λ layout. (source_refusal windows.old.items index source.now ≡ None) × (layout ≡ layout_of index source.now) × (windows.new.items ≡ windows.old.items ++ layout_windows layout))
+    ensures exact { MatchResult result (λ layout. (source_refusal windows.old.items index source.now ≡ None)
+        × (layout ≡ layout_of index source.now) × (windows.new.items ≡ windows.old.items ++ layout_windows layout))
         (λ error. source_refusal windows.old.items index source.now ≡ Some error) }
     ensures len { vec_len windows.new ≤ vec_len windows.old + 3 }
     ensures room { vec_capacity windows.new ≡ vec_capacity windows.old }

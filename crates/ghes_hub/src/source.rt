@@ -24,7 +24,8 @@ impl Source {
     /// Begins the handover of a source. No other call takes memory.
     pub fn new(alloc: Global, layout: Layout, ram: &mut Ram) -> Result<Source, OutOfMemory>
         requires { HasLayout layout ram.old }
-        ensures stands { IfOk result (λ handover. SourceStands handover ram.new (started (layout_window layout ram.old))) }
+        ensures stands { IfOk result (λ handover. SourceStands handover ram.new
+            (started (layout_window layout ram.old))) }
         ensures layout { IfOk result (λ handover. layout_in handover ≡ layout) }
         ensures kind { IfOk result (λ handover. kind_of handover ≡ layout_kind layout) }
         ensures windows { IfOk result (λ handover. windows_of handover ≡ layout_windows layout) }
@@ -37,9 +38,11 @@ impl Source {
     }
 
     pub fn submit(&mut self, block: &[u8]) -> Result<u32, SubmitError>
-        ensures stands { OnOk result ((ram : RamState) (m : Machine) → SourceStands self.old ram m → SourceStands self.new ram (submitted m block.now)) }
+        ensures stands { OnOk result ((ram : RamState) (m : Machine) → SourceStands self.old ram m
+            → SourceStands self.new ram (submitted m block.now)) }
         ensures number { IfOk result (λ waiting. waiting ≡ length (waiting_of self.new)) }
-        ensures exact { MatchResult result (λ _. refusal_of self.old block.now ≡ None) (λ error. refusal_of self.old block.now ≡ Some error) }
+        ensures exact { MatchResult result (λ _. refusal_of self.old block.now ≡ None)
+            (λ error. refusal_of self.old block.now ≡ Some error) }
         ensures places { SamePlaces self.old self.new }
         ensures refused { OnErr result (self.new ≡ self.old) }
     {
@@ -51,7 +54,8 @@ impl Source {
 
     pub fn turn(&mut self, side: Side, ram: &mut Ram) -> Event
         requires { Stands self.old ram.old }
-        ensures turned { (m : Machine) → SourceStands self.old ram.old m → SourceTurned (kind_of self.old) side result self.new ram.new m }
+        ensures turned { (m : Machine) → SourceStands self.old ram.old m
+            → SourceTurned (kind_of self.old) side result self.new ram.new m }
         ensures elsewhere { SameWhere (IsOff (windows_of self.old)) ram.old ram.new }
         ensures places { SamePlaces self.old self.new }
     {

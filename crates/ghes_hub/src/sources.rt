@@ -36,7 +36,8 @@ impl Sources {
     /// Begins a handover for each layout, in their order.
     pub fn begin(alloc: Global, layouts: &[Layout], mut ram: Ram) -> Result<Sources, OutOfMemory>
         requires { AreLaidOut layouts.now ram }
-        ensures { IfOk result (λ sources. (length sources.list ≡ length layouts.now) × AreBegun layouts.now ram sources.ram sources.list) }
+        ensures { IfOk result (λ sources. (length sources.list ≡ length layouts.now)
+            × AreBegun layouts.now ram sources.ram sources.list) }
     {
         let mut list = Vec::with_capacity(alloc, layouts.len())?;
         while let Some(layout) = layouts.get(list.len()) {
@@ -59,8 +60,10 @@ impl Sources {
 
     pub fn turn(&mut self, source: usize, side: Side) -> Event
         requires { source < length self.old.list }
-        ensures turned { (kind : Kind) (m : Machine) → StandsAt kind self.old source m → TurnsAt kind source side result self.new m }
-        ensures others { (kind : Kind) (other : ℕ) (m : Machine) → other ≢ source → StandsAt kind self.old other m → StandsAt kind self.new other m }
+        ensures turned { (kind : Kind) (m : Machine) → StandsAt kind self.old source m
+            → TurnsAt kind source side result self.new m }
+        ensures others { (kind : Kind) (other : ℕ) (m : Machine) → other ≢ source → StandsAt kind self.old other m
+            → StandsAt kind self.new other m }
         ensures layouts { layouts_in self.new ≡ layouts_in self.old }
         ensures count { length self.new.list ≡ length self.old.list }
         ensures took { takes result ≡ true → 20 ≤ length (last_in self.new source) }
@@ -70,10 +73,15 @@ impl Sources {
 
     pub fn submit(&mut self, source: usize, block: &[u8]) -> Result<u32, SubmitError>
         requires { source < length self.old.list }
-        ensures submitted { OnOk result ((kind : Kind) (m : Machine) → StandsAt kind self.old source m → StandsAt kind self.new source (submitted m block.now)) }
-        ensures others { (kind : Kind) (other : ℕ) (m : Machine) → other ≢ source → StandsAt kind self.old other m → StandsAt kind self.new other m }
-        ensures number { IfOk result (λ waiting. IfSome (slice_get self.new.list source) (λ handover. waiting ≡ length (waiting_of handover))) }
-        ensures exact { IfSome (slice_get self.old.list source) (λ handover. MatchResult result (λ _. refusal_of handover block.now ≡ None) (λ error. refusal_of handover block.now ≡ Some error)) }
+        ensures submitted { OnOk result ((kind : Kind) (m : Machine) → StandsAt kind self.old source m
+            → StandsAt kind self.new source (submitted m block.now)) }
+        ensures others { (kind : Kind) (other : ℕ) (m : Machine) → other ≢ source → StandsAt kind self.old other m
+            → StandsAt kind self.new other m }
+        ensures number { IfOk result (λ waiting. IfSome (slice_get self.new.list source)
+            (λ handover. waiting ≡ length (waiting_of handover))) }
+        ensures exact { IfSome (slice_get self.old.list source)
+            (λ handover. MatchResult result (λ _. refusal_of handover block.now ≡ None)
+            (λ error. refusal_of handover block.now ≡ Some error)) }
         ensures layouts { layouts_in self.new ≡ layouts_in self.old }
         ensures count { length self.new.list ≡ length self.old.list }
         ensures refused { OnErr result (self.new ≡ self.old) }

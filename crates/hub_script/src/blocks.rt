@@ -22,8 +22,10 @@ pub fn show_block<O: Sink>(
     out: &mut O,
 ) -> Result<(), SinkFault>
     requires { 20 ≤ length block.now }
-    ensures all { OnOk result (O.tells → O.written out.new ≡ O.written out.old ++ reply_line (words_of_block source block.now)) }
-    ensures part { OnErr result (O.tells → IsPartWritten (reply_line (words_of_block source block.now)) (O.written out.old) (O.written out.new)) }
+    ensures all { OnOk result (O.tells → O.written out.new
+        ≡ O.written out.old ++ reply_line (words_of_block source block.now)) }
+    ensures part { OnErr result (O.tells → IsPartWritten (reply_line (words_of_block source block.now))
+        (O.written out.old) (O.written out.new)) }
     ensures cause { HasCause (O.faults out.old) (O.faults out.new) result }
 {
     begin_block(reply, source, block);

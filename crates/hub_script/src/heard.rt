@@ -20,10 +20,12 @@ pub fn show_heard<O: Sink>(
     out: &mut O,
 ) -> Result<(), SinkFault>
     requires { source < sources_in (seen hub.now) }
-    ensures all { OnOk result (IfSome (slice_get (seen hub.now).chains source)
-        (λ members. O.tells → O.written out.new ≡ O.written out.old ++ reply_line (words_of_heard (counts_of (boxed hearing) (listed members))))) }
-    ensures part { OnErr result (IfSome (slice_get (seen hub.now).chains source)
-        (λ members. O.tells → IsPartWritten (reply_line (words_of_heard (counts_of (boxed hearing) (listed members)))) (O.written out.old) (O.written out.new))) }
+    ensures all { OnOk result (IfSome (slice_get (seen hub.now).chains source) (λ members. O.tells
+        → O.written out.new ≡ O.written out.old ++ reply_line (words_of_heard (counts_of (boxed hearing)
+        (listed members))))) }
+    ensures part { OnErr result (IfSome (slice_get (seen hub.now).chains source) (λ members. O.tells
+        → IsPartWritten (reply_line (words_of_heard (counts_of (boxed hearing) (listed members)))) (O.written out.old)
+        (O.written out.new))) }
     ensures cause { HasCause (O.faults out.old) (O.faults out.new) result }
 {
     reply.begin(b"heard");

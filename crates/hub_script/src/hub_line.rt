@@ -93,7 +93,8 @@ impl HubLine<'_> {
 
     // The line of a keyword and what follows it.
     fn from_parts(word: HubWord, rest: &[u8]) -> Result<HubLine<'_>, usize>
-        ensures { MatchResult result (λ line. IsTextBehind word rest.now line) (λ reach. Breaks (Follows word) rest.now reach) }
+        ensures { MatchResult result (λ line. IsTextBehind word rest.now line)
+            (λ reach. Breaks (Follows word) rest.now reach) }
     {
         match word {
             HubWord::Comment => Ok(HubLine::Blank),

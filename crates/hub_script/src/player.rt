@@ -77,12 +77,16 @@ impl HubPlayer {
     /// Plays the line that a text is, and writes its replies.
     pub fn play<O: Sink>(&mut self, line: &[u8], out: &mut O) -> Result<(), HubStop>
         requires { length line.now ≤ LONGEST_LINE }
-        ensures played { OnOk result (TextIs line.now (λ asked. PlaysLine hearing O.tells (stage_of self.old) asked (stage_of self.new) (O.written out.old) (O.written out.new))) }
-        ensures unwritten { result ≡ Err HubStop.SinkFault → TextIs line.now (λ asked. PlaysUnwritten hearing O.tells (stage_of self.old) asked (stage_of self.new) (O.written out.old) (O.written out.new)) }
+        ensures played { OnOk result (TextIs line.now (λ asked. PlaysLine hearing O.tells (stage_of self.old) asked
+            (stage_of self.new) (O.written out.old) (O.written out.new))) }
+        ensures unwritten { result ≡ Err HubStop.SinkFault
+            → TextIs line.now (λ asked. PlaysUnwritten hearing O.tells (stage_of self.old) asked (stage_of self.new)
+            (O.written out.old) (O.written out.new)) }
         ensures bad { (column : ℕ) → result ≡ Err (HubStop.BadLine column) → BreaksAt IsLine line.now column }
         ensures memory { result ≡ Err HubStop.Memory → GivesTable line.now }
         ensures waits { result ≡ Err HubStop.Memory → self.old.hub ≡ None }
-        ensures stopped { IfErr result (λ stop. stop ≢ HubStop.SinkFault → (stage_of self.new ≡ stage_of self.old) × (out.new ≡ out.old)) }
+        ensures stopped { IfErr result (λ stop. stop ≢ HubStop.SinkFault → (stage_of self.new ≡ stage_of self.old)
+            × (out.new ≡ out.old)) }
         ensures fault { result ≡ Err HubStop.SinkFault → Rose (O.faults out.old) (O.faults out.new) }
         ensures no_fault { result ≢ Err HubStop.SinkFault → O.faults out.new ≡ O.faults out.old }
     {
@@ -96,12 +100,15 @@ impl HubPlayer {
     fn play_line<O: Sink>(&mut self, line: HubLine<'_>, out: &mut O) -> Result<(), HubStop>
         requires valid { IsValid (line_of line) }
         requires fits { length (text_of (line_of line)) ≤ LONGEST_LINE }
-        ensures played { OnOk result (PlaysLine hearing O.tells (stage_of self.old) (line_of line.entry) (stage_of self.new) (O.written out.old) (O.written out.new)) }
-        ensures unwritten { result ≡ Err HubStop.SinkFault → PlaysUnwritten hearing O.tells (stage_of self.old) (line_of line.entry) (stage_of self.new) (O.written out.old) (O.written out.new) }
+        ensures played { OnOk result (PlaysLine hearing O.tells (stage_of self.old) (line_of line.entry)
+            (stage_of self.new) (O.written out.old) (O.written out.new)) }
+        ensures unwritten { result ≡ Err HubStop.SinkFault → PlaysUnwritten hearing O.tells (stage_of self.old)
+            (line_of line.entry) (stage_of self.new) (O.written out.old) (O.written out.new) }
         ensures bad { (column : ℕ) → result ≢ Err (HubStop.BadLine column) }
         ensures memory { result ≡ Err HubStop.Memory → IsTable line.entry }
         ensures waits { result ≡ Err HubStop.Memory → self.old.hub ≡ None }
-        ensures stopped { IfErr result (λ stop. stop ≢ HubStop.SinkFault → (stage_of self.new ≡ stage_of self.old) × (out.new ≡ out.old)) }
+        ensures stopped { IfErr result (λ stop. stop ≢ HubStop.SinkFault → (stage_of self.new ≡ stage_of self.old)
+            × (out.new ≡ out.old)) }
         ensures fault { result ≡ Err HubStop.SinkFault → Rose (O.faults out.old) (O.faults out.new) }
         ensures no_fault { result ≢ Err HubStop.SinkFault → O.faults out.new ≡ O.faults out.old }
     {
@@ -130,7 +137,8 @@ impl HubPlayer {
     fn open(&mut self, hex: &[u8]) -> Result<(), OutOfMemory>
         requires pairs { IsPairs hex.now }
         requires fits { length hex.now ≤ LONGEST_LINE }
-        ensures made { OnOk result (MakesReply hearing (stage_of self.old) (hest hex.now) (stage_of self.new) self.new.session.reply) }
+        ensures made { OnOk result (MakesReply hearing (stage_of self.old) (hest hex.now)
+            (stage_of self.new) self.new.session.reply) }
         ensures memory { OnErr result (BringsTable hex.now) }
         ensures waits { OnErr result (self.old.hub ≡ None) }
         ensures stays { OnErr result (stage_of self.new ≡ stage_of self.old) }
@@ -153,7 +161,8 @@ impl HubPlayer {
     /// Serves the sources of a table, with the listeners that wait.
     fn serve(&mut self, table: &Hest) -> Result<(), OutOfMemory>
         requires { self.old.hub ≡ None }
-        ensures made { OnOk result (OpensFor self.old.listeners.items table.now (stage_of self.new) self.new.session.reply) }
+        ensures made { OnOk result (OpensFor self.old.listeners.items table.now (stage_of self.new)
+            self.new.session.reply) }
         ensures stays { OnErr result (stage_of self.new ≡ stage_of self.old) }
     {
         let listeners = replace(&mut self.listeners, Vec::new(self.alloc));
@@ -182,7 +191,8 @@ impl HubPlayer {
     fn submit(&mut self, source: u64, hex: &[u8])
         requires pairs { IsPairs hex.now }
         requires fits { length hex.now ≤ LONGEST_LINE }
-        ensures { MakesReply hearing (stage_of self.old) (error source hex.now) (stage_of self.new) self.new.session.reply }
+        ensures { MakesReply hearing (stage_of self.old) (error source hex.now)
+            (stage_of self.new) self.new.session.reply }
     {
         let Some(hub) = &mut self.hub else {
             refuse(&mut self.session.reply, &HubRefusal::NoHub);
@@ -206,8 +216,10 @@ impl HubPlayer {
     /// Makes turns.
     fn turn<O: Sink>(&mut self, pairs: &[u8], out: &mut O) -> Result<(), SinkFault>
         requires { AreTurns pairs.now }
-        ensures played { OnOk result (PlaysLine hearing O.tells (stage_of self.old) (turns pairs.now) (stage_of self.new) (O.written out.old) (O.written out.new)) }
-        ensures unwritten { OnErr result (PlaysUnwritten hearing O.tells (stage_of self.old) (turns pairs.now) (stage_of self.new) (O.written out.old) (O.written out.new)) }
+        ensures played { OnOk result (PlaysLine hearing O.tells (stage_of self.old) (turns pairs.now)
+            (stage_of self.new) (O.written out.old) (O.written out.new)) }
+        ensures unwritten { OnErr result (PlaysUnwritten hearing O.tells (stage_of self.old) (turns pairs.now)
+            (stage_of self.new) (O.written out.old) (O.written out.new)) }
         ensures cause { HasCause (O.faults out.old) (O.faults out.new) result }
     {
         let Some(hub) = &mut self.hub else {
@@ -221,8 +233,10 @@ impl HubPlayer {
 
     /// Tells how often the listeners of a source have heard.
     fn tell_heard<O: Sink>(&mut self, source: u64, out: &mut O) -> Result<(), SinkFault>
-        ensures played { OnOk result (PlaysLine hearing O.tells (stage_of self.old) (heard source) (stage_of self.new) (O.written out.old) (O.written out.new)) }
-        ensures unwritten { OnErr result (PlaysUnwritten hearing O.tells (stage_of self.old) (heard source) (stage_of self.new) (O.written out.old) (O.written out.new)) }
+        ensures played { OnOk result (PlaysLine hearing O.tells (stage_of self.old) (heard source) (stage_of self.new)
+            (O.written out.old) (O.written out.new)) }
+        ensures unwritten { OnErr result (PlaysUnwritten hearing O.tells (stage_of self.old) (heard source)
+            (stage_of self.new) (O.written out.old) (O.written out.new)) }
         ensures cause { HasCause (O.faults out.old) (O.faults out.new) result }
     {
         let Some(hub) = &self.hub else {
@@ -236,7 +250,8 @@ impl HubPlayer {
 
     /// Drops a listener of a source.
     fn remove(&mut self, source: u64, at: u64)
-        ensures { MakesReply hearing (stage_of self.old) (removal source at) (stage_of self.new) self.new.session.reply }
+        ensures { MakesReply hearing (stage_of self.old) (removal source at)
+            (stage_of self.new) self.new.session.reply }
     {
         let Some(hub) = &mut self.hub else {
             refuse(&mut self.session.reply, &HubRefusal::NoHub);

@@ -37,8 +37,10 @@ pub fn write_refusal<O: Sink>(
     out: &mut O,
 ) -> Result<(), SinkFault>
     requires { HasWords why.now }
-    ensures all { OnOk result (O.tells → O.written out.new ≡ O.written out.old ++ reply_line (refused (words_of_refusal why.now))) }
-    ensures part { OnErr result (O.tells → IsPartWritten (reply_line (refused (words_of_refusal why.now))) (O.written out.old) (O.written out.new)) }
+    ensures all { OnOk result (O.tells → O.written out.new
+        ≡ O.written out.old ++ reply_line (refused (words_of_refusal why.now))) }
+    ensures part { OnErr result (O.tells → IsPartWritten (reply_line (refused (words_of_refusal why.now)))
+        (O.written out.old) (O.written out.new)) }
     ensures cause { HasCause (O.faults out.old) (O.faults out.new) result }
 {
     refuse(reply, why);

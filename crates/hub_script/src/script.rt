@@ -20,7 +20,8 @@ fn play_lines<I: Source, O: Sink>(
     requires { lines.old ≡ first_reading }
     ensures source { HasSourceCause (I.faults script.old) (I.faults script.new) (fault_of result) }
     ensures sink { HasSinkCause (O.faults out.old) (O.faults out.new) (fault_of result) }
-    ensures played { PlaysScript hearing I.tells O.tells (stage_of player.old) (stage_of player.new) (I.rest script.old) (I.rest script.new) (O.written out.old) (O.written out.new) result }
+    ensures played { PlaysScript hearing I.tells O.tells (stage_of player.old) (stage_of player.new)
+        (I.rest script.old) (I.rest script.new) (O.written out.old) (O.written out.new) result }
 {
     lines_are_read_in_order::<I>();
     'lines: loop {
@@ -54,13 +55,15 @@ pub fn serve_script<I: Source, O: Sink>(
 ) -> (ScriptEnd, Vec<Box<dyn Listener>>)
     requires { ⊤ }
     // Where there is no memory to begin with, nothing was touched.
-    ensures served { ((result.0 ≡ ScriptEnd.Memory) × ((script.new ≡ script.old) × (out.new ≡ out.old)) × (result.1.items ≡ listeners.items))
-        ⊎ ServesScript hearing I.tells O.tells (I.rest script.old) (I.rest script.new) (O.written out.old) (O.written out.new) listeners.items result.1.items result.0 }
+    ensures served { ((result.0 ≡ ScriptEnd.Memory) × ((script.new ≡ script.old) × (out.new ≡ out.old))
+        × (result.1.items ≡ listeners.items)) ⊎ ServesScript hearing I.tells O.tells (I.rest script.old)
+        (I.rest script.new) (O.written out.old) (O.written out.new) listeners.items result.1.items result.0 }
     ensures source { HasSourceCause (I.faults script.old) (I.faults script.new) (fault_of result.0) }
     ensures sink { HasSinkCause (O.faults out.old) (O.faults out.new) (fault_of result.0) }
     // A script whose lines are all in the grammar and within the lengths is read to its end, want of memory aside.
-    ensures done { I.tells → AreInGrammar IsLine (lines_of 0 (I.rest script.old)) → (Rose (I.faults script.old) (I.faults script.new) → ⊥)
-        → (Rose (O.faults out.old) (O.faults out.new) → ⊥) → (result.0 ≡ ScriptEnd.Done) ⊎ (result.0 ≡ ScriptEnd.Memory) }
+    ensures done { I.tells → AreInGrammar IsLine (lines_of 0 (I.rest script.old))
+        → (Rose (I.faults script.old) (I.faults script.new) → ⊥) → (Rose (O.faults out.old) (O.faults out.new) → ⊥)
+        → (result.0 ≡ ScriptEnd.Done) ⊎ (result.0 ≡ ScriptEnd.Memory) }
 {
     let Ok(mut lines) = LineReader::new(alloc) else {
         return (ScriptEnd::Memory, listeners);

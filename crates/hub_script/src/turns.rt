@@ -56,8 +56,10 @@ pub fn take_turns<O: Sink>(
 ) -> Result<(), SinkFault>
     requires valid { AreTurns pairs.now }
     requires named { AllNamed (seen hub.old) pairs.now }
-    ensures played { OnOk result (PlaysLine (boxed hearing) O.tells (Serving (seen hub.old)) (turns pairs.now) (Serving (seen hub.new)) (O.written out.old) (O.written out.new)) }
-    ensures unwritten { OnErr result (PlaysUnwritten (boxed hearing) O.tells (Serving (seen hub.old)) (turns pairs.now) (Serving (seen hub.new)) (O.written out.old) (O.written out.new)) }
+    ensures played { OnOk result (PlaysLine (boxed hearing) O.tells (Serving (seen hub.old)) (turns pairs.now)
+        (Serving (seen hub.new)) (O.written out.old) (O.written out.new)) }
+    ensures unwritten { OnErr result (PlaysUnwritten (boxed hearing) O.tells (Serving (seen hub.old))
+        (turns pairs.now) (Serving (seen hub.new)) (O.written out.old) (O.written out.new)) }
     ensures cause { HasCause (O.faults out.old) (O.faults out.new) result }
 {
     session.events.begin(b"turns");
@@ -80,8 +82,10 @@ fn take_turn<O: Sink>(
 ) -> Result<(), SinkFault>
     requires source { source < sources_in (seen hub.old) }
     requires room { length session.old.events + 8 ≤ 131264 }
-    ensures turned { OnOk result (TakesTurn (boxed hearing) O.tells source side (seen hub.old) (seen hub.new) session.old.events session.new.events (O.written out.old) (O.written out.new)) }
-    ensures unwritten { OnErr result (TakesUnwritten (boxed hearing) O.tells source side (seen hub.old) (seen hub.new) (O.written out.old) (O.written out.new)) }
+    ensures turned { OnOk result (TakesTurn (boxed hearing) O.tells source side (seen hub.old)
+        (seen hub.new) session.old.events session.new.events (O.written out.old) (O.written out.new)) }
+    ensures unwritten { OnErr result (TakesUnwritten (boxed hearing) O.tells source side (seen hub.old) (seen hub.new)
+        (O.written out.old) (O.written out.new)) }
     ensures cause { HasCause (O.faults out.old) (O.faults out.new) result }
 {
     let event = hub.turn(source, side);

@@ -17,7 +17,8 @@ pub fn first_slots(
 ) -> Result<Vec<bool>, AllocError>
     requires { length looks.now ≡ geometry.now.slots }
     ensures marked { IfOk result (λ firsts. (seen : ℕ → Slot) → AreSeen seen geometry.now.slots looks.now
-        → AreMarked geometry.now.slots (is_first (entry_of (geometry.now.slot_size - 64) geometry.now.slots seen) geometry.now.slots) firsts.items) }
+        → AreMarked geometry.now.slots (is_first (entry_of (geometry.now.slot_size - 64) geometry.now.slots seen)
+        geometry.now.slots) firsts.items) }
     ensures all { IfOk result (λ firsts. length firsts.items ≡ geometry.now.slots) }
 {
     let lives = live_slots(alloc, looks, geometry)?;
@@ -35,7 +36,8 @@ fn first_among(
     requires judged { length lives.now ≡ geometry.now.slots }
     ensures marked { IfOk result (λ firsts. (seen : ℕ → Slot) → AreSeen seen geometry.now.slots looks.now
         → AreMarked geometry.now.slots (is_live (geometry.now.slot_size - 64) geometry.now.slots seen) lives.now
-        → AreMarked geometry.now.slots (is_first (entry_of (geometry.now.slot_size - 64) geometry.now.slots seen) geometry.now.slots) firsts.items) }
+        → AreMarked geometry.now.slots (is_first (entry_of (geometry.now.slot_size - 64) geometry.now.slots seen)
+        geometry.now.slots) firsts.items) }
     ensures all { IfOk result (λ firsts. length firsts.items ≡ geometry.now.slots) }
 {
     let mut firsts = Vec::with_capacity(alloc, geometry.slots() as usize)?;
@@ -92,8 +94,8 @@ fn is_ahead(looks: &[Look], lives: &[bool], geometry: &Geometry, at: u32, slot: 
 // slot.
 #[tactic(auto, using(std::proofs::lemmas::Bool::Decides::nat_tests))]
 fn comes_before(other: &Head, at: u32, this: &Head, slot: u32) -> bool
-    ensures { result ≡ (other.now.id == this.now.id
-        && (nat_lt this.now.generation other.now.generation || (this.now.generation == other.now.generation && nat_lt at slot))) }
+    ensures { result ≡ (other.now.id == this.now.id && (nat_lt this.now.generation other.now.generation
+        || (this.now.generation == other.now.generation && nat_lt at slot))) }
 {
     if other.id != this.id {
         return false;

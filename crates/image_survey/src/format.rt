@@ -27,7 +27,8 @@ pub struct FormatChange {
 impl FormatChange {
     /// The bytes that it programs, none where it erases.
     pub fn bytes(&self) -> Option<&[u8]>
-        ensures { MatchOption result (self.now.content ≡ Content.Erased) (λ bytes. bytes.now ≡ content_bytes self.now.len self.now.content) }
+        ensures { MatchOption result (self.now.content ≡ Content.Erased)
+            (λ bytes. bytes.now ≡ content_bytes self.now.len self.now.content) }
     {
         match &self.content {
             Content::Header(bytes) => Some(bytes),

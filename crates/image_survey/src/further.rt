@@ -15,8 +15,10 @@ pub fn is_taken(looks: &[Look], firsts: &[bool], geometry: &Geometry, slot: u32)
     requires looked { length looks.now ≡ geometry.now.slots }
     requires judged { length firsts.now ≡ geometry.now.slots }
     ensures { (seen : ℕ → Slot) → AreSeen seen geometry.now.slots looks.now
-        → AreMarked geometry.now.slots (is_first (entry_of (geometry.now.slot_size - 64) geometry.now.slots seen) geometry.now.slots) firsts.now
-        → result ≡ is_taken (first_records (entry_of (geometry.now.slot_size - 64) geometry.now.slots seen) geometry.now.slots) geometry.now.slots slot }
+        → AreMarked geometry.now.slots (is_first (entry_of (geometry.now.slot_size - 64) geometry.now.slots seen)
+        geometry.now.slots) firsts.now → result
+        ≡ is_taken (first_records (entry_of (geometry.now.slot_size - 64) geometry.now.slots seen) geometry.now.slots)
+        geometry.now.slots slot }
 {
     for first in 0..geometry.slots as u32 {
         if firsts[first as usize] && has_slot(&looks[first as usize].head, geometry, first, slot) {
@@ -29,7 +31,8 @@ pub fn is_taken(looks: &[Look], firsts: &[bool], geometry: &Geometry, slot: u32)
 // Whether the record of a first slot has a slot.
 #[tactic(auto, using(std::proofs::lemmas::Bool::Decides::nat_tests))]
 fn has_slot(head: &Head, geometry: &Geometry, first: u32, slot: u32) -> bool
-    ensures { result ≡ (slot == first || list_any (λ n. slot == n) (further_of (geometry.now.slot_size - 64) (numbers_of head.now))) }
+    ensures { result ≡ (slot == first || list_any (λ n. slot == n) (further_of (geometry.now.slot_size - 64)
+        (numbers_of head.now))) }
 {
     slot == first || names(head, geometry, slot)
 }

@@ -135,7 +135,8 @@ fn is_whole(medium: &[u8]) -> bool
 // The geometry whose header these bytes begin with.
 fn header_geometry(medium: &[u8]) -> Option<Geometry>
     requires { IsWhole medium.now }
-    ensures { MatchOption result ((geometry : Geometry) → HasHeader geometry medium.now → ⊥) (λ geometry. HasHeader geometry medium.now) }
+    ensures { MatchOption result ((geometry : Geometry) → HasHeader geometry medium.now → ⊥)
+        (λ geometry. HasHeader geometry medium.now) }
 {
     let sector = u64::from(get_u32(medium, 16));
     let per_slot = u64::from(get_u32(medium, 20));

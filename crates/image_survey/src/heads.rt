@@ -47,7 +47,8 @@ fn better(image: &[u8], best: Option<Guess>, turn: u64) -> Option<Guess>
 
 // The one with more heads, the earlier one of equals.
 fn better_of(best: Option<Guess>, found: Guess) -> Option<Guess>
-    ensures { (image : List ℕ) (turn : ℕ) → IsGuessBefore image turn best → IsOfTurn image turn found → IsGuessBefore image (turn + 1) result }
+    ensures { (image : List ℕ) (turn : ℕ) → IsGuessBefore image turn best → IsOfTurn image turn found
+        → IsGuessBefore image (turn + 1) result }
 {
     if found.heads > heads_of(&best) {
         Some(found)
@@ -114,7 +115,8 @@ pub fn count_heads(image: &[u8], geometry: &Geometry) -> u32
 fn has_head(image: &[u8], geometry: &Geometry, slot: u32) -> bool
     requires sized { length image.now ≡ geometry.now.slot_size * geometry.now.slots }
     requires slot { slot < geometry.now.slots }
-    ensures { result ≡ has_head (geometry.now.slot_size - 64) geometry.now.slots (slot_at geometry.now.slot_size image.now slot) }
+    ensures { result ≡ has_head (geometry.now.slot_size - 64) geometry.now.slots
+        (slot_at geometry.now.slot_size image.now slot) }
 {
     let look = look_at(image, geometry, slot);
     let head = Head {

@@ -41,7 +41,8 @@ pub fn look_at_slots(
     geometry: &Geometry,
 ) -> Result<Vec<Look>, AllocError>
     requires sized { length image.now ≡ geometry.now.slot_size * geometry.now.slots }
-    ensures seen { IfOk result (λ looks. AreSeen (slot_at geometry.now.slot_size image.now) geometry.now.slots looks.items) }
+    ensures seen { IfOk result (λ looks. AreSeen (slot_at geometry.now.slot_size image.now) geometry.now.slots
+        looks.items) }
     ensures looked { IfOk result (λ looks. length looks.items ≡ geometry.now.slots) }
 {
     let mut looks = Vec::with_capacity(alloc, geometry.slots() as usize)?;

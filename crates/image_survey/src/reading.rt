@@ -27,8 +27,9 @@ pub fn record_at(
     requires all { length views.now ≡ geometry.now.slots }
     requires shown { AreShown geometry.now.slot_size geometry.now.slots image.now views.now }
     requires slot { slot < geometry.now.slots }
-    ensures { IfOk result (λ found. MatchOption found (kind_at geometry.now.slot_size geometry.now.slots image.now slot ≡ SlotKind.First → ⊥)
-        (λ bytes. IsRecordOf geometry.now.slot_size geometry.now.slots image.now slot bytes.items)) }
+    ensures { IfOk result (λ found. MatchOption found (kind_at geometry.now.slot_size geometry.now.slots image.now
+        slot ≡ SlotKind.First → ⊥) (λ bytes. IsRecordOf geometry.now.slot_size geometry.now.slots image.now slot
+        bytes.items)) }
 {
     let view = &views[slot as usize];
     if view.kind != SlotKind::First {
@@ -71,8 +72,10 @@ fn add_part(
     requires sized { length image.now ≡ geometry.now.slot_size * geometry.now.slots }
     requires slot { slot < geometry.now.slots }
     requires number { number < parts_of (geometry.now.slot_size - 64) head.now.len }
-    requires up { (tail : ℕ) × (is_upright (geometry.now.slot_size - 64) geometry.now.slots (numbers_of head.now) tail ≡ true) }
-    ensures { OnOk result (bytes.new.items ≡ bytes.old.items ++ take (part_len (geometry.now.slot_size - 64) head.now.len number)
+    requires up { (tail : ℕ) × (is_upright (geometry.now.slot_size - 64) geometry.now.slots (numbers_of head.now) tail
+        ≡ true) }
+    ensures { OnOk result (bytes.new.items
+        ≡ bytes.old.items ++ take (part_len (geometry.now.slot_size - 64) head.now.len number)
         (slot_at geometry.now.slot_size image.now (slot_of_part slot (numbers_of head.now) number)).body) }
 {
     let part = part_slot(geometry, slot, head, number);
@@ -86,7 +89,8 @@ fn add_part(
 fn part_slot(geometry: &Geometry, slot: u32, head: &Head, number: u32) -> u32
     requires slot { slot < geometry.now.slots }
     requires number { number < parts_of (geometry.now.slot_size - 64) head.now.len }
-    requires up { (tail : ℕ) × (is_upright (geometry.now.slot_size - 64) geometry.now.slots (numbers_of head.now) tail ≡ true) }
+    requires up { (tail : ℕ) × (is_upright (geometry.now.slot_size - 64) geometry.now.slots (numbers_of head.now) tail
+        ≡ true) }
     ensures part { result ≡ slot_of_part slot (numbers_of head.now) number }
     ensures within { result < geometry.now.slots }
 {

@@ -67,7 +67,8 @@ pub fn part(bytes: &[u8], index: u32) -> Result<Option<Part>, ItemError>
 }
 
 fn part_of(table: &[u8], index: u32) -> Option<Part>
-    ensures { (size : ℕ) (entries : List AnyEntry) → length table.now ≡ 48 + 32 * size → AreRead table.now size entries → result ≡ slice_get (entry_parts 48 entries) index }
+    ensures { (size : ℕ) (entries : List AnyEntry) → length table.now ≡ 48 + 32 * size
+        → AreRead table.now size entries → result ≡ slice_get (entry_parts 48 entries) index }
 {
     let at = FIXED + ENTRY * index as usize;
     if at >= table.len() {

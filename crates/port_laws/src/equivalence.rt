@@ -12,8 +12,9 @@ ghost use Rattle.port_laws.specs.Equivalence.{EquivalentPorts, FailedNothing};
 
 /// The bytes as which a port was saved are taken over every flash that is divided as its own.
 pub fn a_saved_port_is_taken()
-    ensures { (port : PortState) (saved : List ℕ) → IsSaved port saved
-        → AreOfDevice saved × AreOfLayout saved port.device.store.layout × (length saved ≡ head_size + reach_of (room_of port.device.store.layout)) }
+    ensures { (port : PortState) (saved : List ℕ) → IsSaved port saved → AreOfDevice saved
+        × AreOfLayout saved port.device.store.layout
+        × (length saved ≡ head_size + reach_of (room_of port.device.store.layout)) }
 {}
 
 /// A port that goes on as one that was saved is equivalent to that one.
@@ -23,26 +24,29 @@ pub fn a_loaded_port_is_equivalent()
 
 /// Two ports that are equivalent answer each read the same.
 pub fn equivalent_ports_read_alike()
-    ensures numbers { (one other : PortState) (location : Location) (width : Width) → EquivalentPorts one other → number_read location one width ≡ number_read location other width }
-    ensures bytes { (one other : PortState) (location : Location) (before : List ℕ) → EquivalentPorts one other → bytes_read location one before ≡ bytes_read location other before }
+    ensures numbers { (one other : PortState) (location : Location) (width : Width) → EquivalentPorts one other
+        → number_read location one width ≡ number_read location other width }
+    ensures bytes { (one other : PortState) (location : Location) (before : List ℕ) → EquivalentPorts one other
+        → bytes_read location one before ≡ bytes_read location other before }
 {}
 
 /// Two ports that are equivalent, whose mediums have made every change and whose flashes fail nothing, answer each write the same, an action too, and are
 /// alike behind it.
 pub fn equivalent_ports_write_alike()
-    ensures numbers { (one other : PortState) (location : Location) (width : Width) (value : ℕ) (answer also : Result (Unit {0}) PortError) (one_after other_after : PortState)
-        → EquivalentPorts one other → IsMade one → IsMade other
-        → NumberWritten location one width value answer one_after → FailedNothing one one_after
-        → NumberWritten location other width value also other_after → FailedNothing other other_after
-        → (answer ≡ also) × EquivalentPorts one_after other_after }
+    ensures numbers { (one other : PortState) (location : Location) (width : Width) (value : ℕ)
+        (answer also : Result (Unit {0}) PortError) (one_after other_after : PortState) → EquivalentPorts one other
+        → IsMade one → IsMade other → NumberWritten location one width value answer one_after
+        → FailedNothing one one_after → NumberWritten location other width value also other_after
+        → FailedNothing other other_after → (answer ≡ also) × EquivalentPorts one_after other_after }
     ensures bytes { (one other : PortState) (location : Location) (bytes : List ℕ) → EquivalentPorts one other
-        → ((bytes_stored location one bytes).0 ≡ (bytes_stored location other bytes).0) × EquivalentPorts (bytes_stored location one bytes).1 (bytes_stored location other bytes).1 }
+        → ((bytes_stored location one bytes).0 ≡ (bytes_stored location other bytes).0)
+        × EquivalentPorts (bytes_stored location one bytes).1 (bytes_stored location other bytes).1 }
 {}
 
 /// Restarts of such ports are answered the same, and leave them alike.
 pub fn equivalent_ports_reset_alike()
     ensures { (one other : PortState) (answer also : Result (Unit {0}) PortError) (one_after other_after : PortState)
-        → EquivalentPorts one other → IsMade one → IsMade other
-        → Resets one answer one_after → FailedNothing one one_after → Resets other also other_after → FailedNothing other other_after
+        → EquivalentPorts one other → IsMade one → IsMade other → Resets one answer one_after
+        → FailedNothing one one_after → Resets other also other_after → FailedNothing other other_after
         → (answer ≡ also) × EquivalentPorts one_after other_after }
 {}

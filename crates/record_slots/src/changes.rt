@@ -35,11 +35,12 @@ pub fn erase_one<F: Flash>(
     requires sector { sector < geometry.now.per_slot }
 
     ensures bytes { OnOk result (F.tells → (F.state flash.new).told.image
-        ≡ put_at (F.state flash.old).told.image (slot * geometry.now.slot_size + sector * geometry.now.sector) (replicate geometry.now.sector 0xFF)) }
+        ≡ put_at (F.state flash.old).told.image (slot * geometry.now.slot_size + sector * geometry.now.sector)
+        (replicate geometry.now.sector 0xFF)) }
     ensures stands { OnOk result (F.tells → IsErased (F.state flash.new).told.image
         (slot * geometry.now.slot_size + sector * geometry.now.sector) geometry.now.sector) }
-    ensures change { AsksChange F.tells (slot * geometry.now.slot_size + sector * geometry.now.sector) geometry.now.sector
-        (F.state flash.old) (F.state flash.new) result }
+    ensures change { AsksChange F.tells (slot * geometry.now.slot_size + sector * geometry.now.sector)
+        geometry.now.sector (F.state flash.old) (F.state flash.new) result }
 {
     flash.erase(sector_of(geometry, slot, sector))
 }
@@ -56,10 +57,12 @@ pub fn put_head<F: Flash>(
     requires erased { F.tells → IsErased (F.state flash.old).told.image (slot * geometry.now.slot_size + 2) 24 }
 
     ensures bytes { OnOk result (F.tells → (F.state flash.new).told.image
-        ≡ put_at (F.state flash.old).told.image (slot * geometry.now.slot_size + 2) (head_fields (numbers_of head.now))) }
+        ≡ put_at (F.state flash.old).told.image (slot * geometry.now.slot_size + 2)
+        (head_fields (numbers_of head.now))) }
     ensures stands { OnOk result (F.tells → part (F.state flash.new).told.image (slot * geometry.now.slot_size + 2) 24
         ≡ head_fields (numbers_of head.now)) }
-    ensures change { AsksChange F.tells (slot * geometry.now.slot_size + 2) 24 (F.state flash.old) (F.state flash.new) result }
+    ensures change { AsksChange F.tells (slot * geometry.now.slot_size + 2) 24 (F.state flash.old)
+        (F.state flash.new) result }
 {
     let bytes = head.encode();
     let place = place_of(geometry, slot);
@@ -78,10 +81,12 @@ pub fn put_part_head<F: Flash>(
     requires erased { F.tells → IsErased (F.state flash.old).told.image (slot * geometry.now.slot_size) 24 }
 
     ensures bytes { OnOk result (F.tells → (F.state flash.new).told.image
-        ≡ put_at (F.state flash.old).told.image (slot * geometry.now.slot_size) (take 24 (head_bytes (part_numbers head.now)))) }
+        ≡ put_at (F.state flash.old).told.image (slot * geometry.now.slot_size)
+        (take 24 (head_bytes (part_numbers head.now)))) }
     ensures stands { OnOk result (F.tells → part (F.state flash.new).told.image (slot * geometry.now.slot_size) 24
         ≡ take 24 (head_bytes (part_numbers head.now))) }
-    ensures change { AsksChange F.tells (slot * geometry.now.slot_size) 24 (F.state flash.old) (F.state flash.new) result }
+    ensures change { AsksChange F.tells (slot * geometry.now.slot_size) 24 (F.state flash.old)
+        (F.state flash.new) result }
 {
     let bytes = head.head().encode();
     let place = place_of(geometry, slot);
@@ -101,7 +106,8 @@ pub fn put_piece<F: Flash>(
     requires some { 0 < length bytes.now }
     requires few { length bytes.now ≤ 256 }
     requires room { 256 * piece + length bytes.now ≤ geometry.now.slot_size - 64 }
-    requires erased { F.tells → IsErased (F.state flash.old).told.image (slot * geometry.now.slot_size + 32 + 256 * piece) (length bytes.now) }
+    requires erased { F.tells → IsErased (F.state flash.old).told.image
+        (slot * geometry.now.slot_size + 32 + 256 * piece) (length bytes.now) }
 
     ensures bytes { OnOk result (F.tells → (F.state flash.new).told.image
         ≡ put_at (F.state flash.old).told.image (slot * geometry.now.slot_size + 32 + 256 * piece) bytes.now) }
@@ -118,11 +124,14 @@ pub fn put_piece<F: Flash>(
 pub fn put_tail<F: Flash>(flash: &mut F, geometry: &Geometry, slot: u32) -> Result<(), FlashFailed>
     requires fits { Fits geometry.now (F.state flash.old) }
     requires slot { slot < geometry.now.slots }
-    requires erased { F.tells → IsErased (F.state flash.old).told.image (slot * geometry.now.slot_size + (geometry.now.slot_size - 1)) 1 }
+    requires erased { F.tells → IsErased (F.state flash.old).told.image
+        (slot * geometry.now.slot_size + (geometry.now.slot_size - 1)) 1 }
 
     ensures bytes { OnOk result (F.tells → (F.state flash.new).told.image
-        ≡ put_at (F.state flash.old).told.image (slot * geometry.now.slot_size + (geometry.now.slot_size - 1)) (tail_mark ∷ [])) }
-    ensures stands { OnOk result (F.tells → tail_at (F.state flash.new).told.image (slot * geometry.now.slot_size) geometry.now.slot_size ≡ tail_mark) }
+        ≡ put_at (F.state flash.old).told.image (slot * geometry.now.slot_size + (geometry.now.slot_size - 1))
+        (tail_mark ∷ [])) }
+    ensures stands { OnOk result (F.tells → tail_at (F.state flash.new).told.image (slot * geometry.now.slot_size)
+        geometry.now.slot_size ≡ tail_mark) }
     ensures change { AsksChange F.tells (slot * geometry.now.slot_size + (geometry.now.slot_size - 1)) 1
         (F.state flash.old) (F.state flash.new) result }
 {
@@ -138,8 +147,10 @@ pub fn open_gate<F: Flash>(flash: &mut F, geometry: &Geometry, slot: u32) -> Res
 
     ensures bytes { OnOk result (F.tells → (F.state flash.new).told.image
         ≡ put_at (F.state flash.old).told.image (slot * geometry.now.slot_size) (gate_open ∷ [])) }
-    ensures stands { OnOk result (F.tells → number_at (F.state flash.new).told.image (slot * geometry.now.slot_size) 1 ≡ gate_open) }
-    ensures change { AsksChange F.tells (slot * geometry.now.slot_size) 1 (F.state flash.old) (F.state flash.new) result }
+    ensures stands { OnOk result (F.tells → number_at (F.state flash.new).told.image (slot * geometry.now.slot_size) 1
+        ≡ gate_open) }
+    ensures change { AsksChange F.tells (slot * geometry.now.slot_size) 1 (F.state flash.old)
+        (F.state flash.new) result }
 {
     let place = place_of(geometry, slot);
     flash.program(place, &[GATE_OPEN])
@@ -153,8 +164,10 @@ pub fn kill<F: Flash>(flash: &mut F, geometry: &Geometry, slot: u32) -> Result<(
 
     ensures bytes { OnOk result (F.tells → (F.state flash.new).told.image
         ≡ put_at (F.state flash.old).told.image (slot * geometry.now.slot_size + 1) (kill_mark ∷ [])) }
-    ensures stands { OnOk result (F.tells → number_at (F.state flash.new).told.image (slot * geometry.now.slot_size + 1) 1 ≡ kill_mark) }
-    ensures change { AsksChange F.tells (slot * geometry.now.slot_size + 1) 1 (F.state flash.old) (F.state flash.new) result }
+    ensures stands { OnOk result (F.tells → number_at (F.state flash.new).told.image
+        (slot * geometry.now.slot_size + 1) 1 ≡ kill_mark) }
+    ensures change { AsksChange F.tells (slot * geometry.now.slot_size + 1) 1 (F.state flash.old)
+        (F.state flash.new) result }
 {
     let place = place_of(geometry, slot);
     flash.program(place + KILL_AT, &[KILL_MARK])

@@ -19,7 +19,8 @@ pub fn look_at_slots<F: Flash>(
     requires none { looks.old.items ≡ [] }
     requires room { geometry.now.slots ≤ vec_capacity looks.old }
 
-    ensures seen { OnOk result (F.tells → AreSeen (slot_at geometry.now.slot_size (F.state flash.old).told.image) geometry.now.slots looks.new.items) }
+    ensures seen { OnOk result (F.tells → AreSeen (slot_at geometry.now.slot_size (F.state flash.old).told.image)
+        geometry.now.slots looks.new.items) }
     ensures looked { OnOk result (length looks.new.items ≡ geometry.now.slots) }
     ensures capacity { vec_capacity looks.new ≡ vec_capacity looks.old }
     ensures stays { OnlyReads F.tells (2 * geometry.now.slots) (F.state flash.old) (F.state flash.new) result }

@@ -26,7 +26,8 @@ pub fn mark_firsts(places: &[SlotOf], geometry: &Geometry) -> [bool; MAX_SLOTS]
 pub fn mark_taken(places: &[SlotOf], geometry: &Geometry, marks: &mut [bool; MAX_SLOTS])
     requires within { AreWithin geometry.now.slots geometry.now.slot_size places.now }
     requires none { marks.old ≡ replicate MAX_SLOTS false }
-    ensures { AreMarked geometry.now.slots (λ slot. list_any (λ place. takes (geometry.now.slot_size - 64) place slot) places.now) marks.new }
+    ensures { AreMarked geometry.now.slots (λ slot. list_any (λ place. takes (geometry.now.slot_size - 64) place slot)
+        places.now) marks.new }
 {
     for place in places {
         mark_place(marks, place, geometry);
@@ -37,7 +38,8 @@ pub fn mark_taken(places: &[SlotOf], geometry: &Geometry, marks: &mut [bool; MAX
 fn mark_place(marks: &mut [bool; MAX_SLOTS], place: &SlotOf, geometry: &Geometry)
     requires within { IsWithin geometry.now.slots geometry.now.slot_size place.now }
     ensures { (k : ℕ) (d : Bool) → k < geometry.now.slots
-        → slice_index_or marks.new k d ≡ (slice_index_or marks.old k d || takes (geometry.now.slot_size - 64) place.now k) }
+        → slice_index_or marks.new k d ≡ (slice_index_or marks.old k d
+        || takes (geometry.now.slot_size - 64) place.now k) }
 {
     marks[place.slot as usize] = true;
     for at in 0..parts_of(geometry, place.len) - 1 {

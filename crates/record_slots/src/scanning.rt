@@ -56,18 +56,24 @@ pub fn scan<F: Flash>(alloc: Global, flash: &mut F, geometry: &Geometry) -> Resu
     ensures answer { IsAnswer geometry.now (F.state flash.old) (F.state flash.new) result }
     ensures recovered { IfOk result (λ found. F.tells → IsRecovered geometry.now.slot_size geometry.now.slots
         (F.state flash.old) (F.state flash.new) found) }
-    ensures crash { F.tells → KeepsRecords geometry.now.slot_size geometry.now.slots (F.state flash.old).told (F.state flash.new).told }
-    ensures nearly { F.tells → StaysNearly geometry.now.slot_size geometry.now.slots (F.state flash.old).told (F.state flash.new).told }
-    ensures order { F.tells → KillsBelow geometry.now.slot_size (F.state flash.old).told geometry.now.slots (F.state flash.new).told }
-    ensures changes { F.tells → ChangesFew geometry.now.slot_size geometry.now.slots (F.state flash.old) (F.state flash.new) }
-    ensures index { IfOk result (λ found. IsIndex geometry.now.slots geometry.now.slot_size found.ids.items found.places.items) }
+    ensures crash { F.tells → KeepsRecords geometry.now.slot_size geometry.now.slots (F.state flash.old).told
+        (F.state flash.new).told }
+    ensures nearly { F.tells → StaysNearly geometry.now.slot_size geometry.now.slots (F.state flash.old).told
+        (F.state flash.new).told }
+    ensures order { F.tells → KillsBelow geometry.now.slot_size (F.state flash.old).told geometry.now.slots
+        (F.state flash.new).told }
+    ensures changes { F.tells → ChangesFew geometry.now.slot_size geometry.now.slots (F.state flash.old)
+        (F.state flash.new) }
+    ensures index { IfOk result (λ found. IsIndex geometry.now.slots geometry.now.slot_size found.ids.items
+        found.places.items) }
     ensures few { IfOk result (λ found. length found.ids.items ≤ geometry.now.slots) }
     ensures free { IfOk result (λ found. AreSlots geometry.now.slots found.free.items) }
     ensures room { IfOk result (HasRoom geometry.now.slots) }
     ensures size { (F.state flash.new).size ≡ (F.state flash.old).size }
     ensures sector_size { (F.state flash.new).sector_size ≡ (F.state flash.old).sector_size }
     ensures reads { (F.state flash.old).reads ≤ (F.state flash.new).reads }
-    ensures counted { OnOk result ((F.state flash.new).reads ≡ raised (2 * geometry.now.slots) (F.state flash.old).reads) }
+    ensures counted { OnOk result ((F.state flash.new).reads ≡ raised (2 * geometry.now.slots)
+        (F.state flash.old).reads) }
     ensures power { LosesOnlyByChange (F.state flash.old) (F.state flash.new) }
     ensures powered { OnOk result ((F.state flash.new).powered ≡ true) }
     ensures lit { StaysPowered (F.state flash.old) (F.state flash.new) }
@@ -98,10 +104,14 @@ pub fn rescan<F: Flash>(
     ensures recovered { OnOk result (F.tells → IsRecovered geometry.now.slot_size geometry.now.slots
         (F.state flash.old) (F.state flash.new) found.new) }
     ensures emptied { OnErr result (IsEmpty found.new) }
-    ensures crash { F.tells → KeepsRecords geometry.now.slot_size geometry.now.slots (F.state flash.old).told (F.state flash.new).told }
-    ensures nearly { F.tells → StaysNearly geometry.now.slot_size geometry.now.slots (F.state flash.old).told (F.state flash.new).told }
-    ensures order { F.tells → KillsBelow geometry.now.slot_size (F.state flash.old).told geometry.now.slots (F.state flash.new).told }
-    ensures changes { F.tells → ChangesFew geometry.now.slot_size geometry.now.slots (F.state flash.old) (F.state flash.new) }
+    ensures crash { F.tells → KeepsRecords geometry.now.slot_size geometry.now.slots (F.state flash.old).told
+        (F.state flash.new).told }
+    ensures nearly { F.tells → StaysNearly geometry.now.slot_size geometry.now.slots (F.state flash.old).told
+        (F.state flash.new).told }
+    ensures order { F.tells → KillsBelow geometry.now.slot_size (F.state flash.old).told geometry.now.slots
+        (F.state flash.new).told }
+    ensures changes { F.tells → ChangesFew geometry.now.slot_size geometry.now.slots (F.state flash.old)
+        (F.state flash.new) }
     ensures index { IsIndex geometry.now.slots geometry.now.slot_size found.new.ids.items found.new.places.items }
     ensures few { length found.new.ids.items ≤ geometry.now.slots }
     ensures free { AreSlots geometry.now.slots found.new.free.items }
@@ -127,10 +137,14 @@ fn recover<F: Flash>(
     requires room { HasRoom geometry.now.slots found.old }
     ensures recovered { OnOk result (F.tells → IsRecovered geometry.now.slot_size geometry.now.slots
         (F.state flash.old) (F.state flash.new) found.new) }
-    ensures crash { F.tells → KeepsRecords geometry.now.slot_size geometry.now.slots (F.state flash.old).told (F.state flash.new).told }
-    ensures nearly { F.tells → StaysNearly geometry.now.slot_size geometry.now.slots (F.state flash.old).told (F.state flash.new).told }
-    ensures order { F.tells → KillsBelow geometry.now.slot_size (F.state flash.old).told geometry.now.slots (F.state flash.new).told }
-    ensures changes { F.tells → ChangesFew geometry.now.slot_size geometry.now.slots (F.state flash.old) (F.state flash.new) }
+    ensures crash { F.tells → KeepsRecords geometry.now.slot_size geometry.now.slots (F.state flash.old).told
+        (F.state flash.new).told }
+    ensures nearly { F.tells → StaysNearly geometry.now.slot_size geometry.now.slots (F.state flash.old).told
+        (F.state flash.new).told }
+    ensures order { F.tells → KillsBelow geometry.now.slot_size (F.state flash.old).told geometry.now.slots
+        (F.state flash.new).told }
+    ensures changes { F.tells → ChangesFew geometry.now.slot_size geometry.now.slots (F.state flash.old)
+        (F.state flash.new) }
     ensures index { IsIndex geometry.now.slots geometry.now.slot_size found.new.ids.items found.new.places.items }
     ensures few { OnOk result (length found.new.ids.items ≤ geometry.now.slots) }
     ensures free { OnOk result (AreSlots geometry.now.slots found.new.free.items) }

@@ -24,20 +24,26 @@ pub fn settle_slots<F: Flash>(
     geometry: &Geometry,
 ) -> Result<(), FlashFailed>
     requires fits { Fits geometry.now (F.state flash.old) }
-    requires listed { F.tells → AreListed (entry_at geometry.now.slot_size geometry.now.slots (F.state flash.old).told.image)
-        geometry.now.slots found.now.ids.items found.now.places.items }
+    requires listed { F.tells → AreListed (entry_at geometry.now.slot_size geometry.now.slots
+        (F.state flash.old).told.image) geometry.now.slots found.now.ids.items found.now.places.items }
     requires paired { length found.now.places.items ≡ length found.now.ids.items }
     requires within { AreWithin geometry.now.slots geometry.now.slot_size found.now.places.items }
     requires looked { length found.now.looks.items ≡ geometry.now.slots }
-    requires seen { F.tells → AreSeen (slot_at geometry.now.slot_size (F.state flash.old).told.image) geometry.now.slots found.now.looks.items }
+    requires seen { F.tells → AreSeen (slot_at geometry.now.slot_size (F.state flash.old).told.image)
+        geometry.now.slots found.now.looks.items }
 
     ensures settled { OnOk result (F.tells → IsSettled geometry.now.slot_size geometry.now.slots geometry.now.slots
         (F.state flash.old) (F.state flash.new) found.now) }
-    ensures counted { OnOk result (F.tells → CountsCopies geometry.now.slot_size geometry.now.slots (F.state flash.old) (F.state flash.new)) }
-    ensures crash { F.tells → KeepsRecords geometry.now.slot_size geometry.now.slots (F.state flash.old).told (F.state flash.new).told }
-    ensures nearly { F.tells → StaysNearly geometry.now.slot_size geometry.now.slots (F.state flash.old).told (F.state flash.new).told }
-    ensures order { F.tells → KillsBelow geometry.now.slot_size (F.state flash.old).told geometry.now.slots (F.state flash.new).told }
-    ensures changes { F.tells → ChangesFew geometry.now.slot_size geometry.now.slots (F.state flash.old) (F.state flash.new) }
+    ensures counted { OnOk result (F.tells
+        → CountsCopies geometry.now.slot_size geometry.now.slots (F.state flash.old) (F.state flash.new)) }
+    ensures crash { F.tells → KeepsRecords geometry.now.slot_size geometry.now.slots (F.state flash.old).told
+        (F.state flash.new).told }
+    ensures nearly { F.tells → StaysNearly geometry.now.slot_size geometry.now.slots (F.state flash.old).told
+        (F.state flash.new).told }
+    ensures order { F.tells → KillsBelow geometry.now.slot_size (F.state flash.old).told geometry.now.slots
+        (F.state flash.new).told }
+    ensures changes { F.tells → ChangesFew geometry.now.slot_size geometry.now.slots (F.state flash.old)
+        (F.state flash.new) }
     ensures stays { OnlyChanges (F.state flash.old) (F.state flash.new) result }
 {
     let firsts = mark_firsts(&found.places, geometry);
@@ -57,21 +63,28 @@ fn settle_slot<F: Flash>(
 ) -> Result<(), FlashFailed>
     requires fits { Fits geometry.now (F.state flash.old) }
     requires slot { slot < geometry.now.slots }
-    requires listed { F.tells → AreListed (entry_at geometry.now.slot_size geometry.now.slots (F.state flash.old).told.image)
-        geometry.now.slots found.now.ids.items found.now.places.items }
+    requires listed { F.tells → AreListed (entry_at geometry.now.slot_size geometry.now.slots
+        (F.state flash.old).told.image) geometry.now.slots found.now.ids.items found.now.places.items }
     requires paired { length found.now.places.items ≡ length found.now.ids.items }
     requires looked { length found.now.looks.items ≡ geometry.now.slots }
-    requires seen { F.tells → (d : Look) → IsSeen (slot_at geometry.now.slot_size (F.state flash.old).told.image slot) (slice_index_or found.now.looks.items slot d) }
-    requires firsts { AreMarked geometry.now.slots (λ slot. list_any (λ place. place.slot == slot) found.now.places.items) firsts.now }
+    requires seen { F.tells → (d : Look) → IsSeen (slot_at geometry.now.slot_size (F.state flash.old).told.image slot)
+        (slice_index_or found.now.looks.items slot d) }
+    requires firsts { AreMarked geometry.now.slots (λ slot. list_any (λ place. place.slot == slot)
+        found.now.places.items) firsts.now }
 
     ensures settled { OnOk result (F.tells → (start : FlashState)
         → IsSettled geometry.now.slot_size geometry.now.slots slot start (F.state flash.old) found.now
         → IsSettled geometry.now.slot_size geometry.now.slots (slot + 1) start (F.state flash.new) found.now) }
-    ensures counted { OnOk result (F.tells → CountsCopies geometry.now.slot_size geometry.now.slots (F.state flash.old) (F.state flash.new)) }
-    ensures crash { F.tells → KeepsRecords geometry.now.slot_size geometry.now.slots (F.state flash.old).told (F.state flash.new).told }
-    ensures nearly { F.tells → StaysNearly geometry.now.slot_size geometry.now.slots (F.state flash.old).told (F.state flash.new).told }
-    ensures change { F.tells → MayChange (slot * geometry.now.slot_size + 1) 1 (F.state flash.old).told (F.state flash.new).told }
-    ensures failed { OnErr result (F.tells → ChangesFew geometry.now.slot_size geometry.now.slots (F.state flash.old) (F.state flash.new)) }
+    ensures counted { OnOk result (F.tells
+        → CountsCopies geometry.now.slot_size geometry.now.slots (F.state flash.old) (F.state flash.new)) }
+    ensures crash { F.tells → KeepsRecords geometry.now.slot_size geometry.now.slots (F.state flash.old).told
+        (F.state flash.new).told }
+    ensures nearly { F.tells → StaysNearly geometry.now.slot_size geometry.now.slots (F.state flash.old).told
+        (F.state flash.new).told }
+    ensures change { F.tells → MayChange (slot * geometry.now.slot_size + 1) 1 (F.state flash.old).told
+        (F.state flash.new).told }
+    ensures failed { OnErr result (F.tells → ChangesFew geometry.now.slot_size geometry.now.slots (F.state flash.old)
+        (F.state flash.new)) }
     ensures stays { OnlyChanges (F.state flash.old) (F.state flash.new) result }
 {
     let is_first = firsts[slot as usize];
@@ -91,7 +104,9 @@ pub fn list_free(found: &mut Found, geometry: &Geometry)
     requires within { AreWithin geometry.now.slots geometry.now.slot_size found.old.places.items }
     requires free { found.old.free.items ≡ [] }
     requires room { geometry.now.slots ≤ deque_capacity found.old.free }
-    ensures free { found.new.free.items ≡ list_below (λ slot. not (list_any (λ place. takes (geometry.now.slot_size - 64) place slot) found.old.places.items)) geometry.now.slots }
+    ensures free { found.new.free.items ≡ list_below
+        (λ slot. not (list_any (λ place. takes (geometry.now.slot_size - 64) place slot) found.old.places.items))
+        geometry.now.slots }
     ensures ids { found.new.ids ≡ found.old.ids }
     ensures places { found.new.places ≡ found.old.places }
     ensures looks { found.new.looks ≡ found.old.looks }

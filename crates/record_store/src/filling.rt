@@ -27,11 +27,17 @@ pub(crate) fn fill<F: Flash>(
     requires fits { Fits geometry.now (F.state flash.old) }
     requires draft { IsDraft geometry.now draft.now body.now }
     requires number { number < draft.now.parts }
-    requires form { IsStep (layout_of geometry.now) (length (target_in geometry.now draft.now body.now number).bytes) (step_of step) }
-    requires stands { F.tells → StandsAt (layout_of geometry.now) (target_in geometry.now draft.now body.now number) (F.state flash.old).told.image (step_of step) }
-    ensures written { OnOk result (F.tells → IsWritten (layout_of geometry.now) number (target_in geometry.now draft.now body.now number) (step_of step) (F.state flash.new).told.image) }
-    ensures change { AsksChange F.tells (place_of (layout_of geometry.now) number (target_in geometry.now draft.now body.now number) (step_of step))
-        (len_of (layout_of geometry.now) (target_in geometry.now draft.now body.now number) (step_of step)) (F.state flash.old) (F.state flash.new) result }
+    requires form { IsStep (layout_of geometry.now) (length (target_in geometry.now draft.now body.now number).bytes)
+        (step_of step) }
+    requires stands { F.tells → StandsAt (layout_of geometry.now) (target_in geometry.now draft.now body.now number)
+        (F.state flash.old).told.image (step_of step) }
+    ensures written { OnOk result (F.tells
+        → IsWritten (layout_of geometry.now) number (target_in geometry.now draft.now body.now number) (step_of step)
+        (F.state flash.new).told.image) }
+    ensures change { AsksChange F.tells (place_of (layout_of geometry.now) number
+        (target_in geometry.now draft.now body.now number) (step_of step))
+        (len_of (layout_of geometry.now) (target_in geometry.now draft.now body.now number) (step_of step))
+        (F.state flash.old) (F.state flash.new) result }
 {
     let slot = u32::from(draft.slots[number as usize]);
     match step {
@@ -55,10 +61,14 @@ fn fill_head<F: Flash>(
     requires fits { Fits geometry.now (F.state flash.old) }
     requires draft { IsDraft geometry.now draft.now body.now }
     requires number { number < draft.now.parts }
-    requires stands { F.tells → IsErased (F.state flash.old).told.image ((target_in geometry.now draft.now body.now number).slot * geometry.now.slot_size) geometry.now.slot_size }
-    ensures written { OnOk result (F.tells → IsWritten (layout_of geometry.now) number (target_in geometry.now draft.now body.now number) TheStep.PutHead (F.state flash.new).told.image) }
-    ensures change { AsksChange F.tells (place_of (layout_of geometry.now) number (target_in geometry.now draft.now body.now number) TheStep.PutHead)
-        24 (F.state flash.old) (F.state flash.new) result }
+    requires stands { F.tells → IsErased (F.state flash.old).told.image
+        ((target_in geometry.now draft.now body.now number).slot * geometry.now.slot_size) geometry.now.slot_size }
+    ensures written { OnOk result (F.tells
+        → IsWritten (layout_of geometry.now) number (target_in geometry.now draft.now body.now number) TheStep.PutHead
+        (F.state flash.new).told.image) }
+    ensures change { AsksChange F.tells (place_of (layout_of geometry.now) number
+        (target_in geometry.now draft.now body.now number) TheStep.PutHead) 24 (F.state flash.old)
+        (F.state flash.new) result }
 {
     let slot = u32::from(draft.slots[number as usize]);
     if number == 0 {
@@ -125,10 +135,15 @@ fn fill_piece<F: Flash>(
     requires draft { IsDraft geometry.now draft.now body.now }
     requires number { number < draft.now.parts }
     requires form { 256 * piece < length (target_in geometry.now draft.now body.now number).bytes }
-    requires stands { F.tells → IsBegun geometry.now.slot_size (target_in geometry.now draft.now body.now number) (256 * piece) (F.state flash.old).told.image }
-    ensures written { OnOk result (F.tells → IsWritten (layout_of geometry.now) number (target_in geometry.now draft.now body.now number) (TheStep.Piece piece) (F.state flash.new).told.image) }
-    ensures change { AsksChange F.tells (place_of (layout_of geometry.now) number (target_in geometry.now draft.now body.now number) (TheStep.Piece piece))
-        (len_of (layout_of geometry.now) (target_in geometry.now draft.now body.now number) (TheStep.Piece piece)) (F.state flash.old) (F.state flash.new) result }
+    requires stands { F.tells → IsBegun geometry.now.slot_size (target_in geometry.now draft.now body.now number)
+        (256 * piece) (F.state flash.old).told.image }
+    ensures written { OnOk result (F.tells
+        → IsWritten (layout_of geometry.now) number (target_in geometry.now draft.now body.now number)
+        (TheStep.Piece piece) (F.state flash.new).told.image) }
+    ensures change { AsksChange F.tells (place_of (layout_of geometry.now) number
+        (target_in geometry.now draft.now body.now number) (TheStep.Piece piece))
+        (len_of (layout_of geometry.now) (target_in geometry.now draft.now body.now number) (TheStep.Piece piece))
+        (F.state flash.old) (F.state flash.new) result }
 {
     let slot = u32::from(draft.slots[number as usize]);
     let bytes = piece_of(geometry, draft, number, piece, body);
@@ -146,9 +161,11 @@ fn piece_of<'a>(
     requires draft { IsDraft geometry.now draft.now body.now }
     requires number { number < draft.now.parts }
     requires form { 256 * piece < length (target_in geometry.now draft.now body.now number).bytes }
-    ensures bytes { result.now ≡ take (min 256 (length (target_in geometry.now draft.now body.now number).bytes - 256 * piece))
+    ensures bytes { result.now ≡ take (min 256
+        (length (target_in geometry.now draft.now body.now number).bytes - 256 * piece))
         (drop (256 * piece) (target_in geometry.now draft.now body.now number).bytes) }
-    ensures len { length result.now ≡ min 256 (length (target_in geometry.now draft.now body.now number).bytes - 256 * piece) }
+    ensures len { length result.now ≡ min 256
+        (length (target_in geometry.now draft.now body.now number).bytes - 256 * piece) }
 {
     let room = geometry.room() as usize;
     let len = part_len(geometry, draft.len, number) as usize;

@@ -20,7 +20,8 @@ pub fn place_of(found: &Found, id: RecordId) -> Option<SlotOf>
     ensures at { IsPlaceAt found.now.ids.items found.now.places.items id result }
     ensures within { (slots slot_size : ℕ) → IsIndex slots slot_size found.now.ids.items found.now.places.items
         → IfSome result (IsWithin slots slot_size) }
-    ensures place { (entry : ℕ → Option Entry) (slots : ℕ) → IsListOf entry slots found.now → IsPlaceFound entry slots id result }
+    ensures place { (entry : ℕ → Option Entry) (slots : ℕ) → IsListOf entry slots found.now
+        → IsPlaceFound entry slots id result }
 {
     prove!(id.get() != 0);
     match position_of(&found.ids, id) {
@@ -52,9 +53,10 @@ pub fn record_opened(
     requires within { IsWithin geometry.now.slots geometry.now.slot_size place }
     requires enough { parts ≤ length found.old.free.items }
     ensures listing { IsListing geometry.now.slots geometry.now.slot_size found.new }
-    ensures list { (entry other : ℕ → Option Entry) (e : Entry) → HasOpened entry other geometry.now.slots place.slot e → IsEntryOf id place e
-        → place.slot ∷ e.further ≡ take parts found.old.free.items
-        → IsListOf entry geometry.now.slots found.old → IsListOf other geometry.now.slots found.new }
+    ensures list { (entry other : ℕ → Option Entry) (e : Entry)
+        → HasOpened entry other geometry.now.slots place.slot e → IsEntryOf id place e
+        → place.slot ∷ e.further ≡ take parts found.old.free.items → IsListOf entry geometry.now.slots found.old
+        → IsListOf other geometry.now.slots found.new }
 {
     list_opened(found, geometry, id, place);
     take_free(found, geometry, parts as usize);
@@ -65,7 +67,8 @@ pub fn copy_killed(found: &mut Found, geometry: &Geometry, place: SlotOf)
     requires listing { IsListing geometry.now.slots geometry.now.slot_size found.old }
     requires within { IsWithin geometry.now.slots geometry.now.slot_size place }
     ensures listing { IsListing geometry.now.slots geometry.now.slot_size found.new }
-    ensures list { (entry other : ℕ → Option Entry) (id : ℕ) (lost : Entry) → HasLost entry other geometry.now.slots place.slot lost → IsEntryOf id place lost
+    ensures list { (entry other : ℕ → Option Entry) (id : ℕ) (lost : Entry)
+        → HasLost entry other geometry.now.slots place.slot lost → IsEntryOf id place lost
         → HasItsParts (geometry.now.slot_size - 64) lost → IsOlderCopy entry geometry.now.slots place.slot lost
         → IsListOf entry geometry.now.slots found.old → IsListOf other geometry.now.slots found.new }
 {
@@ -76,7 +79,8 @@ pub fn copy_killed(found: &mut Found, geometry: &Geometry, place: SlotOf)
 pub fn record_cleared(found: &mut Found, geometry: &Geometry, id: RecordId)
     requires listing { IsListing geometry.now.slots geometry.now.slot_size found.old }
     ensures listing { IsListing geometry.now.slots geometry.now.slot_size found.new }
-    ensures list { (entry other : ℕ → Option Entry) (j : ℕ) (lost : Entry) → j < geometry.now.slots → HasLost entry other geometry.now.slots j lost → lost.id ≡ id
+    ensures list { (entry other : ℕ → Option Entry) (j : ℕ) (lost : Entry) → j < geometry.now.slots
+        → HasLost entry other geometry.now.slots j lost → lost.id ≡ id
         → HasItsParts (geometry.now.slot_size - 64) lost → IsOnlyCopy entry geometry.now.slots j id
         → IsListOf entry geometry.now.slots found.old → IsListOf other geometry.now.slots found.new }
 {

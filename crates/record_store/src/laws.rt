@@ -9,8 +9,9 @@ ghost use Rattle.record_store.specs.Walk.{IsWalk, StaysStored, found_by};
 /// From the start to the end a walk finds identifiers in rising order, each at most once, whatever is written and cleared
 /// on the way, and finds each that stays stored.
 pub fn a_walk_finds_each_identifier()
-    ensures rising { (layout : Layout) (stored : Stored) (commands : List Played) → AreAnswered layout 0 commands stored → IsWalk commands
-        → IsStrictlyIncreasing (found_by commands) }
-    ensures all { (layout : Layout) (id : ℕ) (stored : Stored) (commands : List Played) → AreAnswered layout 0 commands stored → IsWalk commands
-        → 0 < id → StaysStored layout id commands stored → Contains (found_by commands) id }
+    ensures rising { (layout : Layout) (stored : Stored) (commands : List Played)
+        → AreAnswered layout 0 commands stored → IsWalk commands → IsStrictlyIncreasing (found_by commands) }
+    ensures all { (layout : Layout) (id : ℕ) (stored : Stored) (commands : List Played)
+        → AreAnswered layout 0 commands stored → IsWalk commands → 0 < id → StaysStored layout id commands stored
+        → Contains (found_by commands) id }
 {}

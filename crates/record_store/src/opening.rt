@@ -26,14 +26,19 @@ pub fn open<F: Flash>(
     ensures answer { OpensOn geometry.now (F.state flash.old) (F.state flash.new) result }
     ensures listing { IfOk result (λ opened. IsListing geometry.now.slots geometry.now.slot_size opened.0) }
     ensures room { IfOk result (λ opened. length opened.1.items ≡ reach_of (geometry.now.slot_size - 64)) }
-    ensures knows { IfOk result (λ opened. F.tells → KnowsSlots (layout_of geometry.now) (F.state flash.new).told.image opened.0) }
+    ensures knows { IfOk result (λ opened. F.tells → KnowsSlots (layout_of geometry.now)
+        (F.state flash.new).told.image opened.0) }
     ensures kept { F.tells → KeepsRecordsOf geometry.now (F.state flash.old) (F.state flash.new) }
-    ensures steps { IfOk result (λ _. F.tells → (F.state flash.new).steps
-        ≡ (F.state flash.old).steps + second_copies geometry.now.slot_size geometry.now.slots (F.state flash.old).told.image) }
+    ensures steps { IfOk result (λ _. F.tells
+        → (F.state flash.new).steps ≡ (F.state flash.old).steps + second_copies geometry.now.slot_size
+        geometry.now.slots (F.state flash.old).told.image) }
     ensures at_most { F.tells → (F.state flash.new).steps
-        ≤ (F.state flash.old).steps + second_copies geometry.now.slot_size geometry.now.slots (F.state flash.old).told.image }
-    ensures order { F.tells → KillsBelow geometry.now.slot_size (F.state flash.old).told geometry.now.slots (F.state flash.new).told }
-    ensures reads { OnOk result ((F.state flash.new).reads ≡ raised (2 * geometry.now.slots) (F.state flash.old).reads) }
+        ≤ (F.state flash.old).steps + second_copies geometry.now.slot_size geometry.now.slots
+        (F.state flash.old).told.image }
+    ensures order { F.tells → KillsBelow geometry.now.slot_size (F.state flash.old).told geometry.now.slots
+        (F.state flash.new).told }
+    ensures reads { OnOk result ((F.state flash.new).reads ≡ raised (2 * geometry.now.slots)
+        (F.state flash.old).reads) }
     ensures power { LosesOnlyByChange (F.state flash.old) (F.state flash.new) }
     ensures lit { StaysPowered (F.state flash.old) (F.state flash.new) }
     ensures once { IfErr result (IsOneFault (F.state flash.old) (F.state flash.new)) }

@@ -30,16 +30,23 @@ pub fn prepare<F: Flash>(
     requires fits { Fits geometry.now (F.state flash.old) }
     requires draft { IsDraft geometry.now draft.now body.now }
     requires number { number < draft.now.parts }
-    requires form { IsStep (layout_of geometry.now) (length (target_in geometry.now draft.now body.now number).bytes) (step_of step) }
-    requires knows { F.tells → KnowsPlan (layout_of geometry.now) (plan_of draft.now body.now) (F.state flash.old).told.image }
-    requires stands { F.tells → StandsAtStage (layout_of geometry.now) (plan_of draft.now body.now) (F.state flash.old).told.image (ThePlan.Fill number (step_of step)) }
+    requires form { IsStep (layout_of geometry.now) (length (target_in geometry.now draft.now body.now number).bytes)
+        (step_of step) }
+    requires knows { F.tells → KnowsPlan (layout_of geometry.now) (plan_of draft.now body.now)
+        (F.state flash.old).told.image }
+    requires stands { F.tells → StandsAtStage (layout_of geometry.now) (plan_of draft.now body.now)
+        (F.state flash.old).told.image (ThePlan.Fill number (step_of step)) }
     ensures kept { F.tells → Leaves (F.state flash.old).told (F.state flash.new).told
         (StaysKnown (layout_of geometry.now) (plan_of draft.now body.now) number (F.state flash.old).told.image) }
     ensures form { IfOk result (IsStage geometry.now draft.now body.now) }
-    ensures next { IfOk result (λ stage. stage_of stage ≡ stage_after (layout_of geometry.now) (plan_of draft.now body.now) number (step_of step)) }
-    ensures stands { IfOk result (λ stage. F.tells → StandsAtStage (layout_of geometry.now) (plan_of draft.now body.now) (F.state flash.new).told.image (stage_of stage)) }
-    ensures change { AsksChange F.tells (place_of (layout_of geometry.now) number (target_in geometry.now draft.now body.now number) (step_of step))
-        (len_of (layout_of geometry.now) (target_in geometry.now draft.now body.now number) (step_of step)) (F.state flash.old) (F.state flash.new) result }
+    ensures next { IfOk result (λ stage. stage_of stage ≡ stage_after (layout_of geometry.now)
+        (plan_of draft.now body.now) number (step_of step)) }
+    ensures stands { IfOk result (λ stage. F.tells → StandsAtStage (layout_of geometry.now)
+        (plan_of draft.now body.now) (F.state flash.new).told.image (stage_of stage)) }
+    ensures change { AsksChange F.tells (place_of (layout_of geometry.now) number
+        (target_in geometry.now draft.now body.now number) (step_of step))
+        (len_of (layout_of geometry.now) (target_in geometry.now draft.now body.now number) (step_of step))
+        (F.state flash.old) (F.state flash.new) result }
 {
     fill(flash, geometry, draft, number, step, body)?;
     Ok(next_stage(geometry, draft, number, step, body))
@@ -48,8 +55,10 @@ pub fn prepare<F: Flash>(
 fn next_stage(geometry: &Geometry, draft: &Draft, number: u32, step: Step, body: &[u8]) -> Stage
     requires draft { IsDraft geometry.now draft.now body.now }
     requires number { number < draft.now.parts }
-    requires form { IsStep (layout_of geometry.now) (length (target_in geometry.now draft.now body.now number).bytes) (step_of step) }
-    ensures is { stage_of result ≡ stage_after (layout_of geometry.now) (plan_of draft.now body.now) number (step_of step) }
+    requires form { IsStep (layout_of geometry.now) (length (target_in geometry.now draft.now body.now number).bytes)
+        (step_of step) }
+    ensures is { stage_of result ≡ stage_after (layout_of geometry.now)
+        (plan_of draft.now body.now) number (step_of step) }
     ensures form { IsStage geometry.now draft.now body.now result }
 {
     match step {
@@ -73,7 +82,8 @@ fn next_stage(geometry: &Geometry, draft: &Draft, number: u32, step: Step, body:
 // The stage after a sector of a slot: the next one, or the head.
 #[tactic(auto, using(std::proofs::lemmas::Bool::Decides::nat_tests))]
 fn after_sector(geometry: &Geometry, number: u32, done: u32, next: Step) -> Stage
-    ensures is { stage_of result ≡ (if nat_lt (done + 1) geometry.now.per_slot then ThePlan.Fill number (step_of next) else ThePlan.Fill number TheStep.PutHead) }
+    ensures is { stage_of result ≡ (if nat_lt (done + 1) geometry.now.per_slot then ThePlan.Fill number (step_of next)
+        else ThePlan.Fill number TheStep.PutHead) }
 {
     if u64::from(done) + 1 < geometry.per_slot {
         Stage::Fill { number, step: next }
@@ -88,7 +98,8 @@ fn after_sector(geometry: &Geometry, number: u32, done: u32, next: Step) -> Stag
 #[tactic(auto, using(std::proofs::lemmas::Bool::Decides::nat_tests))]
 fn after_piece(len: u32, number: u32, piece: u32) -> Stage
     requires { 256 * piece < len }
-    ensures is { stage_of result ≡ (if nat_lt (256 * (piece + 1)) len then ThePlan.Fill number (TheStep.Piece (piece + 1)) else ThePlan.Fill number TheStep.TailMark) }
+    ensures is { stage_of result ≡ (if nat_lt (256 * (piece + 1)) len
+        then ThePlan.Fill number (TheStep.Piece (piece + 1)) else ThePlan.Fill number TheStep.TailMark) }
 {
     if 256 * (u64::from(piece) + 1) < u64::from(len) {
         Stage::Fill {
@@ -106,8 +117,10 @@ fn after_piece(len: u32, number: u32, piece: u32) -> Stage
 /// The first stage of a write.
 #[tactic(auto, using(std::proofs::lemmas::Bool::Decides::nat_tests))]
 pub fn first_stage(draft: &Draft) -> Stage
-    ensures is { (geometry : Geometry) (body : List ℕ) → IsDraft geometry draft.now body → stage_of result ≡ first_stage (plan_of draft.now body) }
-    ensures form { (geometry : Geometry) (body : List ℕ) → IsDraft geometry draft.now body → IsStage geometry draft.now body result }
+    ensures is { (geometry : Geometry) (body : List ℕ) → IsDraft geometry draft.now body
+        → stage_of result ≡ first_stage (plan_of draft.now body) }
+    ensures form { (geometry : Geometry) (body : List ℕ) → IsDraft geometry draft.now body
+        → IsStage geometry draft.now body result }
 {
     if draft.parts > 1 {
         Stage::Fill {
@@ -167,14 +180,20 @@ pub fn publish<F: Flash>(
 ) -> Result<(), FlashFailed>
     requires fits { Fits geometry.now (F.state flash.old) }
     requires draft { IsDraft geometry.now draft.now body.now }
-    requires knows { F.tells → KnowsPlan (layout_of geometry.now) (plan_of draft.now body.now) (F.state flash.old).told.image }
-    requires stands { F.tells → StandsAtStage (layout_of geometry.now) (plan_of draft.now body.now) (F.state flash.old).told.image ThePlan.Gate }
-    ensures crash { F.tells → Leaves (F.state flash.old).told (F.state flash.new).told (λ image.
-        (stored_in geometry.now.slot_size geometry.now.slots image ≡ stored_in geometry.now.slot_size geometry.now.slots (F.state flash.old).told.image)
+    requires knows { F.tells → KnowsPlan (layout_of geometry.now) (plan_of draft.now body.now)
+        (F.state flash.old).told.image }
+    requires stands { F.tells → StandsAtStage (layout_of geometry.now) (plan_of draft.now body.now)
+        (F.state flash.old).told.image ThePlan.Gate }
+    ensures crash { F.tells → Leaves (F.state flash.old).told (F.state flash.new).told
+        (λ image. (stored_in geometry.now.slot_size geometry.now.slots image
+        ≡ stored_in geometry.now.slot_size geometry.now.slots (F.state flash.old).told.image)
         ⊎ (stored_in geometry.now.slot_size geometry.now.slots image
-        ≡ insert (stored_in geometry.now.slot_size geometry.now.slots (F.state flash.old).told.image) draft.now.id (body.now, draft.now.generation))) }
-    ensures opened { OnOk result (F.tells → Opens (layout_of geometry.now) (plan_of draft.now body.now) (F.state flash.old).told.image (F.state flash.new).told.image) }
-    ensures change { AsksChange F.tells (slice_index draft.now.slots 0 * geometry.now.slot_size) 1 (F.state flash.old) (F.state flash.new) result }
+        ≡ insert (stored_in geometry.now.slot_size geometry.now.slots (F.state flash.old).told.image) draft.now.id
+        (body.now, draft.now.generation))) }
+    ensures opened { OnOk result (F.tells → Opens (layout_of geometry.now) (plan_of draft.now body.now)
+        (F.state flash.old).told.image (F.state flash.new).told.image) }
+    ensures change { AsksChange F.tells (slice_index draft.now.slots 0 * geometry.now.slot_size) 1 (F.state flash.old)
+        (F.state flash.new) result }
 {
     let slot = u32::from(draft.slots[0]);
     open_gate(flash, geometry, slot)

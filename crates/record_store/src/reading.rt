@@ -23,9 +23,11 @@ pub fn read_record<F: Flash>(
     requires within { IsWithin geometry.now.slots geometry.now.slot_size place }
     requires buffer { place.len ≤ length buffer.old }
     requires room { place.len ≤ length out.old }
-    ensures bytes { OnOk result (F.tells → out.new ≡ bytes_at geometry.now.slot_size (F.state flash.old).told.image place ++ drop place.len out.old) }
+    ensures bytes { OnOk result (F.tells → out.new ≡ bytes_at geometry.now.slot_size (F.state flash.old).told.image
+        place ++ drop place.len out.old) }
     ensures out { OnErr result (out.new ≡ out.old) }
-    ensures stays { ReadsTimes F.tells (parts_of (geometry.now.slot_size - 64) place.len) (F.state flash.old) (F.state flash.new) result }
+    ensures stays { ReadsTimes F.tells (parts_of (geometry.now.slot_size - 64) place.len) (F.state flash.old)
+        (F.state flash.new) result }
 {
     let len = place.len as usize;
     read_parts(flash, geometry, place, &mut buffer[..len])?;
@@ -43,8 +45,10 @@ fn read_parts<F: Flash>(
     requires fits { Fits geometry.now (F.state flash.old) }
     requires within { IsWithin geometry.now.slots geometry.now.slot_size place }
     requires whole { length buffer.old ≡ place.len }
-    ensures bytes { OnOk result (F.tells → buffer.new ≡ bytes_at geometry.now.slot_size (F.state flash.old).told.image place) }
-    ensures stays { ReadsTimes F.tells (parts_of (geometry.now.slot_size - 64) place.len) (F.state flash.old) (F.state flash.new) result }
+    ensures bytes { OnOk result (F.tells → buffer.new ≡ bytes_at geometry.now.slot_size (F.state flash.old).told.image
+        place) }
+    ensures stays { ReadsTimes F.tells (parts_of (geometry.now.slot_size - 64) place.len) (F.state flash.old)
+        (F.state flash.new) result }
 {
     for number in 0..parts_of(geometry, place.len) {
         read_part(flash, geometry, place, number, buffer)?;
@@ -65,8 +69,9 @@ fn read_part<F: Flash>(
     requires number { number < parts_of (geometry.now.slot_size - 64) place.len }
     requires whole { length buffer.old ≡ place.len }
     ensures bytes { OnOk result (F.tells → take ((number + 1) * (geometry.now.slot_size - 64)) buffer.new
-        ≡ take (number * (geometry.now.slot_size - 64)) buffer.old
-        ++ take (part_len (geometry.now.slot_size - 64) place.len number) (slot_at geometry.now.slot_size (F.state flash.old).told.image (slot_of_part place number)).body) }
+        ≡ take (number * (geometry.now.slot_size - 64)) buffer.old ++ take
+        (part_len (geometry.now.slot_size - 64) place.len number)
+        (slot_at geometry.now.slot_size (F.state flash.old).told.image (slot_of_part place number)).body) }
     ensures stays { OnlyReads F.tells 1 (F.state flash.old) (F.state flash.new) result }
 {
     let slot = part_slot(geometry, place, number);

@@ -32,9 +32,11 @@ pub fn plan_write<F: Flash>(
     requires listing { IsListing geometry.now.slots geometry.now.slot_size found.now }
     requires least { 128 ≤ len }
     requires reach { len ≤ reach_of (geometry.now.slot_size - 64) }
-    ensures planned { IfOk result (λ plan. IsPlanned F.tells geometry.now found.now (F.state flash.old).told.image id len plan.0 plan.1) }
+    ensures planned { IfOk result (λ plan. IsPlanned F.tells geometry.now found.now (F.state flash.old).told.image id
+        len plan.0 plan.1) }
     ensures refused { IfErr result (IsRefusedBy geometry.now found.now id len) }
-    ensures reads { ReadsToPlan F.tells (2 * parts_of (geometry.now.slot_size - 64) len) (F.state flash.old) (F.state flash.new) result }
+    ensures reads { ReadsToPlan F.tells (2 * parts_of (geometry.now.slot_size - 64) len) (F.state flash.old)
+        (F.state flash.new) result }
 {
     let replaced = place_of(found, id);
     let generation = next_generation(id, replaced)?;
@@ -78,7 +80,8 @@ fn check_free(
     requires listing { IsListing geometry.now.slots geometry.now.slot_size found.now }
     requires few { parts ≤ 4 }
     ensures enough { OnOk result (slots_needed parts replaced ≤ length found.now.free.items) }
-    ensures too_few { IfErr result (λ error. (error ≡ StoreError.NoSpace (length found.now.free.items)) × (length found.now.free.items < slots_needed parts replaced)) }
+    ensures too_few { IfErr result (λ error. (error ≡ StoreError.NoSpace (length found.now.free.items))
+        × (length found.now.free.items < slots_needed parts replaced)) }
 {
     let free = found.free.len() as u64;
     let needed = needed_slots(parts, replaced);
@@ -123,7 +126,8 @@ fn look_at_marks<F: Flash>(
     requires some { 1 ≤ parts }
     requires few { parts ≤ 4 }
     requires below { (i : ℕ) → i < parts → slice_index slots.now i < geometry.now.slots }
-    ensures marks { IfOk result (λ marks. F.tells → AreMarks geometry.now.slot_size (F.state flash.old).told.image parts slots.now marks) }
+    ensures marks { IfOk result (λ marks. F.tells
+        → AreMarks geometry.now.slot_size (F.state flash.old).told.image parts slots.now marks) }
     ensures stays { ReadsTimes F.tells (2 * parts) (F.state flash.old) (F.state flash.new) result }
 {
     let mut marked = [false; MAX_PARTS];
@@ -136,7 +140,9 @@ fn look_at_marks<F: Flash>(
 fn has_mark<F: Flash>(flash: &mut F, geometry: &Geometry, slot: u32) -> Result<bool, FlashFailed>
     requires fits { Fits geometry.now (F.state flash.old) }
     requires within { slot < geometry.now.slots }
-    ensures mark { IfOk result (λ mark. F.tells → mark ≡ (tail_at (F.state flash.old).told.image (slot * geometry.now.slot_size) geometry.now.slot_size == tail_mark)) }
+    ensures mark { IfOk result (λ mark. F.tells
+        → mark ≡ (tail_at (F.state flash.old).told.image (slot * geometry.now.slot_size) geometry.now.slot_size ==
+        tail_mark)) }
     ensures stays { ReadsTimes F.tells 2 (F.state flash.old) (F.state flash.new) result }
 {
     let (_, tail) = look(flash, geometry, slot)?;

@@ -32,7 +32,8 @@ pub fn make_change<F: Flash>(
     requires under_way { IsUnderWay work.now }
     requires knows { F.tells → Knows geometry.now found.old buffer.now (F.state flash.old).told.image work.now }
     ensures listing { IsListing geometry.now.slots geometry.now.slot_size found.new }
-    ensures makes { MakesChange F.tells geometry.now buffer.now (F.state flash.old) (F.state flash.new) found.new work.now result }
+    ensures makes { MakesChange F.tells geometry.now buffer.now (F.state flash.old)
+        (F.state flash.new) found.new work.now result }
 {
     match work {
         Begun::Nothing => unreachable!(),
@@ -66,8 +67,10 @@ fn fill_slot<F: Flash>(
 ) -> Result<Begun, FlashFailed>
     requires fits { Fits geometry.now (F.state flash.old) }
     requires buffer { length buffer.now ≡ reach_of (geometry.now.slot_size - 64) }
-    requires form { IsWrite geometry.now found.now (take draft.now.len buffer.now) draft.now (Stage.Fill number step) replaced }
-    requires knows { F.tells → KnowsDraft geometry.now found.now (F.state flash.old).told.image (take draft.now.len buffer.now) draft.now (Stage.Fill number step) replaced }
+    requires form { IsWrite geometry.now found.now (take draft.now.len buffer.now) draft.now (Stage.Fill number step)
+        replaced }
+    requires knows { F.tells → KnowsDraft geometry.now found.now (F.state flash.old).told.image
+        (take draft.now.len buffer.now) draft.now (Stage.Fill number step) replaced }
     ensures makes { MakesChange F.tells geometry.now buffer.now (F.state flash.old) (F.state flash.new) found.now
         (Begun.Write draft.now (Stage.Fill number step) replaced) result }
 {
@@ -93,7 +96,8 @@ fn open_slot<F: Flash>(
     requires listing { IsListing geometry.now.slots geometry.now.slot_size found.old }
     requires buffer { length buffer.now ≡ reach_of (geometry.now.slot_size - 64) }
     requires form { IsWrite geometry.now found.old (take draft.now.len buffer.now) draft.now Stage.Gate replaced }
-    requires knows { F.tells → KnowsDraft geometry.now found.old (F.state flash.old).told.image (take draft.now.len buffer.now) draft.now Stage.Gate replaced }
+    requires knows { F.tells → KnowsDraft geometry.now found.old (F.state flash.old).told.image
+        (take draft.now.len buffer.now) draft.now Stage.Gate replaced }
     ensures listing { IsListing geometry.now.slots geometry.now.slot_size found.new }
     ensures makes { MakesChange F.tells geometry.now buffer.now (F.state flash.old) (F.state flash.new) found.new
         (Begun.Write draft.now Stage.Gate replaced) result }
@@ -145,8 +149,8 @@ fn end_old_copy<F: Flash>(
     requires place { IsWithin geometry.now.slots geometry.now.slot_size place }
     requires knows { F.tells → KnowsOldCopy geometry.now found.old (F.state flash.old).told.image draft.now place }
     ensures listing { IsListing geometry.now.slots geometry.now.slot_size found.new }
-    ensures makes { (buffer : List ℕ)
-        → MakesChange F.tells geometry.now buffer (F.state flash.old) (F.state flash.new) found.new (Begun.OldCopy draft.now place) result }
+    ensures makes { (buffer : List ℕ) → MakesChange F.tells geometry.now buffer (F.state flash.old)
+        (F.state flash.new) found.new (Begun.OldCopy draft.now place) result }
 {
     kill(flash, geometry, place.slot)?;
     copy_killed(found, geometry, place);
@@ -166,8 +170,8 @@ fn end_record<F: Flash>(
     requires place { IsWithin geometry.now.slots geometry.now.slot_size place }
     requires knows { F.tells → KnowsCleared geometry.now found.old (F.state flash.old).told.image id place }
     ensures listing { IsListing geometry.now.slots geometry.now.slot_size found.new }
-    ensures makes { (buffer : List ℕ)
-        → MakesChange F.tells geometry.now buffer (F.state flash.old) (F.state flash.new) found.new (Begun.Clear id place) result }
+    ensures makes { (buffer : List ℕ) → MakesChange F.tells geometry.now buffer (F.state flash.old)
+        (F.state flash.new) found.new (Begun.Clear id place) result }
 {
     kill(flash, geometry, place.slot)?;
     record_cleared(found, geometry, id);

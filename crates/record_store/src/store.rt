@@ -72,13 +72,16 @@ impl<F: Flash> Store<F> {
             ≤ (F.state flash).steps + second_copies geometry.slot_size geometry.slots (F.state flash).told.image) }
 
         // Each is of one byte, in a slot of its own.
-        ensures order { IfOk result (λ store. F.tells → KillsBelow geometry.slot_size (F.state flash).told geometry.slots store.flash.told) }
+        ensures order { IfOk result (λ store. F.tells
+            → KillsBelow geometry.slot_size (F.state flash).told geometry.slots store.flash.told) }
 
         // Power lost at any step on the way leaves the records of the flash.
         ensures kept { IfOk result (λ store. F.tells → KeepsRecordsOf geometry (F.state flash) store.flash) }
 
-        ensures refused { IfErr result (λ refused. RefusesFlash geometry (F.state flash) (F.state refused.flash) refused.why) }
-        ensures back { IfErr result (λ refused. F.tells → KeepsRecordsOf geometry (F.state flash) (F.state refused.flash)) }
+        ensures refused { IfErr result (λ refused. RefusesFlash geometry (F.state flash)
+            (F.state refused.flash) refused.why) }
+        ensures back { IfErr result (λ refused. F.tells → KeepsRecordsOf geometry (F.state flash)
+            (F.state refused.flash)) }
         ensures power { IfOk result (λ store. LosesOnlyByChange (F.state flash) store.flash) }
         ensures power_back { IfErr result (λ refused. LosesOnlyByChange (F.state flash) (F.state refused.flash)) }
         ensures lit { IfOk result (λ store. StaysPowered (F.state flash) store.flash) }
@@ -121,12 +124,14 @@ impl<F: Flash> Store<F> {
         ensures pending { OnOk result (IsWriteOf id bytes.now self.new.pending) }
 
         // The slots are known before: those that are free once a store in doubt has looked at them.
-        ensures slots { OnOk result (F.tells → slots_for self.new (length bytes.now) ≡ slots_for self.old (length bytes.now)) }
+        ensures slots { OnOk result (F.tells
+            → slots_for self.new (length bytes.now) ≡ slots_for self.old (length bytes.now)) }
 
         // It looks at each slot that the record will be written into.
-        ensures still { self.old.in_doubt ≡ false
-            → ReadsExactly F.tells (λ _. 2 * parts_of (room_of self.old.layout) (length bytes.now)) self.old self.new result }
-        ensures reads { TakesReads (λ _. raised (2 * parts_of (room_of self.old.layout) (length bytes.now))) self.old self.new result }
+        ensures still { self.old.in_doubt ≡ false → ReadsExactly F.tells (λ _. 2 * parts_of (room_of self.old.layout)
+            (length bytes.now)) self.old self.new result }
+        ensures reads { TakesReads (λ _. raised (2 * parts_of (room_of self.old.layout) (length bytes.now))) self.old
+            self.new result }
         ensures leaves { OnlyStarts F.tells self.old self.new result }
     {
         self.settle()?;
@@ -156,10 +161,12 @@ impl<F: Flash> Store<F> {
         requires busy { IsBusy self.old.pending }
         ensures answer { F.tells → IsStep self.old self.new result }
         ensures stepped { HasStepped self.old self.new result }
-        ensures placed { OnOk result (F.tells → PlacedAfter self.old.layout self.old.pending self.new.flash.told.image) }
+        ensures placed { OnOk result (F.tells
+            → PlacedAfter self.old.layout self.old.pending self.new.flash.told.image) }
 
         // Power lost in the change leaves the records from before it or those after it.
-        ensures crash { F.tells → KeepsOrMakes self.old self.new (map_after self.old.layout self.old.pending (stored self.old)) }
+        ensures crash { F.tells → KeepsOrMakes self.old self.new (map_after self.old.layout self.old.pending
+            (stored self.old)) }
 
         ensures one { OnOk result (self.new.flash.steps ≡ self.old.flash.steps + 1) }
         ensures at_most { self.new.flash.steps ≤ self.old.flash.steps + 1 }
@@ -201,10 +208,12 @@ impl<F: Flash> Store<F> {
         ensures answer { F.tells → AnswersWrite self.old self.new id bytes.now result }
 
         // The free slots of least number have the record.
-        ensures placed { OnOk result (F.tells → StandsIn self.old.layout self.new.flash.told.image id (slots_for self.old (length bytes.now))) }
+        ensures placed { OnOk result (F.tells
+            → StandsIn self.old.layout self.new.flash.told.image id (slots_for self.old (length bytes.now))) }
 
         // No step reads: what is read is what the start reads.
-        ensures reads { TakesReads (λ _. raised (2 * parts_of (room_of self.old.layout) (length bytes.now))) self.old self.new result }
+        ensures reads { TakesReads (λ _. raised (2 * parts_of (room_of self.old.layout) (length bytes.now))) self.old
+            self.new result }
         ensures leaves { Changes F.tells self.old self.new (Write id bytes.now) result }
     {
         match self.start_write(id, bytes) {
@@ -229,7 +238,8 @@ impl<F: Flash> Store<F> {
     /// Gives up what is pending. Where something was, the store is then in doubt.
     pub fn abandon(&mut self)
         ensures abandoned { self.new ≡ abandoned self.old }
-        ensures copies { F.tells → self.old.in_doubt ≡ false → copies_in self.old ≡ copies_pending self.old.layout self.old.pending }
+        ensures copies { F.tells → self.old.in_doubt ≡ false
+            → copies_in self.old ≡ copies_pending self.old.layout self.old.pending }
     {
         if !self.work.is_nothing() {
             self.work = Begun::Nothing;
@@ -434,7 +444,8 @@ impl<F: Flash> Store<F> {
         ensures answer { F.tells → StartsWrite self.old self.new id bytes.now result }
         ensures pending { OnOk result (IsWriteOf id bytes.now self.new.pending) }
         ensures free { OnOk result (F.tells → free_in self.new ≡ free_in self.old) }
-        ensures still { ReadsExactly F.tells (λ _. 2 * parts_of (room_of self.old.layout) (length bytes.now)) self.old self.new result }
+        ensures still { ReadsExactly F.tells (λ _. 2 * parts_of (room_of self.old.layout)
+            (length bytes.now)) self.old self.new result }
         ensures leaves { OnlyStarts F.tells self.old self.new result }
     {
         let planned = plan_write(

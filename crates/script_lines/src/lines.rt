@@ -64,7 +64,8 @@ impl Model for LineReader {
 impl LineReader {
     /// A reader at the start of a script. It takes all the memory that it will have.
     pub fn new(alloc: Global) -> Result<LineReader, OutOfMemory>
-        ensures { IfOk result (λ reader. reader ≡ record { line = []; number = 0; end = 0; pending = []; at_end = false }) }
+        ensures { IfOk result (λ reader. reader
+            ≡ record { line = []; number = 0; end = 0; pending = []; at_end = false }) }
     {
         Ok(LineReader {
             buffer: vec![in alloc; 0u8; BUFFER]?,
@@ -101,7 +102,8 @@ impl LineReader {
             (IsNextLine I.tells self.old self.new (I.rest script.old) (I.rest script.new))
             (IsAtEnd I.tells self.old self.new (I.rest script.old) (I.rest script.new))) }
         ensures too_long { result ≡ Err LineStop.TooLong → NextIsTooLong I.tells self.old self.new (I.rest script.old) }
-        ensures failed { result ≡ Err LineStop.SourceFault → HasNoLine I.tells self.old self.new (I.rest script.old) (I.rest script.new) }
+        ensures failed { result ≡ Err LineStop.SourceFault → HasNoLine I.tells self.old self.new (I.rest script.old)
+            (I.rest script.new) }
         ensures stays { result ≢ Ok true → StaysAt I.tells self.old self.new (I.rest script.old) (I.rest script.new) }
         ensures ended { result ≡ Ok false → self.new.at_end ≡ true }
         // What is too long already is no fault of the source.
@@ -141,7 +143,8 @@ impl LineReader {
         ensures in_time { result ≡ Err ScriptEnd.SourceFault → ¬ (PastLimits self.old.end (length self.new.pending) 0) }
         ensures at_end { I.tells → self.new.at_end ≡ true → I.rest script.new ≡ [] }
         ensures no_fault { OnOk result (I.faults script.new ≡ I.faults script.old) }
-        ensures cause { IfErr result (λ end. HasSourceCause (I.faults script.old) (I.faults script.new) (fault_of end)) }
+        ensures cause { IfErr result (λ end. HasSourceCause (I.faults script.old) (I.faults script.new)
+            (fault_of end)) }
     {
         match self.advance(script) {
             Ok(true) => Ok(self.number()),
@@ -211,9 +214,9 @@ impl LineReader {
         requires text { text ≤ 2 ^ 18 }
         requires some { 0 < text + newline }
         requires newline { newline ≤ 1 }
-        ensures { MatchResult result
-            (λ more. (more ≡ true) × ¬ (PastLimits self.old.end text newline) × TakesLine text newline self.old self.new)
-            (λ stop. (stop ≡ LineStop.TooLong) × PastLimits self.old.end text newline × (self.new ≡ self.old)) }
+        ensures { MatchResult result (λ more. (more ≡ true) × ¬ (PastLimits self.old.end text newline)
+            × TakesLine text newline self.old self.new) (λ stop. (stop ≡ LineStop.TooLong)
+            × PastLimits self.old.end text newline × (self.new ≡ self.old)) }
     {
         if self.is_too_long(text, newline) {
             return Err(LineStop::TooLong);
@@ -225,7 +228,8 @@ impl LineReader {
     // Reads what is left behind the last newline, which is a line where it isn't empty.
     fn read_last(&mut self) -> Result<bool, LineStop>
         ensures at_end { OnOk result (self.new.at_end ≡ true) }
-        ensures stays { result ≢ Ok true → (self.new.number ≡ self.old.number) × (self.new.end ≡ self.old.end) × (self.new.pending ≡ self.old.pending) }
+        ensures stays { result ≢ Ok true → (self.new.number ≡ self.old.number) × (self.new.end ≡ self.old.end)
+            × (self.new.pending ≡ self.old.pending) }
         ensures read { MatchResult result
             (λ more. MatchBool more
             (¬ (PastLimits self.old.end (length self.old.pending) 0) × (0 < length self.old.pending)
@@ -272,7 +276,8 @@ fn make_room(buffer: &mut Vec<u8>, start: usize, end: usize) -> usize
     requires size { vec_len buffer.old ≡ 262144 }
     ensures size { vec_len buffer.new ≡ 262144 }
     ensures room { result + (end - start) < 262144 }
-    ensures same { take (end - start) (drop result buffer.new.items) ≡ take (end - start) (drop start buffer.old.items) }
+    ensures same { take (end - start) (drop result buffer.new.items) ≡ take (end - start)
+        (drop start buffer.old.items) }
 {
     if BUFFER - end >= LEAST_READ {
         return start;
@@ -290,7 +295,8 @@ fn read_behind<I: Source>(
     requires { kept < length buffer.old }
     ensures kept { take kept buffer.new ≡ take kept buffer.old }
     ensures fits { IfOk result (λ n. kept + n ≤ length buffer.new) }
-    ensures given { I.tells → MatchResult result (λ n. I.rest script.old ≡ take n (drop kept buffer.new) ++ I.rest script.new) (λ _. I.rest script.new ≡ I.rest script.old) }
+    ensures given { I.tells → MatchResult result (λ n. I.rest script.old
+        ≡ take n (drop kept buffer.new) ++ I.rest script.new) (λ _. I.rest script.new ≡ I.rest script.old) }
     ensures end { I.tells → result ≡ Ok 0 → I.rest script.old ≡ [] }
     ensures cause { HasCause (I.faults script.old) (I.faults script.new) result }
 {

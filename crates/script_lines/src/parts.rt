@@ -77,8 +77,8 @@ pub fn number(text: &[u8], least: u64, most: u64) -> Result<u64, usize>
 pub fn two_numbers(text: &[u8], first: u64, least: u64, most: u64) -> Result<(u64, u64), usize>
     requires least { least ≤ 1 }
     requires most { 1 ≤ most }
-    ensures { MatchResult result
-        (λ both. (both.0 ≤ first) × (least ≤ both.1) × (both.1 ≤ most) × (text.now ≡ decimal both.0 ++ 32 ∷ decimal both.1))
+    ensures { MatchResult result (λ both. (both.0 ≤ first) × (least ≤ both.1) × (both.1 ≤ most)
+        × (text.now ≡ decimal both.0 ++ 32 ∷ decimal both.1))
         (λ reach. Breaks (AreTwoNumbers first least most) text.now reach) }
 {
     let digits = longest_number(text, 0, first);

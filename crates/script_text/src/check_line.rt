@@ -60,7 +60,8 @@ impl CheckLine<'_> {
     /// The line that a text without a newline is.
     pub fn parse(text: &[u8]) -> Result<CheckLine<'_>, BadLine>
         requires { length text.now ≤ LONGEST_LINE }
-        ensures { MatchResult result (λ line. IsCheckText text.now line) (λ bad. BreaksAt IsCheckLine text.now bad.column) }
+        ensures { MatchResult result (λ line. IsCheckText text.now line)
+            (λ bad. BreaksAt IsCheckLine text.now bad.column) }
     {
         if text.is_empty() {
             return Ok(CheckLine::Blank);
@@ -91,7 +92,8 @@ impl CheckLine<'_> {
 
     // The line of a keyword and what follows it.
     fn from_parts(word: CheckWord, rest: &[u8]) -> Result<CheckLine<'_>, usize>
-        ensures { MatchResult result (λ line. IsCheckTextBehind word rest.now line) (λ reach. Breaks (CheckFollows word) rest.now reach) }
+        ensures { MatchResult result (λ line. IsCheckTextBehind word rest.now line)
+            (λ reach. Breaks (CheckFollows word) rest.now reach) }
     {
         match word {
             CheckWord::Comment => Ok(CheckLine::Blank),

@@ -39,6 +39,8 @@ pub fn one_check_column()
 /// The words of a client's refusal tell it: that the flash failed, that a program was stopped, or that the device was busy for too long.
 pub fn words_tell_the_refusal()
     ensures hardware { (error : AnyError) → words_of_client error ≡ codes "hardware" → error ≡ Hardware }
-    ensures stopped { (stop : AnyStop) (error : AnyError) → words_of_client error ≡ codes "stopped " ++ words_of_stop stop → (why : AnyStop) × (error ≡ Stopped why) }
-    ensures late { (time : ℕ) (error : AnyError) → words_of_client error ≡ codes "late " ++ decimal time → (waited : ℕ) × (error ≡ Late waited) }
+    ensures stopped { (stop : AnyStop) (error : AnyError)
+        → words_of_client error ≡ codes "stopped " ++ words_of_stop stop → (why : AnyStop) × (error ≡ Stopped why) }
+    ensures late { (time : ℕ) (error : AnyError) → words_of_client error ≡ codes "late " ++ decimal time
+        → (waited : ℕ) × (error ≡ Late waited) }
 {}

@@ -27,7 +27,8 @@ pub trait Refusal {
     fn put<O: Sink>(&self, out: &mut O) -> Result<(), SinkFault>
         requires { has_words self.now }
         ensures all { OnOk result (O.tells → O.written out.new ≡ O.written out.old ++ words self.now) }
-        ensures part { OnErr result (O.tells → (n : ℕ) × (O.written out.new ≡ O.written out.old ++ take n (words self.now))) }
+        ensures part { OnErr result (O.tells
+            → (n : ℕ) × (O.written out.new ≡ O.written out.old ++ take n (words self.now))) }
         ensures cause { HasCause (O.faults out.old) (O.faults out.new) result }
     {
         let mut text = LineText::new();

@@ -151,7 +151,8 @@ impl ScriptLine<'_> {
 
     // The line of a keyword and what follows it.
     fn from_parts(word: ScriptWord, rest: &[u8]) -> Result<ScriptLine<'_>, usize>
-        ensures { MatchResult result (λ line. IsTextBehind word rest.now line) (λ reach. Breaks (Follows word) rest.now reach) }
+        ensures { MatchResult result (λ line. IsTextBehind word rest.now line)
+            (λ reach. Breaks (Follows word) rest.now reach) }
     {
         match word {
             ScriptWord::Comment => Ok(ScriptLine::Blank),
@@ -208,7 +209,8 @@ impl ScriptLine<'_> {
 
     // The line that takes a table into use: one in hexadecimal digits, the machine's own, or its shadow.
     fn from_table(rest: &[u8]) -> Result<ScriptLine<'_>, usize>
-        ensures { MatchResult result (λ line. IsTextBehind ScriptWord.Table rest.now line) (λ reach. Breaks IsTable rest.now reach) }
+        ensures { MatchResult result (λ line. IsTextBehind ScriptWord.Table rest.now line)
+            (λ reach. Breaks IsTable rest.now reach) }
     {
         if rest == b"own".as_slice() {
             return Ok(ScriptLine::TableOwn);
@@ -226,7 +228,8 @@ impl ScriptLine<'_> {
 
 // An identifier, which is any number.
 fn id(text: &[u8]) -> Result<u64, usize>
-    ensures { MatchResult result (λ n. text.now ≡ decimal n) (λ reach. Breaks (IsNumber 0 0xFFFF_FFFF_FFFF_FFFF) text.now reach) }
+    ensures { MatchResult result (λ n. text.now ≡ decimal n)
+        (λ reach. Breaks (IsNumber 0 0xFFFF_FFFF_FFFF_FFFF) text.now reach) }
 {
     Ok(number(text, 0, u64::MAX)?)
 }

@@ -32,9 +32,11 @@ pub struct DataEntry<'a> {
 
 /// The data entry that begins at a place of a block. There is none where too few bytes of the block's data are left for its head.
 pub fn data_entry_at(block: &[u8], at: usize) -> Option<DataEntry<'_>>
-    ensures entry { MatchOption result (¬ HasDataEntry block.now at) (λ entry. HasDataEntry block.now at × IsDataEntry block.now at entry.head.now entry.body_at entry.body.now entry.next) }
+    ensures entry { MatchOption result (¬ HasDataEntry block.now at) (λ entry. HasDataEntry block.now at
+        × IsDataEntry block.now at entry.head.now entry.body_at entry.body.now entry.next) }
     // The next one stands further on.
-    ensures places { IfSome result (λ entry. (at < entry.next) × (at < length block.now) × (entry.body_at < length block.now + 100)) }
+    ensures places { IfSome result (λ entry. (at < entry.next) × (at < length block.now)
+        × (entry.body_at < length block.now + 100)) }
 {
     let content = data_part(block);
     if at > content.len() || content.len() - at < HEAD {
@@ -72,7 +74,8 @@ fn head_size(entry: &[u8]) -> usize
 
 /// An instruction entry, by its index from 0. There is none from the table's count on, and where it isn't all there.
 pub fn instruction_at(table: &[u8], index: u32) -> Option<&[u8]>
-    ensures { MatchOption result (¬ HasInstruction table.now index) (λ entry. HasInstruction table.now index × (entry.now ≡ part table.now (48 + 32 * index) 32)) }
+    ensures { MatchOption result (¬ HasInstruction table.now index) (λ entry. HasInstruction table.now index
+        × (entry.now ≡ part table.now (48 + 32 * index) 32)) }
 {
     let at = INSTRUCTIONS + INSTRUCTION * index as usize;
     if index >= seen_u32(table, 44) || table.len() < at + INSTRUCTION {

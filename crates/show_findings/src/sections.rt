@@ -23,7 +23,8 @@ pub struct Section<'a> {
 
 /// A section of a record, by its index from 0. There is none from the record's count on, and where its descriptor isn't all there.
 pub fn section_at(bytes: &[u8], index: u16) -> Option<Section<'_>>
-    ensures section { MatchOption result (¬ HasSection bytes.now index) (λ section. HasSection bytes.now index × IsSection bytes.now index section.at section.descriptor.now section.body_at section.body.now) }
+    ensures section { MatchOption result (¬ HasSection bytes.now index) (λ section. HasSection bytes.now index
+        × IsSection bytes.now index section.at section.descriptor.now section.body_at section.body.now) }
     ensures places { IfSome result (λ section. (section.at < 2 ^ 32) × (section.body_at < 2 ^ 32)) }
 {
     let at = HEADER + DESCRIPTOR * index as usize;

@@ -18,7 +18,8 @@ pub struct Source<'a> {
 
 /// The structure that begins at a place of a table. There is none where no type is left, and where its length isn't known.
 pub fn source_at(table: &[u8], at: usize) -> Option<Source<'_>>
-    ensures source { MatchOption result (IsNoSource table.now at) (λ source. IsSource table.now at source.kind source.bytes.now source.next) }
+    ensures source { MatchOption result (IsNoSource table.now at)
+        (λ source. IsSource table.now at source.kind source.bytes.now source.next) }
     // The next one stands further on.
     ensures places { IfSome result (λ source. (at < source.next) × (source.next < length table.now + 8000)) }
 {
@@ -56,7 +57,8 @@ fn length_by_type(kind: u16, bytes: &[u8]) -> Option<usize>
 // The length of a structure with machine check banks, whose number stands at a place.
 fn length_with_banks(bytes: &[u8], fixed: usize, place: usize) -> Option<usize>
     requires fixed { (0 < fixed) × (fixed < 100) }
-    ensures value { MatchOption result (length bytes.now ≤ place) (λ size. (place < length bytes.now) × (size ≡ fixed + 28 * number_at bytes.now place 1)) }
+    ensures value { MatchOption result (length bytes.now ≤ place) (λ size. (place < length bytes.now)
+        × (size ≡ fixed + 28 * number_at bytes.now place 1)) }
     ensures low { IfSome result (λ size. (0 < size) × (size < 8000)) }
 {
     if bytes.len() <= place {

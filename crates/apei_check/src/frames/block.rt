@@ -51,7 +51,8 @@ fn block_line(block: &Block<'_>, rest: usize) -> LineText
 fn write_entries<O: Sink>(block: &Block<'_>, out: &mut O) -> Result<(), SinkFault>
     requires { IsPlace block.now.entries 20 }
     ensures all { OnOk result (Writes O.tells (entry_lines block.now.entries) (O.written out.old) (O.written out.new)) }
-    ensures part { OnErr result (WritesPart O.tells (entry_lines block.now.entries) (O.written out.old) (O.written out.new)) }
+    ensures part { OnErr result (WritesPart O.tells (entry_lines block.now.entries) (O.written out.old)
+        (O.written out.new)) }
     ensures cause { HasCause (O.faults out.old) (O.faults out.new) result }
 {
     let mut at = FIRST;
@@ -80,7 +81,8 @@ impl Parts for Block<'_> {
 /// Writes what a check of a block shows.
 fn write_check<O: Sink>(bytes: &[u8], show: Show, out: &mut O) -> Result<(), SinkFault>
     ensures all { OnOk result (Shows O.tells (AreBlockLines show bytes.now) (O.written out.old) (O.written out.new)) }
-    ensures part { OnErr result (ShowsPart O.tells (AreBlockLines show bytes.now) (O.written out.old) (O.written out.new)) }
+    ensures part { OnErr result (ShowsPart O.tells (AreBlockLines show bytes.now) (O.written out.old)
+        (O.written out.new)) }
     ensures cause { HasCause (O.faults out.old) (O.faults out.new) result }
 {
     match Block::decode(bytes) {
@@ -93,7 +95,8 @@ fn write_check<O: Sink>(bytes: &[u8], show: Show, out: &mut O) -> Result<(), Sin
 /// shown. Bytes that begin with no block have one line that says why, whatever is to be shown.
 pub fn check_block<O: Sink>(bytes: &[u8], show: Show, out: &mut O) -> Result<(), CheckStop>
     ensures shown { OnOk result (Shows O.tells (AreBlockLines show bytes.now) (O.written out.old) (O.written out.new)) }
-    ensures part { result ≡ Err CheckStop.SinkFault → ShowsPart O.tells (AreBlockLines show bytes.now) (O.written out.old) (O.written out.new) }
+    ensures part { result ≡ Err CheckStop.SinkFault → ShowsPart O.tells (AreBlockLines show bytes.now)
+        (O.written out.old) (O.written out.new) }
     ensures no_memory { result ≢ Err CheckStop.Memory }
     ensures cause { HasStopCause (O.faults out.old) (O.faults out.new) result }
 {

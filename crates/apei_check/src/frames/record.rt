@@ -64,7 +64,8 @@ impl Numbered for Record<'_> {
 /// Writes what a check of a record shows.
 fn write_check<O: Sink>(bytes: &[u8], show: Show, out: &mut O) -> Result<(), SinkFault>
     ensures all { OnOk result (Shows O.tells (AreRecordLines show bytes.now) (O.written out.old) (O.written out.new)) }
-    ensures part { OnErr result (ShowsPart O.tells (AreRecordLines show bytes.now) (O.written out.old) (O.written out.new)) }
+    ensures part { OnErr result (ShowsPart O.tells (AreRecordLines show bytes.now) (O.written out.old)
+        (O.written out.new)) }
     ensures cause { HasCause (O.faults out.old) (O.faults out.new) result }
 {
     match Record::decode(bytes) {
@@ -79,8 +80,10 @@ fn write_check<O: Sink>(bytes: &[u8], show: Show, out: &mut O) -> Result<(), Sin
 /// Shows the record that the bytes begin with: a line on it, and one on each of its sections, as far as they are to be shown.
 /// Bytes that begin with no record have one line that says why, whatever is to be shown.
 pub fn check_record<O: Sink>(bytes: &[u8], show: Show, out: &mut O) -> Result<(), CheckStop>
-    ensures shown { OnOk result (Shows O.tells (AreRecordLines show bytes.now) (O.written out.old) (O.written out.new)) }
-    ensures part { result ≡ Err CheckStop.SinkFault → ShowsPart O.tells (AreRecordLines show bytes.now) (O.written out.old) (O.written out.new) }
+    ensures shown { OnOk result (Shows O.tells (AreRecordLines show bytes.now) (O.written out.old)
+        (O.written out.new)) }
+    ensures part { result ≡ Err CheckStop.SinkFault → ShowsPart O.tells (AreRecordLines show bytes.now)
+        (O.written out.old) (O.written out.new) }
     ensures no_memory { result ≢ Err CheckStop.Memory }
     ensures cause { HasStopCause (O.faults out.old) (O.faults out.new) result }
 {

@@ -12,7 +12,8 @@ use script_lines::LineText;
 /// Shows the Boot Error Record Table that the bytes begin with, by one line. Where they begin with none, a line says why.
 pub fn check_bert<O: Sink>(bytes: &[u8], show: Show, out: &mut O) -> Result<(), CheckStop>
     ensures shown { OnOk result (Shows O.tells (AreBertLines show bytes.now) (O.written out.old) (O.written out.new)) }
-    ensures part { result ≡ Err CheckStop.SinkFault → ShowsPart O.tells (AreBertLines show bytes.now) (O.written out.old) (O.written out.new) }
+    ensures part { result ≡ Err CheckStop.SinkFault → ShowsPart O.tells (AreBertLines show bytes.now)
+        (O.written out.old) (O.written out.new) }
     ensures no_memory { result ≢ Err CheckStop.Memory }
     ensures cause { HasStopCause (O.faults out.old) (O.faults out.new) result }
 {

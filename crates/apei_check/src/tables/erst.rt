@@ -20,7 +20,8 @@ pub fn check_erst<O: Sink>(
     out: &mut O,
 ) -> Result<(), CheckStop>
     ensures shown { OnOk result (Shows O.tells (AreErstLines show bytes.now) (O.written out.old) (O.written out.new)) }
-    ensures part { result ≡ Err CheckStop.SinkFault → ShowsPart O.tells (AreErstLines show bytes.now) (O.written out.old) (O.written out.new) }
+    ensures part { result ≡ Err CheckStop.SinkFault → ShowsPart O.tells (AreErstLines show bytes.now)
+        (O.written out.old) (O.written out.new) }
     ensures memory { result ≡ Err CheckStop.Memory → (refusal bytes.now ≡ None) × (out.new ≡ out.old) }
     ensures cause { HasStopCause (O.faults out.old) (O.faults out.new) result }
 {

@@ -12,7 +12,8 @@ impl Show {
     pub(crate) fn write_head<O: Sink>(self, line: LineText, out: &mut O) -> Result<(), SinkFault>
         requires { length line ≤ 255 }
         ensures all { OnOk result (Writes O.tells (head_shown self line) (O.written out.old) (O.written out.new)) }
-        ensures part { OnErr result (WritesPart O.tells (head_shown self line) (O.written out.old) (O.written out.new)) }
+        ensures part { OnErr result (WritesPart O.tells (head_shown self line) (O.written out.old)
+            (O.written out.new)) }
         ensures cause { HasCause (O.faults out.old) (O.faults out.new) result }
     {
         if self.head() {

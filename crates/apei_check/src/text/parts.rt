@@ -34,8 +34,10 @@ impl Show {
     ) -> Result<(), SinkFault>
         requires decoded { P.is_decoded item.now }
         requires short { length head ≤ 255 }
-        ensures all { OnOk result (Writes O.tells (lines_shown self head (P.lines item.now)) (O.written out.old) (O.written out.new)) }
-        ensures part { OnErr result (WritesPart O.tells (lines_shown self head (P.lines item.now)) (O.written out.old) (O.written out.new)) }
+        ensures all { OnOk result (Writes O.tells (lines_shown self head (P.lines item.now)) (O.written out.old)
+            (O.written out.new)) }
+        ensures part { OnErr result (WritesPart O.tells (lines_shown self head (P.lines item.now)) (O.written out.old)
+            (O.written out.new)) }
         ensures cause { HasCause (O.faults out.old) (O.faults out.new) result }
     {
         self.write_head(head, out)?;

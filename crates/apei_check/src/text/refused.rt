@@ -17,8 +17,10 @@ pub(crate) fn write_refused<R: Refusal, O: Sink>(
     requires told { R.has_words why.now }
     requires short { length front.now ≤ 100 }
     requires room { length front.now ≤ R.most_before }
-    ensures all { OnOk result (Writes O.tells ((front.now ++ R.words why.now) ∷ []) (O.written out.old) (O.written out.new)) }
-    ensures part { OnErr result (WritesPart O.tells ((front.now ++ R.words why.now) ∷ []) (O.written out.old) (O.written out.new)) }
+    ensures all { OnOk result (Writes O.tells ((front.now ++ R.words why.now) ∷ []) (O.written out.old)
+        (O.written out.new)) }
+    ensures part { OnErr result (WritesPart O.tells ((front.now ++ R.words why.now) ∷ []) (O.written out.old)
+        (O.written out.new)) }
     ensures cause { HasCause (O.faults out.old) (O.faults out.new) result }
 {
     let mut line = LineText::new();

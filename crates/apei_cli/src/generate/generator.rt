@@ -26,7 +26,8 @@ pub fn generate<F: Flash, O: Sink>(
     seed: u64,
     out: &mut O,
 ) -> Result<(), SinkFault>
-    ensures generated { IsGenerated F.tells O.tells (state_of player.old.session) seed count (state_of player.new.session) (O.written out.old) (O.written out.new) result }
+    ensures generated { IsGenerated F.tells O.tells (state_of player.old.session) seed count
+        (state_of player.new.session) (O.written out.old) (O.written out.new) result }
     ensures listeners { members_of player.new.chain ≡ members_of player.old.chain }
     ensures cause { HasCause (O.faults out.old) (O.faults out.new) result }
 {
@@ -39,7 +40,8 @@ pub fn generate<F: Flash, O: Sink>(
 
 /// Plays the commands, and tallies them.
 fn play_commands<F: Flash>(player: &mut Player<F>, count: u64, seed: u64) -> Tally
-    ensures played { PlaysCommands F.tells (state_of player.old.session) seed count (state_of player.new.session) result }
+    ensures played { PlaysCommands F.tells (state_of player.old.session) seed count (state_of player.new.session)
+        result }
     ensures listeners { members_of player.new.chain ≡ members_of player.old.chain }
 {
     let mut number = seed;
@@ -56,7 +58,8 @@ fn play_commands<F: Flash>(player: &mut Player<F>, count: u64, seed: u64) -> Tal
 /// Plays one command, and answers whether it was refused.
 fn play<F: Flash>(player: &mut Player<F>, command: Command) -> bool
     requires { HasSize command }
-    ensures asked { IsAsked F.tells (state_of player.old.session) (line_for command) (state_of player.new.session) player.new.session.buffers.reply }
+    ensures asked { IsAsked F.tells (state_of player.old.session) (line_for command)
+        (state_of player.new.session) player.new.session.buffers.reply }
     ensures refused { result ≡ is_refusal player.new.session.buffers.reply }
     ensures listeners { members_of player.new.chain ≡ members_of player.old.chain }
 {
@@ -77,7 +80,8 @@ fn play<F: Flash>(player: &mut Player<F>, command: Command) -> bool
 fn ask<F: Flash>(player: &mut Player<F>, line: &ScriptLine<'_>) -> bool
     requires playable { IsPlayable (line_of line.now) }
     requires command { names_command (line_of line.now) ≡ true }
-    ensures asked { IsAsked F.tells (state_of player.old.session) (line_of line.now) (state_of player.new.session) player.new.session.buffers.reply }
+    ensures asked { IsAsked F.tells (state_of player.old.session) (line_of line.now)
+        (state_of player.new.session) player.new.session.buffers.reply }
     ensures refused { result ≡ is_refusal player.new.session.buffers.reply }
     ensures listeners { members_of player.new.chain ≡ members_of player.old.chain }
 {

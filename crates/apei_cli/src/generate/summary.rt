@@ -21,8 +21,8 @@ pub fn write_summary<O: Sink>(
     step: u64,
     out: &mut O,
 ) -> Result<(), SinkFault>
-    ensures text { (words : List ℕ) (live : ℕ) → TellsLive words live → reply.now ≡ reply_at step words
-        → O.tells → WritesText (summary_of commands tally.now live step) (O.written out.old) (O.written out.new) result }
+    ensures text { (words : List ℕ) (live : ℕ) → TellsLive words live → reply.now ≡ reply_at step words → O.tells
+        → WritesText (summary_of commands tally.now live step) (O.written out.old) (O.written out.new) result }
     ensures cause { HasCause (O.faults out.old) (O.faults out.new) result }
 {
     let end = end_text(step);
@@ -34,7 +34,8 @@ pub fn write_summary<O: Sink>(
 
 /// The number that the reply to a count shows before its end, and 0 where the count was refused.
 fn live_in<'a>(reply: &'a [u8], end: &[u8]) -> &'a [u8]
-    ensures { (words : List ℕ) (live : ℕ) → TellsLive words live → reply.now ≡ words ++ end.now → result.now ≡ decimal live }
+    ensures { (words : List ℕ) (live : ℕ) → TellsLive words live → reply.now ≡ words ++ end.now
+        → result.now ≡ decimal live }
 {
     match reply.strip_prefix(b"count ") {
         Some(shown) => shown.strip_suffix(end).unwrap_or(shown),

@@ -130,7 +130,8 @@ fn copy_pieces(
     requires begins { 64 * piece < length bytes.old }
     requires few { 64 * count < length bytes.old - 64 * piece + 64 }
     requires fits { length bytes.old ≤ map.now.len }
-    ensures { bytes.new ≡ put_at bytes.old (64 * piece) (part (window map.now ram.now) (64 * piece) (min (64 * count) (length bytes.old - 64 * piece))) }
+    ensures { bytes.new ≡ put_at bytes.old (64 * piece) (part (window map.now ram.now) (64 * piece)
+        (min (64 * count) (length bytes.old - 64 * piece))) }
 {
     let at = PIECE * piece as usize;
     let end = bytes.len().min(at + PIECE * count);

@@ -27,9 +27,11 @@ impl Hub {
     pub fn submit(&mut self, source: u32, block: &[u8]) -> Result<u32, SubmitError>
         requires { source < sources_in (seen self.old) }
         ensures submitted { OnOk result (HubSubmits source block.now (seen self.old) (seen self.new)) }
-        ensures number { IfOk result (λ waiting. IfSome (slice_get (seen self.new).sources.list source) (λ handover. waiting ≡ length (waiting_of handover))) }
+        ensures number { IfOk result (λ waiting. IfSome (slice_get (seen self.new).sources.list source)
+            (λ handover. waiting ≡ length (waiting_of handover))) }
         ensures exact { IfSome (slice_get (seen self.old).sources.list source)
-            (λ handover. MatchResult result (λ _. refusal_of handover block.now ≡ None) (λ error. refusal_of handover block.now ≡ Some error)) }
+            (λ handover. MatchResult result (λ _. refusal_of handover block.now ≡ None)
+            (λ error. refusal_of handover block.now ≡ Some error)) }
         ensures refused { OnErr result (seen self.new ≡ seen self.old) }
     {
         self.sources.submit(source as usize, block)
@@ -62,7 +64,8 @@ impl Hub {
     /// How many listeners a source has, held at 2^32 - 1.
     pub fn listeners(&self, source: u32) -> u32
         requires { source < sources_in (seen self.now) }
-        ensures { IfSome (slice_get (seen self.now).chains source) (λ members. result ≡ min (length members) (2 ^ 32 - 1)) }
+        ensures { IfSome (slice_get (seen self.now).chains source) (λ members. result ≡ min (length members)
+            (2 ^ 32 - 1)) }
     {
         u32::try_from(self.chains[source as usize].len()).unwrap_or(u32::MAX)
     }
@@ -71,7 +74,8 @@ impl Hub {
     pub fn heard(&self, source: u32, at: u32) -> u64
         requires source { source < sources_in (seen self.now) }
         requires at { IfSome (slice_get (seen self.now).chains source) (λ members. at < length members) }
-        ensures { IfSome (slice_get (seen self.now).chains source) (λ members. IfSome (slice_get members at) (λ b. result ≡ (hearing b).count)) }
+        ensures { IfSome (slice_get (seen self.now).chains source) (λ members. IfSome (slice_get members at)
+            (λ b. result ≡ (hearing b).count)) }
     {
         self.chains[source as usize].heard(at as usize)
     }

@@ -105,7 +105,8 @@ impl Hub {
         listeners: Vec<Box<dyn Listener>>,
     ) -> Result<Hub, HubRefused>
         ensures opened { IfOk result (λ hub. IsOpened hest.now listeners.items (seen hub)) }
-        ensures exact { MatchResult result (λ _. hub_refusal hest.now ≡ None) (λ refused. IsRefusal hest.now refused.why) }
+        ensures exact { MatchResult result (λ _. hub_refusal hest.now ≡ None)
+            (λ refused. IsRefusal hest.now refused.why) }
         ensures back { IfErr result (λ refused. refused.listeners.items ≡ listeners.items) }
     {
         match prepare(alloc, hest.sources(), listeners.len()) {

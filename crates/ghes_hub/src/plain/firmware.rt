@@ -45,8 +45,9 @@ fn fill_or_publish(
     requires sound { IsSound Filling blocks.old }
     requires stands { Stands (state_of Filling blocks.old) ram.old }
     ensures sound { IsSound (firmware_at result.0) blocks.new }
-    ensures turns { (m : Machine) → PlainStands (state_of Filling blocks.old) ram.old m →
-        Turns OfFirmware result.1 (state_of Filling blocks.old) ram.old (state_of (firmware_at result.0) blocks.new) ram.new m }
+    ensures turns { (m : Machine) → PlainStands (state_of Filling blocks.old) ram.old m
+        → Turns OfFirmware result.1 (state_of Filling blocks.old) ram.old (state_of (firmware_at result.0) blocks.new)
+        ram.new m }
 {
     let Some(block) = blocks.next() else {
         return (FirmwareEnd::Writes(write), Event::Idle);

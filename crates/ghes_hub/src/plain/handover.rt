@@ -54,8 +54,10 @@ impl PlainHandover {
     pub fn submit(&mut self, block: &[u8]) -> Result<u32, SubmitError>
         ensures added { OnOk result (self.new ≡ record self.old { waiting = self.old.waiting ++ block.now ∷ [] }) }
         ensures number { IfOk result (λ waiting. waiting ≡ length self.new.waiting) }
-        ensures stands { OnOk result ((ram : RamState) (m : Machine) → PlainStands self.old ram m → PlainStands self.new ram (submitted m block.now)) }
-        ensures exact { MatchResult result (λ _. plain_refusal self.old block.now ≡ None) (λ error. plain_refusal self.old block.now ≡ Some error) }
+        ensures stands { OnOk result ((ram : RamState) (m : Machine) → PlainStands self.old ram m
+            → PlainStands self.new ram (submitted m block.now)) }
+        ensures exact { MatchResult result (λ _. plain_refusal self.old block.now ≡ None)
+            (λ error. plain_refusal self.old block.now ≡ Some error) }
         ensures refused { OnErr result (self.new ≡ self.old) }
     {
         if let Err(error) = check_block(
@@ -72,7 +74,8 @@ impl PlainHandover {
     /// One turn of a side, over the memory that it was begun with.
     pub fn turn(&mut self, side: Side, ram: &mut Ram) -> Event
         requires { (m : Machine) × PlainStands self.old ram.old m }
-        ensures turned { (m : Machine) → PlainStands self.old ram.old m → Turns side result self.old ram.old self.new ram.new m }
+        ensures turned { (m : Machine) → PlainStands self.old ram.old m
+            → Turns side result self.old ram.old self.new ram.new m }
     {
         let Some(ends) = self.ends.take() else {
             unreachable!();

@@ -47,7 +47,8 @@ fn copy_or_clear(read: MayRead, blocks: &mut Blocks<PlainMap>, ram: &mut Ram) ->
     requires windows { HasPlainWindows blocks.old.map ram.old }
     requires fits { HasFittingWork blocks.old }
     ensures sound { IsSound (reader_at result.0) blocks.new }
-    ensures makes { ReaderMakes (state_of Reading blocks.old) ram.old result.1 (state_of (reader_at result.0) blocks.new) ram.new }
+    ensures makes { ReaderMakes (state_of Reading blocks.old) ram.old result.1
+        (state_of (reader_at result.0) blocks.new) ram.new }
 {
     let Some(mut bytes) = blocks.at_work.take() else {
         let look = read.release(&blocks.map, ram);
