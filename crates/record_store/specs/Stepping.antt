@@ -1,5 +1,5 @@
 -- What one change of what is pending leaves.
-use Rattle.std.specs.Prelude.{ℕ, List, Result, IfOk}
+use Rattle.std.specs.Prelude.{ℕ, List, Result, Ok, Err, IfOk}
 use Rattle.flash_model.specs.declared.flash.FlashFailed.{FlashFailed}
 use Rattle.flash_model.specs.declared.geometry.Geometry.{Geometry}
 use Rattle.flash_model.specs.Layouts.{layout_of}
@@ -17,3 +17,8 @@ pub record MakesChange (tells : Type 0) (geometry : Geometry) (buffer : List ℕ
   pub spare : tells → NearlyOnlyFirstUp geometry.slot_size geometry.slots new.told.image
   pub change : IsOneChange old new result
   pub lit : StaysPowered old new
+
+-- a change that leaves this pending, as an answer that tells it
+abbrev pub leaving : Result (Unit {0}) FlashFailed → (next : Begun) → Result Begun FlashFailed
+leaving (Ok done) next = Ok next
+leaving (Err failed) next = Err failed

@@ -9,7 +9,7 @@ ghost use Rattle.record_slots.specs.Listed.{IsWithin};
 ghost use Rattle.record_slots.specs.Slots.{Fits};
 ghost use Rattle.record_store.specs.Index.{IsListing};
 ghost use Rattle.record_store.specs.Kept.{IsWork, IsWrite, IsUnderWay, KnowsDraft, KnowsOldCopy, KnowsCleared, Knows, work_after, opened_place};
-ghost use Rattle.record_store.specs.Stepping.{MakesChange};
+ghost use Rattle.record_store.specs.Stepping.{MakesChange, leaving};
 
 use crate::index::{copy_killed, record_cleared, record_opened};
 use crate::work::Begun;
@@ -17,44 +17,54 @@ use crate::{Draft, Stage, Step, prepare, publish};
 use flash_model::{Flash, FlashFailed, Geometry};
 use record_slots::{Found, RecordId, SlotOf, kill};
 
-/// Makes the next change of what is pending, and answers what is pending then. The record stands at the start of a buffer.
+/// Makes the next change of what is pending, and leaves what is pending then. The record stands at the start of a buffer.
 pub fn make_change<F: Flash>(
     flash: &mut F,
     geometry: &Geometry,
     found: &mut Found,
     buffer: &[u8],
-    work: &Begun,
-) -> Result<Begun, FlashFailed>
+    work: &mut Begun,
+) -> Result<(), FlashFailed>
     requires fits { Fits geometry.now (F.state flash.old) }
     requires listing { IsListing geometry.now.slots geometry.now.slot_size found.old }
     requires buffer { length buffer.now ≡ reach_of (geometry.now.slot_size - 64) }
-    requires form { IsWork geometry.now found.old buffer.now work.now }
-    requires under_way { IsUnderWay work.now }
-    requires knows { F.tells → Knows geometry.now found.old buffer.now (F.state flash.old).told.image work.now }
+    requires form { IsWork geometry.now found.old buffer.now work.old }
+    requires under_way { IsUnderWay work.old }
+    requires knows { F.tells → Knows geometry.now found.old buffer.now (F.state flash.old).told.image work.old }
     ensures listing { IsListing geometry.now.slots geometry.now.slot_size found.new }
     ensures makes { MakesChange F.tells geometry.now buffer.now (F.state flash.old)
-        (F.state flash.new) found.new work.now result }
+        (F.state flash.new) found.new work.old (leaving result work.new) }
 {
     match work {
         Begun::Nothing => unreachable!(),
         Begun::Write {
             draft,
-            stage: Stage::Fill { number, step },
+            stage,
             replaced,
-        } => fill_slot(
-            flash, geometry, found, buffer, draft, *number, *step, *replaced,
-        ),
-        Begun::Write {
-            draft,
-            stage: Stage::Gate,
-            replaced,
-        } => open_slot(flash, geometry, found, buffer, draft, *replaced),
-        Begun::OldCopy { draft, place } => end_old_copy(flash, geometry, found, draft, *place),
-        Begun::Clear { id, place } => end_record(flash, geometry, found, *id, *place),
+        } => match *stage {
+            Stage::Fill { number, step } => fill_slot(
+                flash, geometry, found, buffer, draft, number, step, *replaced, stage,
+            ),
+            Stage::Gate => {
+                let next = open_slot(flash, geometry, found, buffer, draft, *replaced)?;
+                *work = next;
+                Ok(())
+            }
+        },
+        Begun::OldCopy { draft, place } => {
+            let next = end_old_copy(flash, geometry, found, draft, *place)?;
+            *work = next;
+            Ok(())
+        }
+        Begun::Clear { id, place } => {
+            let next = end_record(flash, geometry, found, *id, *place)?;
+            *work = next;
+            Ok(())
+        }
     }
 }
 
-// Makes a change before the gate, which no list shows.
+// Makes a change before the gate, which no list shows, and leaves the stage behind it.
 fn fill_slot<F: Flash>(
     flash: &mut F,
     geometry: &Geometry,
@@ -64,7 +74,8 @@ fn fill_slot<F: Flash>(
     number: u32,
     step: Step,
     replaced: Option<SlotOf>,
-) -> Result<Begun, FlashFailed>
+    stage: &mut Stage,
+) -> Result<(), FlashFailed>
     requires fits { Fits geometry.now (F.state flash.old) }
     requires buffer { length buffer.now ≡ reach_of (geometry.now.slot_size - 64) }
     requires form { IsWrite geometry.now found.now (take draft.now.len buffer.now) draft.now (Stage.Fill number step)
@@ -72,15 +83,13 @@ fn fill_slot<F: Flash>(
     requires knows { F.tells → KnowsDraft geometry.now found.now (F.state flash.old).told.image
         (take draft.now.len buffer.now) draft.now (Stage.Fill number step) replaced }
     ensures makes { MakesChange F.tells geometry.now buffer.now (F.state flash.old) (F.state flash.new) found.now
-        (Begun.Write draft.now (Stage.Fill number step) replaced) result }
+        (Begun.Write draft.now (Stage.Fill number step) replaced)
+        (leaving result (Begun.Write draft.now stage.new replaced)) }
 {
     let len = draft.len as usize;
     let next = prepare(flash, geometry, draft, number, step, &buffer[..len])?;
-    Ok(Begun::Write {
-        draft: *draft,
-        stage: next,
-        replaced,
-    })
+    *stage = next;
+    Ok(())
 }
 
 // Opens the gate of a first slot, and lists its record.

@@ -183,14 +183,10 @@ impl<F: Flash> Store<F> {
             &self.geometry,
             &mut self.found,
             &self.buffer,
-            &self.work,
+            &mut self.work,
         );
         match made {
-            Ok(next) => {
-                let last = next.is_nothing();
-                self.work = next;
-                Ok(last)
-            }
+            Ok(()) => Ok(self.work.is_nothing()),
             Err(FlashFailed) => {
                 self.work = Begun::Nothing;
                 self.in_doubt = true;
