@@ -65,6 +65,7 @@ impl Port {
     }
 
     // Carries out the action of a code.
+    #[inline(never)]
     fn act(&mut self, code: u32) -> Result<(), PortError>
         ensures { ActionWritten self.old code result self.new }
     {

@@ -19,6 +19,7 @@ mod open;
 mod past;
 mod port;
 mod saving;
+mod spans;
 mod table;
 mod windows;
 

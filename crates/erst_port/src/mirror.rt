@@ -1,16 +1,18 @@
 // The flash.
-ghost use Rattle.std.specs.Prelude.{◌≡◌, ◌↔◌, ◌+◌, ◌-◌, ◌^◌, ◌<◌, ◌≤◌, ◌++◌, [], ◌∷◌, length, true, IfOk, IsErr, IfSome, IsSome, OnOk, OnErr};
+ghost use Rattle.std.specs.Prelude.{◌≡◌, ◌↔◌, ◌+◌, ◌-◌, ◌*◌, ◌^◌, ◌<◌, ◌≤◌, ◌++◌, [], ◌∷◌, length, true, IfOk, IsErr, IfSome, IsSome, OnOk, OnErr};
 ghost use Rattle.base_model.specs.Bytes.{part, put_at, SameOutside};
 ghost use Rattle.base_model.specs.Faults.{HasCause};
 ghost use Rattle.base_model.specs.Flash.{next_count};
 ghost use Rattle.erst_port.specs.Contents.{bytes_of, IsAsked};
 ghost use Rattle.erst_port.specs.Dues.{IsDue, IsLogged, log_room};
 ghost use Rattle.erst_port.specs.Logs.{AreEntries, IsLast, IsFilled};
+ghost use Rattle.erst_port.specs.Spans.{AreErasedBut};
 
 use crate::content::Content;
 use crate::due::{Due, Kind};
 use crate::log::{Log, Range, log_room};
 use crate::past::{Before, Past};
+use crate::spans::{Span, all_bytes};
 use flash_model::{Flash, FlashFailed, copy_range, next_count};
 use std::alloc::{AllocError, Global};
 
@@ -21,6 +23,7 @@ use std::alloc::{AllocError, Global};
 pub struct MirrorFlash {
     image: Vec<u8>,
     sector: u32,
+    spans: Vec<Span>,
     log: Log,
     last: Range,
     past: Past,
@@ -29,6 +32,8 @@ pub struct MirrorFlash {
     faults: u64,
     restarts: u64,
     ghost counted: { length past.changes ≡ steps },
+    ghost sectors: { length spans.items * sector ≤ length image.items },
+    ghost erased: { AreErasedBut spans.items sector image.items },
     ghost log_room: { log.room ≡ log_room (length image.items) },
     ghost log_told: { AreEntries sector (record { past = past.changes; image = image.items }) log.entries.items log.bytes.items },
     ghost log_filled: { IsFilled (length image.items) past.changes log.entries.items log.bytes.items },
@@ -60,10 +65,12 @@ impl MirrorFlash {
         ensures made { IfOk result (λ flash. state_of flash ≡ first_state image.items sector) }
         ensures tells { ⟦<MirrorFlash as Flash>⟧.tells }
     {
+        let spans = all_bytes(alloc, image.len(), sector as usize)?;
         let log = Log::new(alloc, log_room(image.len()))?;
         Ok(MirrorFlash {
             image,
             sector,
+            spans,
             log,
             last: NOTHING,
             past: Past::new(),
@@ -163,7 +170,12 @@ impl MirrorFlash {
             at,
             len: range.len,
         });
-        content.put(&mut self.image, at);
+        content.put(
+            &mut self.image,
+            &mut self.spans,
+            self.sector as usize,
+            at,
+        );
         self.log
             .enter(self.steps, range, bytes_at(&self.image, at, range.len));
         self.past = past;
