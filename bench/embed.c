@@ -48,11 +48,12 @@ static void make(const apei_change *change, const uint8_t *bytes)
         memcpy(medium + change->offset, bytes, change->length);
 }
 
+/* An action makes at most one change due. */
 static void drain(void)
 {
     apei_change change;
     uint8_t bytes[APEI_PROGRAM_MAX];
-    while (apei_erst_change(&erst, &change, bytes) == APEI_OK) {
+    if (apei_erst_change(&erst, &change, bytes) == APEI_OK) {
         if (has_medium)
             make(&change, bytes);
         apei_erst_done(&erst);
