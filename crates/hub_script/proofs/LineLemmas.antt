@@ -7,9 +7,13 @@ use Rattle.script_lines.proofs.KeywordLemmas.{IsLanguage, one_of_all, language}
 use Rattle.script_lines.proofs.PairLemmas.{one_pair}
 use Rattle.hub_script.specs.Turns.{may_stand, AreTurns}
 use Rattle.hub_script.specs.HubGrammar.{Line, IsLine, IsValid, text_of, blank, comment, hest, error, turns, heard, removal}
-use Rattle.hub_script.specs.HubWords.{codes_of, all_words, Follows}
+use Rattle.hub_script.specs.HubWords.{codes_of, Follows}
 use Rattle.hub_script.specs.declared.hub_line.HubWord.{HubWord}
 use Rattle.hub_script.specs.declared.hub_line.HubWord.TheVariants.{Comment, Hest, Error, Turns, Heard, Drop}
+
+-- all keywords
+abbrev pub all_words : List HubWord
+all_words = Comment ∷ Hest ∷ Error ∷ Turns ∷ Heard ∷ Drop ∷ []
 
 -- no keyword begins another
 pub alone : (word : HubWord) → IsAlone codes_of all_words word

@@ -16,11 +16,11 @@ use Rattle.hub_script.specs.RefusalWords.{words_of_refusal}
 use Rattle.hub_script.specs.declared.refusals.HubRefusal.TheVariants.{NoHub}
 use Rattle.hub_script.specs.Replies.{refused, reply_line, text_of_replies, words_of_block, words_of_turns, word_of}
 use Rattle.script_text.specs.Shown.{IsPartWritten}
+use Rattle.hub_script.specs.Streams.{stream_of}
 use Rattle.hub_script.specs.Stages.{HubStage, Waiting, Serving}
 use Rattle.hub_script.specs.Plays.{Plays, IsRefused, source_of, AllNamed, Turned, NoTurn, OneMore, AllTurned}
 use Rattle.script_text.specs.Turns.{side_of}
 use Rattle.hub_script.specs.Lines.{PlaysLine, PlaysUnwritten, TextIs, IsLeft, LeftOfTurns, AtLast, InBlock}
-use Rattle.hub_script.specs.TurnLines.{TakesTurn, TakesUnwritten}
 use Rattle.hub_script.specs.Made.{MakesReply}
 use Rattle.script_text.proofs.ShownLemmas.{flat_map-append}
 
@@ -66,11 +66,11 @@ left_one hearing old (removal source at) words calls new is = (refl, refl, refl)
 
 module _ {L : Type 0} (hearing : L → Hearing) (told_sink : Type 0) (old new : HubStage L) (line : Line) (written now : List ℕ) where
   -- a line of one reply, which was written
-  pub one_played : (words : List ℕ) (calls : List Call) → Plays hearing old line (words ∷ []) calls new → (told_sink → now ≡ written ++ reply_line words) → PlaysLine hearing told_sink old line new written now
+  pub one_played : (words : List ℕ) (calls : List Call) → Plays hearing old line (words ∷ []) calls new → (told_sink → now ≡ written ++ reply_line words) → PlaysLine hearing (stream_of told_sink written now) old line new
   one_played words calls plays text = record { said = words ∷ []; calls = calls; plays = plays; text = λ t. text t ∙ ap (λ (xs : List ℕ). written ++ xs) (sym (one_text words)) }
 
   -- and one which was written in part
-  pub one_unwritten : (words : List ℕ) (calls : List Call) → Plays hearing old line (words ∷ []) calls new → (told_sink → IsPartWritten (reply_line words) written now) → PlaysUnwritten hearing told_sink old line new written now
+  pub one_unwritten : (words : List ℕ) (calls : List Call) → Plays hearing old line (words ∷ []) calls new → (told_sink → IsPartWritten (reply_line words) written now) → PlaysUnwritten hearing (stream_of told_sink written now) old line new
   one_unwritten words calls plays text = record {
     made = line;
     said = words ∷ [];
@@ -83,10 +83,10 @@ module _ {L : Type 0} (hearing : L → Hearing) (told_sink : Type 0) (old new : 
     text = λ t. let part = text t in (part.0, part.1 ∙ ap (λ (xs : List ℕ). xs ++ take part.0 (reply_line words)) (sym (append-nil written)));
   }
 
-  pub reply_played : (reply lent : List ℕ) → MakesReply hearing old line new reply → lent ≡ reply → (told_sink → now ≡ written ++ lent) → PlaysLine hearing told_sink old line new written now
+  pub reply_played : (reply lent : List ℕ) → MakesReply hearing old line new reply → lent ≡ reply → (told_sink → now ≡ written ++ lent) → PlaysLine hearing (stream_of told_sink written now) old line new
   reply_played reply lent made same text = one_played made.words made.calls made.plays (λ t. text t ∙ ap (λ (xs : List ℕ). written ++ xs) (same ∙ made.text))
 
-  pub reply_unwritten : (reply lent : List ℕ) → MakesReply hearing old line new reply → lent ≡ reply → (told_sink → (n : ℕ) × (now ≡ written ++ take n lent)) → PlaysUnwritten hearing told_sink old line new written now
+  pub reply_unwritten : (reply lent : List ℕ) → MakesReply hearing old line new reply → lent ≡ reply → (told_sink → (n : ℕ) × (now ≡ written ++ take n lent)) → PlaysUnwritten hearing (stream_of told_sink written now) old line new
   reply_unwritten reply lent made same text = one_unwritten made.words made.calls made.plays
       (λ t. let part = text t in (part.0, part.1 ∙ ap (λ (xs : List ℕ). written ++ take part.0 xs) (same ∙ made.text)))
 
@@ -105,47 +105,31 @@ pub took_is : (event : Event) → takes event ≡ true → event ≡ Took
 took_is Took e = refl
 took_is event e = absurd (cc e)
 
-pub took_text : (event : Event) (source : ℕ) (last : List ℕ) → takes event ≡ true → reply_line (words_of_block source last) ≡ text_of_replies (map (words_of_block source) (told_at event last))
-took_text event source last e = subst (λ (ev : Event). reply_line (words_of_block source last) ≡ text_of_replies (map (words_of_block source) (told_at ev last))) (sym (took_is event e)) (sym (one_text (words_of_block source last)))
-
 pub none_text : (event : Event) (source : ℕ) (last written : List ℕ) → takes event ≡ false → written ≡ written ++ text_of_replies (map (words_of_block source) (told_at event last))
 none_text event source last written e =
     sym (append-nil written) ∙ ap (λ (b : Bool). written ++ text_of_replies (map (words_of_block source) (cond b (last ∷ []) []))) (sym e)
 
 -- an event behind those before it
-said_more : (event : Event) (events spaced now word : List ℕ) → spaced ≡ events ++ codes " " → now ≡ spaced ++ word → word ≡ word_of event → now ≡ events ++ (codes " " ++ word_of event)
+pub said_more : (event : Event) (events spaced now word : List ℕ) → spaced ≡ events ++ codes " " → now ≡ spaced ++ word → word ≡ word_of event → now ≡ events ++ (codes " " ++ word_of event)
 said_more event events spaced now word one two is =
     two ∙ ap (λ (xs : List ℕ). xs ++ word) one ∙ ap (λ (xs : List ℕ). (events ++ codes " ") ++ xs) is ∙ append_assoc events (codes " ") (word_of event)
 
-module _ {L : Type 0} (hearing : L → Hearing) (told_sink : Type 0) (source : ℕ) (side : Side) (old new : HubState L) (event : Event) where
-  -- a turn whose block was shown
-  pub turn_shown : (events spaced now word written block later : List ℕ) → HubTurns hearing source side event old new → takes event ≡ true → block ≡ last_in new.sources source
-      → spaced ≡ events ++ codes " " → now ≡ spaced ++ word → word ≡ word_of event
-      → (told_sink → later ≡ written ++ reply_line (words_of_block source block)) → TakesTurn hearing told_sink source side old new events now written later
-  turn_shown events spaced now word written block later turned took is one two word_is text = record {
-    event = event;
-    turned = turned;
-    said = said_more event events spaced now word one two word_is;
-    text = λ t. text t ∙ ap (λ (b : List ℕ). written ++ reply_line (words_of_block source b)) is ∙ ap (λ (xs : List ℕ). written ++ xs) (took_text event source (last_in new.sources source) took);
-  }
+-- so it is a turn with that event
+pub turn_took : {L : Type 0} (hearing : L → Hearing) (source : ℕ) (side : Side) (old new : HubState L) (event : Event) → takes event ≡ true
+    → HubTurns hearing source side event old new → HubTurns hearing source side Took old new
+turn_took hearing source side old new event took turned = subst (λ (e : Event). HubTurns hearing source side e old new) (took_is event took) turned
 
-  -- or was refused
-  pub turn_unwritten : (written later block : List ℕ) → HubTurns hearing source side event old new → takes event ≡ true → block ≡ last_in new.sources source
-      → (told_sink → IsPartWritten (reply_line (words_of_block source block)) written later) → TakesUnwritten hearing told_sink source side old new written later
-  turn_unwritten written later block turned took is text = record {
-    turned = subst (λ (e : Event). HubTurns hearing source side e old new) (took_is event took) turned;
-    text = λ t. subst (λ (b : List ℕ). IsPartWritten (reply_line (words_of_block source b)) written later) is (text t);
-  }
+-- a turn was made, its event said behind those before it, and a block that it took shown
+pub record TakesTurn {L : Type 0} (hearing : L → Hearing) (told_sink : Type 0) (source : ℕ) (side : Side) (old new : HubState L) (events events_now written written_now : List ℕ) : Type 0 where
+  pub event : Event
+  pub turned : HubTurns hearing source side event old new
+  pub said : events_now ≡ events ++ (codes " " ++ word_of event)
+  pub text : told_sink → written_now ≡ written ++ text_of_replies (map (words_of_block source) (told_at event (last_in new.sources source)))
 
-  -- a turn that took none
-  pub turn_quiet : (events spaced now word written : List ℕ) → HubTurns hearing source side event old new → takes event ≡ false
-      → spaced ≡ events ++ codes " " → now ≡ spaced ++ word → word ≡ word_of event → TakesTurn hearing told_sink source side old new events now written written
-  turn_quiet events spaced now word written turned none one two word_is = record {
-    event = event;
-    turned = turned;
-    said = said_more event events spaced now word one two word_is;
-    text = λ t. none_text event source (last_in new.sources source) written none;
-  }
+-- the sink refused the line of the block
+pub record TakesUnwritten {L : Type 0} (hearing : L → Hearing) (told_sink : Type 0) (source : ℕ) (side : Side) (old new : HubState L) (written written_now : List ℕ) : Type 0 where
+  pub turned : HubTurns hearing source side Took old new
+  pub text : told_sink → IsPartWritten (reply_line (words_of_block source (last_in new.sources source))) written written_now
 
 -- turns so far: those of some pairs were made, their events are said, and the blocks that were taken are shown
 pub record TurnedSoFar {L : Type 0} (hearing : L → Hearing) (told_sink : Type 0) (old new : HubState L) (pairs said_events written now : List ℕ) : Type 0 where
@@ -209,7 +193,7 @@ module _ {L : Type 0} (hearing : L → Hearing) (told_sink : Type 0) where
   cut_turned : (old mid new : HubState L) (all : List ℕ) (at : ℕ) (said_events written middle now : List ℕ) → 2 * at + 1 < length all → AllNamed old all
       → TurnedSoFar hearing told_sink old mid (take (2 * at) all) said_events written middle
       → TakesUnwritten hearing told_sink (source_of (get_or all (2 * at) 0)) (side_of (get_or all (2 * at + 1) 0)) mid new middle now
-      → PlaysUnwritten hearing told_sink (Serving old) (turns all) (Serving new) written now
+      → PlaysUnwritten hearing (stream_of told_sink written now) (Serving old) (turns all) (Serving new)
   cut_turned old mid new all at said_events written middle now within named so turn =
       let digit = get_or all (2 * at) 0 in
       let letter = get_or all (2 * at + 1) 0 in
@@ -237,7 +221,7 @@ module _ {L : Type 0} (hearing : L → Hearing) (told_sink : Type 0) where
       → source ≡ source_of (get_or all (2 * at) 0) → side ≡ side_of (get_or all (2 * at + 1) 0)
       → TurnedSoFar hearing told_sink old mid (take (2 * at) all) said_events written middle
       → TakesUnwritten hearing told_sink source side mid new middle now
-      → PlaysUnwritten hearing told_sink (Serving old) (turns all) (Serving new) written now
+      → PlaysUnwritten hearing (stream_of told_sink written now) (Serving old) (turns all) (Serving new)
   turn_cut old mid new all at source side said_events written middle now within named of_source of_side so turn =
       cut_turned old mid new all at said_events written middle now within named so
       (subst (λ (i : ℕ). TakesUnwritten hearing told_sink i (side_of (get_or all (2 * at + 1) 0)) mid new middle now) of_source
@@ -249,7 +233,7 @@ module _ {L : Type 0} (hearing : L → Hearing) (told_sink : Type 0) where
   of_all old new all at said_events written now end so = subst (λ (xs : List ℕ). TurnedSoFar hearing told_sink old new xs said_events written now) (take_all (2 * at) all end) so
 
   pub all_turned : (old new : HubState L) (all : List ℕ) (at : ℕ) (said_events written middle now : List ℕ) → length all ≤ 2 * at → AllNamed old all → TurnedSoFar hearing told_sink old new (take (2 * at) all) said_events written middle
-      → (told_sink → now ≡ middle ++ reply_line said_events) → PlaysLine hearing told_sink (Serving old) (turns all) (Serving new) written now
+      → (told_sink → now ≡ middle ++ reply_line said_events) → PlaysLine hearing (stream_of told_sink written now) (Serving old) (turns all) (Serving new)
   all_turned old new all at said_events written middle now end named some text =
       let so = of_all old new all at said_events written middle end some in
       record {
@@ -262,7 +246,7 @@ module _ {L : Type 0} (hearing : L → Hearing) (told_sink : Type 0) where
 
   -- and a part of the reply behind them
   pub all_unwritten : (old new : HubState L) (all : List ℕ) (at : ℕ) (said_events written middle now : List ℕ) → length all ≤ 2 * at → AllNamed old all → TurnedSoFar hearing told_sink old new (take (2 * at) all) said_events written middle
-      → (told_sink → IsPartWritten (reply_line said_events) middle now) → PlaysUnwritten hearing told_sink (Serving old) (turns all) (Serving new) written now
+      → (told_sink → IsPartWritten (reply_line said_events) middle now) → PlaysUnwritten hearing (stream_of told_sink written now) (Serving old) (turns all) (Serving new)
   all_unwritten old new all at said_events written middle now end named some text =
       let so = of_all old new all at said_events written middle end some in
       record {
@@ -305,12 +289,12 @@ pub is_named : {L : Type 0} (first now : HubState L) (pairs : List ℕ) (at sour
 is_named first now pairs at source named within is count = let here = named at within in omega (arith, here, is, count)
 
 -- a blank line says nothing
-pub blank_played : {L : Type 0} (hearing : L → Hearing) (told_sink : Type 0) (stage : HubStage L) (written : List ℕ) → PlaysLine hearing told_sink stage blank stage written written
+pub blank_played : {L : Type 0} (hearing : L → Hearing) (told_sink : Type 0) (stage : HubStage L) (written : List ℕ) → PlaysLine hearing (stream_of told_sink written written) stage blank stage
 blank_played hearing told_sink stage written = record { said = []; calls = []; plays = record { said_is = refl; calls_are = refl; stays = refl }; text = λ t. sym (append-nil written) }
 
 -- the line that a text is, a comment where it is one
-pub text_is : {L : Type 0} (hearing : L → Hearing) (told_sink : Type 0) (old new : HubStage L) (written now text : List ℕ) (line : HubLine) → IsText text line → PlaysLine hearing told_sink old (line_of line) new written now
-    → TextIs text (λ asked. PlaysLine hearing told_sink old asked new written now)
+pub text_is : {L : Type 0} (hearing : L → Hearing) (told_sink : Type 0) (old new : HubStage L) (written now text : List ℕ) (line : HubLine) → IsText text line → PlaysLine hearing (stream_of told_sink written now) old (line_of line) new
+    → TextIs text (λ asked. PlaysLine hearing (stream_of told_sink written now) old asked new)
 text_is hearing told_sink old new written now text Blank (inl is) plays = record { line = blank; written = is; made = plays }
 text_is hearing told_sink old new written now text Blank (inr (rest, is)) plays = record { line = comment rest; written = is; made = record { said = plays.said; calls = plays.calls; plays = plays.plays; text = plays.text } }
 text_is hearing told_sink old new written now text (Hest hex) is plays = record { line = hest hex.now; written = is; made = plays }

@@ -13,6 +13,7 @@ use Rattle.script_lines.specs.Reads.{HasRead, StandsAt, AreReadInOrder, last_lin
 use Rattle.hub_script.specs.HubGrammar.{IsLine}
 use Rattle.hub_script.specs.HubText.{IsWritten}
 use Rattle.hub_script.specs.Replies.{text_of_replies, reply_line}
+use Rattle.hub_script.specs.Streams.{stream_of}
 use Rattle.hub_script.specs.Stages.{HubStage, Waiting, IsWaiting, members_in}
 use Rattle.hub_script.specs.Plays.{Plays}
 use Rattle.hub_script.specs.Lines.{PlaysLine, PlaysUnwritten, TextIs, GivesTable, PairsAreNamed}
@@ -57,13 +58,13 @@ module _ {L : Type 0} (hearing : L → Hearing) (told_source told_sink : Type 0)
 
   -- there is no next line
   pub ends_none : (order : AreReadInOrder told_source) (old new : HubStage L) (script rest rest_now written now : List ℕ) (a b : Reading) (ending : ScriptEnd)
-      → SoFar old new script rest written now a → EndsReading told_source a b rest rest_now ending → PlaysScript hearing told_source told_sink old new script rest_now written now ending
+      → SoFar old new script rest written now a → EndsReading told_source a b rest rest_now ending → PlaysScript hearing (stream_of told_source script rest_now) (stream_of told_sink written now) old new ending
   ends_none order old new script rest rest_now written now a b ending so_far end = record {
     lines = so_far.lines;
     ends = lines_end IsLine GivesTable told_source script rest rest_now so_far.lines a b ending order so_far.read end;
     played = so_far.played;
     follows = so_far.follows;
-    are = whole (λ (text : List ℕ) (one : Played L). IsWritten text one.line) (IsUnwritten told_sink old written now) (λ (all : List (Played L)). told_sink → now ≡ written ++ text_of_played all)
+    are = whole (λ (text : List ℕ) (one : Played L). IsWritten text one.line) (IsUnwritten (stream_of told_sink written now) old) (λ (all : List (Played L)). told_sink → now ≡ written ++ text_of_played all)
         told_source a b rest rest_now so_far.lines so_far.played ending end (so_far.are, so_far.text);
     waits = λ memory. absurd (not_memory told_source a b rest rest_now ending end memory);
   }
@@ -76,7 +77,7 @@ module _ {L : Type 0} (hearing : L → Hearing) (told_source told_sink : Type 0)
 
     -- it was played
     pub so_far_next : (new : HubStage L) (now : List ℕ) → HasRead told_source script rest_now (so_far.lines ++ last_line b ∷ []) b
-        → TextIs text (λ line. PlaysLine hearing told_sink mid line new middle now) → SoFar old new script rest_now written now b
+        → TextIs text (λ line. PlaysLine hearing (stream_of told_sink middle now) mid line new) → SoFar old new script rest_now written now b
     so_far_next new now read plays =
         let one : Played L = record { line = plays.line; said = plays.made.said; calls = plays.made.calls; left = new } in
         record {
@@ -91,11 +92,11 @@ module _ {L : Type 0} (hearing : L → Hearing) (told_source told_sink : Type 0)
 
     -- the sink refused a reply of it
     pub ends_unwritten : (new : HubStage L) (now : List ℕ) → (told_source → StandsAt script so_far.lines b.number (last_line b))
-        → TextIs text (λ line. PlaysUnwritten hearing told_sink mid line new middle now) → PlaysScript hearing told_source told_sink old new script rest_now written now SinkFault
+        → TextIs text (λ line. PlaysUnwritten hearing (stream_of told_sink middle now) mid line new) → PlaysScript hearing (stream_of told_source script rest_now) (stream_of told_sink written now) old new SinkFault
     ends_unwritten new now stands plays =
         let made = plays.made in
         let one : Played L = record { line = made.made; said = made.said; calls = made.calls; left = new } in
-        let unwritten : IsUnwritten told_sink old written now so_far.played text one = record {
+        let unwritten : IsUnwritten (stream_of told_sink written now) old so_far.played text one = record {
           line = plays.line;
           is = plays.written;
           before = made.before;
@@ -117,14 +118,14 @@ module _ {L : Type 0} (hearing : L → Hearing) (told_source told_sink : Type 0)
             last = one;
             played_is = refl;
             are = so_far.are;
-            made = is_this (λ (words : List ℕ). IsUnwritten told_sink old written now so_far.played words one) unwritten;
+            made = is_this (λ (words : List ℕ). IsUnwritten (stream_of told_sink written now) old so_far.played words one) unwritten;
           };
           waits = λ e. absurd (cc e);
         }
 
     -- it is none
     pub ends_bad : (new : HubStage L) (now : List ℕ) (number column : ℕ) → new ≡ mid → now ≡ middle → number ≡ b.number → (told_source → StandsAt script so_far.lines b.number (last_line b)) → BreaksAt IsLine text column
-        → PlaysScript hearing told_source told_sink old new script rest_now written now (BadLine number column)
+        → PlaysScript hearing (stream_of told_source script rest_now) (stream_of told_sink written now) old new (BadLine number column)
     ends_bad new now number column stays kept is stands breaks = record {
       lines = so_far.lines;
       ends = λ told. stops_at (IsBadFrom IsLine column) script so_far.lines (last_line b) number b.number is (stands told) (is_bad IsLine told_source a b rest rest_now text column next same breaks);
@@ -136,7 +137,7 @@ module _ {L : Type 0} (hearing : L → Hearing) (told_source told_sink : Type 0)
 
     -- there was no memory for it
     pub ends_memory : (new : HubStage L) (now : List ℕ) → new ≡ mid → now ≡ middle → (told_source → StandsAt script so_far.lines b.number (last_line b)) → GivesTable text → IsWaiting mid
-        → PlaysScript hearing told_source told_sink old new script rest_now written now Memory
+        → PlaysScript hearing (stream_of told_source script rest_now) (stream_of told_sink written now) old new Memory
     ends_memory new now stays kept stands table waits = record {
       lines = so_far.lines;
       ends = λ told. (b.number, stops_at (IsLineOf GivesTable) script so_far.lines (last_line b) b.number b.number refl (stands told) (is_this GivesTable table));
@@ -148,16 +149,16 @@ module _ {L : Type 0} (hearing : L → Hearing) (told_source told_sink : Type 0)
 
 -- from listeners that wait on
 pub serves_script : {L : Type 0} (hearing : L → Hearing) (told_source told_sink : Type 0) (old new : HubStage L) (script rest written now : List ℕ) (listeners listeners_now : List L) (ending : ScriptEnd)
-    → PlaysScript hearing told_source told_sink old new script rest written now ending → old ≡ Waiting listeners → listeners_now ≡ members_in new
-    → ServesScript hearing told_source told_sink script rest written now listeners listeners_now ending
+    → PlaysScript hearing (stream_of told_source script rest) (stream_of told_sink written now) old new ending → old ≡ Waiting listeners → listeners_now ≡ members_in new
+    → ServesScript hearing (stream_of told_source script rest) (stream_of told_sink written now) listeners listeners_now ending
 serves_script {L} hearing told_source told_sink old new script rest written now listeners listeners_now ending plays begins back =
-    let from : PlaysScript hearing told_source told_sink (Waiting listeners) new script rest written now ending =
-    subst (λ (stage : HubStage L). PlaysScript hearing told_source told_sink stage new script rest written now ending) begins plays in
+    let from : PlaysScript hearing (stream_of told_source script rest) (stream_of told_sink written now) (Waiting listeners) new ending =
+    subst (λ (stage : HubStage L). PlaysScript hearing (stream_of told_source script rest) (stream_of told_sink written now) stage new ending) begins plays in
     record { last = new; plays = from; members = back; served = are_served hearing listeners from.played new from.follows }
 
 -- where all lines are in the grammar and no fault was counted, all are read
 pub is_done : {L : Type 0} (hearing : L → Hearing) (told_source told_sink : Type 0) (old new : HubStage L) (script rest written now : List ℕ) (source source_now sink sink_now : ℕ) (ending : ScriptEnd)
-    → PlaysScript hearing told_source told_sink old new script rest written now ending → HasSourceCause source source_now (fault_of ending) → HasSinkCause sink sink_now (fault_of ending)
+    → PlaysScript hearing (stream_of told_source script rest) (stream_of told_sink written now) old new ending → HasSourceCause source source_now (fault_of ending) → HasSinkCause sink sink_now (fault_of ending)
     → told_source → AreInGrammar IsLine (lines_of 0 script) → (Rose source source_now → ⊥) → (Rose sink sink_now → ⊥) → (ending ≡ Done) ⊎ (ending ≡ Memory)
 is_done hearing told_source told_sink old new script rest written now source source_now sink sink_now ending plays in_cause out_cause told all no_source no_sink =
     lines_done IsLine GivesTable script rest plays.lines source source_now sink sink_now ending (plays.ends told) in_cause out_cause all no_source no_sink

@@ -1,6 +1,6 @@
 -- Lines of one reply, by whether there is a hub.
 use Rattle.std.proofs.Common.{◌≡◌, ◌∙◌, ℕ, zero, suc, ◌-◌, ◌*◌, ◌^◌, ◌<◌, ◌≤◌, min, true, false, List, [], ◌∷◌, ◌++◌, length, take, Option, Some, None, is_some, Ok, Vec, refl, sym, ap, subst, arith}
-use Rattle.std.specs.Prelude.{IfSome, slice_get}
+use Rattle.std.specs.Prelude.{IfSome, slice_get, codes, decimal}
 use Rattle.std.specs.declared.alloc.Global.{Global}
 use Rattle.std.specs.declared.dyn_box.DynBox.{DynBox}
 use Rattle.std.proofs.lemmas.List.{length-take, take_min, length-map}
@@ -26,7 +26,8 @@ use Rattle.hub_script.specs.HubGrammar.{Line, hest, error, turns, heard, removal
 use Rattle.hub_script.specs.RefusalWords.{words_of_refusal, HubHasWords}
 use Rattle.hub_script.specs.declared.refusals.HubRefusal.TheVariants.{Open, Table, NoHub, Nobody, Submit}
 use Rattle.hub_script.specs.declared.refusals.HubRefusal.TheVariants as why_not
-use Rattle.hub_script.specs.Replies.{refused, reply_line, words_of_opened, words_of_queued, words_of_heard, words_of_dropped}
+use Rattle.hub_script.specs.Replies.{refused, reply_line, words_of_opened, words_of_queued, words_of_heard}
+use Rattle.hub_script.specs.Streams.{stream_of}
 use Rattle.hub_script.specs.Stages.{HubStage, Waiting, Serving, IsWaiting, stage_in}
 use Rattle.hub_script.specs.Plays.{Plays, listed, most_listed, named_at, NoTable, NoOpening, Opened, NoSource, NotTaken, Queued, NotNamed, NoneToCount, Counted, NoneToDrop, NoListener, Dropped}
 use Rattle.hub_script.specs.Made.{MakesReply, OpensFor, NotOpened, IsOpen}
@@ -123,10 +124,10 @@ module _ {X : Type 0} {H : X → Type 0} (hearing : DynBox X Global H → Hearin
     refusal_made : MakesReply hearing (stage_in hub listeners) line (stage_in hub listeners) (reply_line (refused (words_of_refusal NoHub)))
     refusal_made = refused_waiting hub line (reply_line (refused (words_of_refusal NoHub))) none asks refl
 
-    pub waiting_played : (told_sink → now ≡ written ++ reply_line (refused (words_of_refusal NoHub))) → PlaysLine hearing told_sink (stage_in hub listeners) line (stage_in hub listeners) written now
+    pub waiting_played : (told_sink → now ≡ written ++ reply_line (refused (words_of_refusal NoHub))) → PlaysLine hearing (stream_of told_sink written now) (stage_in hub listeners) line (stage_in hub listeners)
     waiting_played text = reply_played hearing told_sink (stage_in hub listeners) (stage_in hub listeners) line written now _ _ refusal_made refl text
 
-    pub waiting_unwritten : (told_sink → IsPartWritten (reply_line (refused (words_of_refusal NoHub))) written now) → PlaysUnwritten hearing told_sink (stage_in hub listeners) line (stage_in hub listeners) written now
+    pub waiting_unwritten : (told_sink → IsPartWritten (reply_line (refused (words_of_refusal NoHub))) written now) → PlaysUnwritten hearing (stream_of told_sink written now) (stage_in hub listeners) line (stage_in hub listeners)
     waiting_unwritten text = reply_unwritten hearing told_sink (stage_in hub listeners) (stage_in hub listeners) line written now _ _ refusal_made refl text
 
   -- the stage of a hub that is there
@@ -148,11 +149,11 @@ module _ {X : Type 0} {H : X → Type 0} (hearing : DynBox X Global H → Hearin
 
   -- a line that was played on a hub that is there
   module _ (told_sink : Type 0) (old : Option (Hub X H)) (hub : Hub X H) (is : old ≡ Some hub) (line : Line) (new : HubStage (DynBox X Global H)) (written now : List ℕ) where
-    pub line_at_hub : PlaysLine hearing told_sink (Serving (seen hub)) line new written now → PlaysLine hearing told_sink (stage_in old listeners) line new written now
-    line_at_hub plays = subst (λ (o : Option (Hub X H)). PlaysLine hearing told_sink (stage_in o listeners) line new written now) (sym is) plays
+    pub line_at_hub : PlaysLine hearing (stream_of told_sink written now) (Serving (seen hub)) line new → PlaysLine hearing (stream_of told_sink written now) (stage_in old listeners) line new
+    line_at_hub plays = subst (λ (o : Option (Hub X H)). PlaysLine hearing (stream_of told_sink written now) (stage_in o listeners) line new) (sym is) plays
 
-    pub unwritten_at_hub : PlaysUnwritten hearing told_sink (Serving (seen hub)) line new written now → PlaysUnwritten hearing told_sink (stage_in old listeners) line new written now
-    unwritten_at_hub plays = subst (λ (o : Option (Hub X H)). PlaysUnwritten hearing told_sink (stage_in o listeners) line new written now) (sym is) plays
+    pub unwritten_at_hub : PlaysUnwritten hearing (stream_of told_sink written now) (Serving (seen hub)) line new → PlaysUnwritten hearing (stream_of told_sink written now) (stage_in old listeners) line new
+    unwritten_at_hub plays = subst (λ (o : Option (Hub X H)). PlaysUnwritten hearing (stream_of told_sink written now) (stage_in o listeners) line new) (sym is) plays
 
   -- and that left it as it was
   module _ (told_sink : Type 0) (old : Option (Hub X H)) (hub : Hub X H) (is : old ≡ Some hub) (source : ℕ) (within : source < sources_in (seen hub)) (written now : List ℕ) where
@@ -160,14 +161,14 @@ module _ {X : Type 0} {H : X → Type 0} (hearing : DynBox X Global H → Hearin
     there = some_at (seen hub).chains source (subst (λ (k : ℕ). source < k) (sym (hub_chains hub)) within)
 
     pub counted : IfSome (slice_get (seen hub).chains source) (λ members. told_sink → now ≡ written ++ reply_line (words_of_heard (counts_of hearing (listed members))))
-        → PlaysLine hearing told_sink (stage_in old listeners) (heard source) (stage_in old listeners) written now
-    counted text = subst (λ (o : Option (Hub X H)). PlaysLine hearing told_sink (stage_in o listeners) (heard source) (stage_in o listeners) written now) (sym is)
+        → PlaysLine hearing (stream_of told_sink written now) (stage_in old listeners) (heard source) (stage_in old listeners)
+    counted text = subst (λ (o : Option (Hub X H)). PlaysLine hearing (stream_of told_sink written now) (stage_in o listeners) (heard source) (stage_in o listeners)) (sym is)
         (one_played hearing told_sink (Serving (seen hub)) (Serving (seen hub)) (heard source) written now (words_of_heard (counts_of hearing (listed there.0))) [] (Counted there.0 within there.1)
         (if_some (slice_get (seen hub).chains source) there.0 (λ (members : List (DynBox X Global H)). told_sink → now ≡ written ++ reply_line (words_of_heard (counts_of hearing (listed members)))) there.1 text))
 
     pub counted_unwritten : IfSome (slice_get (seen hub).chains source) (λ members. told_sink → IsPartWritten (reply_line (words_of_heard (counts_of hearing (listed members)))) written now)
-        → PlaysUnwritten hearing told_sink (stage_in old listeners) (heard source) (stage_in old listeners) written now
-    counted_unwritten text = subst (λ (o : Option (Hub X H)). PlaysUnwritten hearing told_sink (stage_in o listeners) (heard source) (stage_in o listeners) written now) (sym is)
+        → PlaysUnwritten hearing (stream_of told_sink written now) (stage_in old listeners) (heard source) (stage_in old listeners)
+    counted_unwritten text = subst (λ (o : Option (Hub X H)). PlaysUnwritten hearing (stream_of told_sink written now) (stage_in o listeners) (heard source) (stage_in o listeners)) (sym is)
         (one_unwritten hearing told_sink (Serving (seen hub)) (Serving (seen hub)) (heard source) written now (words_of_heard (counts_of hearing (listed there.0))) [] (Counted there.0 within there.1)
         (if_some (slice_get (seen hub).chains source) there.0 (λ (members : List (DynBox X Global H)). told_sink → IsPartWritten (reply_line (words_of_heard (counts_of hearing (listed members)))) written now) there.1 text))
 
@@ -214,11 +215,11 @@ module _ {L : Type 0} (hearing : L → Hearing) (hub : HubState L) where
       refuses hearing (Serving hub) (removal source at) (refused (words_of_refusal Nobody)) reply (NoListener there.0 within there.1 (subst (λ (k : ℕ). k ≤ at) (sym n_is) few)) is
 
   pub dropped : (new : HubState L) (source at n : ℕ) (reply : List ℕ) → length hub.chains ≡ sources_in hub → source < sources_in hub → IfSome (slice_get hub.chains source) (λ members. n ≡ min (length members) (2 ^ 32 - 1)) → at < n
-      → HubRemoves source at hub new → reply ≡ reply_line (words_of_dropped source at) → MakesReply hearing (Serving hub) (removal source at) (Serving new) reply
+      → HubRemoves source at hub new → reply ≡ reply_line (codes "dropped " ++ decimal source ++ codes " " ++ decimal at) → MakesReply hearing (Serving hub) (removal source at) (Serving new) reply
   dropped new source at n reply one_each within count some removes is =
       let there = some_at hub.chains source (subst (λ (k : ℕ). source < k) (sym one_each) within) in
       let n_is = listed_count there.0 n (if_some (slice_get hub.chains source) there.0 (λ (members : List L). n ≡ min (length members) (2 ^ 32 - 1)) there.1 count) in
-      record { words = words_of_dropped source at; calls = Removes source at ∷ []; plays = Dropped there.0 new within there.1 (subst (λ (k : ℕ). at < k) (sym n_is) some) removes; text = is }
+      record { words = codes "dropped " ++ decimal source ++ codes " " ++ decimal at; calls = Removes source at ∷ []; plays = Dropped there.0 new within there.1 (subst (λ (k : ℕ). at < k) (sym n_is) some) removes; text = is }
 
 -- a table for listeners that wait
 module _ {L : Type 0} (hearing : L → Hearing) (listeners : List L) (hex bytes reply : List ℕ) (decoded : decode_of hex ≡ Ok bytes) where

@@ -1,5 +1,5 @@
 -- The keywords of the lines, and what may follow each.
-use Rattle.std.specs.Prelude.{ℕ, ◌-◌, ◌^◌, List, [], ◌∷◌, codes}
+use Rattle.std.specs.Prelude.{ℕ, ◌-◌, ◌^◌, List, codes}
 use Rattle.script_lines.specs.Parts.{IsPairs, IsNumber, AreTwoNumbers, IsNumberThen}
 use Rattle.hub_script.specs.Turns.{AreTurns}
 use Rattle.hub_script.specs.declared.hub_line.HubWord.{HubWord}
@@ -19,7 +19,3 @@ codes_of word = (form_of word).0
 
 abbrev pub Follows : HubWord → List ℕ → Type 0
 Follows word = (form_of word).1
-
--- all keywords
-abbrev pub all_words : List HubWord
-all_words = Comment ∷ Hest ∷ Error ∷ Turns ∷ Heard ∷ Drop ∷ []

@@ -1,3 +1,4 @@
+pub mod Streams
 pub mod Turns
 pub mod HubGrammar
 pub mod HubWords
@@ -7,7 +8,6 @@ pub mod Replies
 pub mod Stages
 pub mod Plays
 pub mod Lines
-pub mod TurnLines
 pub mod Made
 pub mod History
 pub mod Scripts

@@ -9,17 +9,18 @@ use Rattle.ghes_hub.specs.Hubs.{Call}
 use Rattle.hub_script.specs.HubGrammar.{Line, blank, comment, hest, turns}
 use Rattle.hub_script.specs.HubText.{IsWritten}
 use Rattle.hub_script.specs.Replies.{text_of_replies, reply_line, words_of_turns}
+use Rattle.hub_script.specs.Streams.{Stream}
 use Rattle.hub_script.specs.Stages.{HubStage, Waiting, Serving}
 use Rattle.hub_script.specs.Plays.{Plays, AllNamed}
 use Rattle.hub_script.specs.declared.hub_line.HubLine.{HubLine}
 use Rattle.hub_script.specs.declared.hub_line.HubLine.TheVariants.{Hest}
 
 -- a line was played, and its replies written
-pub record PlaysLine {L : Type 0} (hearing : L → Hearing) (told_sink : Type 0) (old : HubStage L) (line : Line) (new : HubStage L) (written written_now : List ℕ) : Type 0 where
+pub record PlaysLine {L : Type 0} (hearing : L → Hearing) (sink : Stream) (old : HubStage L) (line : Line) (new : HubStage L) : Type 0 where
   pub said : List (List ℕ)
   pub calls : List Call
   pub plays : Plays hearing old line said calls new
-  pub text : told_sink → written_now ≡ written ++ text_of_replies said
+  pub text : sink.tells → sink.after ≡ sink.before ++ text_of_replies said
 
 -- What is left of turns where the sink refused a reply: the turns that were made, the replies to them, those of them that were written whole,
 -- and the one that was refused. It is the last one, or that of a block which a turn took; then no further turn is made
@@ -47,7 +48,7 @@ PairsAreNamed (Waiting listeners) line = Unit {0}
 
 -- A line was played, or what is left of it, and the sink refused a reply. Less than the whole line is left only of turns each of whose pairs
 -- names a source: with a pair that names none, no turn is made
-pub record PlaysUnwritten {L : Type 0} (hearing : L → Hearing) (told_sink : Type 0) (old : HubStage L) (line : Line) (new : HubStage L) (written written_now : List ℕ) : Type 0 where
+pub record PlaysUnwritten {L : Type 0} (hearing : L → Hearing) (sink : Stream) (old : HubStage L) (line : Line) (new : HubStage L) : Type 0 where
   pub made : Line
   pub said : List (List ℕ)
   pub calls : List Call
@@ -56,7 +57,7 @@ pub record PlaysUnwritten {L : Type 0} (hearing : L → Hearing) (told_sink : Ty
   pub left : IsLeft line made said before last
   pub named : (made ≡ line) ⊎ PairsAreNamed old line
   pub plays : Plays hearing old made said calls new
-  pub text : told_sink → ArePartlyWritten before last written written_now
+  pub text : sink.tells → ArePartlyWritten before last sink.before sink.after
 
 -- a text is a line of which this was made
 pub record TextIs (text : List ℕ) (Made : Line → Type 0) : Type 0 where

@@ -1,5 +1,5 @@
 -- What one line of a script makes of a stage: its replies, its calls of the hub, and the stage after it.
-use Rattle.std.specs.Prelude.{◌≡◌, ℕ, ◌-◌, ◌*◌, ◌^◌, ◌<◌, ◌≤◌, nat_lt, if◌then◌else◌, List, [], ◌∷◌, ◌++◌, length, take, map, get_or, Some, None, slice_get, Ok}
+use Rattle.std.specs.Prelude.{◌≡◌, ℕ, ◌-◌, ◌*◌, ◌^◌, ◌<◌, ◌≤◌, nat_lt, if◌then◌else◌, List, [], ◌∷◌, ◌++◌, length, take, map, get_or, codes, decimal, Some, None, slice_get, Ok}
 use Rattle.hex.specs.Hex.{decode_of}
 use Rattle.apei_notify.specs.Telling.{Hearing, counts_of}
 use Rattle.hest_sources.specs.declared.sources.HestSource.{HestSource}
@@ -17,7 +17,7 @@ use Rattle.ghes_hub.specs.Runs.{told_at}
 use Rattle.script_text.specs.Turns.{side_of}
 use Rattle.hub_script.specs.HubGrammar.{Line, blank, comment, hest, error, turns, heard, removal}
 use Rattle.hub_script.specs.RefusalWords.{words_of_refusal}
-use Rattle.hub_script.specs.Replies.{refused, words_of_opened, words_of_queued, words_of_block, words_of_turns, words_of_heard, words_of_dropped}
+use Rattle.hub_script.specs.Replies.{refused, words_of_opened, words_of_queued, words_of_block, words_of_turns, words_of_heard}
 use Rattle.hub_script.specs.Stages.{HubStage, Waiting, Serving}
 use Rattle.hub_script.specs.declared.refusals.HubRefusal.{HubRefusal}
 use Rattle.hub_script.specs.declared.refusals.HubRefusal.TheVariants.{Open, Table, Hub, NoHub, Nobody, Submit}
@@ -101,7 +101,7 @@ pub data Drops {L : Type 0} (hub : HubState L) (source at : ℕ) : List (List �
   NoListener : (members : List L) → source < sources_in hub → slice_get hub.chains source ≡ Some members → length (listed members) ≤ at
       → Drops hub source at (refused (words_of_refusal Nobody) ∷ []) [] (Serving hub)
   Dropped : (members : List L) (new : HubState L) → source < sources_in hub → slice_get hub.chains source ≡ Some members → at < length (listed members)
-      → HubRemoves source at hub new → Drops hub source at (words_of_dropped source at ∷ []) (Removes source at ∷ []) (Serving new)
+      → HubRemoves source at hub new → Drops hub source at ((codes "dropped " ++ decimal source ++ codes " " ++ decimal at) ∷ []) (Removes source at ∷ []) (Serving new)
 
 -- what each line makes of each stage
 abbrev pub Plays : {L : Type 0} → (L → Hearing) → HubStage L → Line → List (List ℕ) → List Call → HubStage L → Type 0

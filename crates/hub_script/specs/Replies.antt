@@ -20,9 +20,6 @@ words_before_digits source block = codes "block " ++ decimal source ++ codes " "
 abbrev pub words_of_block : ℕ → List ℕ → List ℕ
 words_of_block source block = words_before_digits source block ++ encode_lower block
 
-abbrev pub words_of_dropped : ℕ → ℕ → List ℕ
-words_of_dropped source at = codes "dropped " ++ decimal source ++ codes " " ++ decimal at
-
 -- each reply is a line of its own
 abbrev pub reply_line : List ℕ → List ℕ
 reply_line words = words ++ 10 ∷ []

@@ -8,6 +8,7 @@ ghost use Rattle.hub_script.specs.declared.player.HubStop.TheVariants.{SinkFault
 ghost use Rattle.hub_script.specs.HubGrammar.{IsLine, IsValid, text_of, hest, error, turns, heard, removal};
 ghost use Rattle.hub_script.specs.HubText.{line_of};
 ghost use Rattle.hub_script.specs.Turns.{AreTurns};
+ghost use Rattle.hub_script.specs.Streams.{stream_of};
 ghost use Rattle.hub_script.specs.Stages.{Waiting, members_in};
 ghost use Rattle.hub_script.specs.Lines.{PlaysLine, PlaysUnwritten, TextIs, BringsTable, GivesTable, IsTable};
 ghost use Rattle.hub_script.specs.Made.{stage_of, MakesReply, OpensFor};
@@ -77,11 +78,13 @@ impl HubPlayer {
     /// Plays the line that a text is, and writes its replies.
     pub fn play<O: Sink>(&mut self, line: &[u8], out: &mut O) -> Result<(), HubStop>
         requires { length line.now ≤ LONGEST_LINE }
-        ensures played { OnOk result (TextIs line.now (λ asked. PlaysLine hearing O.tells (stage_of self.old) asked
-            (stage_of self.new) (O.written out.old) (O.written out.new))) }
+        ensures played { OnOk result (TextIs line.now (λ asked. PlaysLine hearing
+            (stream_of O.tells (O.written out.old) (O.written out.new))
+            (stage_of self.old) asked (stage_of self.new))) }
         ensures unwritten { result ≡ Err HubStop.SinkFault
-            → TextIs line.now (λ asked. PlaysUnwritten hearing O.tells (stage_of self.old) asked (stage_of self.new)
-            (O.written out.old) (O.written out.new)) }
+            → TextIs line.now (λ asked. PlaysUnwritten hearing
+            (stream_of O.tells (O.written out.old) (O.written out.new))
+            (stage_of self.old) asked (stage_of self.new)) }
         ensures bad { (column : ℕ) → result ≡ Err (HubStop.BadLine column) → BreaksAt IsLine line.now column }
         ensures memory { result ≡ Err HubStop.Memory → GivesTable line.now }
         ensures waits { result ≡ Err HubStop.Memory → self.old.hub ≡ None }
@@ -100,10 +103,11 @@ impl HubPlayer {
     fn play_line<O: Sink>(&mut self, line: HubLine<'_>, out: &mut O) -> Result<(), HubStop>
         requires valid { IsValid (line_of line) }
         requires fits { length (text_of (line_of line)) ≤ LONGEST_LINE }
-        ensures played { OnOk result (PlaysLine hearing O.tells (stage_of self.old) (line_of line.entry)
-            (stage_of self.new) (O.written out.old) (O.written out.new)) }
-        ensures unwritten { result ≡ Err HubStop.SinkFault → PlaysUnwritten hearing O.tells (stage_of self.old)
-            (line_of line.entry) (stage_of self.new) (O.written out.old) (O.written out.new) }
+        ensures played { OnOk result (PlaysLine hearing (stream_of O.tells (O.written out.old) (O.written out.new))
+            (stage_of self.old) (line_of line.entry) (stage_of self.new)) }
+        ensures unwritten { result ≡ Err HubStop.SinkFault
+            → PlaysUnwritten hearing (stream_of O.tells (O.written out.old) (O.written out.new))
+            (stage_of self.old) (line_of line.entry) (stage_of self.new) }
         ensures bad { (column : ℕ) → result ≢ Err (HubStop.BadLine column) }
         ensures memory { result ≡ Err HubStop.Memory → IsTable line.entry }
         ensures waits { result ≡ Err HubStop.Memory → self.old.hub ≡ None }
@@ -216,10 +220,11 @@ impl HubPlayer {
     /// Makes turns.
     fn turn<O: Sink>(&mut self, pairs: &[u8], out: &mut O) -> Result<(), SinkFault>
         requires { AreTurns pairs.now }
-        ensures played { OnOk result (PlaysLine hearing O.tells (stage_of self.old) (turns pairs.now)
-            (stage_of self.new) (O.written out.old) (O.written out.new)) }
-        ensures unwritten { OnErr result (PlaysUnwritten hearing O.tells (stage_of self.old) (turns pairs.now)
-            (stage_of self.new) (O.written out.old) (O.written out.new)) }
+        ensures played { OnOk result (PlaysLine hearing (stream_of O.tells (O.written out.old) (O.written out.new))
+            (stage_of self.old) (turns pairs.now) (stage_of self.new)) }
+        ensures unwritten { OnErr result
+            (PlaysUnwritten hearing (stream_of O.tells (O.written out.old) (O.written out.new))
+            (stage_of self.old) (turns pairs.now) (stage_of self.new)) }
         ensures cause { HasCause (O.faults out.old) (O.faults out.new) result }
     {
         let Some(hub) = &mut self.hub else {
@@ -233,10 +238,11 @@ impl HubPlayer {
 
     /// Tells how often the listeners of a source have heard.
     fn tell_heard<O: Sink>(&mut self, source: u64, out: &mut O) -> Result<(), SinkFault>
-        ensures played { OnOk result (PlaysLine hearing O.tells (stage_of self.old) (heard source) (stage_of self.new)
-            (O.written out.old) (O.written out.new)) }
-        ensures unwritten { OnErr result (PlaysUnwritten hearing O.tells (stage_of self.old) (heard source)
-            (stage_of self.new) (O.written out.old) (O.written out.new)) }
+        ensures played { OnOk result (PlaysLine hearing (stream_of O.tells (O.written out.old) (O.written out.new))
+            (stage_of self.old) (heard source) (stage_of self.new)) }
+        ensures unwritten { OnErr result
+            (PlaysUnwritten hearing (stream_of O.tells (O.written out.old) (O.written out.new))
+            (stage_of self.old) (heard source) (stage_of self.new)) }
         ensures cause { HasCause (O.faults out.old) (O.faults out.new) result }
     {
         let Some(hub) = &self.hub else {

@@ -2,7 +2,7 @@
 ghost use Rattle.std.specs.Prelude.{◌≡◌, ◌⊎◌, ⊤};
 ghost use Rattle.base_model.specs.Faults.{Rose};
 ghost use Rattle.script_lines.specs.{Causes.HasSourceCause, Causes.HasSinkCause, Ends.fault_of, Lines.lines_of, Played.AreInGrammar, Reads.first_reading};
-ghost use Rattle.hub_script.specs.{HubGrammar.IsLine, Made.stage_of, Scripts.PlaysScript, Scripts.ServesScript};
+ghost use Rattle.hub_script.specs.{HubGrammar.IsLine, Made.stage_of, Scripts.PlaysScript, Scripts.ServesScript, Streams.stream_of};
 
 use crate::player::{HubPlayer, HubStop};
 use apei_bytes::{Sink, Source};
@@ -20,8 +20,9 @@ fn play_lines<I: Source, O: Sink>(
     requires { lines.old ≡ first_reading }
     ensures source { HasSourceCause (I.faults script.old) (I.faults script.new) (fault_of result) }
     ensures sink { HasSinkCause (O.faults out.old) (O.faults out.new) (fault_of result) }
-    ensures played { PlaysScript hearing I.tells O.tells (stage_of player.old) (stage_of player.new)
-        (I.rest script.old) (I.rest script.new) (O.written out.old) (O.written out.new) result }
+    ensures played { PlaysScript hearing (stream_of I.tells (I.rest script.old) (I.rest script.new))
+        (stream_of O.tells (O.written out.old) (O.written out.new))
+        (stage_of player.old) (stage_of player.new) result }
 {
     lines_are_read_in_order::<I>();
     'lines: loop {
@@ -56,8 +57,9 @@ pub fn serve_script<I: Source, O: Sink>(
     requires { ⊤ }
     // Where there is no memory to begin with, nothing was touched.
     ensures served { ((result.0 ≡ ScriptEnd.Memory) × ((script.new ≡ script.old) × (out.new ≡ out.old))
-        × (result.1.items ≡ listeners.items)) ⊎ ServesScript hearing I.tells O.tells (I.rest script.old)
-        (I.rest script.new) (O.written out.old) (O.written out.new) listeners.items result.1.items result.0 }
+        × (result.1.items ≡ listeners.items))
+        ⊎ ServesScript hearing (stream_of I.tells (I.rest script.old) (I.rest script.new))
+        (stream_of O.tells (O.written out.old) (O.written out.new)) listeners.items result.1.items result.0 }
     ensures source { HasSourceCause (I.faults script.old) (I.faults script.new) (fault_of result.0) }
     ensures sink { HasSinkCause (O.faults out.old) (O.faults out.new) (fault_of result.0) }
     // A script whose lines are all in the grammar and within the lengths is read to its end, want of memory aside.

@@ -14,38 +14,37 @@ turning-init g c = record {
   faults = refl;
 }
 
-pub take_turn-requires-clause-source : goal.take_turn-requires-clause-source
-take_turn-requires-clause-source g c =
+pub take_turn-requires : goal.take_turn-requires
+take_turn-requires g c =
     let test = c.turning-test.true in
     is_named (seen c.args.hub.now) (seen c.turning.hub) c.args.pairs.now c.turning.at c.source_of-source.result c.requires.named (omega (arith, test)) c.source_of-source.ensures c.turning.invariant.count
 
-pub take_turn-requires-clause-room : goal.take_turn-requires-clause-room
-take_turn-requires-clause-room g c =
+pub say_event-requires : goal.say_event-requires
+say_event-requires g c =
     let short = c.turning.invariant.short in
     let test = c.turning-test.true in
     let most = c.requires.valid.most in
     omega (arith, short, test, most)
 
-pub returns-in_err-take_turn-clause-unwritten : goal.returns-in_err-take_turn-clause-unwritten
-returns-in_err-take_turn-clause-unwritten g c =
+pub returns-in_err-event-clause-unwritten : goal.returns-in_err-event-clause-unwritten
+returns-in_err-event-clause-unwritten g c =
     let test = c.turning-test.true in
     on_err c.from_residual.result
     (turn_cut _ _ _ _ _ c.args.pairs.now c.turning.at c.source_of-source.result c.side_of-side.result _ _ _ _ (omega (arith, test)) c.requires.named c.source_of-source.ensures c.side_of-side.ensures
-    c.turning.invariant.so c.in_err-take_turn.ensures.unwritten)
+    c.turning.invariant.so (record { turned = c.in_err-event.ensures.took; text = c.in_err-event.ensures.part }))
 
-pub returns-in_err-take_turn-clause-cause : goal.returns-in_err-take_turn-clause-cause
-returns-in_err-take_turn-clause-cause g c = handed_on _ _ _ _ c.from_residual.result _ c.from_residual.ensures.1 c.turning.invariant.faults c.in_err-take_turn.ensures.cause
+pub returns-in_err-event-clause-cause : goal.returns-in_err-event-clause-cause
+returns-in_err-event-clause-cause g c = handed_on _ _ _ _ c.from_residual.result _ c.from_residual.ensures.1 c.turning.invariant.faults c.in_err-event.ensures.cause
 
 pub turning-preserved : goal.turning-preserved
 turning-preserved g c =
     let test = c.turning-test.true in
-    let turn = c.in_ok-take_turn.ensures.turned in
     record {
       so = turn_more _ _ _ _ _ c.args.pairs.now c.turning.at c.source_of-source.result c.side_of-side.result _ _ _ _ _ (omega (arith, test)) c.source_of-source.ensures c.side_of-side.ensures
-          c.turning.invariant.so turn;
-      short = said_longer turn.event _ _ c.turning.at turn.said c.turning.invariant.short;
-      count = turn.turned.count ∙ c.turning.invariant.count;
-      faults = c.in_ok-take_turn.ensures.cause.ok ∙ c.turning.invariant.faults;
+          c.turning.invariant.so (record { event = c.in_ok-event.event; turned = c.in_ok-event.ensures.turned; said = c.say_event.ensures; text = c.in_ok-event.ensures.shown });
+      short = said_longer c.in_ok-event.event _ _ c.turning.at c.say_event.ensures c.turning.invariant.short;
+      count = c.in_ok-event.ensures.turned.count ∙ c.turning.invariant.count;
+      faults = c.in_ok-event.ensures.cause.ok ∙ c.turning.invariant.faults;
     }
 
 pub end_line-requires : goal.end_line-requires
