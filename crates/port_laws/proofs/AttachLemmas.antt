@@ -12,10 +12,11 @@ use Rattle.erst_client.specs.declared.errors.AttachError.TheVariants.{NoRange}
 use Rattle.erst_client.specs.declared.requests.Request.{Request}
 use Rattle.erst_client.specs.Requests.{Performs, Asks}
 use Rattle.erst_client.specs.Commands.{ClientState}
-use Rattle.erst_client.specs.Attaching.{attach_requests, attached, client_of, Attaches}
+use Rattle.erst_client.specs.Attaching.{attach_requests, attached, client_of}
 use Rattle.erst_device.specs.DeviceState.{DeviceState}
 use Rattle.erst_device.specs.Actions.{told_by, Acts, log_range_at}
 use Rattle.erst_device.specs.Timings.{timings_of, most_changes}
+use Rattle.erst_commands.specs.Runs.{RunFrom, IsAttaching}
 use Rattle.erst_commands.proofs.ActionCases.{tells_number}
 use Rattle.erst_commands.proofs.AskLemmas.{with_answer, Went, Halted, first_asked, none_asked}
 use Rattle.erst_commands.proofs.LimitLemmas.{reach-few, reach-least, timings-halves}
@@ -158,25 +159,25 @@ all_answers : (a b c d : ℕ) (all three two one none : Result (List ℕ) RunSto
 all_answers a b c d all three two one none first second third fourth end =
     first ∙ ap (with_answer a) (second ∙ ap (with_answer b) (third ∙ ap (with_answer c) (fourth ∙ ap (with_answer d) end)))
 
-pub attaches_port : (budget : ℕ) (first : SpaceState) → IsPort first.port → (result : Result ClientState AttachError) (left : ℕ) (last : SpaceState) → 8 ≤ budget
-    → Attaches (Goes first.port.addresses) (port_erst first.port.addresses.registers) budget first result left last → AttachesPort budget first result left last
-attaches_port budget first port result left last enough attaches =
+pub attaches_port : (first : SpaceState) → IsPort first.port → (run : RunFrom first (Result ClientState AttachError)) → 8 ≤ run.budget
+    → IsAttaching (Goes first.port.addresses) (port_erst first.port.addresses.registers) run → AttachesPort run
+attaches_port first port run enough attaches =
     let addresses = first.port.addresses in
     let len = reach_of (room_of first.port.device.store.layout) in
     let timings = timings_of first.port.device.store.layout in
-    let asks = subst (λ (rs : List Request). Asks (Goes first.port.addresses) (port_entries first.port.addresses.registers) rs budget first attaches.answers left last) (requests-port first.port.addresses.registers) attaches.asks in
+    let asks = subst (λ (rs : List Request). Asks (Goes first.port.addresses) (port_entries first.port.addresses.registers) rs run.budget first attaches.answers run.left run.last) (requests-port first.port.addresses.registers) attaches.asks in
     let one = answered first addresses GetErrorLogAddressRange addresses.range first refl (λ mid takes. shows_address addresses first mid takes)
-    (λ given budget result left last run. runs_address addresses first given budget result left last run) _ budget attaches.answers left last (omega (arith, enough)) asks in
+    (λ given budget result left last run. runs_address addresses first given budget result left last run) _ run.budget attaches.answers run.left run.last (omega (arith, enough)) asks in
     let two = answered first addresses GetErrorLogAddressRangeLength len (telling addresses.range first) refl
     (λ mid takes. shows_number addresses (telling addresses.range first) mid GetErrorLogAddressRangeLength len refl (λ e. absurd (omega (arith, e))) (λ e. absurd (omega (arith, e))) refl takes)
-    (λ given budget result left last run. runs_length addresses (telling addresses.range first) given budget result left last run) _ one.asked one.others left last (omega (arith, enough, one.spent)) one.more in
+    (λ given budget result left last run. runs_length addresses (telling addresses.range first) given budget result left last run) _ one.asked one.others run.left run.last (omega (arith, enough, one.spent)) one.more in
     let three = answered first addresses GetErrorLogAddressRangeAttributes 0 (telling len first) refl
     (λ mid takes. shows_number addresses (telling len first) mid GetErrorLogAddressRangeAttributes 0 refl (λ e. absurd (omega (arith, e))) (λ e. absurd (omega (arith, e))) refl takes)
-    (λ given budget result left last run. runs_attributes addresses (telling len first) given budget result left last run) _ two.asked two.others left last (omega (arith, enough, one.spent, two.spent)) two.more in
+    (λ given budget result left last run. runs_attributes addresses (telling len first) given budget result left last run) _ two.asked two.others run.left run.last (omega (arith, enough, one.spent, two.spent)) two.more in
     let four = answered first addresses GetExecuteOperationTimings timings (telling 0 first) refl
     (λ mid takes. shows_number addresses (telling 0 first) mid GetExecuteOperationTimings timings refl (λ e. absurd (omega (arith, e))) (λ e. absurd (omega (arith, e))) refl takes)
-    (λ given budget result left last run. runs_timings addresses (telling 0 first) given budget result left last run) _ three.asked three.others left last (omega (arith, enough, one.spent, two.spent, three.spent)) three.more in
-    let end = none_asked (Goes addresses) (port_entries addresses.registers) four.asked (telling timings first) four.others left last four.more in
+    (λ given budget result left last run. runs_timings addresses (telling 0 first) given budget result left last run) _ three.asked three.others run.left run.last (omega (arith, enough, one.spent, two.spent, three.spent)) three.more in
+    let end = none_asked (Goes addresses) (port_entries addresses.registers) four.asked (telling timings first) four.others run.left run.last four.more in
     let answers = all_answers (addresses.range % 2 ^ 64) (len % 2 ^ 64) 0 (timings % 2 ^ 64) attaches.answers one.others two.others three.others four.others one.answers_are two.answers_are three.answers_are four.answers_are end.result_is in
     record {
       result_is = attaches.result_is ∙ ap (attached (port_erst addresses.registers)) answers ∙ client_is first port (addresses.range % 2 ^ 64) (len % 2 ^ 64) (timings % 2 ^ 64) refl refl refl;

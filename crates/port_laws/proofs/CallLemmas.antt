@@ -22,10 +22,18 @@ use Rattle.erst_port.specs.Places.{range_location, location_of}
 use Rattle.erst_port.specs.PortState.{PortState, flash_of}
 use Rattle.erst_port.specs.Accesses.{NumberWritten, ActionWritten, bytes_stored, Resets}
 use Rattle.port_laws.specs.Calls.{Call, Writes, Puts, Restarts, MovesTo, Looks, Makes, Does}
-use Rattle.port_laws.specs.Commands.{records_of, shown_by, completed_by, completed_in, completed_at, completed, made_with}
+use Rattle.port_laws.specs.Commands.{records_of, completed_by, completed_at, completed, made_with}
 
 abbrev pub told_of : PortState → Told
 told_of port = (flash_of port).told
+
+-- the records that an image of the port's flash shows
+abbrev pub shown_by : PortState → List ℕ → Stored
+shown_by port image = records_in port.device.store.layout image
+
+-- the command that an action completes
+abbrev completed_in : DeviceState → (code : ℕ) → Option Command
+completed_in device code = if makes_change (action_of code) device then completed_by device.store.layout device.store.pending else None
 
 -- a call that completes this command, or none
 pub record IsOneCall (old : PortState) (command : Option Command) (new : PortState) : Type 0 where

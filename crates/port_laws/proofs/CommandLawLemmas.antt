@@ -7,21 +7,22 @@ use Rattle.apei_space.specs.declared.faults.SpaceFault.{SpaceFault}
 use Rattle.apei_space.specs.Calls.{Write as write_call, ReadBytes, WriteBytes}
 use Rattle.erst_client.specs.declared.errors.ClientError.{ClientError}
 use Rattle.erst_client.specs.declared.requests.Request.{Request}
-use Rattle.erst_client.specs.Commands.{Writes, Reads, Counts, Names}
-use Rattle.erst_client.specs.Sequences.{Sequence, write_requests, read_requests, clear_requests, dummy_requests}
-use Rattle.erst_client.specs.Timings.{enough_steps}
 use Rattle.erst_device.specs.Actions.{log_range_at}
 use Rattle.erst_device.specs.DeviceState.{records}
 use Rattle.erst_machine.specs.declared.areas.Area.TheVariants.{LogRange}
 use Rattle.erst_machine.specs.declared.areas.Location.TheVariants.{Inside}
 use Rattle.erst_machine.specs.Areas.{memory_location}
-use Rattle.erst_machine.specs.Allowed.{Allows}
-use Rattle.erst_machine.specs.MachineState.{MachineState, records_of, reach_in}
+use Rattle.erst_machine.specs.MachineState.{MachineState, records_of}
 use Rattle.erst_machine.proofs.PlaceLemmas.{area_found}
 use Rattle.erst_commands.specs.Causes.{HasItsCause, GoesThrough}
-use Rattle.erst_commands.specs.Changes.{HoldsRecord, ChangeCommand, IsTaken, IsRefused, IsFailed, IsStopped, DummyCommand}
-use Rattle.erst_commands.specs.Looks.{CountMade, AsksOnce, Answers, StopsBehind, StopsAtOnce}
-use Rattle.erst_commands.specs.Reads.{ReadCommand, ReadAnswered}
+use Rattle.erst_commands.specs.Changes.{ChangeCommand, IsTaken, IsRefused, IsFailed, IsStopped}
+use Rattle.erst_commands.specs.Looks.{Answers, StopsBehind, StopsAtOnce}
+use Rattle.erst_commands.specs.Operations.{ClientOperation, WriteOperation, ReadOperation, ClearOperation, DummyWriteOperation, requests_of}
+use Rattle.erst_commands.specs.Runs.{CallFrom, own_table, shown_run, IsSequence, IsCount, IsWrite, IsRead}
+use Rattle.erst_commands.specs.Theorems.{timings_in, EachCountIsTheMaps, EachWriteIsTheMaps, EachClearIsTheMaps, EachDummyWriteChangesNothing, EachReadIsTheMaps, ClientWritesAsTheMap, ClientReadsAsTheMap}
+use Rattle.erst_commands.specs.Theorems.{EachSequenceHasItsCause, EachCountHasItsCause, EachNextHasItsCause, EachWriteHasItsCause, EachReadHasItsCause}
+use Rattle.erst_commands.specs.Theorems.{EachSequenceGoesThrough, EachCountGoesThrough, EachNextGoesThrough, EachWriteGoesThrough, EachReadGoesThrough}
+use Rattle.erst_commands.specs.Attached.{own_client}
 use Rattle.erst_commands.specs.Writes.{marked, id_of, WriteAnswered, IsNoRecord, IsWritten}
 use Rattle.erst_commands.proofs.WriteLemmas.{written}
 use Rattle.erst_commands.proofs.CopyLemmas.{read_out}
@@ -29,17 +30,17 @@ use Rattle.erst_commands.proofs.StartLemmas.{write_command, clear_command, dummy
 use Rattle.erst_commands.proofs.ReadLemmas.{read_command}
 use Rattle.erst_commands.proofs.LookLemmas.{count_command}
 use Rattle.erst_commands.proofs.LimitLemmas.{reach-few, reach-least}
-use Rattle.erst_commands.proofs.CallCauses.{write_cause, read_cause, clear_cause, dummy_cause, client_write_cause, client_read_cause}
+use Rattle.erst_commands.proofs.CallCauses.{client_write_cause, client_read_cause}
 use Rattle.erst_commands.proofs.CauseLemmas.{count_cause}
-use Rattle.erst_commands.proofs.EnoughLemmas.{enough-most, has_steps}
-use Rattle.erst_commands.proofs.ThroughLemmas.{write_through, read_through, clear_through, dummy_through, count_through, client_write_through, client_read_through}
+use Rattle.erst_commands.proofs.EnoughLemmas.{enough-most}
+use Rattle.erst_commands.proofs.OperationLemmas.{operation_cause, operation_through}
+use Rattle.erst_commands.proofs.ThroughLemmas.{count_through, client_write_through, client_read_through}
 use Rattle.erst_port.specs.declared.windows.Addresses.{Addresses}
 use Rattle.erst_port.specs.PortState.{IsPort}
-use Rattle.erst_port.specs.PortTables.{port_entries}
-use Rattle.port_laws.specs.PortSpaces.{SpaceState, Goes}
+use Rattle.port_laws.specs.PortSpaces.{SpaceState}
 use Rattle.port_laws.specs.Looks.{NextRound, IsAbove, IsFirst, IsNone, IsNotFound}
-use Rattle.port_laws.specs.Machines.{machine_of}
-use Rattle.port_laws.specs.PortClients.{port_client}
+use Rattle.port_laws.specs.Machines.{machine_of, AreShared}
+use Rattle.port_laws.specs.PortClients.{port_table, port_client, IsTheMachines, MakesRecords}
 use Rattle.port_laws.proofs.AccessLemmas.{action_written, bytes_told, bytes_written}
 use Rattle.port_laws.proofs.MachineLemmas.{is_machine}
 use Rattle.port_laws.proofs.RoundLemmas.{next_round}
@@ -47,23 +48,48 @@ use Rattle.port_laws.proofs.CommandLemmas.{own_runs, sequence_own, write_carried
 
 -- Accesses
 
-module _ (addresses : Addresses) (old new : SpaceState) where
-  pub code_written : (number : ℕ) (answer : Result (Unit {0}) SpaceFault) → (number % 2 ^ 32 ≡ 0xD → ⊥) → (number % 2 ^ 32 ≡ 0x8 → ⊥) → Goes addresses old (write_call (Memory addresses.registers) B32 number answer) new
-      → Allows (Unit {0}) (machine_of old) (write_call (Memory 0x200000) B32 number answer) (machine_of new)
-  code_written number answer not_address not_next goes = action_written addresses old new number (number % 2 ^ 32) answer refl not_address not_next goes
+module _ (addresses : Addresses) (old : SpaceState) where
+  pub code_written : (number : ℕ) (answer : Result (Unit {0}) SpaceFault) → (number % 2 ^ 32 ≡ 0xD → ⊥) → (number % 2 ^ 32 ≡ 0x8 → ⊥)
+      → IsTheMachines addresses old (write_call (Memory addresses.registers) B32 number answer) (write_call (Memory 0x200000) B32 number answer)
+  code_written number answer not_address not_next new goes = action_written addresses old new number (number % 2 ^ 32) answer refl not_address not_next goes
 
   range_location : IsPort old.port → (k n : ℕ) → 0 < n → k + n ≤ length old.port.range → memory_location (length old.port.range) (log_range_at + k) n ≡ Inside LogRange k
   range_location port k n some fits = area_found (length old.port.range) LogRange k n (omega (arith, port.range, reach-few old.port.device.store.layout)) some fits
 
-  pub range_read : (k : ℕ) (before after : List ℕ) (answer : Result (Unit {0}) SpaceFault) → 0 < length before → k + length before ≤ length old.port.range → Goes addresses old (ReadBytes (addresses.range + k) before after answer) new
-      → Allows (Unit {0}) (machine_of old) (ReadBytes (log_range_at + k) before after answer) (machine_of new)
-  range_read k before after answer some fits goes =
+  pub range_read : (k : ℕ) (before after : List ℕ) (answer : Result (Unit {0}) SpaceFault) → 0 < length before → k + length before ≤ length old.port.range
+      → IsTheMachines addresses old (ReadBytes (addresses.range + k) before after answer) (ReadBytes (log_range_at + k) before after answer)
+  range_read k before after answer some fits new goes =
       (bytes_told addresses old new (addresses.range + k) (log_range_at + k) k refl before after answer some fits (range_location goes.before k (length before) some fits) goes).1
 
-  pub range_written : (k : ℕ) (bytes : List ℕ) (answer : Result (Unit {0}) SpaceFault) → 0 < length bytes → k + length bytes ≤ length old.port.range → Goes addresses old (WriteBytes (addresses.range + k) bytes answer) new
-      → Allows (Unit {0}) (machine_of old) (WriteBytes (log_range_at + k) bytes answer) (machine_of new)
-  range_written k bytes answer some fits goes =
+  pub range_written : (k : ℕ) (bytes : List ℕ) (answer : Result (Unit {0}) SpaceFault) → 0 < length bytes → k + length bytes ≤ length old.port.range
+      → IsTheMachines addresses old (WriteBytes (addresses.range + k) bytes answer) (WriteBytes (log_range_at + k) bytes answer)
+  range_written k bytes answer some fits new goes =
       (bytes_written addresses old new (addresses.range + k) (log_range_at + k) k refl bytes answer some fits (range_location goes.before k (length bytes) some fits) goes).1
+
+-- Runs by the port's table are runs by the machine's own
+
+carried : (operation : ClientOperation) → AreShared (requests_of operation)
+carried WriteOperation = write_carried
+carried (ReadOperation id) = read_carried id
+carried (ClearOperation id) = clear_carried id
+carried DummyWriteOperation = dummy_carried
+
+module _ (addresses : Addresses) (first : SpaceState) where
+  own_sequence : (timings : Option (ℕ × ℕ)) (operation : ClientOperation) (run : CallFrom first (Unit {0})) → IsSequence (port_table addresses) timings operation run
+      → IsSequence (own_table (Unit {0})) timings operation (shown_run (port_table addresses) run)
+  own_sequence timings operation run = sequence_own addresses timings (requests_of operation) (carried operation) run.budget first run.answer run.left run.last
+
+  own_count : (run : CallFrom first ℕ) → IsCount (port_table addresses) run → IsCount (own_table (Unit {0})) (shown_run (port_table addresses) run)
+  own_count run = counts_own addresses run.budget first run.answer run.left run.last
+
+module _ (first : SpaceState) (port : IsPort first.port) where
+  own_write : (bytes : List ℕ) (run : CallFrom first (Unit {0})) → IsWrite (port_table first.port.addresses) (port_client first) bytes run
+      → IsWrite (own_table (Unit {0})) (own_client (machine_of first)) bytes (shown_run (port_table first.port.addresses) run)
+  own_write bytes run = writes_own first port bytes run.budget run.answer run.left run.last
+
+  own_read : (id : ℕ) → id < 2 ^ 64 → (out after : List ℕ) (run : CallFrom first ℕ) → IsRead (port_table first.port.addresses) (port_client first) id out after run
+      → IsRead (own_table (Unit {0})) (own_client (machine_of first)) id out after (shown_run (port_table first.port.addresses) run)
+  own_read id small out after run = reads_own first port id small out run.budget run.answer after run.left run.last
 
 -- Commands
 
@@ -77,99 +103,52 @@ taken first last id command requests budget result left is change = (elim change
   | IsStopped pauses leaves checks short ↦ λ e. absurd (cc e)
 ]) is
 
-module _ (first : SpaceState) (port : IsPort first.port) (bytes : List ℕ) (budget : ℕ) where
-  pub write_answered : (result : Result (Unit {0}) ClientError) (left : ℕ) (last : SpaceState) → Writes (Goes first.port.addresses) (port_client first) bytes budget first result left last
-      → WriteAnswered bytes budget (machine_of first) result left (machine_of last)
-  write_answered result left last writes =
-      written (Unit {0}) own_runs tt bytes budget (machine_of first) result left (machine_of last) (is_machine first port) (writes_own first port bytes budget result left last writes)
+module _ (first : SpaceState) (port : IsPort first.port) where
+  pub writes_as_the_map : ClientWritesAsTheMap (port_table first.port.addresses) (port_client first) first
+  writes_as_the_map bytes run is =
+      written (Unit {0}) own_runs tt bytes run.budget (machine_of first) run.answer run.left (machine_of run.last) (is_machine first port) (own_write first port bytes run is)
 
-  by_answer : (result : Result (Unit {0}) ClientError) (left : ℕ) (last : MachineState) → result ≡ Ok tt → WriteAnswered bytes budget (machine_of first) result left last
+  by_answer : (bytes : List ℕ) (budget : ℕ) (result : Result (Unit {0}) ClientError) (left : ℕ) (last : MachineState) → result ≡ Ok tt → WriteAnswered bytes budget (machine_of first) result left last
       → records_of last ≡ after first.port.device.store.layout (Write (id_of bytes) (marked bytes)) (records first.port.device)
-  by_answer result left last is answered = (elim answered as (λ result left last answered. result ≡ Ok tt → records_of last ≡ after first.port.device.store.layout (Write (id_of bytes) (marked bytes)) (records first.port.device)) [
+  by_answer bytes budget result left last is answered = (elim answered as (λ result left last answered. result ≡ Ok tt → records_of last ≡ after first.port.device.store.layout (Write (id_of bytes) (marked bytes)) (records first.port.device)) [
     | IsNoRecord error refused ↦ λ e. absurd (cc e)
     | IsWritten result left last none change ↦ λ e. taken _ last (id_of bytes) (Write (id_of bytes) (marked bytes)) _ budget result left e change
   ]) is
 
-  pub write_stored : (left : ℕ) (last : SpaceState) → Writes (Goes first.port.addresses) (port_client first) bytes budget first (Ok tt) left last
-      → records last.port.device ≡ after first.port.device.store.layout (Write (id_of bytes) (marked bytes)) (records first.port.device)
-  write_stored left last writes = by_answer (Ok tt) left (machine_of last) refl (write_answered (Ok tt) left last writes)
+  pub write_made : (bytes : List ℕ) (run : CallFrom first (Unit {0})) → IsWrite (port_table first.port.addresses) (port_client first) bytes run → MakesRecords (Write (id_of bytes) (marked bytes)) run
+  write_made bytes run is ok = by_answer bytes run.budget run.answer run.left (machine_of run.last) ok (writes_as_the_map bytes run is)
 
-pub read_answered : (id : ℕ) → id < 2 ^ 64 → (out : List ℕ) (budget : ℕ) (first : SpaceState) → IsPort first.port → (result : Result ℕ ClientError) (after : List ℕ) (left : ℕ) (last : SpaceState)
-    → Reads (Goes first.port.addresses) (port_client first) id out budget first result after left last → ReadAnswered id out budget (machine_of first) result after left (machine_of last)
-read_answered id small out budget first port result after left last reads =
-    read_out (Unit {0}) own_runs tt id out budget (machine_of first) result after left (machine_of last) (is_machine first port) small (reach-least first.port.device.store.layout)
-    (reads_own first port id small out budget result after left last reads)
+  pub reads_as_the_map : ClientReadsAsTheMap (port_table first.port.addresses) (port_client first) first
+  reads_as_the_map id small out after run is =
+      read_out (Unit {0}) own_runs tt id out run.budget (machine_of first) run.answer after run.left (machine_of run.last) (is_machine first port) small (reach-least first.port.device.store.layout)
+      (own_read first port id small out after run is)
 
-pub write_sequence : (id : ℕ) (bytes : List ℕ) (addresses : Addresses) (budget : ℕ) (first : SpaceState) → HoldsRecord first.port.range id bytes → length bytes ≤ reach_in first.port.device → (result : Result (Unit {0}) ClientError) (left : ℕ) (last : SpaceState)
-    → Sequence (Goes addresses) (port_entries addresses.registers) (port_client first).timings write_requests budget first result left last
-    → ChangeCommand (machine_of first) (machine_of last) id (Write id bytes) write_requests budget result left
-write_sequence id bytes addresses budget first holds fits result left last sequence =
-    write_command (Unit {0}) own_runs tt (machine_of first) id bytes holds fits budget result left (machine_of last)
-    (sequence_own addresses (port_client first).timings write_requests write_carried budget first result left last sequence)
+module _ (addresses : Addresses) (first : SpaceState) where
+  pub write_is_the_maps : EachWriteIsTheMaps (port_table addresses) first
+  write_is_the_maps id bytes holds fits run is =
+      write_command (Unit {0}) own_runs tt (machine_of first) id bytes holds fits run.budget run.answer run.left (machine_of run.last)
+      (own_sequence addresses first (timings_in (port_table addresses) first) WriteOperation run is)
 
-pub read_sequence : (id : ℕ) → id < 2 ^ 64 → (addresses : Addresses) (timings : Option (ℕ × ℕ)) (budget : ℕ) (first : SpaceState) → IsPort first.port → (result : Result (Unit {0}) ClientError) (left : ℕ) (last : SpaceState)
-    → Sequence (Goes addresses) (port_entries addresses.registers) timings (read_requests id) budget first result left last → ReadCommand (machine_of first) (machine_of last) id budget result left
-read_sequence id small addresses timings budget first port result left last sequence =
-    read_command (Unit {0}) own_runs tt (machine_of first) (is_machine first port) id small timings budget result left (machine_of last)
-    (sequence_own addresses timings (read_requests id) (read_carried id) budget first result left last sequence)
+  pub read_is_the_maps : IsPort first.port → EachReadIsTheMaps (port_table addresses) first
+  read_is_the_maps port id small timings run is =
+      read_command (Unit {0}) own_runs tt (machine_of first) (is_machine first port) id small timings run.budget run.answer run.left (machine_of run.last) (own_sequence addresses first timings (ReadOperation id) run is)
 
-module _ (id : ℕ) (small : id < 2 ^ 64) (addresses : Addresses) (budget : ℕ) (first : SpaceState) where
-  pub clear_answered : (result : Result (Unit {0}) ClientError) (left : ℕ) (last : SpaceState) → Sequence (Goes addresses) (port_entries addresses.registers) (port_client first).timings (clear_requests id) budget first result left last
-      → ChangeCommand (machine_of first) (machine_of last) id (Clear id) (clear_requests id) budget result left
-  clear_answered result left last sequence =
-      clear_command (Unit {0}) own_runs tt (machine_of first) id small budget result left (machine_of last)
-      (sequence_own addresses (port_client first).timings (clear_requests id) (clear_carried id) budget first result left last sequence)
+  pub clear_is_the_maps : EachClearIsTheMaps (port_table addresses) first
+  clear_is_the_maps id small run is =
+      clear_command (Unit {0}) own_runs tt (machine_of first) id small run.budget run.answer run.left (machine_of run.last)
+      (own_sequence addresses first (timings_in (port_table addresses) first) (ClearOperation id) run is)
 
-  pub clear_made : (left : ℕ) (last : SpaceState) → Sequence (Goes addresses) (port_entries addresses.registers) (port_client first).timings (clear_requests id) budget first (Ok tt) left last
-      → records last.port.device ≡ after first.port.device.store.layout (Clear id) (records first.port.device)
-  clear_made left last sequence =
-      taken (machine_of first) (machine_of last) id (Clear id) (clear_requests id) budget (Ok tt) left refl (clear_answered (Ok tt) left last sequence)
+  pub clear_made : (id : ℕ) → id < 2 ^ 64 → (run : CallFrom first (Unit {0})) → IsSequence (port_table addresses) (timings_in (port_table addresses) first) (ClearOperation id) run → MakesRecords (Clear id) run
+  clear_made id small run is ok = taken (machine_of first) (machine_of run.last) id (Clear id) _ run.budget run.answer run.left ok (clear_is_the_maps id small run is)
 
-pub dummy_answered : (addresses : Addresses) (budget : ℕ) (first : SpaceState) (result : Result (Unit {0}) ClientError) (left : ℕ) (last : SpaceState)
-    → Sequence (Goes addresses) (port_entries addresses.registers) (port_client first).timings dummy_requests budget first result left last → DummyCommand (machine_of first) (machine_of last) dummy_requests budget result left
-dummy_answered addresses budget first result left last sequence =
-    dummy_command (Unit {0}) own_runs (machine_of first) budget result left (machine_of last) (sequence_own addresses (port_client first).timings dummy_requests dummy_carried budget first result left last sequence)
+  pub dummy_changes_nothing : EachDummyWriteChangesNothing (port_table addresses) first
+  dummy_changes_nothing run is =
+      dummy_command (Unit {0}) own_runs (machine_of first) run.budget run.answer run.left (machine_of run.last) (own_sequence addresses first (timings_in (port_table addresses) first) DummyWriteOperation run is)
 
-pub count_answered : (addresses : Addresses) (budget : ℕ) (first : SpaceState) (result : Result ℕ ClientError) (left : ℕ) (last : SpaceState) → Counts (Goes addresses) (port_entries addresses.registers) budget first result left last
-    → AsksOnce (CountMade (machine_of first) (machine_of last)) budget (machine_of first) (machine_of last) result left
-count_answered addresses budget first result left last counts =
-    count_command (Unit {0}) own_runs tt budget (machine_of first) result left (machine_of last) (counts_own addresses budget first result left last counts)
+  pub count_is_the_maps : EachCountIsTheMaps (port_table addresses) first
+  count_is_the_maps run is = count_command (Unit {0}) own_runs tt run.budget (machine_of first) run.answer run.left (machine_of run.last) (own_count addresses first run is)
 
 -- Causes
-
-pub write_caused : (bytes : List ℕ) (budget : ℕ) (first : SpaceState) → IsPort first.port → (result : Result (Unit {0}) ClientError) (left : ℕ) (last : SpaceState)
-    → Writes (Goes first.port.addresses) (port_client first) bytes budget first result left last → HasItsCause (machine_of first) (machine_of last) result
-write_caused bytes budget first port result left last writes =
-    client_write_cause (Unit {0}) own_runs bytes budget (machine_of first) result left (machine_of last) (writes_own first port bytes budget result left last writes)
-
-pub read_caused : (id : ℕ) → id < 2 ^ 64 → (out : List ℕ) (budget : ℕ) (first : SpaceState) → IsPort first.port → (result : Result ℕ ClientError) (after : List ℕ) (left : ℕ) (last : SpaceState)
-    → Reads (Goes first.port.addresses) (port_client first) id out budget first result after left last → HasItsCause (machine_of first) (machine_of last) result
-read_caused id small out budget first port result after left last reads =
-    client_read_cause (Unit {0}) own_runs id out budget (machine_of first) result after left (machine_of last) (reads_own first port id small out budget result after left last reads)
-
-pub write_sequence_caused : (addresses : Addresses) (timings : Option (ℕ × ℕ)) (budget : ℕ) (first : SpaceState) (result : Result (Unit {0}) ClientError) (left : ℕ) (last : SpaceState)
-    → Sequence (Goes addresses) (port_entries addresses.registers) timings write_requests budget first result left last → HasItsCause (machine_of first) (machine_of last) result
-write_sequence_caused addresses timings budget first result left last sequence =
-    write_cause (Unit {0}) own_runs timings budget (machine_of first) result left (machine_of last) (sequence_own addresses timings write_requests write_carried budget first result left last sequence)
-
-pub read_sequence_caused : (id : ℕ) (addresses : Addresses) (timings : Option (ℕ × ℕ)) (budget : ℕ) (first : SpaceState) (result : Result (Unit {0}) ClientError) (left : ℕ) (last : SpaceState)
-    → Sequence (Goes addresses) (port_entries addresses.registers) timings (read_requests id) budget first result left last → HasItsCause (machine_of first) (machine_of last) result
-read_sequence_caused id addresses timings budget first result left last sequence =
-    read_cause (Unit {0}) own_runs id timings budget (machine_of first) result left (machine_of last) (sequence_own addresses timings (read_requests id) (read_carried id) budget first result left last sequence)
-
-pub dummy_caused : (addresses : Addresses) (timings : Option (ℕ × ℕ)) (budget : ℕ) (first : SpaceState) (result : Result (Unit {0}) ClientError) (left : ℕ) (last : SpaceState)
-    → Sequence (Goes addresses) (port_entries addresses.registers) timings dummy_requests budget first result left last → HasItsCause (machine_of first) (machine_of last) result
-dummy_caused addresses timings budget first result left last sequence =
-    dummy_cause (Unit {0}) own_runs timings budget (machine_of first) result left (machine_of last) (sequence_own addresses timings dummy_requests dummy_carried budget first result left last sequence)
-
-pub clear_caused : (id : ℕ) (addresses : Addresses) (timings : Option (ℕ × ℕ)) (budget : ℕ) (first : SpaceState) (result : Result (Unit {0}) ClientError) (left : ℕ) (last : SpaceState)
-    → Sequence (Goes addresses) (port_entries addresses.registers) timings (clear_requests id) budget first result left last → HasItsCause (machine_of first) (machine_of last) result
-clear_caused id addresses timings budget first result left last sequence =
-    clear_cause (Unit {0}) own_runs id timings budget (machine_of first) result left (machine_of last) (sequence_own addresses timings (clear_requests id) (clear_carried id) budget first result left last sequence)
-
-pub count_caused : (addresses : Addresses) (budget : ℕ) (first : SpaceState) (result : Result ℕ ClientError) (left : ℕ) (last : SpaceState) → Counts (Goes addresses) (port_entries addresses.registers) budget first result left last
-    → HasItsCause (machine_of first) (machine_of last) result
-count_caused addresses budget first result left last counts = count_cause (Unit {0}) own_runs budget (machine_of first) result left (machine_of last) (counts_own addresses budget first result left last counts)
 
 -- the action of a next identifier
 round_caused : (first last : MachineState) (result : Result (Option ℕ) ClientError) → NextRound first last result → HasItsCause first last result
@@ -180,54 +159,33 @@ round_caused first last result round = elim round as (λ result round. HasItsCau
   | IsNotFound failed ↦ record { never_falls = failed.looked.never_falls; hardware = λ e. failed.rose }
 ]
 
-pub next_caused : (addresses : Addresses) (budget : ℕ) (first : SpaceState) (result : Result (Option ℕ) ClientError) (left : ℕ) (last : SpaceState) → Names (Goes addresses) (port_entries addresses.registers) budget first result left last
-    → HasItsCause (machine_of first) (machine_of last) result
-next_caused addresses budget first result left last names =
-    elim (next_round addresses budget first result left last names) as (λ result left asks. HasItsCause (machine_of first) (machine_of last) result) [
-      | Answers result left made spent ↦ round_caused (machine_of first) (machine_of last) result made
-      | StopsBehind result made one ↦ record { never_falls = (round_caused (machine_of first) (machine_of last) result made).never_falls; hardware = λ e. absurd (cc e) }
-      | StopsAtOnce none same ↦ record { never_falls = faults_kept same; hardware = λ e. absurd (cc e) }
-    ]
-  where
-    faults_kept : machine_of last ≡ machine_of first → first.port.device.store.flash.faults ≤ last.port.device.store.flash.faults
-    faults_kept same = let kept : last.port.device.store.flash.faults ≡ first.port.device.store.flash.faults = ap (λ (m : MachineState). m.device.store.flash.faults) same in omega (arith, kept)
+module _ (addresses : Addresses) (first : SpaceState) where
+  pub sequence_caused : EachSequenceHasItsCause (port_table addresses) first
+  sequence_caused timings operation run is =
+      operation_cause (Unit {0}) own_runs (machine_of first) timings operation (shown_run (port_table addresses) run) (own_sequence addresses first timings operation run is)
+
+  pub count_caused : EachCountHasItsCause (port_table addresses) first
+  count_caused run is = count_cause (Unit {0}) own_runs run.budget (machine_of first) run.answer run.left (machine_of run.last) (own_count addresses first run is)
+
+  pub next_caused : EachNextHasItsCause (port_table addresses) first
+  next_caused run is =
+      elim (next_round addresses run.budget first run.answer run.left run.last is) as (λ result left asks. HasItsCause (machine_of first) (machine_of run.last) result) [
+        | Answers result left made spent ↦ round_caused (machine_of first) (machine_of run.last) result made
+        | StopsBehind result made one ↦ record { never_falls = (round_caused (machine_of first) (machine_of run.last) result made).never_falls; hardware = λ e. absurd (cc e) }
+        | StopsAtOnce none same ↦ record { never_falls = faults_kept run.last same; hardware = λ e. absurd (cc e) }
+      ]
+    where
+      faults_kept : (last : SpaceState) → machine_of last ≡ machine_of first → first.port.device.store.flash.faults ≤ last.port.device.store.flash.faults
+      faults_kept last same = let kept : last.port.device.store.flash.faults ≡ first.port.device.store.flash.faults = ap (λ (m : MachineState). m.device.store.flash.faults) same in omega (arith, kept)
+
+module _ (first : SpaceState) (port : IsPort first.port) where
+  pub write_caused : EachWriteHasItsCause (port_table first.port.addresses) (port_client first) first
+  write_caused bytes run is = client_write_cause (Unit {0}) own_runs bytes run.budget (machine_of first) run.answer run.left (machine_of run.last) (own_write first port bytes run is)
+
+  pub read_caused : (id : ℕ) → id < 2 ^ 64 → EachReadHasItsCause (port_table first.port.addresses) (port_client first) id first
+  read_caused id small out after run is = client_read_cause (Unit {0}) own_runs id out run.budget (machine_of first) run.answer after run.left (machine_of run.last) (own_read first port id small out after run is)
 
 -- Steps
-
-module _ (first : SpaceState) (port : IsPort first.port) (budget : ℕ) (enough : enough_steps (port_client first).timings ≤ budget) where
-  pub write_goes : (bytes : List ℕ) (result : Result (Unit {0}) ClientError) (left : ℕ) (last : SpaceState) → Writes (Goes first.port.addresses) (port_client first) bytes budget first result left last → GoesThrough result
-  write_goes bytes result left last writes =
-      client_write_through (Unit {0}) own_runs (machine_of first) (is_machine first port) budget enough bytes result left (machine_of last) (writes_own first port bytes budget result left last writes)
-
-  pub read_goes : (id : ℕ) → id < 2 ^ 64 → (out : List ℕ) (result : Result ℕ ClientError) (after : List ℕ) (left : ℕ) (last : SpaceState)
-      → Reads (Goes first.port.addresses) (port_client first) id out budget first result after left last → GoesThrough result
-  read_goes id small out result after left last reads =
-      client_read_through (Unit {0}) own_runs (machine_of first) (is_machine first port) budget enough id small out result after left (machine_of last) (reads_own first port id small out budget result after left last reads)
-
-  pub clear_goes : (id : ℕ) → id < 2 ^ 64 → (result : Result (Unit {0}) ClientError) (left : ℕ) (last : SpaceState)
-      → Sequence (Goes first.port.addresses) (port_entries first.port.addresses.registers) (port_client first).timings (clear_requests id) budget first result left last → GoesThrough result
-  clear_goes id small result left last sequence =
-      clear_through (Unit {0}) own_runs (machine_of first) budget (has_steps (machine_of first) budget enough) port.range id small result left (machine_of last)
-      (sequence_own first.port.addresses (port_client first).timings (clear_requests id) (clear_carried id) budget first result left last sequence)
-
-module _ (first : SpaceState) (port : IsPort first.port) (budget : ℕ) (enough : enough_steps (port_client first).timings ≤ budget) where
-  pub write_sequence_goes : (result : Result (Unit {0}) ClientError) (left : ℕ) (last : SpaceState)
-      → Sequence (Goes first.port.addresses) (port_entries first.port.addresses.registers) (port_client first).timings write_requests budget first result left last → GoesThrough result
-  write_sequence_goes result left last sequence =
-      write_through (Unit {0}) own_runs (machine_of first) budget (has_steps (machine_of first) budget enough) port.range result left (machine_of last)
-      (sequence_own first.port.addresses (port_client first).timings write_requests write_carried budget first result left last sequence)
-
-  pub read_sequence_goes : (id : ℕ) → id < 2 ^ 64 → (result : Result (Unit {0}) ClientError) (left : ℕ) (last : SpaceState)
-      → Sequence (Goes first.port.addresses) (port_entries first.port.addresses.registers) (port_client first).timings (read_requests id) budget first result left last → GoesThrough result
-  read_sequence_goes id small result left last sequence =
-      read_through (Unit {0}) own_runs (machine_of first) budget (has_steps (machine_of first) budget enough) port.range id small result left (machine_of last)
-      (sequence_own first.port.addresses (port_client first).timings (read_requests id) (read_carried id) budget first result left last sequence)
-
-  pub dummy_goes : (result : Result (Unit {0}) ClientError) (left : ℕ) (last : SpaceState)
-      → Sequence (Goes first.port.addresses) (port_entries first.port.addresses.registers) (port_client first).timings dummy_requests budget first result left last → GoesThrough result
-  dummy_goes result left last sequence =
-      dummy_through (Unit {0}) own_runs (machine_of first) budget (has_steps (machine_of first) budget enough) port.range result left (machine_of last)
-      (sequence_own first.port.addresses (port_client first).timings dummy_requests dummy_carried budget first result left last sequence)
 
 round_goes : (first last : MachineState) (result : Result (Option ℕ) ClientError) → NextRound first last result → GoesThrough result
 round_goes first last result round = elim round as (λ result round. GoesThrough result) [
@@ -237,17 +195,30 @@ round_goes first last result round = elim round as (λ result round. GoesThrough
   | IsNotFound failed ↦ record { not_stopped = λ stop e. absurd (cc e); in_time = λ waited e. absurd (cc e) }
 ]
 
-pub next_goes : (addresses : Addresses) (first : SpaceState) (budget : ℕ) → enough_steps (port_client first).timings ≤ budget → (result : Result (Option ℕ) ClientError) (left : ℕ) (last : SpaceState)
-    → Names (Goes addresses) (port_entries addresses.registers) budget first result left last → GoesThrough result
-next_goes addresses first budget enough result left last names =
-    let many : 2 ≤ budget = omega (arith, enough-most (machine_of first), enough) in
-    elim (next_round addresses budget first result left last names) as (λ result left asks. GoesThrough result) [
-      | Answers result left made spent ↦ round_goes (machine_of first) (machine_of last) result made
-      | StopsBehind result made one ↦ absurd (omega (arith, many, one))
-      | StopsAtOnce none same ↦ absurd (omega (arith, many, none))
-    ]
+module _ (addresses : Addresses) (first : SpaceState) where
+  pub count_goes : EachCountGoesThrough (port_table addresses) first
+  count_goes run enough is = count_through (Unit {0}) own_runs (machine_of first) run.budget enough run.answer run.left (machine_of run.last) (own_count addresses first run is)
 
-pub count_goes : (addresses : Addresses) (first : SpaceState) (budget : ℕ) → enough_steps (port_client first).timings ≤ budget → (result : Result ℕ ClientError) (left : ℕ) (last : SpaceState)
-    → Counts (Goes addresses) (port_entries addresses.registers) budget first result left last → GoesThrough result
-count_goes addresses first budget enough result left last counts =
-    count_through (Unit {0}) own_runs (machine_of first) budget enough result left (machine_of last) (counts_own addresses budget first result left last counts)
+  pub next_goes : EachNextGoesThrough (port_table addresses) first
+  next_goes run enough is =
+      let many : 2 ≤ run.budget = omega (arith, enough-most (machine_of first), enough) in
+      elim (next_round addresses run.budget first run.answer run.left run.last is) as (λ result left asks. GoesThrough result) [
+        | Answers result left made spent ↦ round_goes (machine_of first) (machine_of run.last) result made
+        | StopsBehind result made one ↦ absurd (omega (arith, many, one))
+        | StopsAtOnce none same ↦ absurd (omega (arith, many, none))
+      ]
+
+module _ (first : SpaceState) (port : IsPort first.port) where
+  pub sequence_goes : EachSequenceGoesThrough (port_table first.port.addresses) first
+  sequence_goes operation given run enough is =
+      operation_through (Unit {0}) own_runs (machine_of first) (is_machine first port) operation given (shown_run (port_table first.port.addresses) run) enough
+      (own_sequence first.port.addresses first (timings_in (port_table first.port.addresses) first) operation run is)
+
+  pub write_goes : EachWriteGoesThrough (port_table first.port.addresses) (port_client first) first
+  write_goes bytes run enough is =
+      client_write_through (Unit {0}) own_runs (machine_of first) (is_machine first port) run.budget enough bytes run.answer run.left (machine_of run.last) (own_write first port bytes run is)
+
+  pub read_goes : EachReadGoesThrough (port_table first.port.addresses) (port_client first) first
+  read_goes id small out after run enough is =
+      client_read_through (Unit {0}) own_runs (machine_of first) (is_machine first port) run.budget enough id small out run.answer after run.left (machine_of run.last)
+      (own_read first port id small out after run is)

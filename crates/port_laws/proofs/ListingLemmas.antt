@@ -10,16 +10,16 @@ use Rattle.record_store.specs.Store.{StoreView, stored}
 use Rattle.record_store.proofs.StoreLemmas.{kept_map}
 use Rattle.record_store.proofs.StoredLemmas.{stored_says}
 use Rattle.erst_client.specs.declared.errors.ClientError.{ClientError}
-use Rattle.erst_client.specs.Commands.{Names}
 use Rattle.erst_device.specs.DeviceState.{records}
 use Rattle.erst_machine.specs.MachineState.{MachineState, records_of}
 use Rattle.erst_commands.specs.Looks.{HasAsked, AsksOnce, Answers, StopsBehind, StopsAtOnce}
+use Rattle.erst_commands.specs.Runs.{CallFrom, IsNext as IsNextCall}
 use Rattle.erst_port.specs.declared.windows.Addresses.{Addresses}
-use Rattle.erst_port.specs.PortTables.{port_entries}
-use Rattle.port_laws.specs.PortSpaces.{SpaceState, Goes}
+use Rattle.port_laws.specs.PortSpaces.{SpaceState}
+use Rattle.port_laws.specs.PortClients.{port_table}
 use Rattle.port_laws.specs.Machines.{machine_of}
 use Rattle.port_laws.specs.Looks.{NextRound, IsAbove, IsFirst, IsNone, IsNotFound}
-use Rattle.port_laws.specs.Listings.{Lists, NoneTold, OneTold, Rising, AreAll, AreAllAbove, StartsAnew, IsLeast, IsEmpty, IsNotGreater}
+use Rattle.port_laws.specs.Listings.{Lists, Listing, NoneTold, OneTold, Rising, AreAll, AreAllAbove, StartsAnew, IsLeast, IsEmpty, IsNotGreater}
 use Rattle.port_laws.proofs.RoundLemmas.{next_round}
 
 -- Elements of lists
@@ -260,19 +260,21 @@ not_zero store id some = by_kept (get (stored store) id) refl some
         grind (arith, allowed)
 
 module _ (addresses : Addresses) where
-  abbrev Told : SpaceState → ℕ → Result (Option ℕ) ClientError → ℕ → SpaceState → Type 0
-  Told first budget result left last = Names (Goes addresses) (port_entries addresses.registers) budget first result left last
+  round_of : (first : SpaceState) (told : Option ℕ) (run : CallFrom first (Option ℕ)) → IsNextCall (port_table addresses) run → run.answer ≡ Ok told → NextRound (machine_of first) (machine_of run.last) run.answer
+  round_of first told run asks is =
+      made_of (NextRound (machine_of first) (machine_of run.last)) run.budget (machine_of first) (machine_of run.last) told run.answer run.left is (next_round addresses run.budget first run.answer run.left run.last asks)
 
-  round_of : (first last : SpaceState) (budget left : ℕ) (told : Option ℕ) → Told first budget (Ok told) left last → NextRound (machine_of first) (machine_of last) (Ok told)
-  round_of first last budget left told names =
-      made_of (NextRound (machine_of first) (machine_of last)) budget (machine_of first) (machine_of last) told (Ok told) left refl (next_round addresses budget first (Ok told) left last names)
+  is_next : (first : SpaceState) (id : ℕ) (run : CallFrom first (Option ℕ)) → IsNextCall (port_table addresses) run → run.answer ≡ Ok (Some id) → IsNext (machine_of first) (machine_of run.last) id
+  is_next first id run asks is = next_by (machine_of first) (machine_of run.last) id run.answer is (round_of first (Some id) run asks is)
 
-  is_next : (first last : SpaceState) (id budget left : ℕ) → Told first budget (Ok (Some id)) left last → IsNext (machine_of first) (machine_of last) id
-  is_next first last id budget left names = next_by (machine_of first) (machine_of last) id (Ok (Some id)) refl (round_of first last budget left (Some id) names)
+  was_told : (cursor : ℕ) (result : Result (Option ℕ) ClientError) → IsNotGreater cursor result → (told : Option ℕ) × (result ≡ Ok told)
+  was_told cursor (Ok told) not = (told, refl)
+  was_told cursor (Err error) not = absurd not
 
-  is_last : (first last : SpaceState) (result : Result (Option ℕ) ClientError) (budget left : ℕ) → Told first budget result left last → IsNotGreater first.port.device.cursor result → IsLast (machine_of first) result
-  is_last first last (Ok told) budget left names not = last_by (machine_of first) (machine_of last) (Ok told) not (round_of first last budget left told names)
-  is_last first last (Err error) budget left names not = absurd not
+  is_last : (first : SpaceState) (run : CallFrom first (Option ℕ)) → IsNextCall (port_table addresses) run → IsNotGreater first.port.device.cursor run.answer → IsLast (machine_of first) run.answer
+  is_last first run asks not =
+      let told = was_told first.port.device.cursor run.answer not in
+      last_by (machine_of first) (machine_of run.last) run.answer not (round_of first told.0 run asks told.1)
 
   -- a listing is a walk
   record IsWalk (first : SpaceState) (ids : List ℕ) (last : SpaceState) : Type 0 where
@@ -282,8 +284,9 @@ module _ (addresses : Addresses) where
 
   is_walk : (first : SpaceState) (ids : List ℕ) (last : SpaceState) → Lists addresses first ids last → IsWalk first ids last
   is_walk first ids last (NoneTold start) = record { walks = tt; ends = refl; same = refl }
-  is_walk first ids last (OneTold start mid end id budget left rest names more) =
-      let next = is_next start mid id budget left names in
+  is_walk first ids last (OneTold start end id rest run asks is more) =
+      let mid = run.last in
+      let next = is_next start id run asks is in
       let later = is_walk mid rest end more in
       record {
         walks = (next.behind, subst (λ (map : Stored). Walks map id rest) next.same (subst (λ (n : ℕ). Walks (records mid.port.device) n rest) next.cursor later.walks));
@@ -291,24 +294,29 @@ module _ (addresses : Addresses) where
         same = later.same ∙ next.same;
       }
 
-  pub listed_rising : (first : SpaceState) (ids : List ℕ) (last : SpaceState) → Lists addresses first ids last → Rising first.port.device.cursor ids → (budget : ℕ) (result : Result (Option ℕ) ClientError) (left : ℕ) (end : SpaceState)
-      → Told last budget result left end → IsNotGreater last.port.device.cursor result → AreAllAbove first.port.device.cursor (records first.port.device) ids × StartsAnew (records first.port.device) result
-  listed_rising first ids last lists rising budget result left end names not =
-      let walk = is_walk first ids last lists in
-      let is = is_last last end result budget left names not in
+  pub listed_rising : (listing : Listing addresses) → Rising listing.first.port.device.cursor listing.ids → IsNotGreater listing.last.port.device.cursor listing.next.answer
+      → AreAllAbove listing.first.port.device.cursor (records listing.first.port.device) listing.ids × StartsAnew (records listing.first.port.device) listing.next.answer
+  listed_rising listing rising not =
+      let first = listing.first in
+      let ids = listing.ids in
+      let last = listing.last in
+      let walk = is_walk first ids last listing.lists in
+      let is = is_last last listing.next listing.asks not in
       let none = subst (λ (map : Stored). IsNextAbove (end_of first.port.device.cursor ids) map None) walk.same (subst (λ (n : ℕ). IsNextAbove n (records last.port.device) None) (sym walk.ends) is.none) in (
         record {
           are_stored = all_stored (records first.port.device) first.port.device.cursor ids walk.walks;
           all = all_risen (records first.port.device) first.port.device.cursor ids walk.walks rising none;
         },
-        subst (λ (map : Stored). StartsAnew map result) walk.same is.anew,
+        subst (λ (map : Stored). StartsAnew map listing.next.answer) walk.same is.anew,
       )
 
-  pub listed_round : (first : SpaceState) (ids : List ℕ) (last : SpaceState) → Lists addresses first ids last → (budget id left : ℕ) (end : SpaceState) → Told last budget (Ok (Some id)) left end → Contains ids id
-      → AreAll (records first.port.device) ids
-  listed_round first ids last lists budget id left end names again =
-      let walk = is_walk first ids last lists in
-      let next = is_next last end id budget left names in
+  pub listed_round : (listing : Listing addresses) (id : ℕ) → listing.next.answer ≡ Ok (Some id) → Contains listing.ids id → AreAll (records listing.first.port.device) listing.ids
+  listed_round listing id told again =
+      let first = listing.first in
+      let ids = listing.ids in
+      let last = listing.last in
+      let walk = is_walk first ids last listing.lists in
+      let next = is_next last id listing.next listing.asks told in
       let behind = subst (λ (map : Stored). Behind map (end_of first.port.device.cursor ids) id) walk.same (subst (λ (n : ℕ). Behind (records last.port.device) n id) (sym walk.ends) next.behind) in
       record {
         are_stored = all_stored (records first.port.device) first.port.device.cursor ids walk.walks;

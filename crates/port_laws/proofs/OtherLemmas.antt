@@ -15,10 +15,9 @@ use Rattle.erst_port.specs.declared.windows.Window.{Window}
 use Rattle.erst_port.specs.PortState.{PortState, IsPort}
 use Rattle.erst_port.specs.Accesses.{ActionWritten, NumberWritten, bytes_stored}
 use Rattle.port_laws.specs.PortSpaces.{SpaceState, place_in, WrittenAt, bytes_location, bytes_stored_at, Does, caught_up, Goes}
-use Rattle.port_laws.specs.Others.{KeepsOthers}
 
 -- a port with another device, other bytes in its log range and another count of changes made
-abbrev IsBeside : PortState → PortState → Type 0
+abbrev pub IsBeside : PortState → PortState → Type 0
 IsBeside first last = last ≡ record first { device = last.device; range = last.range; made = last.made }
 
 beside_of : (first last : PortState) (device : DeviceState) (range : List ℕ) (made : ℕ) → last ≡ record first { device = device; range = range; made = made } → IsBeside first last
@@ -67,7 +66,11 @@ call_beside old (WriteBytes at bytes answer) new does =
 beside_then : (first mid last : PortState) → IsBeside first mid → IsBeside mid last → IsBeside first last
 beside_then first mid last one two = beside_of first last last.device last.range last.made (two ∙ ap (λ (p : PortState). record p { device = last.device; range = last.range; made = last.made }) one)
 
-pub keeps_others : (addresses : Addresses) (first last : SpaceState) → IsPort first.port → Reaches (Goes addresses) first last → KeepsOthers first.port last.port
-keeps_others addresses first last port Stays = record { port = port; others = refl }
+pub is_port : (addresses : Addresses) (first last : SpaceState) → IsPort first.port → Reaches (Goes addresses) first last → IsPort last.port
+is_port addresses first last port Stays = port
+is_port addresses first last port (then mid call end so goes) = goes.after
+
+pub keeps_others : (addresses : Addresses) (first last : SpaceState) → IsPort first.port → Reaches (Goes addresses) first last → IsBeside first.port last.port
+keeps_others addresses first last port Stays = refl
 keeps_others addresses first last port (then mid call end so goes) =
-    record { port = goes.after; others = beside_then first.port mid.port end.port (keeps_others addresses first mid port so).others (beside_then mid.port (caught_up mid).port end.port refl (call_beside (caught_up mid) call end goes.does)) }
+    beside_then first.port mid.port end.port (keeps_others addresses first mid port so) (beside_then mid.port (caught_up mid).port end.port refl (call_beside (caught_up mid) call end goes.does))

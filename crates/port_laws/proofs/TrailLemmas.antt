@@ -22,11 +22,11 @@ use Rattle.erst_port.specs.PortState.{PortState, flash_of, IsMade}
 use Rattle.erst_port.specs.Accesses.{NumberWritten, ActionWritten}
 use Rattle.erst_port.specs.Openings.{OpenedAs}
 use Rattle.port_laws.specs.Calls.{Embedded, Call, Writes, Puts, Restarts, MovesTo, Looks, Makes, Happens, IsInStep}
-use Rattle.port_laws.specs.Commands.{records_of, shown_by, completed, made_with}
+use Rattle.port_laws.specs.Commands.{records_of, completed, made_with}
 use Rattle.port_laws.specs.Losses.{SameFront}
 use Rattle.port_laws.specs.Beginnings.{Begins}
 use Rattle.port_laws.specs.Prefixes.{Calls, records_after, completed_next, faults_after, IsHistory, TakesCode, IsTaken, ShowsPrefix}
-use Rattle.port_laws.proofs.CallLemmas.{IsOneCall, one_call, told_of}
+use Rattle.port_laws.proofs.CallLemmas.{IsOneCall, one_call, told_of, shown_by}
 use Rattle.port_laws.proofs.StepLemmas.{StepsOn, one_step, front_refl, front_then}
 
 -- where calls lead

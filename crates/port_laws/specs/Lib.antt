@@ -8,5 +8,4 @@ pub mod Machines
 pub mod PortClients
 pub mod Looks
 pub mod Listings
-pub mod Others
 pub mod Equivalence

@@ -1,19 +1,28 @@
 -- A listing of the identifiers of a port.
-use Rattle.std.specs.Prelude.{ℕ, ◌<◌, ◌≤◌, List, [], ◌∷◌, Contains, IsSome, Option, Some, None, Result, Ok, Err}
+use Rattle.std.specs.Prelude.{◌≡◌, ℕ, ◌<◌, ◌≤◌, List, [], ◌∷◌, Contains, IsSome, Option, Some, None, Result, Ok, Err}
 use Rattle.std.specs.FinMap.{get}
 use Rattle.record_model.specs.Records.{Stored}
 use Rattle.record_model.specs.RecordMap.{IsNextAbove}
 use Rattle.erst_client.specs.declared.errors.ClientError.{ClientError}
-use Rattle.erst_client.specs.Commands.{Names}
+use Rattle.erst_commands.specs.Runs.{CallFrom, IsNext}
 use Rattle.erst_port.specs.declared.windows.Addresses.{Addresses}
-use Rattle.erst_port.specs.PortTables.{port_entries}
-use Rattle.port_laws.specs.PortSpaces.{SpaceState, Goes}
+use Rattle.port_laws.specs.PortSpaces.{SpaceState}
+use Rattle.port_laws.specs.PortClients.{port_table}
 
 -- the next identifier is asked for again and again, with nothing else in between, and these are told
 pub data Lists (addresses : Addresses) : (first : SpaceState) → List ℕ → (last : SpaceState) → Type 0 where
   NoneTold : (first : SpaceState) → Lists addresses first [] first
-  OneTold : (first mid last : SpaceState) (id budget left : ℕ) (ids : List ℕ) → Names (Goes addresses) (port_entries addresses.registers) budget first (Ok (Some id)) left mid
-      → Lists addresses mid ids last → Lists addresses first (id ∷ ids) last
+  OneTold : (first last : SpaceState) (id : ℕ) (ids : List ℕ) (run : CallFrom first (Option ℕ)) → IsNext (port_table addresses) run → run.answer ≡ Ok (Some id)
+      → Lists addresses run.last ids last → Lists addresses first (id ∷ ids) last
+
+-- a listing, and the next call behind it
+pub record Listing (addresses : Addresses) : Type 0 where
+  pub first : SpaceState
+  pub ids : List ℕ
+  pub last : SpaceState
+  pub lists : Lists addresses first ids last
+  pub next : CallFrom last (Option ℕ)
+  pub asks : IsNext (port_table addresses) next
 
 -- numbers above a first one, each greater than the one before
 abbrev pub Rising : (low : ℕ) → List ℕ → Type 0

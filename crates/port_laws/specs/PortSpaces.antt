@@ -33,15 +33,12 @@ place_in port (Memory at) =
     else None)
 place_in port (Io at) = None
 
--- how an operating system is told that a port refused an access
-abbrev pub fault_of : (at : ℕ) → Width → PortError → SpaceFault
-fault_of at width BadAccess = faults.BadAccess at width
-fault_of at width Due = faults.Device
-fault_of at width Flash = faults.Device
-
+-- how an operating system is told what a port answered
 abbrev pub as_told : {T : Type 0} → (at : ℕ) → Width → Result T PortError → Result T SpaceFault
 as_told at width (Ok value) = Ok value
-as_told at width (Err error) = Err (fault_of at width error)
+as_told at width (Err BadAccess) = Err (faults.BadAccess at width)
+as_told at width (Err Due) = Err faults.Device
+as_told at width (Err Flash) = Err faults.Device
 
 -- a read and a write of a number
 abbrev pub read_at : Option (Window × ℕ) → PortState → (at : ℕ) → Width → Result ℕ SpaceFault

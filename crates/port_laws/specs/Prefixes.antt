@@ -3,15 +3,25 @@ use Rattle.std.specs.Prelude.{◌≡◌, ◌⊎◌, ℕ, zero, suc, ◌<◌, ◌
 use Rattle.base_model.specs.Faults.{Rose}
 use Rattle.record_model.specs.Records.{Stored}
 use Rattle.record_model.specs.RecordMap.{Command, made_by}
-use Rattle.apei_space.specs.Accesses.{Move}
+use Rattle.flash_model.specs.declared.geometry.Geometry.{Geometry}
+use Rattle.apei_space.specs.Accesses.{Move, Trail}
 use Rattle.erst_port.specs.declared.windows.Location.TheVariants.{Action}
 use Rattle.erst_port.specs.Places.{location_of}
 use Rattle.erst_port.specs.PortState.{PortState, flash_of}
-use Rattle.port_laws.specs.Calls.{Embedded, Call, Writes}
+use Rattle.port_laws.specs.Beginnings.{Begins}
+use Rattle.port_laws.specs.Calls.{Embedded, Call, Writes, Happens}
 use Rattle.port_laws.specs.Commands.{records_of, completed, made_with}
 
 abbrev pub Calls : Type 0
 Calls = List (Move Call Embedded)
+
+-- a port that was opened over its medium, and the calls that were made of it
+pub record PortRun (origin : ℕ) (geometry : Geometry) : Type 0 where
+  pub first : Embedded
+  pub calls : Calls
+  pub last : Embedded
+  pub begins : Begins origin geometry first
+  pub happened : Trail Happens first calls last
 
 -- the records after the first n calls
 abbrev pub records_after : ℕ → Embedded → Calls → Stored

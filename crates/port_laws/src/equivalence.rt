@@ -1,14 +1,13 @@
 // Laws on two ports that are equivalent: the functions do nothing, and their clauses are the laws.
-ghost use Rattle.std.specs.Prelude.{◌≡◌, ℕ, ◌+◌, List, length, Result};
+ghost use Rattle.std.specs.Prelude.{◌≡◌, ℕ, ◌+◌, List, length};
 ghost use Rattle.apei_tables.specs.declared.widths.Width.{Width};
-ghost use Rattle.erst_port.specs.declared.errors.PortError.{PortError};
 ghost use Rattle.erst_port.specs.declared.windows.Location.{Location};
-ghost use Rattle.erst_port.specs.PortState.{PortState, IsMade};
+ghost use Rattle.erst_port.specs.PortState.{PortState};
 ghost use Rattle.erst_port.specs.Accesses.{number_read, NumberWritten, bytes_read, bytes_stored, Resets};
 ghost use Rattle.base_model.specs.Layout.{room_of, reach_of};
 ghost use Rattle.erst_port.specs.Saved.{head_size, IsSaved};
 ghost use Rattle.erst_port.specs.Loaded.{AreOfDevice, AreOfLayout, GoesOn};
-ghost use Rattle.port_laws.specs.Equivalence.{EquivalentPorts, FailedNothing};
+ghost use Rattle.port_laws.specs.Equivalence.{EquivalentPorts, AnswerAlike};
 
 /// The bytes as which a port was saved are taken over every flash that is divided as its own.
 pub fn a_saved_port_is_taken()
@@ -34,10 +33,7 @@ pub fn equivalent_ports_read_alike()
 /// alike behind it.
 pub fn equivalent_ports_write_alike()
     ensures numbers { (one other : PortState) (location : Location) (width : Width) (value : ℕ)
-        (answer also : Result (Unit {0}) PortError) (one_after other_after : PortState) → EquivalentPorts one other
-        → IsMade one → IsMade other → NumberWritten location one width value answer one_after
-        → FailedNothing one one_after → NumberWritten location other width value also other_after
-        → FailedNothing other other_after → (answer ≡ also) × EquivalentPorts one_after other_after }
+        → AnswerAlike (λ old answer new. NumberWritten location old width value answer new) one other }
     ensures bytes { (one other : PortState) (location : Location) (bytes : List ℕ) → EquivalentPorts one other
         → ((bytes_stored location one bytes).0 ≡ (bytes_stored location other bytes).0)
         × EquivalentPorts (bytes_stored location one bytes).1 (bytes_stored location other bytes).1 }
@@ -45,8 +41,5 @@ pub fn equivalent_ports_write_alike()
 
 /// Restarts of such ports are answered the same, and leave them alike.
 pub fn equivalent_ports_reset_alike()
-    ensures { (one other : PortState) (answer also : Result (Unit {0}) PortError) (one_after other_after : PortState)
-        → EquivalentPorts one other → IsMade one → IsMade other → Resets one answer one_after
-        → FailedNothing one one_after → Resets other also other_after → FailedNothing other other_after
-        → (answer ≡ also) × EquivalentPorts one_after other_after }
+    ensures { (one other : PortState) → AnswerAlike Resets one other }
 {}
