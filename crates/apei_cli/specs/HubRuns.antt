@@ -3,6 +3,7 @@ use Rattle.std.specs.Prelude.{◌≡◌, ◌⊎◌, ℕ, List}
 use Rattle.apei_notify.specs.Telling.{Hearing}
 use Rattle.base_model.specs.Flash.{FlashState}
 use Rattle.hub_script.specs.Scripts.{ServesScript}
+use Rattle.hub_script.specs.Streams.{stream_of}
 use Rattle.script_lines.specs.declared.ending.ScriptEnd.{ScriptEnd}
 use Rattle.script_lines.specs.declared.ending.ScriptEnd.TheVariants as ending
 use Rattle.apei_cli.specs.Statuses.{status_of}
@@ -15,5 +16,5 @@ pub record IsHubRun {L : Type 0} (hearing : L → Hearing) (told_source told_sin
   pub ended : ScriptEnd
   pub status_is : status ≡ status_of ended
   pub serves : ((ended ≡ ending.Memory) × untouched × (listeners_now ≡ listeners))
-      ⊎ ServesScript hearing told_source told_sink script rest written written_now listeners listeners_now ended
+      ⊎ ServesScript hearing (stream_of told_source script rest) (stream_of told_sink written written_now) listeners listeners_now ended
   pub flash : new ≡ old

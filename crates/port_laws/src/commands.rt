@@ -185,5 +185,8 @@ pub fn accesses_leave_the_windows()
         → Reaches (Goes addresses) first last → IsPort last.port }
     ensures others { (addresses : Addresses) (first last : SpaceState) → IsPort first.port
         → Reaches (Goes addresses) first last → last.port ≡ record first.port {
-        device = last.port.device; range = last.port.range; made = last.port.made } }
+          device = last.port.device;
+          range = last.port.range;
+          made = last.port.made;
+        } }
 {}
