@@ -1,20 +1,23 @@
 -- Commands that are generated and played, one after another.
-use Rattle.std.proofs.Common.{◌≡◌, ◌∙◌, ℕ, zero, suc, ◌+◌, Result, Ok, Err, Bool, true, false, List, [], ◌∷◌, ◌++◌, length, map, cond, refl, sym, ap, subst, arith, length-append}
-use Rattle.std.specs.Prelude.{count_by}
+use Rattle.std.proofs.Common.{◌≡◌, ◌∙◌, ℕ, zero, suc, ◌+◌, Option, Some, None, Result, Ok, Err, Bool, true, false, List, [], ◌∷◌, ◌++◌, length, map, cond, refl, sym, ap, subst, arith, length-append}
+use Rattle.std.specs.Prelude.{count_by, is_err}
+use Rattle.std.specs.Result.{result_unwrap_or}
 use Rattle.std.proofs.lemmas.List.{map-append, append-nil}
 use Rattle.std.proofs.lemmas.List.Sums.{sum_by-append}
 use Rattle.script_text.specs.ScriptGrammar.{Line, count}
 use Rattle.erst_client.specs.declared.errors.ClientError.{ClientError}
+use Rattle.erst_machine.specs.Shown.{changes_of}
 use Rattle.apei_script.specs.Players.{PlayerState}
-use Rattle.apei_script.specs.Words.{said_at, reply_at, words_of_count}
-use Rattle.apei_script.specs.Plays.{Plays, IsOwnLine, step_of}
+use Rattle.apei_script.specs.Words.{said_at, reply_at, words_of_write, words_of_read, words_of_clear, words_of_count, words_of_next}
+use Rattle.apei_script.specs.Plays.{IsOwnLine, step_of}
+use Rattle.apei_script.specs.Sessions.{CommandPlayed}
 use Rattle.apei_script.specs.History.{Played, AreOwnLines, blocks_of, reply_of}
 use Rattle.apei_cli.specs.declared.generate.command.Command.{Command}
 use Rattle.apei_cli.specs.declared.generate.command.Command.TheVariants.{Write, Clear, Read, Next}
 use Rattle.apei_cli.specs.declared.generate.tally.Tally.{Tally}
 use Rattle.apei_cli.specs.Commands.{number_behind, numbers_behind, drawn_of, command_of, line_for, line_at, generated_lines}
 use Rattle.apei_cli.specs.Tallies.{counted_kind, counted_refusal, counted_with}
-use Rattle.apei_cli.specs.Generated.{is_write, is_clear, is_read, is_next, is_refusal, tally_of, IsAsked, PlaysCommands}
+use Rattle.apei_cli.specs.Generated.{is_write, is_clear, is_read, is_next, is_refusal, tally_of, IsRefusedIf, PlaysCommands}
 use Rattle.apei_cli.specs.Summaries.{TellsLive, Counted, Refused, WritesText, summary_of, IsGenerated}
 use Rattle.apei_cli.proofs.RunLemmas.{AreCounted-push, Follows-push, blocks_of-push, counts_after, played_as}
 
@@ -52,8 +55,26 @@ own_line (Read id) = tt
 own_line Next = tt
 
 -- the reply to the line
-reply-as : (line : Line) (words : List ℕ) (new : PlayerState) (reply : List ℕ) → reply ≡ reply_at (step_of new) words → reply_of (asked_as line words new) ≡ reply
-reply-as line words new reply is = append-nil (reply_at (step_of new) words) ∙ sym is
+reply-as : (line : Line) (words : List ℕ) (new : PlayerState) → reply_of (asked_as line words new) ≡ reply_at (step_of new) words
+reply-as line words new = append-nil (reply_at (step_of new) words)
+
+-- a reply is a refusal where the command was refused
+pub write_refused : (bytes : List ℕ) (result : Result (Unit {0}) ClientError) (step : ℕ) → is_err result ≡ is_refusal (reply_at step (words_of_write bytes result))
+write_refused bytes (Ok done) step = refl
+write_refused bytes (Err error) step = refl
+
+pub read_refused : (bytes : List ℕ) (result : Result ℕ ClientError) (step : ℕ) → is_err result ≡ is_refusal (reply_at step (words_of_read bytes result))
+read_refused bytes (Ok len) step = refl
+read_refused bytes (Err error) step = refl
+
+pub clear_refused : (id : ℕ) (result : Result (Unit {0}) ClientError) (step : ℕ) → is_err result ≡ is_refusal (reply_at step (words_of_clear id result))
+clear_refused id (Ok done) step = refl
+clear_refused id (Err error) step = refl
+
+pub next_refused : (result : Result (Option ℕ) ClientError) (step : ℕ) → is_err result ≡ is_refusal (reply_at step (words_of_next result))
+next_refused (Ok (Some id)) step = refl
+next_refused (Ok None) step = refl
+next_refused (Err error) step = refl
 
 -- one more that passes a test or does not
 abbrev bumped : Bool → ℕ → ℕ
@@ -138,10 +159,10 @@ SoFar-start tells old seed tally is = record {
   number_is = refl;
 }
 
-next_so_far : (tells : Type 0) (old : PlayerState) (seed n : ℕ) (mid new : PlayerState) (number : ℕ) (tally tally_now : Tally) (command : Command) (refused : Bool) (reply : List ℕ)
-    → SoFar tells old seed n mid number tally → command ≡ command_of (drawn_of (number_behind number)) → IsAsked tells mid (line_for command) new reply → refused ≡ is_refusal reply
+next_so_far : (tells : Type 0) (old : PlayerState) (seed n : ℕ) (mid new : PlayerState) (number : ℕ) (tally tally_now : Tally) (command : Command) (refused : Bool)
+    → SoFar tells old seed n mid number tally → command ≡ command_of (drawn_of (number_behind number)) → IsRefusedIf refused tells mid (line_for command) new → (tells → changes_of new.machine ≡ step_of new)
     → tally_now ≡ counted_with command refused tally → SoFar tells old seed (suc n) new (number_behind number) tally_now
-next_so_far tells old seed n mid new number tally tally_now command refused reply sofar made asked is counts =
+next_so_far tells old seed n mid new number tally tally_now command refused sofar made asked counted counts =
     let before = sofar.so_far in
     let one = asked_as (line_for command) asked.words new in
     let number_now : number_behind number ≡ number_after seed (suc n) = ap number_behind sofar.number_is ∙ sym (number_after-suc seed n) in
@@ -155,60 +176,53 @@ next_so_far tells old seed n mid new number tally tally_now command refused repl
             ∙ ap (λ (l : Line). generated_lines seed n ++ l ∷ []) line_is
             ∙ sym (lines-push seed n);
         history = λ wants counts. Follows-push tells wants counts old before.played mid one (before.history wants counts) (asked.played (counts_after wants before.played counts));
-        counted = λ told. AreCounted-push before.played one (before.counted told) (asked.counted told);
+        counted = λ told. AreCounted-push before.played one (before.counted told) (counted told);
         own = AreOwnLines-push before.played one before.own (own_line command);
         blocks = no_blocks-push before.played (line_for command) asked.words new before.blocks;
         tallied =
             counts
             ∙ ap (counted_with command refused) before.tallied
-            ∙ sym (tally-push before.played one command refused refl (ap is_refusal (reply-as (line_for command) asked.words new reply asked.text) ∙ sym is));
+            ∙ sym (tally-push before.played one command refused refl (ap is_refusal (reply-as (line_for command) asked.words new) ∙ sym asked.refused_is));
       };
       size = length-append before.played (one ∷ []) ∙ omega (arith, sofar.size);
       number_is = number_now;
     }
 
-pub SoFar-next : (tells : Type 0) (old : PlayerState) (seed n : ℕ) (mid new : PlayerState) (number : ℕ) (tally tally_now : Tally) (command : Command) (refused : Bool) (reply : List ℕ)
-    → SoFar tells old seed n mid number tally → command ≡ command_of (drawn_of (number_behind number)) → IsAsked tells mid (line_for command) new reply → refused ≡ is_refusal reply
+pub SoFar-next : (tells : Type 0) (old : PlayerState) (seed n : ℕ) (mid new : PlayerState) (number : ℕ) (tally tally_now : Tally) (command : Command) (refused : Bool)
+    → SoFar tells old seed n mid number tally → command ≡ command_of (drawn_of (number_behind number)) → IsRefusedIf refused tells mid (line_for command) new → (tells → changes_of new.machine ≡ step_of new)
     → tally_now ≡ counted_with command refused tally → SoFar tells old seed (n + 1) new (number_behind number) tally_now
-SoFar-next tells old seed n mid new number tally tally_now command refused reply sofar made asked is counts =
+SoFar-next tells old seed n mid new number tally tally_now command refused sofar made asked counted counts =
     subst (λ (k : ℕ). SoFar tells old seed k new (number_behind number) tally_now) (omega arith)
-    (next_so_far tells old seed n mid new number tally tally_now command refused reply sofar made asked is counts)
+    (next_so_far tells old seed n mid new number tally tally_now command refused sofar made asked counted counts)
 
 -- the number of records that the reply to a count tells
-told_by : (answer : Result ℕ ClientError) → (live : ℕ) × TellsLive (words_of_count answer) live
-told_by (Ok n) = (n, Counted n)
-told_by (Err error) = (0, Refused error)
+told_by : (answer : Result ℕ ClientError) → TellsLive (words_of_count answer) (result_unwrap_or answer 0)
+told_by (Ok n) = Counted n
+told_by (Err error) = Refused error
 
-module _ (tells : Type 0) where
-  -- the commands, and a count of the records behind them
-  pub generated : {E : Type 0}
-      → ((counts : List ℕ) (old : PlayerState) (words : List ℕ) (new : PlayerState) → Plays tells counts old count (said_at (step_of new) (words ∷ [])) [] [] new
-      → (answer : Result ℕ ClientError) × (words ≡ words_of_count answer))
-      → (told_sink : Type 0) (old : PlayerState) (seed commands : ℕ) (mid new : PlayerState) (tally : Tally) (reply : List ℕ) (step : ℕ) (written written_now : List ℕ)
-      (result : Result (Unit {0}) E) → PlaysCommands tells old seed commands mid tally → IsAsked tells mid count new reply → step ≡ step_of new
-      → ((words : List ℕ) (live : ℕ) → TellsLive words live → reply ≡ reply_at step words → told_sink → WritesText (summary_of commands tally live step) written written_now result)
-      → IsGenerated tells told_sink old seed commands new written written_now result
-  generated numbers told_sink old seed commands mid new tally reply step written written_now result are asked at text =
-      let last = asked_as count asked.words new in
-      let answer = numbers [] mid asked.words new (asked.played []).plays in
-      let told = told_by answer.0 in
-      let live = told.0 in
-      let told_live : TellsLive asked.words live = subst (λ (words : List ℕ). TellsLive words live) (sym answer.1) told.1 in
-      record {
-        played = are.played;
-        last = last;
-        lines = are.lines;
-        asked = refl;
-        history = λ wants counts. Follows-push tells wants counts old are.played mid last (are.history wants counts) (asked.played (counts_after wants are.played counts));
-        counted = λ told. AreCounted-push are.played last (are.counted told) (asked.counted told);
-        own = AreOwnLines-push are.played last are.own tt;
-        blocks = no_blocks-push are.played count asked.words new are.blocks;
-        words = asked.words;
-        said = refl;
-        live = live;
-        told_live = told_live;
-        text = λ told.
-            subst (λ (t : Tally). WritesText (summary_of commands t live (step_of new)) written written_now result) are.tallied
-            (subst (λ (s : ℕ). WritesText (summary_of commands tally live s) written written_now result) at
-            (text asked.words live told_live (asked.text ∙ ap (λ (s : ℕ). reply_at s asked.words) (sym at)) told));
-      }
+-- the commands, and a count of the records behind them
+pub generated : {E : Type 0} (tells told_sink : Type 0) (old : PlayerState) (seed commands : ℕ) (mid new : PlayerState) (tally : Tally) (answer : Result ℕ ClientError) (live step : ℕ)
+    (written written_now : List ℕ) (result : Result (Unit {0}) E) → PlaysCommands tells old seed commands mid tally → CommandPlayed tells mid count new (words_of_count answer)
+    → (tells → changes_of new.machine ≡ step_of new) → live ≡ result_unwrap_or answer 0 → step ≡ step_of new
+    → (told_sink → WritesText (summary_of commands tally live step) written written_now result)
+    → IsGenerated tells told_sink old seed commands new written written_now result
+generated tells told_sink old seed commands mid new tally answer live step written written_now result are asked counted is at text =
+    let words = words_of_count answer in
+    let last = asked_as count words new in
+    record {
+      played = are.played;
+      last = last;
+      lines = are.lines;
+      asked = refl;
+      history = λ wants counts. Follows-push tells wants counts old are.played mid last (are.history wants counts) (asked (counts_after wants are.played counts));
+      counted = λ told. AreCounted-push are.played last (are.counted told) (counted told);
+      own = AreOwnLines-push are.played last are.own tt;
+      blocks = no_blocks-push are.played count words new are.blocks;
+      words = words;
+      said = refl;
+      live = live;
+      told_live = subst (λ (n : ℕ). TellsLive words n) (sym is) (told_by answer);
+      text = λ told.
+          subst (λ (t : Tally). WritesText (summary_of commands t live (step_of new)) written written_now result) are.tallied
+          (subst (λ (s : ℕ). WritesText (summary_of commands tally live s) written written_now result) at (text told));
+    }

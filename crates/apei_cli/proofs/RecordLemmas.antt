@@ -7,6 +7,8 @@ use Rattle.std.proofs.lemmas.List.Elements.{All-weaker}
 use Rattle.hex.specs.Hex.{encode_lower, is_hex_digit, IsBytes}
 use Rattle.hex.proofs.HexLemmas.{decode_of-ok, decode_of-encode_lower}
 use Rattle.script_lines.specs.Parts.{IsPairs}
+use Rattle.script_text.specs.ScriptGrammar.{write}
+use Rattle.apei_script.specs.Plays.{IsPlayable}
 use Rattle.std.proofs.Math.Seq.{take-append_seam, take-append-add, drop-append-add, drop-append_seam}
 use Rattle.base_model.specs.Bytes.{spelled, put_at, AreBytes}
 use Rattle.base_model.proofs.BytesLemmas.{length-spelled, AreBytes-append, AreBytes-spelled}
@@ -83,7 +85,7 @@ each_byte (byte ∷ bytes) are (suc i) = each_byte bytes are.1 i
 is_digit : (c : ℕ) → is_hex_digit c ≡ true → is_ascii_hexdigit c ≡ true
 is_digit c h = grind (arith, nat_tests)
 
-pub record_pairs : (id size : ℕ) → IsPairs (encode_lower (record_of id size))
+record_pairs : (id size : ℕ) → IsPairs (encode_lower (record_of id size))
 record_pairs id size =
     let text = encode_lower (record_of id size) in
     let decodes = decode_of-ok text (record_of id size) (decode_of-encode_lower (record_of id size) (each_byte (record_of id size) (AreBytes-record id size))) in
@@ -93,3 +95,25 @@ record_pairs id size =
       even = (length (record_of id size), twice);
       some = omega (arith, twice);
     }
+
+length_record : (id size : ℕ) → 128 ≤ size → length (record_of id size) ≡ size
+length_record id size least =
+    omega (
+      arith,
+      length-append (first_fields ++ spelled 4 size ++ zeros 72 ++ spelled 8 id) (zeros (size - 104)),
+      length-append (first_fields ++ spelled 4 size ++ zeros 72) (spelled 8 id),
+      length-append (first_fields ++ spelled 4 size) (zeros 72),
+      length-append first_fields (spelled 4 size),
+      length-spelled 4 size,
+      length-spelled 8 id,
+      length-zeros 72,
+      length-zeros (size - 104),
+    )
+
+-- a line that writes such a record can be played
+pub record_playable : (id size : ℕ) → 128 ≤ size → size ≤ 368 → IsPlayable (write (encode_lower (record_of id size)))
+record_playable id size least most =
+    let text = encode_lower (record_of id size) in
+    let decodes = decode_of-ok text (record_of id size) (decode_of-encode_lower (record_of id size) (each_byte (record_of id size) (AreBytes-record id size))) in
+    let twice : length text ≡ 2 * length (record_of id size) = decodes.2 in
+    record { valid = record_pairs id size; fits = omega (arith, twice, length_record id size least) }

@@ -1,11 +1,11 @@
 -- Lines that were generated and played.
 use Rattle.std.specs.Prelude.{◌≡◌, ℕ, Bool, true, false, List, [], ◌∷◌, codes, take, count_by, map}
 use Rattle.std.specs.Str.{bytes_eq}
-use Rattle.erst_machine.specs.Shown.{changes_of}
 use Rattle.script_text.specs.ScriptGrammar.{Line, write, read, clear, next}
 use Rattle.apei_script.specs.Players.{PlayerState}
-use Rattle.apei_script.specs.Words.{said_at, reply_at}
-use Rattle.apei_script.specs.Plays.{LinePlayed, step_of}
+use Rattle.apei_script.specs.Words.{reply_at}
+use Rattle.apei_script.specs.Plays.{step_of}
+use Rattle.apei_script.specs.Sessions.{CommandPlayed}
 use Rattle.apei_script.specs.History.{Played, Follows, AreCounted, AreOwnLines, blocks_of, reply_of}
 use Rattle.apei_cli.specs.declared.generate.tally.Tally.{Tally}
 use Rattle.apei_cli.specs.Commands.{generated_lines}
@@ -41,12 +41,11 @@ tally_of lines = record {
   refused = count_by (λ (played : Played). is_refusal (reply_of played)) lines;
 }
 
--- one line was played, whatever the listeners have heard, and this is its reply
-pub record IsAsked (tells : Type 0) (old : PlayerState) (line : Line) (new : PlayerState) (reply : List ℕ) : Type 0 where
+-- one line was played, and whether its reply is a refusal
+pub record IsRefusedIf (refused : Bool) (tells : Type 0) (old : PlayerState) (line : Line) (new : PlayerState) : Type 0 where
   pub words : List ℕ
-  pub played : (counts : List ℕ) → LinePlayed tells counts old line (said_at (step_of new) (words ∷ [])) [] [] new
-  pub text : reply ≡ reply_at (step_of new) words
-  pub counted : tells → changes_of new.machine ≡ step_of new
+  pub played : CommandPlayed tells old line new words
+  pub refused_is : refused ≡ is_refusal (reply_at (step_of new) words)
 
 -- the lines that a seed generates were played, one after another
 pub record PlaysCommands (tells : Type 0) (old : PlayerState) (seed count : ℕ) (new : PlayerState) (tally : Tally) : Type 0 where

@@ -15,17 +15,11 @@ pub data TellsLive : List ℕ → ℕ → Type 0 where
   Counted : (n : ℕ) → TellsLive (words_of_count (Ok n)) n
   Refused : (error : ClientError) → TellsLive (words_of_count (Err error)) 0
 
--- the text up to the number of records that are live, and the end behind it
-abbrev pub tally_text : ℕ → Tally → List ℕ
-tally_text commands tally =
-    codes "gen " ++ decimal commands ++ codes " writes " ++ decimal tally.writes ++ codes " clears " ++ decimal tally.clears ++ codes " reads " ++ decimal tally.reads
-    ++ codes " nexts " ++ decimal tally.nexts ++ codes " refused " ++ decimal tally.refused ++ codes " live "
-
-abbrev pub end_text : ℕ → List ℕ
-end_text step = codes " @" ++ decimal step ++ 10 ∷ []
-
+-- the line
 abbrev pub summary_of : ℕ → Tally → ℕ → ℕ → List ℕ
-summary_of commands tally live step = tally_text commands tally ++ decimal live ++ end_text step
+summary_of commands tally live step =
+    codes "gen " ++ decimal commands ++ codes " writes " ++ decimal tally.writes ++ codes " clears " ++ decimal tally.clears ++ codes " reads " ++ decimal tally.reads
+    ++ codes " nexts " ++ decimal tally.nexts ++ codes " refused " ++ decimal tally.refused ++ codes " live " ++ decimal live ++ codes " @" ++ decimal step ++ 10 ∷ []
 
 -- a text was written, or where that was refused a beginning of it
 abbrev pub WritesText : {E : Type 0} → List ℕ → List ℕ → List ℕ → Result (Unit {0}) E → Type 0

@@ -1,4 +1,4 @@
--- Replies to what a line asks of the client in use.
+-- What a line asks of the client in use, and replies to it.
 use Rattle.std.proofs.Common.{◌≡◌, ℕ, List, length, Option, Result, Ok, subst}
 use Rattle.hex.specs.Hex.{decode_of}
 use Rattle.apei_space.specs.Accesses.{Reaches}
@@ -13,14 +13,52 @@ use Rattle.erst_machine.specs.Allowed.{Allows}
 use Rattle.script_text.specs.ScriptGrammar.{write, read, clear, count, next, dummy, action}
 use Rattle.apei_script.specs.Replies.{IsMade}
 use Rattle.apei_script.specs.Words.{words_of_write, words_of_read, words_of_clear, words_of_count, words_of_next, words_of_dummy, words_of_action}
-use Rattle.apei_script.specs.Asked.{READ_BUFFER, WritesRecord, ReadsRecord, ClearsRecord, CountsRecords, FindsNext, WritesDummy, RunsAction, Answers}
+use Rattle.apei_script.specs.Asked.{READ_BUFFER, WritesRecord, ReadsRecord, ClearsRecord, CountsRecords, FindsNext, WritesDummy, RunsAction, Commanded, Answers}
 
 module _ (tells : Type 0) (client : ClientState) (steps : ℕ) (old : MachineState) where
+  -- the machine was asked by a command
+  pub asked_to_write : (hex bytes : List ℕ) (result : Result (Unit {0}) ClientError) (budget left : ℕ) (new : MachineState) → decode_of hex ≡ Ok bytes → budget ≡ steps
+      → Writes (Allows tells) client bytes budget old result left new → Reaches (Allows tells) old new → Commanded tells client steps old (write hex) (words_of_write bytes result) new
+  asked_to_write hex bytes result budget left new decoded given asks reaches = record {
+    asked = WritesRecord hex bytes result left new decoded (subst (λ (n : ℕ). Writes (Allows tells) client bytes n old result left new) given asks);
+    reaches = reaches;
+  }
+
+  pub asked_to_read : (id : ℕ) (out after : List ℕ) (result : Result ℕ ClientError) (budget left : ℕ) (new : MachineState) → length out ≡ READ_BUFFER → budget ≡ steps
+      → Reads (Allows tells) client id out budget old result after left new → Reaches (Allows tells) old new → Commanded tells client steps old (read id) (words_of_read after result) new
+  asked_to_read id out after result budget left new size given asks reaches = record {
+    asked = ReadsRecord id out after result left new size (subst (λ (n : ℕ). Reads (Allows tells) client id out n old result after left new) given asks);
+    reaches = reaches;
+  }
+
+  pub asked_to_clear : (id : ℕ) (result : Result (Unit {0}) ClientError) (budget left : ℕ) (new : MachineState) → budget ≡ steps
+      → Sequence (Allows tells) client.table.entries client.timings (clear_requests id) budget old result left new → Reaches (Allows tells) old new
+      → Commanded tells client steps old (clear id) (words_of_clear id result) new
+  asked_to_clear id result budget left new given asks reaches = record {
+    asked = ClearsRecord id result left new (subst (λ (n : ℕ). Sequence (Allows tells) client.table.entries client.timings (clear_requests id) n old result left new) given asks);
+    reaches = reaches;
+  }
+
+  pub asked_to_count : (result : Result ℕ ClientError) (budget left : ℕ) (new : MachineState) → budget ≡ steps
+      → Counts (Allows tells) client.table.entries budget old result left new → Reaches (Allows tells) old new → Commanded tells client steps old count (words_of_count result) new
+  asked_to_count result budget left new given asks reaches = record {
+    asked = CountsRecords result left new (subst (λ (n : ℕ). Counts (Allows tells) client.table.entries n old result left new) given asks);
+    reaches = reaches;
+  }
+
+  pub asked_for_next : (result : Result (Option ℕ) ClientError) (budget left : ℕ) (new : MachineState) → budget ≡ steps
+      → Names (Allows tells) client.table.entries budget old result left new → Reaches (Allows tells) old new → Commanded tells client steps old next (words_of_next result) new
+  asked_for_next result budget left new given asks reaches = record {
+    asked = FindsNext result left new (subst (λ (n : ℕ). Names (Allows tells) client.table.entries n old result left new) given asks);
+    reaches = reaches;
+  }
+
+  -- and its reply made
   pub writes : (hex bytes : List ℕ) (result : Result (Unit {0}) ClientError) (budget left : ℕ) (new : MachineState) (reply : List ℕ) → decode_of hex ≡ Ok bytes → budget ≡ steps
       → Writes (Allows tells) client bytes budget old result left new → Reaches (Allows tells) old new → IsMade reply (words_of_write bytes result) → Answers tells client steps old (write hex) new reply
   writes hex bytes result budget left new reply decoded given asks reaches made = record {
     words = words_of_write bytes result;
-    commanded = record { asked = WritesRecord hex bytes result left new decoded (subst (λ (n : ℕ). Writes (Allows tells) client bytes n old result left new) given asks); reaches = reaches };
+    commanded = asked_to_write hex bytes result budget left new decoded given asks reaches;
     made = made;
   }
 
@@ -28,7 +66,7 @@ module _ (tells : Type 0) (client : ClientState) (steps : ℕ) (old : MachineSta
       → Reads (Allows tells) client id out budget old result after left new → Reaches (Allows tells) old new → IsMade reply (words_of_read after result) → Answers tells client steps old (read id) new reply
   reads id out after result budget left new reply size given asks reaches made = record {
     words = words_of_read after result;
-    commanded = record { asked = ReadsRecord id out after result left new size (subst (λ (n : ℕ). Reads (Allows tells) client id out n old result after left new) given asks); reaches = reaches };
+    commanded = asked_to_read id out after result budget left new size given asks reaches;
     made = made;
   }
 
@@ -37,10 +75,7 @@ module _ (tells : Type 0) (client : ClientState) (steps : ℕ) (old : MachineSta
       → IsMade reply (words_of_clear id result) → Answers tells client steps old (clear id) new reply
   clears id result budget left new reply given asks reaches made = record {
     words = words_of_clear id result;
-    commanded = record {
-      asked = ClearsRecord id result left new (subst (λ (n : ℕ). Sequence (Allows tells) client.table.entries client.timings (clear_requests id) n old result left new) given asks);
-      reaches = reaches;
-    };
+    commanded = asked_to_clear id result budget left new given asks reaches;
     made = made;
   }
 
@@ -48,7 +83,7 @@ module _ (tells : Type 0) (client : ClientState) (steps : ℕ) (old : MachineSta
       → Counts (Allows tells) client.table.entries budget old result left new → Reaches (Allows tells) old new → IsMade reply (words_of_count result) → Answers tells client steps old count new reply
   counts result budget left new reply given asks reaches made = record {
     words = words_of_count result;
-    commanded = record { asked = CountsRecords result left new (subst (λ (n : ℕ). Counts (Allows tells) client.table.entries n old result left new) given asks); reaches = reaches };
+    commanded = asked_to_count result budget left new given asks reaches;
     made = made;
   }
 
@@ -56,7 +91,7 @@ module _ (tells : Type 0) (client : ClientState) (steps : ℕ) (old : MachineSta
       → Names (Allows tells) client.table.entries budget old result left new → Reaches (Allows tells) old new → IsMade reply (words_of_next result) → Answers tells client steps old next new reply
   names result budget left new reply given asks reaches made = record {
     words = words_of_next result;
-    commanded = record { asked = FindsNext result left new (subst (λ (n : ℕ). Names (Allows tells) client.table.entries n old result left new) given asks); reaches = reaches };
+    commanded = asked_for_next result budget left new given asks reaches;
     made = made;
   }
 

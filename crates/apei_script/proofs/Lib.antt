@@ -23,6 +23,7 @@ pub mod Asking
 pub mod Giving
 pub mod Owning
 pub mod SessionLines
+pub mod CommandLemmas
 pub mod PlayLemmas
 pub mod KeptTurns
 mod MappedTurns

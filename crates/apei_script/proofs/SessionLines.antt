@@ -30,7 +30,7 @@ use Rattle.apei_script.specs.Sessions.{MakesReply}
 use Rattle.apei_script.proofs.ShadowGiving.{IsShadowGiven}
 
 -- what a player is made of
-abbrev player : MachineState → ClientState → Option ClientState → Option ℕ → BridgeState → PlayerState
+abbrev pub player : MachineState → ClientState → Option ClientState → Option ℕ → BridgeState → PlayerState
 player machine own other steps state = record { machine = machine; own = own; other = other; steps = steps; bridge = state }
 
 -- the bytes of digits, where those of a vector are lent

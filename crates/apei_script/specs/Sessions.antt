@@ -12,10 +12,14 @@ use Rattle.apei_script.specs.Plays.{Plays, LinePlayed, LeftIn, PartlyWritten, ch
 abbrev pub state_of : {F : Type 0} → Session F → PlayerState
 state_of session = record { machine = session.machine; own = session.own; other = session.other; steps = session.steps; bridge = session.bridge }
 
--- a line of one reply was played, whatever the listeners have heard, and its reply made
+-- a line of one reply was played, whatever the listeners have heard, and these are the words of its reply
+abbrev pub CommandPlayed : Type 0 → PlayerState → Line → PlayerState → (words : List ℕ) → Type 0
+CommandPlayed tells old line new words = (counts : List ℕ) → LinePlayed tells counts old line (said_at (step_of new) (words ∷ [])) [] [] new
+
+-- so it was, and its reply made
 pub record LineAnswered (tells : Type 0) (old : PlayerState) (line : Line) (new : PlayerState) (reply : List ℕ) : Type 0 where
   pub words : List ℕ
-  pub played : (counts : List ℕ) → LinePlayed tells counts old line (said_at (step_of new) (words ∷ [])) [] [] new
+  pub played : CommandPlayed tells old line new words
   pub text : reply ≡ reply_at (step_of new) words
 
 -- a line of one reply was carried out, whatever the listeners have heard, and its reply made but for the step behind it

@@ -7,7 +7,6 @@ ghost use Rattle.erst_bridge.specs.Bridges.{Off};
 ghost use Rattle.erst_bridge.specs.Turns.{OfBridge, IsTurn};
 ghost use Rattle.erst_bridge.specs.Made.{turn_of, side_in};
 ghost use Rattle.script_text.specs.ScriptGrammar.{bridge, turns};
-ghost use Rattle.apei_script.specs.Players.{budget_of};
 ghost use Rattle.apei_script.specs.Words.{reply_at};
 ghost use Rattle.script_text.specs.Turns.{side_of};
 ghost use Rattle.apei_script.specs.Bridged.{HasTaken, words_of_turn, words_of_made};
@@ -48,16 +47,6 @@ impl<F: Flash> Session<F> {
         }
         self.bridge.enter(first);
         put_number(&mut self.buffers.reply, b"bridge ", id);
-    }
-
-    /// The steps that a line is given.
-    fn budget(&self) -> u64
-        ensures { result ≡ budget_of (state_of self.now) }
-    {
-        match &self.other {
-            Some(client) => self.steps.unwrap_or(client.enough()),
-            None => self.steps.unwrap_or(self.own.enough()),
-        }
     }
 }
 

@@ -18,7 +18,7 @@ use flash_model::Flash;
 use script_text::{Reply, ScriptLine, decode};
 
 /// The bytes of the longest record that is read.
-const READ_BUFFER: usize = 65_536;
+pub const READ_BUFFER: usize = 65_536;
 
 impl<F: Flash> Session<F> {
     /// Carries out what a line asks of the client in use.

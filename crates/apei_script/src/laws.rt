@@ -1,16 +1,15 @@
 // Laws on one line of a script: the functions do nothing, and their clauses are the laws.
-ghost use Rattle.std.specs.Prelude.{◌≡◌, ℕ, ◌+◌, ◌≤◌, List, [], ◌∷◌, Result};
+ghost use Rattle.std.specs.Prelude.{◌≡◌, ℕ, ◌+◌, ◌≤◌, List};
 ghost use Rattle.base_model.specs.Faults.{Rose};
 ghost use Rattle.apei_space.specs.Accesses.{Move, Trail};
 ghost use Rattle.erst_machine.specs.MachineState.{MachineState, IsMachine};
 ghost use Rattle.erst_machine.specs.Events.{Event, Happens};
-ghost use Rattle.erst_client.specs.declared.errors.ClientError.{ClientError as AnyError};
 ghost use Rattle.erst_bridge.specs.Turns.{Step};
-ghost use Rattle.script_text.specs.ScriptGrammar.{Line, IsValid, count};
+ghost use Rattle.script_text.specs.ScriptGrammar.{Line, IsValid};
 ghost use Rattle.apei_script.specs.Players.{PlayerState};
-ghost use Rattle.apei_script.specs.Words.{Reply, said_at, words_of_count};
+ghost use Rattle.apei_script.specs.Words.{Reply};
 ghost use Rattle.apei_script.specs.Changes.{changes_along};
-ghost use Rattle.apei_script.specs.Plays.{Plays, FailsRestart, HasHappened, LinePlayed, step_of};
+ghost use Rattle.apei_script.specs.Plays.{Plays, FailsRestart, HasHappened, LinePlayed};
 
 use erst_commands::own_programs_run_through;
 use flash_model::Flash;
@@ -57,11 +56,4 @@ pub fn a_line_keeps_a_machine<F: Flash>()
     ensures steps { (counts : List ℕ) (old : PlayerState) (line : Line) (said : List Reply) (blocks : List (List ℕ))
         (steps : List Step) (new : PlayerState) → Plays F.tells counts old line said blocks steps new
         → new.steps ≡ old.steps }
-{}
-
-/// The reply to a line that counts the records tells their number, or why it was refused.
-pub fn a_count_tells_a_number<F: Flash>()
-    ensures { (counts : List ℕ) (old : PlayerState) (words : List ℕ) (new : PlayerState)
-        → Plays F.tells counts old count (said_at (step_of new) (words ∷ [])) [] [] new → (answer : Result ℕ AnyError)
-        × (words ≡ words_of_count answer) }
 {}

@@ -4,6 +4,7 @@
 mod blocks;
 mod bridged;
 mod buffers;
+mod clients;
 mod commands;
 mod events;
 mod history;
@@ -21,8 +22,8 @@ pub use history::{
     lines_keep_in_step, scripts_play_alike, stored_blocks_stay,
 };
 pub use laws::{
-    a_count_tells_a_number, a_failed_restart_has_happened, a_line_is_the_maps,
-    a_line_keeps_a_machine, events_take_their_changes,
+    a_failed_restart_has_happened, a_line_is_the_maps, a_line_keeps_a_machine,
+    events_take_their_changes,
 };
 pub use own::own_client;
 pub use player::{PlayStop, Player, PlayerRefused};

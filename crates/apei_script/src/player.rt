@@ -1,7 +1,8 @@
 // The player.
-ghost use Rattle.std.specs.Prelude.{◌≡◌, ◌≢◌, ◌≤◌, [], length, true, Ok, Err, OnOk, OnErr, IfOk, IfErr};
+ghost use Rattle.std.specs.Prelude.{◌≡◌, ◌≢◌, ◌≤◌, ℕ, List, [], length, true, Ok, Err, OnOk, OnErr, IfOk, IfErr};
+ghost use Rattle.hex.specs.Hex.{encode_lower};
 ghost use Rattle.base_model.specs.Faults.{Rose, HasCause};
-ghost use Rattle.script_text.specs.ScriptGrammar.{turns as turns_of};
+ghost use Rattle.script_text.specs.ScriptGrammar.{write, read, clear, count, next, turns as turns_of};
 ghost use Rattle.script_text.specs.ScriptText.{line_of};
 ghost use Rattle.apei_notify.specs.Chains.{members_of};
 ghost use Rattle.apei_script.specs.declared.player.PlayStop.TheVariants.{SinkFault as TheSinkFault};
@@ -10,19 +11,19 @@ ghost use Rattle.erst_bridge.specs.Bridges.{Off};
 ghost use Rattle.erst_machine.specs.MachineState.{IsMachine};
 ghost use Rattle.erst_machine.specs.Shown.{changes_of};
 ghost use Rattle.apei_script.specs.Plays.{IsPlayable, Stops, step_of, has_one_reply};
-ghost use Rattle.apei_script.specs.Sessions.{state_of, LineAnswered};
+ghost use Rattle.apei_script.specs.Words.{words_of_write, words_of_read, words_of_clear, words_of_count, words_of_next};
+ghost use Rattle.apei_script.specs.Sessions.{state_of, CommandPlayed, LineAnswered};
 ghost use Rattle.apei_script.specs.Played.{IsPlayed, IsUnwritten, IsStopped};
 
 use crate::bridged::bridged_turns;
 use crate::buffers::Buffers;
 use crate::events::{list_blocks, say_heard, turns};
-use crate::laws::a_line_is_the_maps;
 use crate::reply::end_line;
 use crate::session::Session;
 use apei_bytes::{OutOfMemory, Sink, SinkFault, write_all};
 use apei_notify::{Chain, Listener};
 use erst_bridge::Bridge;
-use erst_client::Client;
+use erst_client::{Client, ClientError};
 use erst_machine::Machine;
 use flash_model::Flash;
 use script_text::ScriptLine;
@@ -138,8 +139,55 @@ impl<F: Flash> Player<F> {
         }
     }
 
+    /// Writes an error record by the client in use. This and the next four play the line of a command without its text: the words of
+    /// its reply are those of what they answer.
+    pub fn write(&mut self, bytes: &[u8]) -> Result<(), ClientError>
+        requires playable { IsPlayable (write (encode_lower bytes.now)) }
+        ensures played { CommandPlayed F.tells (state_of self.old.session) (write (encode_lower bytes.now))
+            (state_of self.new.session) (words_of_write bytes.now result) }
+        ensures listeners { members_of self.new.chain ≡ members_of self.old.chain }
+    {
+        self.session.write(bytes)
+    }
+
+    /// Reads the record of an identifier, and answers how many bytes it has.
+    pub fn read(&mut self, id: u64) -> Result<usize, ClientError>
+        ensures played { (shown : List ℕ) × CommandPlayed F.tells (state_of self.old.session) (read id)
+            (state_of self.new.session) (words_of_read shown result) }
+        ensures listeners { members_of self.new.chain ≡ members_of self.old.chain }
+    {
+        self.session.read(id)
+    }
+
+    /// Clears the record of an identifier.
+    pub fn clear(&mut self, id: u64) -> Result<(), ClientError>
+        ensures played { CommandPlayed F.tells (state_of self.old.session) (clear id) (state_of self.new.session)
+            (words_of_clear id result) }
+        ensures listeners { members_of self.new.chain ≡ members_of self.old.chain }
+    {
+        self.session.clear(id)
+    }
+
+    /// Asks how many records are stored.
+    pub fn count(&mut self) -> Result<u64, ClientError>
+        ensures played { CommandPlayed F.tells (state_of self.old.session) count (state_of self.new.session)
+            (words_of_count result) }
+        ensures listeners { members_of self.new.chain ≡ members_of self.old.chain }
+    {
+        self.session.count()
+    }
+
+    /// Asks for the next identifier, `None` where there is none.
+    pub fn next(&mut self) -> Result<Option<u64>, ClientError>
+        ensures played { CommandPlayed F.tells (state_of self.old.session) next (state_of self.new.session)
+            (words_of_next result) }
+        ensures listeners { members_of self.new.chain ≡ members_of self.old.chain }
+    {
+        self.session.next()
+    }
+
     /// Plays a line of one reply that the listeners have no part in, and keeps the reply, which `reply` shows.
-    pub fn answer(&mut self, line: &ScriptLine<'_>) -> Result<(), PlayStop>
+    fn answer(&mut self, line: &ScriptLine<'_>) -> Result<(), PlayStop>
         requires playable { IsPlayable (line_of line.now) }
         requires one { has_one_reply (line_of line.now) ≡ true }
         ensures answered { OnOk result (LineAnswered F.tells (state_of self.old.session) (line_of line.now)
@@ -148,7 +196,6 @@ impl<F: Flash> Player<F> {
             (state_of self.new.session)) }
         ensures listeners { members_of self.new.chain ≡ members_of self.old.chain }
     {
-        a_line_is_the_maps::<F>();
         self.session.machine.stands();
         self.session.carry_out(line)?;
         end_line(
@@ -170,7 +217,7 @@ impl<F: Flash> Player<F> {
     }
 
     /// The reply that `answer` made last, right behind it; of a player that has played no line yet nothing.
-    pub fn reply(&self) -> &[u8]
+    fn reply(&self) -> &[u8]
         ensures { result.now ≡ self.now.session.buffers.reply }
     {
         self.session.buffers.reply.text()

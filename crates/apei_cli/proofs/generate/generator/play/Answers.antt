@@ -1,23 +1,46 @@
-use Rattle.std.proofs.Common.{◌≡◌, ◌∙◌, rules, sym, ap, subst, arith}
-use Rattle.script_lines.specs.Parts.{IsPairs}
+use Rattle.std.proofs.Common.{◌≡◌, ◌∙◌, ℕ, List, sym, ap, subst}
 use Rattle.hex.specs.Hex.{encode_lower}
-use Rattle.script_text.specs.ScriptGrammar.{Line, write}
+use Rattle.script_text.specs.ScriptGrammar.{write}
+use Rattle.apei_script.specs.Plays.{IsPlayable, step_of}
 use Rattle.apei_script.specs.Sessions.{state_of}
-use Rattle.apei_cli.specs.declared.generate.command.Command.TheVariants.{Write}
+use Rattle.apei_cli.specs.declared.generate.command.Command.{Command}
 use Rattle.apei_cli.specs.Commands.{line_for}
-use Rattle.apei_cli.specs.Records.{record_of}
-use Rattle.apei_cli.specs.Generated.{IsAsked}
-use Rattle.apei_cli.proofs.RecordLemmas.{record_pairs}
+use Rattle.apei_cli.specs.Generated.{IsRefusedIf}
+use Rattle.apei_cli.proofs.RecordLemmas.{record_playable}
+use Rattle.apei_cli.proofs.GenerateLemmas.{write_refused, read_refused, clear_refused, next_refused}
 use Rattle.apei_cli.proofs.generate.generator.play.Goals as goal
 
-pub ask-requires-clause-playable : goal.ask-requires-clause-playable
-ask-requires-clause-playable g c =
-    let hex : c.put_record.new.hex ≡ encode_lower (record_of c.in-Write.id c.in-Write.size) = c.put_record.ensures in
-    record { valid = subst IsPairs (sym hex) (record_pairs c.in-Write.id c.in-Write.size); fits = first_of (omega arith, search rules) }
+pub write-requires-clause-playable : goal.write-requires-clause-playable
+write-requires-clause-playable g c =
+    let size = rw c.in-Write.is at c.requires in
+    subst (λ (bytes : List ℕ). IsPlayable (write (encode_lower bytes))) (sym c.sample_record-record.ensures) (record_playable c.in-Write.id c.in-Write.size size.0 size.1)
 
-pub returns-in-Write-clause-asked : goal.returns-in-Write-clause-asked
-returns-in-Write-clause-asked g c =
-    let hex : c.put_record.new.hex ≡ encode_lower (record_of c.in-Write.id c.in-Write.size) = c.put_record.ensures in
-    let is : c.args.command ≡ Write c.in-Write.id c.in-Write.size = c.in-Write.is in
-    let line : write c.put_record.new.hex ≡ line_for c.args.command = ap write hex ∙ ap line_for (sym is) in
-    subst (λ (l : Line). IsAsked g.F.Flash.tells (state_of c.args.player.now.session) l (state_of c.ask.new.player.session) c.ask.new.player.session.buffers.reply) line c.ask.ensures.asked
+pub returns-in-Write-clause-played : goal.returns-in-Write-clause-played
+returns-in-Write-clause-played g c =
+    rw c.in-Write.is (subst (λ (bytes : List ℕ). IsRefusedIf c.is_err.result g.F.Flash.tells (state_of c.args.player.now.session) (write (encode_lower bytes)) (state_of c.write.new.self.session)) c.sample_record-record.ensures
+    (record { words = _; played = c.write.ensures.played; refused_is = c.is_err.ensures.value ∙ write_refused _ c.write.result (step_of (state_of c.write.new.self.session)) }))
+
+pub returns-in-Clear-clause-played : goal.returns-in-Clear-clause-played
+returns-in-Clear-clause-played g c =
+    rw c.in-Clear.is (record {
+      words = _;
+      played = c.clear.ensures.played;
+      refused_is = c.is_err-in-Clear.ensures.value ∙ clear_refused c.in-Clear.id c.clear.result (step_of (state_of c.clear.new.self.session));
+    })
+
+pub returns-in-Read-clause-played : goal.returns-in-Read-clause-played
+returns-in-Read-clause-played g c =
+    let played = c.read.ensures.played in
+    rw c.in-Read.is (record {
+      words = _;
+      played = played.1;
+      refused_is = c.is_err-in-Read.ensures.value ∙ read_refused played.0 c.read.result (step_of (state_of c.read.new.self.session));
+    })
+
+pub returns-in-Next-clause-played : goal.returns-in-Next-clause-played
+returns-in-Next-clause-played g c =
+    rw c.in-Next.is (record {
+      words = _;
+      played = c.next.ensures.played;
+      refused_is = c.is_err-in-Next.ensures.value ∙ next_refused c.next.result (step_of (state_of c.next.new.self.session));
+    })
