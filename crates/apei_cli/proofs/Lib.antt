@@ -10,5 +10,6 @@ pub mod CompleteLemmas
 pub mod RecordLemmas
 pub mod SummaryLemmas
 pub mod GenerateLemmas
+pub mod LawLemmas
 pub mod JobLemmas
 pub mod EndLemmas

@@ -3,16 +3,12 @@ ghost use Rattle.std.specs.Prelude.{◌≡◌, ⊤, IfOk, IfErr};
 ghost use Rattle.apei_notify.specs.Chains.{members_of};
 ghost use Rattle.apei_script.specs.Sessions.{state_of};
 ghost use Rattle.apei_cli.specs.Orders.{order_of};
-ghost use Rattle.apei_cli.specs.LineLaws.{HaveLaws};
 ghost use Rattle.apei_cli.specs.Runs.{boot_status, IsBootOf, HasBooted, HasNotBegun, IsOnGeometry, HasFlashCause};
 
 use crate::Plan;
 use crate::status::Status;
 use apei_notify::{Chain, Listener};
-use apei_script::{
-    Player, PlayerRefused, kept_blocks_have_causes, lines_are_one_list, lines_are_shown,
-    lines_keep_in_step, own_client, stored_blocks_stay,
-};
+use apei_script::{Player, PlayerRefused, own_client};
 use erst_machine::{BootError, BootRefused, Machine};
 use flash_model::{Flash, Geometry};
 use std::alloc::Global;
@@ -124,18 +120,12 @@ pub fn boot_player<F: Flash>(
     }
 }
 
-/// The flash and the listeners of a player, and what is true of the lines that it played.
+/// The flash and the listeners of a player.
 pub fn take_apart<F: Flash>(player: Player<F>) -> (F, Vec<Box<dyn Listener>>)
     requires { ⊤ }
     ensures flash { F.state result.0 ≡ (state_of player.session).machine.device.store.flash }
     ensures listeners { result.1.items ≡ members_of player.chain }
-    ensures laws { HaveLaws F.tells }
 {
-    lines_are_one_list::<F>();
-    lines_are_shown::<F>();
-    kept_blocks_have_causes::<F>();
-    lines_keep_in_step::<F>();
-    stored_blocks_stay::<F>();
     let (machine, chain) = player.into_parts();
     (machine.into_flash(), chain.into_members())
 }

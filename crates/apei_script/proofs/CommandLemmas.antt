@@ -2,25 +2,18 @@
 use Rattle.std.proofs.Common.{◌≡◌, ℕ, List, [], ◌∷◌, Option, Some, None, Result, Ok, sym, ap, subst}
 use Rattle.hex.specs.Hex.{decode_of, encode_lower, IsBytes}
 use Rattle.hex.proofs.HexLemmas.{decode_of-encode_lower}
-use Rattle.erst_interp.proofs.StraightLemmas.{ran_straight}
 use Rattle.erst_client.specs.Commands.{ClientState}
 use Rattle.erst_bridge.specs.Bridges.{BridgeState}
-use Rattle.erst_machine.specs.Allowed.{Allows}
 use Rattle.erst_machine.specs.MachineState.{MachineState, IsMachine}
-use Rattle.erst_commands.specs.OwnPrograms.{OwnProgramsRun}
-use Rattle.erst_commands.proofs.OwnProgramLemmas.{own_programs_run}
 use Rattle.script_text.specs.ScriptGrammar.{Line, IsValid}
 use Rattle.apei_script.specs.Players.{PlayerState, in_use, budget_by}
 use Rattle.apei_script.specs.Words.{said_at}
 use Rattle.apei_script.specs.Asked.{Commanded}
 use Rattle.apei_script.specs.Plays.{ByClient, changes_in}
 use Rattle.apei_script.specs.Sessions.{CommandPlayed}
+use Rattle.apei_script.proofs.LawLemmas.{own_programs}
 use Rattle.apei_script.proofs.PlayedLemmas.{line_played}
 use Rattle.apei_script.proofs.SessionLines.{player}
-
--- the programs of the machine's own table
-pub own_programs : (tells : Type 0) → OwnProgramsRun tells
-own_programs tells = own_programs_run tells (λ program straight given budget first result left last some run. ran_straight (Allows tells) program straight some given budget first result left last run)
 
 -- the bytes of a record's digits
 pub are_decoded : (bytes : List ℕ) → IsBytes bytes → decode_of (encode_lower bytes) ≡ Ok bytes

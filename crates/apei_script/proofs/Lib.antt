@@ -22,12 +22,13 @@ pub mod Made
 pub mod Asking
 pub mod Giving
 pub mod Owning
+pub mod LawLemmas
 pub mod SessionLines
 pub mod CommandLemmas
 pub mod PlayLemmas
 pub mod KeptTurns
 mod MappedTurns
-mod GivenBack
+pub mod GivenBack
 pub mod BridgeLemmas
 pub mod KeptLines
 pub mod KeptCauses

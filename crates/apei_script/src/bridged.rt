@@ -20,10 +20,9 @@ use apei_bytes::{Sink, SinkFault, write_all};
 use apei_notify::{Chain, Listener};
 use erst_bridge::{Bridge, BridgeEvent, MadeTurn, SideTurn, turn_side};
 use erst_client::{Client, ClientError};
-use erst_commands::own_programs_run_through;
 use erst_machine::Machine;
 use flash_model::Flash;
-use ghes_ack::{Event, Station, a_taken_block_fits};
+use ghes_ack::{Event, Station};
 use record_slots::RecordId;
 use script_lines::LineText;
 use script_text::{Refusal, Reply, side_of, word_of};
@@ -66,7 +65,6 @@ pub fn bridged_turns<F: Flash, O: Sink>(
         session.new chain.new (O.written out.old) (O.written out.new)) }
     ensures cause { HasCause (O.faults out.old) (O.faults out.new) result }
 {
-    own_programs_run_through::<F>();
     session.machine.stands();
     let steps = session.budget();
     session.buffers.made.clear();
@@ -105,7 +103,6 @@ fn bridged_turn<F: Flash>(
     ensures client { client.new ≡ client.old }
     ensures fits { HasTaken (turn_of result) → Fits 4096 machine.new.handover.last }
 {
-    a_taken_block_fits();
     machine.stands();
     turn_side(bridge, client, steps, machine, side_of(letter))
 }

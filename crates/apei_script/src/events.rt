@@ -19,7 +19,7 @@ use apei_notify::{Chain, Listener};
 use apei_space::Space;
 use erst_machine::{BOOT_ERRORS, Machine};
 use flash_model::Flash;
-use ghes_ack::{Event, a_taken_block_fits};
+use ghes_ack::Event;
 use script_text::{Reply, side_of, word_of};
 
 /// Turns of both sides, one for each letter. The listeners are told of each block when it is taken, and its line is written right after;
@@ -59,7 +59,6 @@ fn turn<F: Flash>(machine: &mut Machine<F>, letter: u8) -> Event
     ensures turned { Turns (side_of letter) machine.old result machine.new }
     ensures took { result ≡ Event.Took → Fits 4096 machine.new.handover.last }
 {
-    a_taken_block_fits();
     machine.stands();
     machine.turn(side_of(letter))
 }

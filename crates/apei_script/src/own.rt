@@ -7,7 +7,6 @@ ghost use Rattle.erst_commands.specs.Attached.{own_client};
 use crate::tables::ATTACH_STEPS;
 use apei_bytes::OutOfMemory;
 use erst_client::Client;
-use erst_commands::attaching_never_fails;
 use erst_entries::ErstTable;
 use erst_interp::Budget;
 use erst_machine::Machine;
@@ -20,7 +19,6 @@ pub fn own_client<F: Flash>(alloc: Global, machine: &mut Machine<F>) -> Result<C
     ensures machine { OnOk result (machine.new ≡ with_value (timings_of machine.old.device.store.layout) machine.old) }
     ensures kept { OnErr result (machine.new ≡ machine.old) }
 {
-    attaching_never_fails::<F>();
     let bytes = machine.erst_table(alloc)?;
     let Ok((table, _)) = ErstTable::decode(alloc, &bytes) else {
         return Err(OutOfMemory);

@@ -13,7 +13,7 @@ use crate::session::Session;
 use erst_client::Client;
 use erst_entries::{ErstError, ErstTable};
 use erst_interp::Budget;
-use erst_shadow::{attaching_never_fails, shadow_table};
+use erst_shadow::shadow_table;
 use flash_model::Flash;
 use script_text::decode_line;
 
@@ -58,7 +58,6 @@ impl<F: Flash> Session<F> {
         ensures stopped { IfErr result (λ stop. Stops F.tells (state_of self.old) shadow_table (state_of self.new)
             stop) }
     {
-        attaching_never_fails::<F>();
         self.machine.stands();
         let Ok(table) = shadow_table(self.alloc, self.machine.reach()) else {
             return Err(PlayStop::Memory);

@@ -7,6 +7,7 @@ use Rattle.apei_script.specs.Words.{reply_at}
 use Rattle.apei_script.specs.Sessions.{state_of, SameClients}
 use Rattle.base_model.proofs.FaultLemmas.{on_err, same_cause}
 use Rattle.script_text.proofs.FaultLemmas.{handed_on}
+use Rattle.apei_script.proofs.LawLemmas.{own_programs}
 use Rattle.apei_script.proofs.BridgeLemmas.{no_step, bridged_quiet, bridged_took, turns_all, turns_unwritten, turns_cut, not_taken, same_turn, so_at, played_by, unwritten_by}
 use Rattle.apei_script.proofs.bridged.bridged_turns.Goals as goal
 use Rattle.apei_script.proofs.bridged.bridged_turns.Goals.{then-taken+in_ok-hear_of_block, else-taken}
@@ -42,7 +43,7 @@ returns-in_err-hear_of_block-clause-unwritten g c =
     before.own c.budget-steps.ensures c.bridged_turn-turn.ensures.turn in
     on_err c.from_residual.result
     (unwritten_by _ g.F.Flash.tells g.O.Sink.tells c.args.session.now c.hear_of_block.new.session c.bridged_turn-turn.new.bridge c.bridged_turn-turn.new.machine clients c.hear_of_block.ensures.bridge c.hear_of_block.ensures.machine _ _ _ _ _
-    (turns_cut _ g.F.Flash.tells g.O.Sink.tells c.own_programs_run_through.ensures (state_of c.args.session.now) c.stands.ensures.machine c.requires.on _ _ c.bridged_turn-turn.new.bridge c.bridged_turn-turn.new.machine
+    (turns_cut _ g.F.Flash.tells g.O.Sink.tells (own_programs g.F.Flash.tells) (state_of c.args.session.now) c.stands.ensures.machine c.requires.on _ _ c.bridged_turn-turn.new.bridge c.bridged_turn-turn.new.machine
     c.turning.session.bridge c.turning.session.machine _ _ c.args.letters.now c.turning.letter-index _ _ _ c.bridged_turn-turn.result c.steps-step.result (omega arith) c.turning.invariant.so
     is c.bridged_turn-turn.ensures.side c.steps-step.ensures.told c.steps-step.ensures.value (c.took-taken.ensures.0 c.if-taken.true)
     c.hear_of_block.ensures.told c.in_err-hear_of_block.ensures.part))
@@ -88,12 +89,12 @@ returns g c =
     record {
       played = on_ok_weaker c.say_made.result
           (λ h. played_by _ g.F.Flash.tells g.O.Sink.tells c.args.session.now _ c.turning.session.bridge c.turning.session.machine c.turning.invariant.clients refl refl _ _ _ _ _
-          (turns_all _ g.F.Flash.tells g.O.Sink.tells c.own_programs_run_through.ensures (state_of c.args.session.now) c.stands.ensures.machine c.requires.on _ _ c.turning.session.bridge c.turning.session.machine
+          (turns_all _ g.F.Flash.tells g.O.Sink.tells (own_programs g.F.Flash.tells) (state_of c.args.session.now) c.stands.ensures.machine c.requires.on _ _ c.turning.session.bridge c.turning.session.machine
           _ c.args.letters.now c.turning.letter-index _ _ _ c.steps-step-2.result (omega arith) c.turning.invariant.so c.steps-step-2.ensures.value
           (λ t. h t ∙ ap (λ (xs : List ℕ). g.O.Sink.written c.turning.out ++ xs) reply))) c.say_made.ensures.all;
       unwritten = on_err_weaker c.say_made.result
           (λ h. unwritten_by _ g.F.Flash.tells g.O.Sink.tells c.args.session.now _ c.turning.session.bridge c.turning.session.machine c.turning.invariant.clients refl refl _ _ _ _ _
-          (turns_unwritten _ g.F.Flash.tells g.O.Sink.tells c.own_programs_run_through.ensures (state_of c.args.session.now) c.stands.ensures.machine c.requires.on _ _ c.turning.session.bridge c.turning.session.machine
+          (turns_unwritten _ g.F.Flash.tells g.O.Sink.tells (own_programs g.F.Flash.tells) (state_of c.args.session.now) c.stands.ensures.machine c.requires.on _ _ c.turning.session.bridge c.turning.session.machine
           _ c.args.letters.now c.turning.letter-index _ _ _ c.steps-step-2.result (omega arith) c.turning.invariant.so c.steps-step-2.ensures.value
           (λ t. let part = h t in (part.0, part.1 ∙ ap (λ (xs : List ℕ). g.O.Sink.written c.turning.out ++ take part.0 xs) reply)))) c.say_made.ensures.part;
       cause = same_cause _ _ _ c.say_made.result c.turning.invariant.faults c.say_made.ensures.cause;

@@ -3,7 +3,7 @@ use Rattle.script_text.specs.ScriptText.{line_of}
 use Rattle.apei_script.specs.Words.{said_at}
 use Rattle.apei_script.specs.Plays.{step_of}
 use Rattle.apei_script.specs.Sessions.{state_of}
-use Rattle.apei_script.proofs.CommandLemmas.{own_programs}
+use Rattle.apei_script.proofs.LawLemmas.{own_programs}
 use Rattle.apei_script.proofs.PlayLemmas.{line_answered}
 use Rattle.apei_script.proofs.PlayedLemmas.{line_played}
 use Rattle.apei_script.proofs.player.Player.answer.Goals as goal
