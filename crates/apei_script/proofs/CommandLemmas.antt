@@ -1,12 +1,12 @@
 -- Commands of the client in use, played as their lines are.
-use Rattle.std.proofs.Common.{◌≡◌, ℕ, List, [], ◌∷◌, Option, Some, None, Result, Ok, sym, ap, subst}
+use Rattle.std.proofs.Common.{◌≡◌, ℕ, List, [], ◌∷◌, Option, Some, None, Ok, sym, subst}
 use Rattle.hex.specs.Hex.{decode_of, encode_lower, IsBytes}
 use Rattle.hex.proofs.HexLemmas.{decode_of-encode_lower}
 use Rattle.erst_client.specs.Commands.{ClientState}
 use Rattle.erst_bridge.specs.Bridges.{BridgeState}
 use Rattle.erst_machine.specs.MachineState.{MachineState, IsMachine}
 use Rattle.script_text.specs.ScriptGrammar.{Line, IsValid}
-use Rattle.apei_script.specs.Players.{PlayerState, in_use, budget_by}
+use Rattle.apei_script.specs.Players.{in_use, budget_by}
 use Rattle.apei_script.specs.Words.{said_at}
 use Rattle.apei_script.specs.Asked.{Commanded}
 use Rattle.apei_script.specs.Plays.{ByClient, changes_in}
