@@ -1,5 +1,5 @@
 // Commands are generated and played.
-ghost use Rattle.std.specs.Prelude.{◌≡◌};
+ghost use Rattle.std.specs.Prelude.{◌≡◌, ⊤};
 ghost use Rattle.base_model.specs.Faults.{HasCause};
 ghost use Rattle.apei_notify.specs.Chains.{members_of};
 ghost use Rattle.apei_script.specs.Sessions.{state_of};
@@ -23,6 +23,7 @@ pub fn generate<F: Flash, O: Sink>(
     seed: u64,
     out: &mut O,
 ) -> Result<(), SinkFault>
+    requires { ⊤ }
     ensures generated { IsGenerated F.tells O.tells (state_of player.old.session) seed count
         (state_of player.new.session) (O.written out.old) (O.written out.new) result }
     ensures listeners { members_of player.new.chain ≡ members_of player.old.chain }

@@ -10,10 +10,10 @@ use Rattle.apei_cli.proofs.RecordLemmas.{record_playable}
 use Rattle.apei_cli.proofs.GenerateLemmas.{write_refused, read_refused, clear_refused, next_refused}
 use Rattle.apei_cli.proofs.generate.generator.play.Goals as goal
 
-pub write-requires-clause-playable : goal.write-requires-clause-playable
-write-requires-clause-playable g c =
+pub write-requires : goal.write-requires
+write-requires g c =
     let size = rw c.in-Write.is at c.requires in
-    subst (λ (bytes : List ℕ). IsPlayable (write (encode_lower bytes))) (sym c.sample_record-record.ensures) (record_playable c.in-Write.id c.in-Write.size size.0 size.1)
+    record { playable = subst (λ (bytes : List ℕ). IsPlayable (write (encode_lower bytes))) (sym c.sample_record-record.ensures) (record_playable c.in-Write.id c.in-Write.size size.0 size.1) }
 
 pub returns-in-Write-clause-played : goal.returns-in-Write-clause-played
 returns-in-Write-clause-played g c =
