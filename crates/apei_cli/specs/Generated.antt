@@ -1,5 +1,5 @@
 -- Lines that were generated and played.
-use Rattle.std.specs.Prelude.{◌≡◌, ℕ, Bool, true, false, List, [], ◌∷◌, codes, take, count_by, map}
+use Rattle.std.specs.Prelude.{◌≡◌, ℕ, Bool, true, false, List, [], codes, take, count_by, map}
 use Rattle.std.specs.Str.{bytes_eq}
 use Rattle.script_text.specs.ScriptGrammar.{Line, write, read, clear, next}
 use Rattle.apei_script.specs.Players.{PlayerState}

@@ -1,10 +1,8 @@
-use Rattle.std.proofs.Common.{◌≡◌, ◌∙◌, ℕ, List, sym, ap, subst}
+use Rattle.std.proofs.Common.{◌∙◌, ℕ, List, sym, subst}
 use Rattle.hex.specs.Hex.{encode_lower}
 use Rattle.script_text.specs.ScriptGrammar.{write}
 use Rattle.apei_script.specs.Plays.{IsPlayable, step_of}
 use Rattle.apei_script.specs.Sessions.{state_of}
-use Rattle.apei_cli.specs.declared.generate.command.Command.{Command}
-use Rattle.apei_cli.specs.Commands.{line_for}
 use Rattle.apei_cli.specs.Generated.{IsRefusedIf}
 use Rattle.apei_cli.proofs.RecordLemmas.{record_playable}
 use Rattle.apei_cli.proofs.GenerateLemmas.{write_refused, read_refused, clear_refused, next_refused}
