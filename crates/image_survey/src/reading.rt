@@ -1,5 +1,5 @@
 // The bytes of a record.
-ghost use Rattle.std.specs.Prelude.{◌≡◌, ℕ, ◌-◌, ◌*◌, ◌<◌, ◌++◌, length, take, IfOk, OnOk, MatchOption, true};
+ghost use Rattle.std.specs.Prelude.{◌≡◌, ℕ, ◌-◌, ◌*◌, ◌<◌, ◌++◌, length, take, IfOk, IfSome, OnOk, MatchOption, true};
 ghost use Rattle.record_model.specs.Records.{slot_at, is_upright, parts_of, part_len};
 ghost use Rattle.record_slots.specs.Slots.{numbers_of};
 ghost use Rattle.image_survey.specs.Kinds.{kind_at};
@@ -27,9 +27,11 @@ pub fn record_at(
     requires all { length views.now ≡ geometry.now.slots }
     requires shown { AreShown geometry.now.slot_size geometry.now.slots image.now views.now }
     requires slot { slot < geometry.now.slots }
-    ensures { IfOk result (λ found. MatchOption found (kind_at geometry.now.slot_size geometry.now.slots image.now
-        slot ≡ SlotKind.First → ⊥) (λ bytes. IsRecordOf geometry.now.slot_size geometry.now.slots image.now slot
-        bytes.items)) }
+    ensures bytes { IfOk result (λ found. MatchOption found (kind_at geometry.now.slot_size geometry.now.slots
+        image.now slot ≡ SlotKind.First → ⊥) (λ bytes. IsRecordOf geometry.now.slot_size geometry.now.slots image.now
+        slot bytes.items)) }
+    ensures first { IfOk result (λ found. IfSome found (λ _. kind_at geometry.now.slot_size geometry.now.slots
+        image.now slot ≡ SlotKind.First)) }
 {
     let view = &views[slot as usize];
     if view.kind != SlotKind::First {
