@@ -1,2 +1,4 @@
 pub mod TextLemmas
 pub mod CommandLemmas
+pub mod GuidTextLemmas
+pub mod RecordTextLemmas

@@ -14,3 +14,8 @@ grows_on {old} first then =
     record { more = first.more ++ then.more; is = then.is ∙ ap (λ (text : List ℕ). text ++ then.more) first.is ∙ append_assoc old first.more then.more }
 
 pub ruleset growth = (grows_by, grows_on, grows_same)
+
+-- two labels with what stands behind each, and an end
+pub behind_one_another : (old label said label' said' end : List ℕ)
+    → ((old ++ (label ++ said)) ++ (label' ++ said')) ++ end ≡ old ++ ((((label ++ said) ++ label') ++ said') ++ end)
+behind_one_another old label said label' said' end = simp append_assoc

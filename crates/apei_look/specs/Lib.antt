@@ -6,3 +6,6 @@ pub mod Commands
 pub mod Options
 pub mod Numbers
 pub mod Refusals
+pub mod Frames
+pub mod Records
+pub mod Images

@@ -1,6 +1,6 @@
 -- What is written of an image.
 use Rattle.std.specs.Prelude.{◌≡◌, ℕ, List, [], ◌∷◌, ◌++◌, codes, decimal, encode_utf8}
-use Rattle.record_slots.specs.declared.head.Head.{Head}
+use Rattle.record_model.specs.Records.{Head}
 use Rattle.flash_model.specs.declared.geometry.Geometry.{Geometry}
 use Rattle.apei_look.specs.declared.unread.Unread.{Unread}
 use Rattle.apei_look.specs.declared.unread.Unread.TheVariants.{Version, Damaged}
@@ -9,6 +9,12 @@ use Rattle.apei_look.specs.Words.{unread_word_of}
 -- a text with something behind it
 pub record Grows (old new : List ℕ) : Type 0 where
   pub more : List ℕ
+  pub is : new ≡ old ++ more
+
+-- a text with something of a kind behind it
+pub record GrowsBy (IsMore : List ℕ → Type 0) (old new : List ℕ) : Type 0 where
+  pub more : List ℕ
+  pub of_kind : IsMore more
   pub is : new ≡ old ++ more
 
 -- the record that a head names, in a line and in an object

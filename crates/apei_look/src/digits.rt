@@ -1,13 +1,14 @@
 // Digits of sixteen.
 ghost use Rattle.std.specs.Prelude.{◌≡◌, ◌++◌, ◌<◌, ◌/◌, ◌%◌, [], ◌∷◌, OnOk, string_bytes};
-ghost use Rattle.std.specs.Int.{to_le_bytes, w64};
 ghost use Rattle.apei_bytes.specs.Guid.{digit, digits};
+ghost use Rattle.apei_look.specs.Frames.{bytes_text};
 
 use std::alloc::AllocError;
 
 /// The bytes of a number, from the low one on.
+#[tactic(auto, unfolding(crate::specs::Frames::bytes_text))]
 pub fn add_bytes(out: &mut String, number: u64) -> Result<(), AllocError>
-    ensures { OnOk result (string_bytes out.new ≡ string_bytes out.old ++ digits (to_le_bytes w64 number)) }
+    ensures { OnOk result (string_bytes out.new ≡ string_bytes out.old ++ bytes_text number) }
 {
     let bytes = number.to_le_bytes();
     add_all(out, &bytes)

@@ -1,8 +1,6 @@
 // A GUID as text.
-#![tactic(auto, using(crate::proofs::TextLemmas::growth))]
-
-ghost use Rattle.std.specs.Prelude.{OnOk, string_bytes};
-ghost use Rattle.apei_look.specs.Texts.{Grows};
+ghost use Rattle.std.specs.Prelude.{◌≡◌, ◌++◌, OnOk, string_bytes};
+ghost use Rattle.apei_bytes.specs.Guid.{guid_text};
 
 use apei_bytes::Guid;
 use std::alloc::AllocError;
@@ -10,12 +8,13 @@ use std::str::from_utf8;
 
 /// Adds the text of a GUID.
 pub fn add_guid(out: &mut String, guid: &Guid) -> Result<(), AllocError>
-    ensures { OnOk result (Grows (string_bytes out.old) (string_bytes out.new)) }
+    ensures { OnOk result (string_bytes out.new ≡ string_bytes out.old ++ guid_text guid.now) }
 {
     let mut text = [0; 36];
     guid.text(&mut text);
     match from_utf8(&text) {
         Ok(text) => out.push_str(text),
-        Err(_) => Ok(()),
+        // The text of a GUID is ASCII.
+        Err(_) => unreachable!(),
     }
 }

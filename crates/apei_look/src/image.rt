@@ -66,6 +66,8 @@ impl<'a> Image<'a> {
             self.now.geometry.now.slots self.now.bytes.now slot ≡ First → ⊥)
             (λ stored. IsRecordOf self.now.geometry.now.slot_size self.now.geometry.now.slots self.now.bytes.now slot
             stored.1.items)) }
+        ensures first { IfOk result (λ found. IfSome found (λ _. kind_at self.now.geometry.now.slot_size
+            self.now.geometry.now.slots self.now.bytes.now slot ≡ First)) }
         ensures head { IfOk result (λ found. IfSome found (λ stored. numbers_of stored.0
             ≡ (slot_at self.now.geometry.now.slot_size self.now.bytes.now slot).head)) }
     {

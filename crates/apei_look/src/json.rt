@@ -1,7 +1,9 @@
 // The whole as JSON.
 #![tactic(auto, using(crate::proofs::TextLemmas::growth))]
 
-ghost use Rattle.std.specs.Prelude.{◌≡◌, ◌++◌, ◌<◌, length, OnOk, string_bytes};
+ghost use Rattle.std.specs.Prelude.{◌≡◌, ◌++◌, ◌<◌, length, IfOk, OnOk, string_bytes};
+ghost use Rattle.record_slots.specs.Slots.{numbers_of};
+ghost use Rattle.apei_look.specs.Images.{IsJson};
 ghost use Rattle.apei_look.specs.Texts.{Grows, geometry_json, identity_json};
 
 use crate::digits::add_bytes;
@@ -18,7 +20,9 @@ use std::alloc::{AllocError, Global};
 
 /// What `text_of` says of an image, as one JSON object on one line. Identifiers are strings, as some programs round great
 /// numbers.
-pub fn json_of(alloc: Global, image: &Image<'_>) -> Result<String, AllocError> {
+pub fn json_of(alloc: Global, image: &Image<'_>) -> Result<String, AllocError>
+    ensures { IfOk result (λ text. IsJson image.now.geometry.now (string_bytes text)) }
+{
     let mut out = String::new(alloc);
     out.push_str("{\"geometry\":")?;
     add_geometry(&mut out, image.geometry)?;
@@ -28,7 +32,9 @@ pub fn json_of(alloc: Global, image: &Image<'_>) -> Result<String, AllocError> {
 }
 
 // What stands behind the geometry that the image is looked at by.
-fn add_rest(alloc: Global, out: &mut String, image: &Image<'_>) -> Result<(), AllocError> {
+fn add_rest(alloc: Global, out: &mut String, image: &Image<'_>) -> Result<(), AllocError>
+    ensures { OnOk result (Grows (string_bytes out.old) (string_bytes out.new)) }
+{
     add_file(out, image)?;
     add_totals(out, image)?;
     add_slots(out, image)?;
@@ -136,7 +142,7 @@ fn add_look(out: &mut String, look: &Look) -> Result<(), AllocError>
 
 // The record that a head names.
 fn add_identity(out: &mut String, head: &Head) -> Result<(), AllocError>
-    ensures { OnOk result (string_bytes out.new ≡ string_bytes out.old ++ identity_json head.now) }
+    ensures { OnOk result (string_bytes out.new ≡ string_bytes out.old ++ identity_json (numbers_of head.now)) }
 {
     let Head {
         id,
@@ -150,7 +156,9 @@ fn add_identity(out: &mut String, head: &Head) -> Result<(), AllocError>
     )
 }
 
-fn add_records(alloc: Global, out: &mut String, image: &Image<'_>) -> Result<(), AllocError> {
+fn add_records(alloc: Global, out: &mut String, image: &Image<'_>) -> Result<(), AllocError>
+    ensures { OnOk result (Grows (string_bytes out.old) (string_bytes out.new)) }
+{
     out.push_str(",\"stored\":[")?;
     let mut is_first = true;
     for slot in 0..image.geometry.slots as u32 {
@@ -168,6 +176,7 @@ fn add_record(
     is_first: bool,
 ) -> Result<bool, AllocError>
     requires { slot < image.now.geometry.now.slots }
+    ensures { OnOk result (Grows (string_bytes out.old) (string_bytes out.new)) }
 {
     let Some((head, bytes)) = image.record_at(alloc, slot)? else {
         return Ok(is_first);
@@ -197,7 +206,9 @@ fn add_stored(out: &mut String, slot: u32, head: &Head, further: &[u16]) -> Resu
 }
 
 // What its bytes say, `null` where they are no error record.
-fn add_frame(out: &mut String, bytes: &[u8]) -> Result<(), AllocError> {
+fn add_frame(out: &mut String, bytes: &[u8]) -> Result<(), AllocError>
+    ensures { OnOk result (Grows (string_bytes out.old) (string_bytes out.new)) }
+{
     match Record::decode(bytes) {
         Ok((frame, _)) => {
             add_head(out, &frame.head())?;
@@ -220,7 +231,9 @@ fn add_sections(out: &mut String, frame: &Record<'_>) -> Result<(), AllocError>
 }
 
 // What its header says.
-fn add_head(out: &mut String, head: &RecordHead) -> Result<(), AllocError> {
+fn add_head(out: &mut String, head: &RecordHead) -> Result<(), AllocError>
+    ensures { OnOk result (Grows (string_bytes out.old) (string_bytes out.new)) }
+{
     let severity = head.severity;
     write!(
         out,
@@ -228,6 +241,13 @@ fn add_head(out: &mut String, head: &RecordHead) -> Result<(), AllocError> {
     )?;
     add_name(out, severity_name(severity))?;
     add_time(out, &time_of(head))?;
+    add_guids(out, head)
+}
+
+// Who wrote it, and what it was notified by.
+fn add_guids(out: &mut String, head: &RecordHead) -> Result<(), AllocError>
+    ensures { OnOk result (Grows (string_bytes out.old) (string_bytes out.new)) }
+{
     out.push_str(",\"creator\":\"")?;
     add_guid(out, &head.creator)?;
     out.push_str("\",\"notification\":\"")?;

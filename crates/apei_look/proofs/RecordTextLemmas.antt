@@ -1,0 +1,54 @@
+-- The texts of sections and of slots, one after another.
+use Rattle.std.proofs.Common.{◌≡◌, ◌∙◌, ℕ, zero, suc, ◌+◌, List, [], ◌∷◌, ◌++◌, drop, Some, refl, ap, sym, append_assoc, add-one}
+use Rattle.std.specs.Prelude.{slice_get}
+use Rattle.image_survey.specs.Kinds.{kind_at}
+use Rattle.image_survey.specs.declared.kinds.SlotKind.{SlotKind}
+use Rattle.image_survey.specs.declared.kinds.SlotKind.TheVariants.{First, Further, SecondCopy, Orphan, Filling, Killed, Erased, Unknown}
+use Rattle.cper_frame.specs.Grammar.{SectionValue}
+use Rattle.apei_look.specs.Frames.{section_text, sections_text}
+use Rattle.apei_look.specs.Records.{AreRecords, IsSlotText}
+use Rattle.apei_look.specs.Texts.{GrowsBy}
+
+pub first_left : {A : Type 0} → (xs : List A) (k : ℕ) (x : A) → slice_get xs k ≡ Some x → drop k xs ≡ x ∷ drop (suc k) xs
+first_left [] k x is = cc
+first_left (y ∷ ys) zero x is = let same : y ≡ x = cc in ap (λ z. z ∷ ys) same
+first_left (y ∷ ys) (suc k) x is = first_left ys k x is
+
+-- a section was written
+pub next_section : (sections : List SectionValue) (k : ℕ) (section : SectionValue) (start old new : List ℕ)
+    → slice_get sections k ≡ Some section
+    → new ≡ old ++ section_text k section
+    → old ++ sections_text k (drop k sections) ≡ start
+    → new ++ sections_text (k + 1) (drop (k + 1) sections) ≡ start
+next_section sections k section start old new here written invariant =
+    let rest : List ℕ = sections_text (k + 1) (drop (k + 1) sections) in
+    let split : sections_text k (drop k sections) ≡ section_text k section ++ rest =
+    ap (sections_text k) (first_left sections k section here)
+    ∙ ap (λ (n : ℕ). section_text k section ++ sections_text (k + 1) (drop n sections)) (sym (add-one k)) in
+    ap (λ (t : List ℕ). t ++ rest) written
+    ∙ append_assoc old (section_text k section) rest
+    ∙ ap (λ (t : List ℕ). old ++ t) (sym split)
+    ∙ invariant
+
+-- nothing is written of a slot that is no first one
+pub of_other : (slot_size slots : ℕ) (image : List ℕ) (k : ℕ) (kind : SlotKind) → (kind ≡ First → ⊥) → IsSlotText slot_size slots image k kind []
+of_other slot_size slots image k First other = absurd (other refl)
+of_other slot_size slots image k Further other = refl
+of_other slot_size slots image k SecondCopy other = refl
+of_other slot_size slots image k Orphan other = refl
+of_other slot_size slots image k Filling other = refl
+of_other slot_size slots image k Killed other = refl
+of_other slot_size slots image k Erased other = refl
+of_other slot_size slots image k Unknown other = refl
+
+-- what was written of a slot stands behind that of those before it
+pub next_slot : (slot_size slots : ℕ) (image : List ℕ) (n : ℕ) {old middle new : List ℕ}
+    → GrowsBy (AreRecords slot_size slots image n) old middle
+    → GrowsBy (IsSlotText slot_size slots image n (kind_at slot_size slots image n)) middle new
+    → GrowsBy (AreRecords slot_size slots image (n + 1)) old new
+next_slot slot_size slots image n {old} before last =
+    rw add-one (record {
+      more = before.more ++ last.more;
+      of_kind = (before.more, last.more, before.of_kind, last.of_kind, refl);
+      is = last.is ∙ ap (λ (t : List ℕ). t ++ last.more) before.is ∙ append_assoc old before.more last.more;
+    })
