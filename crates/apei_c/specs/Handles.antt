@@ -10,6 +10,7 @@ abbrev pub OnPort : Option PortState → (number : ℕ) → Option PortState →
 OnPort None number new Call = (number ≡ number_of Closed) × (new ≡ None)
 OnPort (Some old) number new Call = (port : PortState) × (status : Status) × (new ≡ Some port) × (number ≡ number_of status) × Call old status port
 
--- a call that leaves the port as it is
-abbrev pub Looks : (PortState → Status → Type 0) → PortState → Status → PortState → Type 0
-Looks Answer old status new = Answer old status × (new ≡ old)
+-- a look at the port of a handle, which leaves the port as it is: a handle without one says so, and what the caller handed in is left as it was
+abbrev pub LooksAt : Option PortState → (number : ℕ) → Option PortState → (untouched : Type 0) → (PortState → Status → Type 0) → Type 0
+LooksAt None number new untouched Answer = (number ≡ number_of Closed) × (new ≡ None) × untouched
+LooksAt (Some port) number new untouched Answer = (status : Status) × (new ≡ Some port) × (number ≡ number_of status) × Answer port status

@@ -1,7 +1,7 @@
 // The calls on a device.
 ghost use Rattle.std.specs.Prelude.{◌≡◌};
 ghost use Rattle.apei_c.specs.Numbers.{window_of, width_of, addresses_of};
-ghost use Rattle.apei_c.specs.Handles.{OnPort, Looks};
+ghost use Rattle.apei_c.specs.Handles.{OnPort, LooksAt};
 ghost use Rattle.apei_c.specs.Devices.{ReadsNumber, WritesNumber, GetsBytes, PutsBytes, Restarts, TellsChange, MakesChange, TellsTable, TellsRangeSize, TellsImage, MovesTo};
 
 use crate::calls;
@@ -20,9 +20,9 @@ pub extern "C" fn apei_c_erst_read(
     size: u32,
     value: &mut u64,
 ) -> u32
-    ensures { OnPort erst.old.owner.port result erst.new.owner.port
-        (Looks (λ port status. ReadsNumber (window_of window)
-        (width_of size) offset port value.old status value.new)) }
+    ensures { LooksAt erst.old.owner.port result erst.new.owner.port
+        (value.new ≡ value.old)
+        (λ port status. ReadsNumber (window_of window) (width_of size) offset port value.old status value.new) }
 {
     let Some(port) = erst.take(alloc) else {
         return Status::Closed.number();
@@ -61,8 +61,9 @@ pub extern "C" fn apei_c_erst_get(
     offset: u64,
     bytes: &mut [u8],
 ) -> u32
-    ensures { OnPort erst.old.owner.port result erst.new.owner.port
-        (Looks (λ port status. GetsBytes offset bytes.old port status bytes.new)) }
+    ensures { LooksAt erst.old.owner.port result erst.new.owner.port
+        (bytes.new ≡ bytes.old)
+        (λ port status. GetsBytes offset bytes.old port status bytes.new) }
 {
     let Some(port) = erst.take(alloc) else {
         return Status::Closed.number();
@@ -98,8 +99,9 @@ pub extern "C" fn apei_c_erst_change(
     change: &mut MediumChange,
     bytes: &mut [u8],
 ) -> u32
-    ensures { OnPort erst.old.owner.port result erst.new.owner.port
-        (Looks (λ port status. TellsChange port change.old bytes.old status change.new bytes.new)) }
+    ensures { LooksAt erst.old.owner.port result erst.new.owner.port
+        ((change.new ≡ change.old) × (bytes.new ≡ bytes.old))
+        (λ port status. TellsChange port change.old bytes.old status change.new bytes.new) }
 {
     let Some(port) = erst.take(alloc) else {
         return Status::Closed.number();
@@ -143,8 +145,9 @@ pub extern "C" fn apei_c_erst_table(
     table: &mut [u8],
     size: &mut u64,
 ) -> u32
-    ensures { OnPort erst.old.owner.port result erst.new.owner.port
-        (Looks (λ port status. TellsTable table.old port status table.new size.new)) }
+    ensures { LooksAt erst.old.owner.port result erst.new.owner.port
+        ((table.new ≡ table.old) × (size.new ≡ size.old))
+        (λ port status. TellsTable table.old port status table.new size.new) }
 {
     let Some(port) = erst.take(alloc) else {
         return Status::Closed.number();
@@ -157,8 +160,9 @@ pub extern "C" fn apei_c_erst_table(
 /// The size of the log range.
 #[unsafe(no_mangle)]
 pub extern "C" fn apei_c_erst_range_size(alloc: Global, erst: &mut Handle, size: &mut u64) -> u32
-    ensures { OnPort erst.old.owner.port result erst.new.owner.port
-        (Looks (λ port status. TellsRangeSize port status size.new)) }
+    ensures { LooksAt erst.old.owner.port result erst.new.owner.port
+        (size.new ≡ size.old)
+        (λ port status. TellsRangeSize port status size.new) }
 {
     let Some(port) = erst.take(alloc) else {
         return Status::Closed.number();
@@ -176,8 +180,9 @@ pub extern "C" fn apei_c_erst_image(
     offset: u64,
     bytes: &mut [u8],
 ) -> u32
-    ensures { OnPort erst.old.owner.port result erst.new.owner.port
-        (Looks (λ port status. TellsImage offset bytes.old port status bytes.new)) }
+    ensures { LooksAt erst.old.owner.port result erst.new.owner.port
+        (bytes.new ≡ bytes.old)
+        (λ port status. TellsImage offset bytes.old port status bytes.new) }
 {
     let Some(port) = erst.take(alloc) else {
         return Status::Closed.number();

@@ -1,6 +1,6 @@
 // How a device goes on elsewhere: saved as bytes, and loaded from them over the same medium.
 ghost use Rattle.std.specs.Prelude.{◌≡◌, IfOk, IfErr};
-ghost use Rattle.apei_c.specs.Handles.{OnPort, Looks};
+ghost use Rattle.apei_c.specs.Handles.{LooksAt};
 ghost use Rattle.apei_c.specs.Saving.{SavesBytes, Loads, LoadsRaw, LoadedOn, LoadedRaw, RefusedLoad, RefusedLoadRaw, status_of_saving, status_of_loading};
 
 use crate::formats::geometry_of;
@@ -88,8 +88,9 @@ pub extern "C" fn apei_c_erst_save(
     bytes: &mut [u8],
     size: &mut u64,
 ) -> u32
-    ensures { OnPort erst.old.owner.port result erst.new.owner.port
-        (Looks (λ port status. SavesBytes bytes.old size.old port status bytes.new size.new)) }
+    ensures { LooksAt erst.old.owner.port result erst.new.owner.port
+        ((bytes.new ≡ bytes.old) × (size.new ≡ size.old))
+        (λ port status. SavesBytes bytes.old size.old port status bytes.new size.new) }
 {
     let Some(port) = erst.take(alloc) else {
         return Status::Closed.number();
