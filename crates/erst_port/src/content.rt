@@ -49,13 +49,7 @@ impl Content<'_> {
     }
 
     /// Puts it into an image from a place on.
-    pub(crate) fn put(
-        self,
-        image: &mut Vec<u8>,
-        spans: &mut Vec<Span>,
-        sector: usize,
-        at: usize,
-    )
+    pub(crate) fn put(self, image: &mut Vec<u8>, spans: &mut Vec<Span>, sector: usize, at: usize)
         requires within { at + length (bytes_of self) ≤ length image.old.items }
         requires asked { IsAsked sector image.old.items at self }
         requires sectors { length spans.old.items * sector ≤ length image.old.items }

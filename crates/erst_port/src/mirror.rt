@@ -170,12 +170,7 @@ impl MirrorFlash {
             at,
             len: range.len,
         });
-        content.put(
-            &mut self.image,
-            &mut self.spans,
-            self.sector as usize,
-            at,
-        );
+        content.put(&mut self.image, &mut self.spans, self.sector as usize, at);
         self.log
             .enter(self.steps, range, bytes_at(&self.image, at, range.len));
         self.past = past;

@@ -36,13 +36,7 @@ fn copies(alloc: Global, span: Span, count: usize) -> Result<Vec<Span>, AllocErr
 }
 
 /// Programs bytes at a place.
-pub(crate) fn program(
-    image: &mut [u8],
-    spans: &mut [Span],
-    sector: usize,
-    at: usize,
-    bytes: &[u8],
-)
+pub(crate) fn program(image: &mut [u8], spans: &mut [Span], sector: usize, at: usize, bytes: &[u8])
     requires within { at + length bytes.now ≤ length image.old }
     requires sectors { length spans.old * sector ≤ length image.old }
     requires known { AreErasedBut spans.old sector image.old }
