@@ -1,4 +1,6 @@
 // A file, item by item.
+ghost use Rattle.std.specs.Prelude.{◌≡◌, [], OnOk};
+
 use crate::dumps::show_dump;
 use crate::images::{show_image, show_medium, show_qemu};
 use crate::pages::{Pages, Stop};
@@ -13,7 +15,9 @@ pub fn show_file<P: Pages>(
     pages: &mut P,
     name: &[u8],
     bytes: &[u8],
-) -> Result<(), Stop> {
+) -> Result<(), Stop>
+    ensures { OnOk result (sheet.new.out.items ≡ []) }
+{
     match kind_of(name, bytes) {
         FileKind::Dump => show_dump(sheet, pages, bytes)?,
         FileKind::Qemu => show_qemu(sheet, pages, bytes)?,

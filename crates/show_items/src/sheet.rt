@@ -1,4 +1,6 @@
 // The sheet on which the items of a file are shown.
+ghost use Rattle.std.specs.Prelude.{◌≡◌, [], false, OnOk};
+
 use crate::pages::{Pages, Stop};
 use crate::text::{add, add_number, add_string};
 use show_findings::Fault;
@@ -58,7 +60,13 @@ pub struct Sheet<'a> {
 
 impl<'a> Sheet<'a> {
     /// The empty sheet of a file.
-    pub fn new(alloc: Global, path: &'a str, manner: Manner) -> Sheet<'a> {
+    pub fn new(alloc: Global, path: &'a str, manner: Manner) -> Sheet<'a>
+        ensures path { result.path.now ≡ path.now }
+        ensures manner { result.manner ≡ manner }
+        ensures blank { result.out.items ≡ [] }
+        ensures none { result.items ≡ 0 }
+        ensures sound { result.has_bad ≡ false }
+    {
         Sheet {
             alloc,
             path,
@@ -71,7 +79,9 @@ impl<'a> Sheet<'a> {
     }
 
     /// Whether an item was bad so far.
-    pub fn has_bad(&self) -> bool {
+    pub fn has_bad(&self) -> bool
+        ensures { result ≡ self.now.has_bad }
+    {
         self.has_bad
     }
 
@@ -228,7 +238,9 @@ impl<'a> Sheet<'a> {
     }
 
     /// Writes what is on the sheet.
-    pub fn finish<P: Pages>(&mut self, pages: &mut P) -> Result<(), Stop> {
+    pub fn finish<P: Pages>(&mut self, pages: &mut P) -> Result<(), Stop>
+        ensures { OnOk result (self.new.out.items ≡ []) }
+    {
         pages.write(&self.out)?;
         self.out.clear();
         Ok(())
