@@ -3,3 +3,4 @@ pub mod Options
 pub mod Forms
 pub mod Names
 pub mod Numbers
+pub mod Sources

@@ -1,4 +1,6 @@
 // Standard output.
+ghost use Rattle.std.specs.Prelude.{◌≡◌};
+
 use show_items::{Pages, Stop};
 use std::io::{ErrorKind, Write};
 
@@ -9,7 +11,9 @@ pub struct Output<W> {
 }
 
 impl<W: Write> Output<W> {
-    pub fn new(writer: W) -> Output<W> {
+    pub fn new(writer: W) -> Output<W>
+        ensures { result.writer ≡ writer }
+    {
         Output { writer }
     }
 }

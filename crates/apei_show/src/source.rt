@@ -1,6 +1,7 @@
 // The bytes of a file, or of standard input.
-ghost use Rattle.std.specs.Prelude.{◌≡◌};
+ghost use Rattle.std.specs.Prelude.{◌≡◌, ◌+◌, ◌^◌, ◌<◌, ◌≤◌, ◌++◌, [], length, Err, IfOk, IfErr, IfSome, OnOk};
 ghost use Rattle.apei_show.specs.Names.{name_of};
+ghost use Rattle.apei_show.specs.Sources.{most, IsReadRefusal};
 
 use crate::status::Status;
 use std::alloc::Global;
@@ -26,7 +27,10 @@ enum Unread {
 }
 
 /// The bytes of the file at `path`, or of standard input where the path is `-`. Why it can't be read is said on standard error.
-pub fn read_file(rt: &HostRuntime, alloc: Global, path: &str) -> Result<Vec<u8>, Status> {
+pub fn read_file(rt: &HostRuntime, alloc: Global, path: &str) -> Result<Vec<u8>, Status>
+    ensures short { IfOk result (λ bytes. length bytes.items ≤ most) }
+    ensures refused { IfErr result IsReadRefusal }
+{
     match read_path(rt, alloc, path) {
         Ok(bytes) => Ok(bytes),
         Err(Unread::Memory) => Err(Status::Memory),
@@ -42,7 +46,9 @@ pub fn read_file(rt: &HostRuntime, alloc: Global, path: &str) -> Result<Vec<u8>,
     }
 }
 
-fn read_path(rt: &HostRuntime, alloc: Global, path: &str) -> Result<Vec<u8>, Unread> {
+fn read_path(rt: &HostRuntime, alloc: Global, path: &str) -> Result<Vec<u8>, Unread>
+    ensures { IfOk result (λ bytes. length bytes.items ≤ most) }
+{
     if path == "-" {
         return read_all(alloc, rt.stdin());
     }
@@ -53,27 +59,65 @@ fn read_path(rt: &HostRuntime, alloc: Global, path: &str) -> Result<Vec<u8>, Unr
 }
 
 // All bytes that a reader gives.
-fn read_all<R: Read + Drop>(alloc: Global, mut reader: R) -> Result<Vec<u8>, Unread> {
+fn read_all<R: Read + Drop>(alloc: Global, mut reader: R) -> Result<Vec<u8>, Unread>
+    ensures short { IfOk result (λ bytes. length bytes.items ≤ most) }
+    ensures all { IfOk result (λ bytes. IfSome (R.remaining reader) (λ given. bytes.items ≡ given)) }
+    ensures long { result ≡ Err Unread.Long → IfSome (R.remaining reader) (λ given. most < length given) }
+{
     let mut bytes = Vec::new(alloc);
-    let Ok(mut piece) = vec![in alloc; 0; PIECE] else {
-        return Err(Unread::Memory);
-    };
-    for _ in 0..u64::MAX {
-        let count = match reader.read(&mut piece) {
+    let mut piece = zeros(alloc, PIECE)?;
+    read_pieces(&mut reader, &mut piece, &mut bytes)?;
+    Ok(bytes)
+}
+
+fn zeros(alloc: Global, count: usize) -> Result<Vec<u8>, Unread>
+    ensures zeros { IfOk result (λ zeros. length zeros.items ≡ count) }
+    ensures memory { result ≡ Err Unread.Long → ⊥ }
+{
+    match vec![in alloc; 0; count] {
+        Ok(zeros) => Ok(zeros),
+        Err(_) => Err(Unread::Memory),
+    }
+}
+
+// Reads piece by piece, up to the end.
+fn read_pieces<R: Read>(
+    reader: &mut R,
+    piece: &mut [u8],
+    bytes: &mut Vec<u8>,
+) -> Result<(), Unread>
+    requires room { 0 < length piece.old }
+    requires none { bytes.old.items ≡ [] }
+    ensures short { OnOk result (length bytes.new.items ≤ most) }
+    ensures all { OnOk result (IfSome (R.remaining reader.old) (λ given. bytes.new.items ≡ given)) }
+    ensures long { result ≡ Err Unread.Long → IfSome (R.remaining reader.old) (λ given. most < length given) }
+{
+    'pieces: loop {
+        let count = match reader.read(piece) {
             Ok(count) => count,
             Err(error) => return Err(Unread::System(error)),
         };
         if count == 0 {
-            return Ok(bytes);
+            return Ok(());
         }
-        if bytes.len() >= MOST {
-            return Err(Unread::Long);
-        }
-        if bytes.extend_from_slice(&piece[..count]).is_err() {
-            return Err(Unread::Memory);
-        }
+        add_piece(bytes, &piece[..count])?;
     }
-    Ok(bytes)
+}
+
+// Adds a piece, where the bytes are then no more than are shown.
+fn add_piece(bytes: &mut Vec<u8>, piece: &[u8]) -> Result<(), Unread>
+    requires { length bytes.old.items ≤ most }
+    ensures added { OnOk result (bytes.new.items ≡ bytes.old.items ++ piece.now) }
+    ensures short { OnOk result (length bytes.new.items ≤ most) }
+    ensures long { result ≡ Err Unread.Long → most < length bytes.old.items + length piece.now }
+{
+    if piece.len() > MOST - bytes.len() {
+        return Err(Unread::Long);
+    }
+    match bytes.extend_from_slice(piece) {
+        Ok(()) => Ok(()),
+        Err(_) => Err(Unread::Memory),
+    }
 }
 
 /// The last part of a path, or the whole path where it has none.
