@@ -81,11 +81,7 @@ fn zeros(alloc: Global, count: usize) -> Result<Vec<u8>, Unread>
 }
 
 // Reads piece by piece, up to the end.
-fn read_pieces<R: Read>(
-    reader: &mut R,
-    piece: &mut [u8],
-    bytes: &mut Vec<u8>,
-) -> Result<(), Unread>
+fn read_pieces<R: Read>(reader: &mut R, piece: &mut [u8], bytes: &mut Vec<u8>) -> Result<(), Unread>
     requires room { 0 < length piece.old }
     requires none { bytes.old.items ≡ [] }
     ensures short { OnOk result (length bytes.new.items ≤ most) }
