@@ -4,7 +4,7 @@ use Rattle.base_model.specs.Bytes.{part, little, joined}
 use Rattle.apei_bytes.specs.Guid.{guid_text}
 use Rattle.field_lines.specs.Numbers.{number_in, bits_of, validation, is_valid}
 use Rattle.field_lines.specs.Fields.{Field, are_sound}
-use Rattle.field_lines.specs.Walks.{fields_text}
+use Rattle.field_lines.specs.Walks.{fields_text, shows_any}
 
 -- how many bytes a part has: always as many, as many as a number of the part says and some more, or all that are left
 pub data Measure : Type 0 where
@@ -99,8 +99,12 @@ has_sign (number_sign at width number) bytes = says (number_in bytes at width) n
 has_sign (guid_sign at guid) bytes = has_guid bytes at guid
 
 -- it begins within the part, a validation bit says so, and the part has its sign
+abbrev pub is_told : ℕ → List ℕ → Inside → Bool
+is_told valid bytes inside = nat_le inside.at (length bytes) && is_valid inside.bit valid && has_sign inside.sign bytes
+
+-- it is told, and has a field to show
 abbrev pub is_there : ℕ → List ℕ → Inside → Bool
-is_there valid bytes inside = nat_le inside.at (length bytes) && is_valid inside.bit valid && has_sign inside.sign bytes
+is_there valid bytes inside = is_told valid bytes inside && shows_any 0 inside.fields (drop inside.at bytes)
 
 -- How a style writes, at a depth and a place: a field of a body, and a heading.
 

@@ -2,15 +2,15 @@
 ghost use Rattle.std.specs.Prelude.{◌≡◌, ◌<◌, ◌≤◌, ◌+◌, ◌^◌, ◌++◌, length, drop, map, min, OnOk, IfOk, IsTrue};
 ghost use Rattle.base_model.specs.Bytes.{part};
 ghost use Rattle.field_lines.specs.Numbers.{validation};
-ghost use Rattle.field_lines.specs.Layouts.{is_sound_structure, is_sound_group, are_sound_groups, is_sound_measure, is_sound_sign, are_sound_inside, structure_text, groups_text, parts_text, parts_end, parts_told, part_text, part_size, all_inside_text, inside_text, has_sign, has_guid, is_there, end_text};
+ghost use Rattle.field_lines.specs.Layouts.{is_sound_structure, is_sound_group, are_sound_groups, is_sound_measure, is_sound_sign, are_sound_inside, structure_text, groups_text, parts_text, parts_end, parts_told, part_text, part_size, all_inside_text, inside_text, has_sign, has_guid, is_told, is_there, end_text};
 ghost use Rattle.field_lines.specs.Fields.{are_sound};
-ghost use Rattle.field_lines.specs.Walks.{fields_text};
+ghost use Rattle.field_lines.specs.Walks.{fields_text, shows_any};
 ghost use Rattle.field_lines.specs.Code.{content_fields, structure_of, group_of, measure_of, sign_of, inside_of};
 
 use crate::layout::{Content, Inner, Key, Layout, Parts, Size};
 use crate::number::{bits_of, number_in};
 use crate::style::{Location, Mark, Style};
-use crate::walk::{add_fields, add_registers, is_valid, validation};
+use crate::walk::{add_fields, add_registers, is_valid, shows_any, shows_register, validation};
 use apei_bytes::{bytes_at, guid_at};
 use std::alloc::AllocError;
 
@@ -228,12 +228,29 @@ fn add_content<S: Style>(
     }
 }
 
-// Whether something stands inside a part: it begins within, a validation bit says so, and the part has its key.
+// Whether a part tells that something stands inside, of which there is a field to show.
 fn is_there(inner: &Inner, valid: u64, bytes: &[u8]) -> bool
     requires { IsTrue (is_sound_sign (sign_of inner.now.key)) }
     ensures { result ≡ is_there valid bytes.now (inside_of inner.now) }
 {
+    is_told(inner, valid, bytes) && shows_content(&inner.content, &bytes[inner.at as usize..])
+}
+
+// Whether it begins within the part, a validation bit says so, and the part has its key.
+fn is_told(inner: &Inner, valid: u64, bytes: &[u8]) -> bool
+    requires { IsTrue (is_sound_sign (sign_of inner.now.key)) }
+    ensures { result ≡ is_told valid bytes.now (inside_of inner.now) }
+{
     inner.at as usize <= bytes.len() && is_valid(inner.bit, valid) && has_key(&inner.key, bytes)
+}
+
+fn shows_content(content: &Content, bytes: &[u8]) -> bool
+    ensures { result ≡ shows_any 0 (content_fields content.now) bytes.now }
+{
+    match *content {
+        Content::Fields(fields) => shows_any(fields, bytes),
+        Content::Registers { width, names } => shows_register(width, names, bytes),
+    }
 }
 
 fn has_key(key: &Key, bytes: &[u8]) -> bool

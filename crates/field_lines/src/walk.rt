@@ -2,7 +2,7 @@
 ghost use Rattle.std.specs.Prelude.{◌≡◌, ◌<◌, ◌+◌, ◌^◌, ◌++◌, length, map, OnOk, IsTrue};
 ghost use Rattle.field_lines.specs.Numbers.{validation, is_valid};
 ghost use Rattle.field_lines.specs.Fields.{are_sound, register_fields};
-ghost use Rattle.field_lines.specs.Walks.{is_shown, fields_text};
+ghost use Rattle.field_lines.specs.Walks.{is_shown, fields_text, shows_any};
 ghost use Rattle.field_lines.specs.Code.{field_of};
 
 use crate::field::{Field, Shape};
@@ -75,6 +75,23 @@ pub(crate) fn validation(body: &[u8], at: u16) -> u64
 {
     let rest = &body[(at as usize).min(body.len())..];
     number_of(&rest[..rest.len().min(8)])
+}
+
+/// Whether a body has one of the fields to show. Its validation bits are its first bytes.
+pub(crate) fn shows_any(fields: &[Field], body: &[u8]) -> bool
+    ensures { result ≡ shows_any 0 (map field_of fields.now) body.now }
+{
+    let valid = validation(body, 0);
+    fields
+        .iter()
+        .any(|field| is_shown(field, valid, body.len()))
+}
+
+/// Whether a body has one of the registers to show, which stand one behind another: the first of them, if any.
+pub(crate) fn shows_register(width: u16, names: &[&'static str], body: &[u8]) -> bool
+    ensures { result ≡ shows_any 0 (register_fields width 0 (map (λ name. name.now) names.now)) body.now }
+{
+    !names.is_empty() && width as usize <= body.len()
 }
 
 // Whether a field is valid and lies within a body of so many bytes.
