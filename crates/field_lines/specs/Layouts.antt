@@ -102,7 +102,7 @@ has_sign (guid_sign at guid) bytes = has_guid bytes at guid
 abbrev pub is_told : ℕ → List ℕ → Inside → Bool
 is_told valid bytes inside = nat_le inside.at (length bytes) && is_valid inside.bit valid && has_sign inside.sign bytes
 
--- it is told, and has a field to show
+-- the part tells of it, and one of its fields is shown
 abbrev pub is_there : ℕ → List ℕ → Inside → Bool
 is_there valid bytes inside = is_told valid bytes inside && shows_any 0 inside.fields (drop inside.at bytes)
 

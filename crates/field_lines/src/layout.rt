@@ -39,6 +39,7 @@ pub enum Content {
 }
 
 /// What stands inside a part, from a place on, where a validation bit of the part and its key say so. Its own validation bits are its first bytes.
+/// It is left out where none of its fields is shown.
 #[derive(Clone, Copy)]
 pub struct Inner {
     pub name: &'static str,

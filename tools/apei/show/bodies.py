@@ -109,44 +109,56 @@ def ccix(chance: Chance) -> bytes:
     return spell(16 + len(log), 4) + chance.bits(3, 8) + chance.number(1) + chance.number(1) + bytes(2) + log
 
 
-def check(chance: Chance, kind: int) -> bytes:
-    """A check structure: 11 validation bits, and what they speak of."""
-    return spell(chance.below(1 << 6 if kind == 3 else 1 << 11) | chance.below(1 << 19) << 16, 8)
+def check(chance: Chance, bits: int, width: int) -> bytes:
+    """A check structure: its validation bits, in some of them none, and what they speak of."""
+    return spell(chance.below(1 << bits) * (chance.below(8) > 0) | chance.below(1 << width) << 16, 8)
+
+
+def ia32_error(chance: Chance, kind: int) -> bytes:
+    name = guid_bytes(names.CHECKS[kind]) if kind < 4 else chance.of.randbytes(16)
+    return name + chance.bits(5, 8) + check(chance, 6 if kind == 3 else 11, 19) + numbers(chance, 4, 8)
+
+
+def ia32_context(chance: Chance, kind: int) -> bytes:
+    size = {2: 92, 3: 244, 4: 512, 5: 32, 6: 64}.get(kind, 8 * chance.below(5))
+    return spell(kind, 2) + spell(size, 2) + chance.number(4) + chance.number(8) + chance.of.randbytes(size)
+
+
+def ia32_of(chance: Chance, errors: list[int], contexts: list[int]) -> bytes:
+    """A section of errors and contexts of these kinds."""
+    valid = chance.below(4) | len(errors) << 2 | len(contexts) << 8
+    parts = [ia32_error(chance, it) for it in errors] + [ia32_context(chance, it) for it in contexts]
+    return spell(valid, 8) + chance.number(8) + chance.of.randbytes(48) + b"".join(parts)
 
 
 def ia32(chance: Chance) -> bytes:
-    infos, contexts = chance.below(5), chance.below(4)
-    out = b""
-    for _ in range(infos):
-        kind = chance.below(5)
-        name = guid_bytes(names.CHECKS[kind]) if kind < 4 else chance.of.randbytes(16)
-        out += name + chance.bits(5, 8) + check(chance, kind) + numbers(chance, 4, 8)
-    for _ in range(contexts):
-        kind = chance.below(9)
-        size = {2: 92, 3: 244, 4: 512, 5: 32, 6: 64}.get(kind, 8 * chance.below(5))
-        out += spell(kind, 2) + spell(size, 2) + chance.number(4) + chance.number(8) + chance.of.randbytes(size)
-    valid = chance.below(4) | infos << 2 | contexts << 8
-    return spell(valid, 8) + chance.number(8) + chance.of.randbytes(48) + out
+    return ia32_of(chance, [chance.below(5) for _ in range(chance.below(5))], [chance.below(9) for _ in range(chance.below(4))])
 
 
 ARM_SIZES = [64, 96, 64, 8, 256, 136, 120, 80, 10]
 
 
+def arm_error(chance: Chance, kind: int) -> bytes:
+    head = bytes([0, 32]) + chance.bits(5, 2) + bytes([kind]) + chance.few(3, 2) + chance.few(16, 1)
+    return head + check(chance, 12, 28) + numbers(chance, 2, 8)
+
+
+def arm_context(chance: Chance, kind: int) -> bytes:
+    size = ARM_SIZES[kind] if chance.below(4) else 8 * chance.below(5)
+    return spell(0, 2) + spell(kind, 2) + spell(size, 4) + chance.of.randbytes(size)
+
+
+def arm_of(chance: Chance, errors: list[int], contexts: list[int]) -> bytes:
+    """A section of errors and contexts of these kinds, and what its vendor puts behind them."""
+    parts = [arm_error(chance, it) for it in errors] + [arm_context(chance, it) for it in contexts]
+    out = b"".join(parts) + chance.of.randbytes(8 * chance.below(3))
+    head = chance.bits(4, 4) + spell(len(errors), 2) + spell(len(contexts), 2) + spell(40 + len(out), 4) + chance.few(4, 1) + bytes(3)
+    return head + chance.number(8) + chance.number(8) + chance.few(2, 4) + chance.number(4) + out
+
+
 def arm(chance: Chance) -> bytes:
-    infos, contexts = chance.below(4), chance.below(4)
-    out = b""
-    for _ in range(infos):
-        kind = chance.of.choice([2, 4, 8, 16, 6, 0, 1, 32]) if chance.below(6) else chance.below(256)
-        error = spell(chance.below(1 << 12) | chance.below(1 << 28) << 16, 8)
-        out += bytes([0, 32]) + chance.bits(5, 2) + bytes([kind]) + chance.few(3, 2) + chance.few(16, 1) + error + numbers(chance, 2, 8)
-    for _ in range(contexts):
-        kind = chance.below(9)
-        size = ARM_SIZES[kind] if chance.below(4) else 8 * chance.below(5)
-        out += spell(0, 2) + spell(kind, 2) + spell(size, 4) + chance.of.randbytes(size)
-    vendor = chance.of.randbytes(8 * chance.below(3))
-    length = 40 + len(out) + len(vendor)
-    head = chance.bits(4, 4) + spell(infos, 2) + spell(contexts, 2) + spell(length, 4) + chance.few(4, 1) + bytes(3)
-    return head + chance.number(8) + chance.number(8) + chance.few(2, 4) + chance.number(4) + out + vendor
+    kinds = [chance.of.choice([2, 4, 8, 16, 6, 0, 1, 32]) if chance.below(6) else chance.below(256) for _ in range(chance.below(4))]
+    return arm_of(chance, kinds, [chance.below(9) for _ in range(chance.below(4))])
 
 
 def machine_check(chance: Chance) -> bytes:

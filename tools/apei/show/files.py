@@ -9,7 +9,7 @@ from apei.bytes import number, spell
 from apei.flash import Geometry
 from apei.items import ITEMS, Bad
 from apei.looks import PER_SLOT, SECTOR, Shown, flash_of, medium_header, seeming
-from apei.show import bodies, reading
+from apei.show import bodies, layouts, reading
 from apei.show.bodies import Chance
 from apei.store import Store
 
@@ -46,6 +46,15 @@ def of_sections(chance: Chance, count: int) -> Iterator[Wanted]:
         cut = [(kind, body[: chance.below(len(body) + 1)]) for kind, body in some]
         yield of_kind("record", bodies.record(chance, *cut))
         yield of_kind("block", bodies.block(chance, *cut))
+
+
+def cut_sections(chance: Chance) -> Iterator[Wanted]:
+    """Processor sections that end at each of their bytes: also within a structure that stands inside another one."""
+    ia32 = [bodies.ia32_of(chance, [it], []) for it in range(4)] + [bodies.ia32_of(chance, [], [it]) for it in layouts.IA32_CONTEXTS]
+    arm = [bodies.arm_of(chance, [it], []) for it in layouts.ARM_ERRORS] + [bodies.arm_of(chance, [], [it]) for it in layouts.ARM_CONTEXTS]
+    for kind, some in ((names.IA32, ia32), (names.ARM, arm)):
+        for body in some:
+            yield of_kind("record", b"".join(bodies.record(chance, (kind, body[:end])) for end in range(len(body) + 1)))
 
 
 def of_tables(chance: Chance, count: int) -> Iterator[Wanted]:
@@ -160,6 +169,7 @@ def of_stores(chance: Chance) -> Iterator[Wanted]:
 
 def well_formed(chance: Chance, count: int) -> Iterator[Wanted]:
     yield from of_sections(chance, count)
+    yield from cut_sections(chance)
     yield from of_tables(chance, count)
     yield from of_scripts()
     yield from of_stores(chance)

@@ -435,6 +435,8 @@ ARM_BUS_ERROR = ARM_ERROR + [
     (10, 34, 9, "memory access attributes"),
     (11, 43, 1, "access mode"),
 ]
+# By the type of an error.
+ARM_ERRORS = {2: ("cache error", ARM_ERROR), 4: ("TLB error", ARM_ERROR), 8: ("bus error", ARM_BUS_ERROR)}
 ARM = Layout(
     fields("""
     4 2 - ERR_INFO_NUM

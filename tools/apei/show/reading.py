@@ -61,28 +61,31 @@ def value_of(fields: Group, name: str) -> Any:
     return fields[name].value if name in fields else None
 
 
-def of_bits(fields: Group, name: str, table: list[tuple[int, int, int, str]]) -> Group:
+def named(name: str, at: int, its: Group) -> Group:
+    """A structure inside another one: left out where it has no field."""
+    return {name: {"offset": at, **its}} if its else {}
+
+
+def of_bits(cell: Cell, table: list[tuple[int, int, int, str]]) -> Group:
     """The fields of a number whose low bits say which of them are valid."""
-    at, bits = fields[name]
-    return {"offset": at, **{it: Cell(at, bits >> low & (1 << count) - 1) for bit, low, count, it in table if bits >> bit & 1}}
+    at, bits = cell
+    return {it: Cell(at, bits >> low & (1 << count) - 1) for bit, low, count, it in table if bits >> bit & 1}
 
 
 def in_error(layout: Layout, fields: Group) -> Group:
     """The bits of a check, or of an ARM error of one kind."""
     if layout is layouts.IA32:
-        check = layouts.CHECKS.get(value_of(fields, "error structure type"))
-        return {check[0]: of_bits(fields, "check information", check[1])} if check and "check information" in fields else {}
-    kind = {2: "cache error", 4: "TLB error", 8: "bus error"}.get(value_of(fields, "type"))
-    if kind is None or "error information" not in fields:
-        return {}
-    return {kind: of_bits(fields, "error information", layouts.ARM_BUS_ERROR if kind == "bus error" else layouts.ARM_ERROR)}
+        kind, bits = layouts.CHECKS.get(value_of(fields, "error structure type")), fields.get("check information")
+    else:
+        kind, bits = layouts.ARM_ERRORS.get(value_of(fields, "type")), fields.get("error information")
+    return named(kind[0], bits.at, of_bits(bits, kind[1])) if kind and bits else {}
 
 
 def in_context(layout: Layout, fields: Group, data: bytes, base: int) -> Group:
     """The registers of a context."""
     contexts, behind = (layouts.IA32_CONTEXTS, 16) if layout is layouts.IA32 else (layouts.ARM_CONTEXTS, 8)
-    rows = contexts.get(value_of(fields, "register context type"))
-    return {"registers": {"offset": base + behind, **read(rows, data[behind:], base + behind, 0, 8)}} if rows else {}
+    rows = contexts.get(value_of(fields, "register context type"), ())
+    return named("registers", base + behind, read(rows, data[behind:], base + behind, 0, 8))
 
 
 def inside(layout: Layout, part: Part, fields: Group, data: bytes, base: int) -> Group:
