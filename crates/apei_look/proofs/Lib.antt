@@ -2,3 +2,5 @@ pub mod TextLemmas
 pub mod CommandLemmas
 pub mod GuidTextLemmas
 pub mod RecordTextLemmas
+pub mod ObjectLemmas
+pub mod PaddingLemmas

@@ -5,7 +5,6 @@ use Rattle.image_survey.specs.Kinds.{kind_at}
 use Rattle.image_survey.specs.declared.kinds.SlotKind.{SlotKind}
 use Rattle.image_survey.specs.declared.kinds.SlotKind.TheVariants.{First, Further, SecondCopy, Orphan, Filling, Killed, Erased, Unknown}
 use Rattle.cper_frame.specs.Grammar.{SectionValue}
-use Rattle.apei_look.specs.Frames.{section_text, sections_text}
 use Rattle.apei_look.specs.Records.{AreRecords, IsSlotText}
 use Rattle.apei_look.specs.Texts.{GrowsBy}
 
@@ -14,19 +13,22 @@ first_left [] k x is = cc
 first_left (y ∷ ys) zero x is = let same : y ≡ x = cc in ap (λ z. z ∷ ys) same
 first_left (y ∷ ys) (suc k) x is = first_left ys k x is
 
--- a section was written
-pub next_section : (sections : List SectionValue) (k : ℕ) (section : SectionValue) (start old new : List ℕ)
+-- the next of a list of sections was written
+pub next_section : (of_section : ℕ → SectionValue → List ℕ) (of_all : ℕ → List SectionValue → List ℕ)
+    → ((k : ℕ) (section : SectionValue) (rest : List SectionValue) → of_all k (section ∷ rest) ≡ of_section k section ++ of_all (k + 1) rest)
+    → (sections : List SectionValue) (k : ℕ) (section : SectionValue) (start old new : List ℕ)
     → slice_get sections k ≡ Some section
-    → new ≡ old ++ section_text k section
-    → old ++ sections_text k (drop k sections) ≡ start
-    → new ++ sections_text (k + 1) (drop (k + 1) sections) ≡ start
-next_section sections k section start old new here written invariant =
-    let rest : List ℕ = sections_text (k + 1) (drop (k + 1) sections) in
-    let split : sections_text k (drop k sections) ≡ section_text k section ++ rest =
-    ap (sections_text k) (first_left sections k section here)
-    ∙ ap (λ (n : ℕ). section_text k section ++ sections_text (k + 1) (drop n sections)) (sym (add-one k)) in
+    → new ≡ old ++ of_section k section
+    → old ++ of_all k (drop k sections) ≡ start
+    → new ++ of_all (k + 1) (drop (k + 1) sections) ≡ start
+next_section of_section of_all one_by_one sections k section start old new here written invariant =
+    let rest : List ℕ = of_all (k + 1) (drop (k + 1) sections) in
+    let split : of_all k (drop k sections) ≡ of_section k section ++ rest =
+    ap (of_all k) (first_left sections k section here)
+    ∙ one_by_one k section (drop (suc k) sections)
+    ∙ ap (λ (n : ℕ). of_section k section ++ of_all (k + 1) (drop n sections)) (sym (add-one k)) in
     ap (λ (t : List ℕ). t ++ rest) written
-    ∙ append_assoc old (section_text k section) rest
+    ∙ append_assoc old (of_section k section) rest
     ∙ ap (λ (t : List ℕ). old ++ t) (sym split)
     ∙ invariant
 

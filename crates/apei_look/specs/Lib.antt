@@ -7,5 +7,9 @@ pub mod Options
 pub mod Numbers
 pub mod Refusals
 pub mod Frames
+pub mod SlotTexts
+pub mod FileTexts
+pub mod FileObjects
+pub mod RecordObjects
 pub mod Records
 pub mod Images

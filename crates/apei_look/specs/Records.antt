@@ -7,11 +7,7 @@ use Rattle.image_survey.specs.Reading.{IsRecordOf}
 use Rattle.image_survey.specs.declared.kinds.SlotKind.{SlotKind}
 use Rattle.image_survey.specs.declared.kinds.SlotKind.TheVariants.{First}
 use Rattle.apei_look.specs.Frames.{IsFrameText}
-use Rattle.apei_look.specs.Texts.{identity_text, slot_numbers}
-
--- a space, as ASCII numbers it
-abbrev pub space : ℕ
-space = 32
+use Rattle.apei_look.specs.Texts.{space, identity_text, slot_numbers}
 
 -- the line of a record, by the head of its first slot: an empty line, its identifier, its generation, its length, and its slots
 abbrev pub record_line : (slot_size k : ℕ) → Head → List ℕ

@@ -25,6 +25,17 @@ abbrev pub identity_json : Head → List ℕ
 identity_json head =
     codes "\"id\":\"" ++ decimal head.id ++ codes "\",\"generation\":" ++ decimal head.generation ++ codes ",\"bytes\":" ++ decimal head.len
 
+-- the version of the mediums whose slots are shown
+abbrev pub version : ℕ
+version = 1
+
+-- a space and a comma, as ASCII numbers them
+abbrev pub space : ℕ
+space = 32
+
+abbrev pub comma : ℕ
+comma = 44
+
 -- numbers of slots, each behind a mark
 abbrev pub slot_numbers : (mark : ℕ) → (slots : List ℕ) → List ℕ
 slot_numbers mark [] = []

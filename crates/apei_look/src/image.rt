@@ -5,7 +5,7 @@ ghost use Rattle.record_model.specs.Slots.{further_of};
 ghost use Rattle.record_slots.specs.Slots.{numbers_of};
 ghost use Rattle.image_survey.specs.Kinds.{kind_at};
 ghost use Rattle.image_survey.specs.Reading.{IsRecordOf};
-ghost use Rattle.image_survey.specs.Shown.{AreShown};
+ghost use Rattle.image_survey.specs.Shown.{AreShown, IsShown};
 ghost use Rattle.image_survey.specs.declared.kinds.SlotKind.TheVariants.{First};
 ghost use Rattle.apei_look.specs.Places.{flash_at, place_of_slot, IsEnd};
 
@@ -55,6 +55,14 @@ impl<'a> Image<'a> {
         Some(held / self.geometry.slot_size())
     }
 
+    /// What a slot is, with its head and its tail mark.
+    pub(crate) fn view(&self, slot: u32) -> &'a SlotView
+        requires { slot < self.now.geometry.now.slots }
+        ensures { IsShown self.now.geometry.now.slot_size self.now.geometry.now.slots self.now.bytes.now slot result.now }
+    {
+        &self.views[slot as usize]
+    }
+
     /// The head of the record whose first slot a slot is, and the record's bytes; none where it is no first slot.
     pub(crate) fn record_at(
         &self,
@@ -73,7 +81,7 @@ impl<'a> Image<'a> {
     {
         let found = record_at(alloc, self.bytes, self.geometry, self.views, slot)?;
         match found {
-            Some(bytes) => Ok(Some((self.views[slot as usize].look.head, bytes))),
+            Some(bytes) => Ok(Some((self.view(slot).look.head, bytes))),
             None => Ok(None),
         }
     }

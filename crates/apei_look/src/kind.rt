@@ -1,12 +1,13 @@
 // The letters and the words for what a slot is.
-ghost use Rattle.std.specs.Prelude.{◌≡◌};
+ghost use Rattle.std.specs.Prelude.{◌≡◌, ◌<◌};
 ghost use Rattle.apei_look.specs.Words.{file_word, letter_of, word_of};
 
 use image_survey::{FileKind, SlotKind};
 
 /// The letter of the picture.
 pub fn letter(kind: SlotKind) -> char
-    ensures { result ≡ letter_of kind }
+    ensures letter { result ≡ letter_of kind }
+    ensures ascii { result < 128 }
 {
     match kind {
         SlotKind::First => 'R',

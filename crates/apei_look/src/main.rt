@@ -14,6 +14,8 @@ mod guid;
 mod image;
 mod image_file;
 mod json;
+mod json_records;
+mod json_slots;
 mod kind;
 mod number;
 mod options;

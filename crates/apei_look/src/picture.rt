@@ -1,43 +1,65 @@
 // The picture of the slots.
-#![tactic(auto, using(crate::proofs::TextLemmas::growth))]
+ghost use Rattle.std.specs.Prelude.{◌≡◌, ◌++◌, ◌<◌, OnOk, string_bytes};
+ghost use Rattle.apei_look.specs.SlotTexts.{legend_text, letter_text, of_slots, picture_text, row_start, row_text, slot_letter};
 
-ghost use Rattle.std.specs.Prelude.{OnOk, string_bytes};
-ghost use Rattle.apei_look.specs.Texts.{Grows};
-
+use crate::image::Image;
 use crate::kind::letter;
-use image_survey::SlotView;
+use image_survey::SlotKind;
 use std::alloc::AllocError;
 
 // How many slots stand in a row.
-const ROW: usize = 64;
+const ROW: u32 = 64;
 
 /// The picture: a letter for each slot, so many to a row, which begins with the number of its first slot.
-pub fn add_picture(out: &mut String, views: &[SlotView]) -> Result<(), AllocError>
-    ensures { OnOk result (Grows (string_bytes out.old) (string_bytes out.new)) }
+pub fn add_picture(out: &mut String, image: &Image<'_>) -> Result<(), AllocError>
+    ensures { OnOk result (string_bytes out.new ≡ string_bytes out.old
+        ++ picture_text image.now.geometry.now.slot_size image.now.geometry.now.slots image.now.bytes.now) }
 {
-    for (slot, view) in views.iter().enumerate() {
-        add_row(out, slot)?;
-        out.push(letter(view.kind))?;
-    }
+    add_letters(out, image)?;
     out.push_str("\n\n")
 }
 
-// The beginning of a row, where a slot is the first of one.
-fn add_row(out: &mut String, slot: usize) -> Result<(), AllocError>
-    ensures { OnOk result (Grows (string_bytes out.old) (string_bytes out.new)) }
+fn add_letters(out: &mut String, image: &Image<'_>) -> Result<(), AllocError>
+    ensures { OnOk result (string_bytes out.new ≡ string_bytes out.old ++ of_slots (slot_letter
+        image.now.geometry.now.slot_size image.now.geometry.now.slots image.now.bytes.now) image.now.geometry.now.slots) }
 {
-    if slot % ROW != 0 {
-        return Ok(());
+    for slot in 0..image.geometry.slots as u32 {
+        add_letter(out, slot, image.view(slot).kind)?;
     }
+    Ok(())
+}
+
+// The letter of a slot, behind the beginning of its row where it is the first of one.
+fn add_letter(out: &mut String, slot: u32, kind: SlotKind) -> Result<(), AllocError>
+    ensures { OnOk result (string_bytes out.new ≡ string_bytes out.old ++ letter_text slot kind) }
+{
+    add_row(out, slot)?;
+    out.push(letter(kind))
+}
+
+fn add_row(out: &mut String, slot: u32) -> Result<(), AllocError>
+    ensures { OnOk result (string_bytes out.new ≡ string_bytes out.old ++ row_text slot) }
+{
+    if slot % ROW == 0 {
+        add_row_start(out, slot)
+    } else {
+        Ok(())
+    }
+}
+
+fn add_row_start(out: &mut String, slot: u32) -> Result<(), AllocError>
+    ensures { OnOk result (string_bytes out.new ≡ string_bytes out.old ++ row_start slot) }
+{
     write!(out, "\n{slot:>5} ")
 }
 
 /// What the letters mean.
 pub fn add_legend(out: &mut String) -> Result<(), AllocError>
-    ensures { OnOk result (Grows (string_bytes out.old) (string_bytes out.new)) }
+    ensures { OnOk result (string_bytes out.new ≡ string_bytes out.old ++ legend_text) }
 {
     out.push_str(
         "R first slot of a record  + further slot of a record  2 second copy  o orphan\n",
     )?;
-    out.push_str("w being filled or erased  k killed  . erased  ? unknown\n\n")
+    out.push_str("w being filled or erased  k killed  . erased  ? unknown\n\n")?;
+    Ok(())
 }

@@ -1,11 +1,11 @@
 // A line for each slot.
-#![tactic(auto, using(crate::proofs::TextLemmas::growth))]
-
-ghost use Rattle.std.specs.Prelude.{OnOk, string_bytes};
-ghost use Rattle.apei_look.specs.Texts.{Grows};
+ghost use Rattle.std.specs.Prelude.{◌≡◌, ◌≢◌, ◌++◌, ◌<◌, OnOk, string_bytes};
+ghost use Rattle.record_slots.specs.Slots.{numbers_of};
+ghost use Rattle.image_survey.specs.declared.kinds.SlotKind.TheVariants.{Erased};
+ghost use Rattle.apei_look.specs.SlotTexts.{filling_text, first_text, further_text, gate_text, kind_line, line_text, marks_text, part_text, seen_text, slot_line, slots_text};
 
 use crate::digits::add_digits;
-use crate::image::further_slots;
+use crate::image::{Image, further_slots};
 use crate::kind::word;
 use crate::records::{add_identity, add_slot_numbers};
 use flash_model::Geometry;
@@ -18,39 +18,58 @@ const NO_FORMAT: u16 = 0xFFFF;
 
 /// A line for each slot that is not erased: what it is, the identifier, the generation and the length in its head, and the
 /// slots that it names.
-pub fn add_slots(
-    out: &mut String,
-    geometry: &Geometry,
-    views: &[SlotView],
-) -> Result<(), AllocError>
-    ensures { OnOk result (Grows (string_bytes out.old) (string_bytes out.new)) }
+pub fn add_slots(out: &mut String, image: &Image<'_>) -> Result<(), AllocError>
+    ensures { OnOk result (string_bytes out.new ≡ string_bytes out.old
+        ++ slots_text image.now.geometry.now.slot_size image.now.geometry.now.slots image.now.bytes.now) }
 {
-    for (slot, view) in views.iter().enumerate() {
-        add_slot(out, geometry, slot, view)?;
+    for slot in 0..image.geometry.slots as u32 {
+        add_slot(out, image, slot)?;
     }
     Ok(())
 }
 
-fn add_slot(
+fn add_slot(out: &mut String, image: &Image<'_>, slot: u32) -> Result<(), AllocError>
+    requires { slot < image.now.geometry.now.slots }
+    ensures { OnOk result (string_bytes out.new ≡ string_bytes out.old
+        ++ slot_line image.now.geometry.now.slot_size image.now.geometry.now.slots image.now.bytes.now slot) }
+{
+    add_view(out, image.geometry, slot, image.view(slot))
+}
+
+fn add_view(
     out: &mut String,
     geometry: &Geometry,
-    slot: usize,
+    slot: u32,
     view: &SlotView,
 ) -> Result<(), AllocError>
-    ensures { OnOk result (Grows (string_bytes out.old) (string_bytes out.new)) }
+    ensures { OnOk result (string_bytes out.new ≡ string_bytes out.old
+        ++ kind_line geometry.now.slot_size slot view.now.kind (numbers_of view.now.look.head) view.now.look.tail) }
 {
     if view.kind == SlotKind::Erased {
         return Ok(());
     }
+    add_line(out, geometry, slot, view)
+}
+
+fn add_line(
+    out: &mut String,
+    geometry: &Geometry,
+    slot: u32,
+    view: &SlotView,
+) -> Result<(), AllocError>
+    ensures { OnOk result (string_bytes out.new ≡ string_bytes out.old
+        ++ line_text geometry.now.slot_size slot view.now.kind (numbers_of view.now.look.head) view.now.look.tail) }
+{
     let kind = word(view.kind);
     write!(out, "slot {slot} {kind}")?;
-    add_view(out, geometry, view)?;
+    add_seen(out, geometry, view)?;
     out.push('\n')
 }
 
 // What the head of a slot says.
-fn add_view(out: &mut String, geometry: &Geometry, view: &SlotView) -> Result<(), AllocError>
-    ensures { OnOk result (Grows (string_bytes out.old) (string_bytes out.new)) }
+fn add_seen(out: &mut String, geometry: &Geometry, view: &SlotView) -> Result<(), AllocError>
+    ensures { OnOk result (string_bytes out.new ≡ string_bytes out.old
+        ++ seen_text geometry.now.slot_size view.now.kind (numbers_of view.now.look.head) view.now.look.tail) }
 {
     let head = &view.look.head;
     match view.kind {
@@ -64,7 +83,8 @@ fn add_view(out: &mut String, geometry: &Geometry, view: &SlotView) -> Result<()
 
 // The head of a first slot.
 fn add_first(out: &mut String, geometry: &Geometry, head: &Head) -> Result<(), AllocError>
-    ensures { OnOk result (Grows (string_bytes out.old) (string_bytes out.new)) }
+    ensures { OnOk result (string_bytes out.new ≡ string_bytes out.old
+        ++ first_text geometry.now.slot_size (numbers_of head.now)) }
 {
     out.push_str(" id ")?;
     add_identity(out, head)?;
@@ -72,18 +92,20 @@ fn add_first(out: &mut String, geometry: &Geometry, head: &Head) -> Result<(), A
 }
 
 fn add_further(out: &mut String, further: &[u16]) -> Result<(), AllocError>
-    ensures { OnOk result (Grows (string_bytes out.old) (string_bytes out.new)) }
+    ensures { OnOk result (string_bytes out.new ≡ string_bytes out.old ++ further_text further.now) }
 {
-    if further.is_empty() {
-        return Ok(());
+    match further {
+        [] => Ok(()),
+        slots => {
+            out.push_str(" further")?;
+            add_slot_numbers(out, ' ', slots)
+        }
     }
-    out.push_str(" further")?;
-    add_slot_numbers(out, ' ', further)
 }
 
 // The head of a further slot.
 fn add_part(out: &mut String, head: &Head) -> Result<(), AllocError>
-    ensures { OnOk result (Grows (string_bytes out.old) (string_bytes out.new)) }
+    ensures { OnOk result (string_bytes out.new ≡ string_bytes out.old ++ part_text (numbers_of head.now)) }
 {
     out.push_str(" id ")?;
     add_identity(out, head)?;
@@ -93,7 +115,8 @@ fn add_part(out: &mut String, head: &Head) -> Result<(), AllocError>
 
 // The head of a slot that is being filled or erased, as far as it has one.
 fn add_filling(out: &mut String, geometry: &Geometry, head: &Head) -> Result<(), AllocError>
-    ensures { OnOk result (Grows (string_bytes out.old) (string_bytes out.new)) }
+    ensures { OnOk result (string_bytes out.new ≡ string_bytes out.old
+        ++ filling_text geometry.now.slot_size (numbers_of head.now)) }
 {
     if head.gate == GATE_FURTHER {
         return add_part(out, head);
@@ -106,18 +129,19 @@ fn add_filling(out: &mut String, geometry: &Geometry, head: &Head) -> Result<(),
 
 // The marks of a slot that is of no known form.
 fn add_marks(out: &mut String, head: &Head, tail: u8) -> Result<(), AllocError>
-    ensures { OnOk result (Grows (string_bytes out.old) (string_bytes out.new)) }
+    ensures { OnOk result (string_bytes out.new ≡ string_bytes out.old ++ marks_text (numbers_of head.now) tail) }
 {
-    let Head {
-        gate,
-        kill,
-        format,
-        ..
-    } = *head;
-    out.push_str(" gate 0x")?;
-    add_digits(out, gate)?;
-    out.push_str(" kill 0x")?;
-    add_digits(out, kill)?;
+    let format = head.format;
+    add_gate(out, head)?;
     write!(out, " format {format} tail 0x")?;
     add_digits(out, tail)
+}
+
+fn add_gate(out: &mut String, head: &Head) -> Result<(), AllocError>
+    ensures { OnOk result (string_bytes out.new ≡ string_bytes out.old ++ gate_text (numbers_of head.now)) }
+{
+    out.push_str(" gate 0x")?;
+    add_digits(out, head.gate)?;
+    out.push_str(" kill 0x")?;
+    add_digits(out, head.kill)
 }

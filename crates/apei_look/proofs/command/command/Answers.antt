@@ -1,6 +1,6 @@
 use Rattle.std.proofs.Common.{◌≡◌, ◌∙◌, ap₂, codes}
 use Rattle.clap.specs.Words.{app_of, with_rule}
-use Rattle.clap_words.specs.Commands.{bare, with_option}
+use Rattle.clap_words.specs.Commands.{bare}
 use Rattle.apei_look.specs.Commands.{flag_rule, the_command}
 use Rattle.apei_look.proofs.command.command.Goals as goal
 

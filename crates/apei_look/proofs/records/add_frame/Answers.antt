@@ -1,4 +1,4 @@
-use Rattle.std.proofs.Common.{◌≡◌, ◌∙◌, ℕ, ◌-◌, ◌^◌, List, ◌++◌, take, Result, MatchResult, codes, string_bytes, refl, sym, ap, subst, append_assoc}
+use Rattle.std.proofs.Common.{◌≡◌, ◌∙◌, ℕ, List, ◌++◌, take, Result, MatchResult, codes, string_bytes, refl, sym, ap, subst, append_assoc}
 use Rattle.cper_frame.specs.declared.error.FrameError.{FrameError}
 use Rattle.cper_frame.specs.declared.heads.RecordHead.{RecordHead}
 use Rattle.apei_look.specs.Frames.{IsRecordText, head_text, sections_text}

@@ -1,4 +1,4 @@
-use Rattle.std.proofs.Common.{◌≡◌, ◌∙◌, ℕ, List, ◌++◌, string_bytes, refl, sym, ap, subst, append_assoc}
+use Rattle.std.proofs.Common.{◌∙◌, ℕ, List, ◌++◌, string_bytes, refl, sym, ap, subst, append_assoc}
 use Rattle.record_model.specs.Records.{Head, slot_at}
 use Rattle.image_survey.specs.declared.kinds.SlotKind.{SlotKind}
 use Rattle.apei_look.specs.Frames.{IsFrameText}

@@ -1,6 +1,8 @@
-use Rattle.std.proofs.Common.{string_bytes}
-use Rattle.apei_look.specs.Texts.{Grows}
+use Rattle.std.proofs.Common.{◌≡◌, ◌++◌, string_bytes}
+use Rattle.apei_look.specs.SlotTexts.{of_slots, slot_line}
 use Rattle.apei_look.proofs.slots.add_slots.Given as goal
 
 abbrev pub invariant-loop-slot : goal.invariant-loop-slot
-invariant-loop-slot l = Grows (string_bytes l.initial.out) (string_bytes l.out)
+invariant-loop-slot l =
+    string_bytes l.out
+    ≡ string_bytes l.initial.out ++ of_slots (slot_line l.image.geometry.now.slot_size l.image.geometry.now.slots l.image.bytes.now) l.slot

@@ -1,4 +1,4 @@
-use Rattle.std.proofs.Common.{◌≡◌, ◌∙◌, List, ℕ, ◌++◌, ap, codes, decimal, string_bytes}
+use Rattle.std.proofs.Common.{◌∙◌, List, ℕ, ◌++◌, ap, codes, decimal, string_bytes}
 use Rattle.apei_look.proofs.TextLemmas.{behind_one_another}
 use Rattle.apei_look.proofs.text.add_copies.Goals as goal
 
