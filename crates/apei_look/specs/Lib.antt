@@ -7,6 +7,7 @@ pub mod Options
 pub mod Numbers
 pub mod Refusals
 pub mod Frames
+pub mod Mediums
 pub mod SlotTexts
 pub mod FileTexts
 pub mod FileObjects

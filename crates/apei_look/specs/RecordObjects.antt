@@ -1,5 +1,6 @@
 -- What is written of records as JSON.
-use Rattle.std.specs.Prelude.{◌≡◌, ℕ, zero, suc, ◌+◌, ◌-◌, ◌^◌, ◌==◌, if◌then◌else◌, Bool, true, false, List, [], ◌∷◌, ◌++◌, length, take, Option, Some, None, MatchResult, codes, decimal}
+use Rattle.std.specs.Prelude.{◌≡◌, ℕ, zero, suc, ◌+◌, ◌-◌, ◌^◌, ◌==◌, if◌then◌else◌, Bool, true, false, List, [], ◌∷◌, ◌++◌, length, take, Option, Some}
+use Rattle.std.specs.Prelude.{None, MatchResult, codes, decimal}
 use Rattle.jiff.specs.Names.{iso_datetime_text}
 use Rattle.jiff.specs.declared.civil.datetimes.DateTime.{DateTime}
 use Rattle.apei_bytes.specs.Guid.{guid_text}

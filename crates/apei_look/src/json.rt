@@ -1,6 +1,7 @@
 // The whole as JSON.
 ghost use Rattle.std.specs.Prelude.{◌≡◌, ◌++◌, IfOk, OnOk, string_bytes};
-ghost use Rattle.apei_look.specs.FileObjects.{copies_json, counts_json, file_json, header_json, heads_json, kind_json, medium_json, seems_json, separator, totals_json};
+ghost use Rattle.apei_look.specs.FileObjects.{copies_json, counts_json, file_json, header_json, heads_json, kind_json, medium_json, seems_json, separator};
+ghost use Rattle.apei_look.specs.FileObjects.{totals_json};
 ghost use Rattle.apei_look.specs.Images.{IsJson};
 ghost use Rattle.apei_look.specs.Texts.{geometry_json};
 

@@ -3,7 +3,9 @@ ghost use Rattle.std.specs.Prelude.{◌≡◌, ◌++◌, ◌<◌, length, option
 ghost use Rattle.record_slots.specs.Slots.{numbers_of};
 ghost use Rattle.image_survey.specs.Kinds.{kind_at};
 ghost use Rattle.cper_frame.specs.Sections.{value_of};
-ghost use Rattle.apei_look.specs.RecordObjects.{AreObjects, IsFrameJson, IsSlotObject, calendar_json, frame_json, guid_json, guids_json, head_json, is_first_behind, name_json, notified_json, section_item, section_json, sections_json, severity_json, stamp_json, stored_json, time_json, type_json};
+ghost use Rattle.apei_look.specs.RecordObjects.{AreObjects, IsFrameJson, IsSlotObject, calendar_json, frame_json, guid_json, guids_json, head_json};
+ghost use Rattle.apei_look.specs.RecordObjects.{is_first_behind, name_json, notified_json, section_item, section_json, sections_json, severity_json};
+ghost use Rattle.apei_look.specs.RecordObjects.{stamp_json, stored_json, time_json, type_json};
 ghost use Rattle.apei_look.specs.Texts.{GrowsBy};
 
 use crate::digits::add_bytes;

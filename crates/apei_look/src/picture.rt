@@ -1,5 +1,5 @@
 // The picture of the slots.
-ghost use Rattle.std.specs.Prelude.{◌≡◌, ◌++◌, ◌<◌, OnOk, string_bytes};
+ghost use Rattle.std.specs.Prelude.{◌≡◌, ◌++◌, OnOk, string_bytes};
 ghost use Rattle.apei_look.specs.SlotTexts.{legend_text, letter_text, of_slots, picture_text, row_start, row_text, slot_letter};
 
 use crate::image::Image;

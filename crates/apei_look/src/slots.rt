@@ -1,8 +1,8 @@
 // A line for each slot.
-ghost use Rattle.std.specs.Prelude.{◌≡◌, ◌≢◌, ◌++◌, ◌<◌, OnOk, string_bytes};
+ghost use Rattle.std.specs.Prelude.{◌≡◌, ◌++◌, ◌<◌, OnOk, string_bytes};
 ghost use Rattle.record_slots.specs.Slots.{numbers_of};
-ghost use Rattle.image_survey.specs.declared.kinds.SlotKind.TheVariants.{Erased};
-ghost use Rattle.apei_look.specs.SlotTexts.{filling_text, first_text, further_text, gate_text, kind_line, line_text, marks_text, part_text, seen_text, slot_line, slots_text};
+ghost use Rattle.apei_look.specs.SlotTexts.{filling_text, first_text, further_text, gate_text, kind_line, line_text, marks_text, part_text, seen_text};
+ghost use Rattle.apei_look.specs.SlotTexts.{slot_line, slots_text};
 
 use crate::digits::add_digits;
 use crate::image::{Image, further_slots};

@@ -1,6 +1,7 @@
 // The whole as text.
 ghost use Rattle.std.specs.Prelude.{◌≡◌, ◌++◌, true, IfOk, OnOk, string_bytes};
-ghost use Rattle.apei_look.specs.FileTexts.{IsFileText, cut_text, division_text, end_place, end_text, guess_text, longer_text, medium_text, options_text, place_text, version_text, view_text};
+ghost use Rattle.apei_look.specs.FileTexts.{IsFileText, cut_text, division_text, end_place, end_text, guess_text, longer_text, medium_text, options_text};
+ghost use Rattle.apei_look.specs.FileTexts.{place_text, version_text, view_text};
 ghost use Rattle.apei_look.specs.Images.{IsText, copies_text, counts_text, shown_text, totals_line};
 ghost use Rattle.apei_look.specs.Texts.{GrowsBy};
 

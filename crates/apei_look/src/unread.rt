@@ -1,25 +1,44 @@
 // A medium whose slots are not shown.
 ghost use Rattle.std.specs.Prelude.{◌≡◌, ◌++◌, IfOk, OnOk, string_bytes};
-ghost use Rattle.apei_look.specs.Texts.{IsLine, unread_object, version_json};
+ghost use Rattle.apei_look.specs.Mediums.{unread_line};
+ghost use Rattle.apei_look.specs.Texts.{unread_object, version_json};
 ghost use Rattle.apei_look.specs.Words.{unread_word_of};
 
 use std::alloc::{AllocError, Global};
-use thiserror::Error;
+use std::fmt;
 
 /// Why the slots of a medium are not shown.
-#[derive(Clone, Copy, Debug, PartialEq, Eq, Error)]
+#[derive(Clone, Copy, Debug, PartialEq, Eq)]
 pub enum Unread {
     /// Its first sector is of another version.
-    #[error("a medium of the library, version {0}: version 1 is the only one that is shown")]
     Version(u32),
     /// Its first sector has the signature, and is no header that a format made.
-    #[error("a medium of the library whose first sector is damaged: its geometry is not known")]
     Damaged,
+}
+
+impl fmt::Display for Unread {
+    ghost use Rattle.std.specs.Prelude.{Some};
+    ghost use Rattle.apei_look.specs.Mediums.{unread_words};
+
+    ghost output = { λ unread. Some (unread_words unread) };
+
+    fn fmt<W: fmt::Write>(&self, f: &mut fmt::Formatter<W>) -> fmt::Result {
+        match self {
+            Unread::Version(found) => write!(
+                f,
+                "a medium of the library, version {found}: version 1 is the only one that is shown"
+            ),
+            Unread::Damaged => write!(
+                f,
+                "a medium of the library whose first sector is damaged: its geometry is not known"
+            ),
+        }
+    }
 }
 
 /// The text of such a medium: one line.
 pub fn unread_text(alloc: Global, unread: Unread) -> Result<String, AllocError>
-    ensures { IfOk result (λ text. IsLine (string_bytes text)) }
+    ensures { IfOk result (λ text. string_bytes text ≡ unread_line unread) }
 {
     let mut out = String::new(alloc);
     write!(out, "{unread}")?;
