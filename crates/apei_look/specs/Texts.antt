@@ -6,11 +6,6 @@ use Rattle.apei_look.specs.declared.unread.Unread.{Unread}
 use Rattle.apei_look.specs.declared.unread.Unread.TheVariants.{Version, Damaged}
 use Rattle.apei_look.specs.Words.{unread_word_of}
 
--- a text with something behind it
-pub record Grows (old new : List ℕ) : Type 0 where
-  pub more : List ℕ
-  pub is : new ≡ old ++ more
-
 -- a text with something of a kind behind it
 pub record GrowsBy (IsMore : List ℕ → Type 0) (old new : List ℕ) : Type 0 where
   pub more : List ℕ
@@ -45,11 +40,6 @@ slot_numbers mark (slot ∷ slots) = encode_utf8 mark ++ decimal slot ++ slot_nu
 abbrev pub geometry_json : Geometry → List ℕ
 geometry_json geometry =
     codes "{\"sector\":" ++ decimal geometry.sector ++ codes ",\"per_slot\":" ++ decimal geometry.per_slot ++ codes ",\"slots\":" ++ decimal geometry.slots ++ codes "}"
-
--- a text that ends its line
-pub record IsLine (text : List ℕ) : Type 0 where
-  pub said : List ℕ
-  pub is : text ≡ said ++ codes "\n"
 
 -- the object, on its line, of a medium whose slots are not shown
 abbrev pub version_json : Unread → List ℕ

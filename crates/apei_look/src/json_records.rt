@@ -1,5 +1,5 @@
 // The records as JSON.
-ghost use Rattle.std.specs.Prelude.{◌≡◌, ◌++◌, ◌<◌, length, option_map, IfOk, OnOk, string_bytes};
+ghost use Rattle.std.specs.Prelude.{◌≡◌, ◌++◌, ◌<◌, option_map, IfOk, OnOk, string_bytes};
 ghost use Rattle.record_slots.specs.Slots.{numbers_of};
 ghost use Rattle.image_survey.specs.Kinds.{kind_at};
 ghost use Rattle.cper_frame.specs.Sections.{value_of};
