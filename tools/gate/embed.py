@@ -7,8 +7,8 @@ examples/embed is linked and formats a medium. Then power is lost in each change
 last, and leaves four things in the range of that change: nothing, all of it, zeros, and 0xA5 in each byte. Each medium that is left is
 opened again: one whose formatting was cut is refused, or is empty; any other has the records from before the command that was cut or those
 after it, and each record that was told as stored. All archives leave the same medium. The names that an archive wants of its program are
-those that docs/EMBED.md lists. Then the Rust crate's tests and its example run, where cargo is there. Where there is no C compiler one
-line says so.
+those that docs/EMBED.md lists. A program of tests/embed counts what an archive takes of memory and gives back. Then the Rust crate's tests
+and its example run, where cargo is there. Where there is no C compiler one line says so.
 """
 
 import os
@@ -35,21 +35,32 @@ def call(*words: str | os.PathLike[str], **options: Any) -> subprocess.Completed
     return subprocess.run(words, capture_output=True, text=True, check=False, **options)
 
 
+def make(*words: str | Path) -> None:
+    done = call(*words)
+    if done.returncode:
+        sys.exit(f"embed: {words[0]}: {done.stderr}")
+
+
+def linked(library: Path, program: Path, *sources: Path) -> Path:
+    """A program over the library."""
+    make("cc", *WARNINGS, f"-I{TOP / 'include'}", *sources, library, "-o", program)
+    return program
+
+
 def built(archive: Path, folder: Path) -> Path:
     """The library as ./libapei lays it out, and the example firmware over it."""
     folder.mkdir()
-    heap, library, program = folder / "heap.o", folder / "libapei.a", folder / "firmware"
+    heap, library = folder / "heap.o", folder / "libapei.a"
     shutil.copy(archive, library)
-    steps: list[list[str | Path]] = [
-        ["cc", *WARNINGS, "-fPIC", "-c", TOP / "glue" / "heap_malloc.c", "-o", heap],
-        ["ar", "r", library, heap],
-        ["cc", *WARNINGS, f"-I{TOP / 'include'}", TOP / "examples" / "embed" / "firmware.c", library, "-o", program],
-    ]
-    for step in steps:
-        done = call(*step)
-        if done.returncode:
-            sys.exit(f"embed: {step[0]}: {done.stderr}")
-    return program
+    make("cc", *WARNINGS, "-fPIC", "-c", TOP / "glue" / "heap_malloc.c", "-o", heap)
+    make("ar", "r", library, heap)
+    return linked(library, folder / "firmware", TOP / "examples" / "embed" / "firmware.c")
+
+
+def keeps_memory(archive: Path, folder: Path) -> str | None:
+    """What is wrong with the memory that an archive takes and gives back; None where nothing is."""
+    done = call(linked(archive, folder / "memory", *sorted((TOP / "tests" / "embed").glob("*.c"))))
+    return f"{archive}: {done.stderr}" if done.returncode else None
 
 
 def unknown_names(archive: Path) -> set[str]:
@@ -160,6 +171,8 @@ def main(archives: list[str]) -> int:
             folder = room / str(number)
             firmwares.append(Firmware(built(Path(archive), folder), folder))
             tally.expect(not unknown_names(Path(archive)), f"{archive} wants {unknown_names(Path(archive))}")
+            wrong = keeps_memory(Path(archive), folder)
+            tally.expect(wrong is None, wrong or "")
         for firmware in firmwares:
             tally.expect(firmware.left == firmwares[0].left, "two archives leave two mediums")
             tally.expect(len(firmware.lines) == 6, f"the run is not whole: {firmware.lines}")

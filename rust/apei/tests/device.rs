@@ -1,49 +1,11 @@
 //! The device over a medium in memory: accesses, loss of power in each change, and the checks.
 
+mod guest;
+
 use apei::{
-    check, format, Addresses, Device, Error, Failure, Geometry, Item, Medium, MemoryMedium, Window,
+    check, Addresses, Device, Error, Failure, Geometry, Item, Medium, MemoryMedium, Window,
 };
-
-const ADDRESSES: Addresses = Addresses {
-    registers: 0xFED4_0000,
-    log_range: 0xFED5_0000,
-};
-
-fn geometry() -> Geometry {
-    Geometry::new(256, 2, 8).unwrap()
-}
-
-fn formatted() -> MemoryMedium {
-    let mut medium = MemoryMedium::default();
-    format(&mut medium, geometry()).unwrap();
-    medium
-}
-
-fn act<M: Medium>(device: &mut Device<M>, action: u32) -> Result<u64, Failure<M::Error>> {
-    device.write(Window::Registers, 0, &action.to_le_bytes())?;
-    let mut value = [0; 8];
-    device.read(Window::Registers, 8, &mut value)?;
-    Ok(u64::from_le_bytes(value))
-}
-
-fn record(identifier: u64, length: u32) -> Vec<u8> {
-    let mut record = vec![identifier as u8; length as usize];
-    record[..128].fill(0);
-    record[..10].copy_from_slice(b"CPER\x01\x01\xFF\xFF\xFF\xFF");
-    record[20..24].copy_from_slice(&length.to_le_bytes());
-    record[96..104].copy_from_slice(&identifier.to_le_bytes());
-    record
-}
-
-fn store<M: Medium>(device: &mut Device<M>, bytes: &[u8]) -> Result<u64, Failure<M::Error>> {
-    act(device, 0x0)?;
-    device.write(Window::LogRange, 0, bytes)?;
-    act(device, 0x5)?;
-    while act(device, 0x6)? == 1 {}
-    let status = act(device, 0x7)?;
-    act(device, 0x3)?;
-    Ok(status)
-}
+use guest::{act, formatted, record, store, Cut, ADDRESSES};
 
 fn identifiers<M: Medium>(device: &mut Device<M>) -> Vec<u64>
 where
@@ -51,41 +13,6 @@ where
 {
     let count = act(device, 0xA).unwrap();
     (0..count).map(|_| act(device, 0x8).unwrap()).collect()
-}
-
-/// A medium in memory whose power is lost in one change.
-struct Cut {
-    medium: MemoryMedium,
-    changes: usize,
-    cut_at: usize,
-}
-
-impl Medium for Cut {
-    type Error = ();
-
-    fn contents(&mut self) -> Result<Vec<u8>, ()> {
-        Ok(self.medium.bytes().to_vec())
-    }
-
-    fn program(&mut self, offset: u64, bytes: &[u8]) -> Result<(), ()> {
-        self.changes += 1;
-        if self.changes > self.cut_at {
-            return Err(());
-        }
-        self.medium
-            .program(offset, bytes)
-            .map_err(|never| match never {})
-    }
-
-    fn erase(&mut self, offset: u64, length: u32) -> Result<(), ()> {
-        self.changes += 1;
-        if self.changes > self.cut_at {
-            return Err(());
-        }
-        self.medium
-            .erase(offset, length)
-            .map_err(|never| match never {})
-    }
 }
 
 #[test]
@@ -112,12 +39,7 @@ fn a_walk_over_identifiers_goes_round() {
 #[test]
 fn power_lost_in_any_change_leaves_the_record_before_or_after() {
     for cut_at in 0.. {
-        let medium = Cut {
-            medium: formatted(),
-            changes: 0,
-            cut_at,
-        };
-        let mut device = Device::open(medium, ADDRESSES).unwrap();
+        let mut device = Device::open(Cut::new(formatted(), cut_at), ADDRESSES).unwrap();
         let told = store(&mut device, &record(5, 400)).is_ok();
         let mut device = Device::open(device.medium().medium.clone(), ADDRESSES).unwrap();
         let found = identifiers(&mut device);

@@ -1,0 +1,12 @@
+/* The archive's three functions for memory, which list each block until it is given back, and can refuse any request. */
+#ifndef HEAP_H
+#define HEAP_H
+
+extern struct heap {
+    unsigned held;     /* blocks that the archive holds */
+    unsigned requests; /* that it made */
+    unsigned answered; /* requests that are still answered; UINT_MAX where none is refused */
+    unsigned strange;  /* blocks that it gave back, or asked to be longer, and did not hold */
+} heap;
+
+#endif
