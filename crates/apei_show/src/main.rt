@@ -5,12 +5,14 @@ ghost use Rattle.std.specs.Prelude.{◌≡◌};
 ghost use Rattle.apei_show.specs.Forms.{shown_as};
 
 mod command;
+mod files;
 mod options;
 mod output;
 mod source;
 mod status;
 mod values;
 
+use crate::files::System;
 use crate::options::{Color, Form, Options, options_of};
 use crate::output::Output;
 use crate::source::{name_of, read_file};
@@ -59,11 +61,12 @@ fn shown_as(form: Form) -> Shown
 
 // Shows the files, one after another. One that can't be read is named, and the others are shown all the same.
 fn show_files(rt: &HostRuntime, options: &Options, manner: Manner) -> Status {
+    let mut files = System::new(rt);
     let mut status = Status::Done;
     let mut is_first = true;
     for path in options.files.iter() {
         let path = path.as_str();
-        let found = match read_file(rt, rt.alloc(), path) {
+        let found = match read_file(rt, &mut files, path) {
             Ok(bytes) => show_bytes(rt, path, &bytes, manner, is_first),
             Err(status) => status,
         };

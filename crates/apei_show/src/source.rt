@@ -1,13 +1,15 @@
 // The bytes of a file, or of standard input.
-ghost use Rattle.std.specs.Prelude.{◌≡◌, ◌+◌, ◌^◌, ◌<◌, ◌≤◌, ◌++◌, [], length, Err, IfOk, IfErr, IfSome, OnOk};
+ghost use Rattle.std.specs.Prelude.{◌≡◌, ◌+◌, ◌^◌, ◌<◌, ◌≤◌, [], length, IfErr, IfOk, OnOk};
+ghost use Rattle.std.specs.Io.KnownBytes.{Keeps};
+ghost use Rattle.base_model.specs.Faults.{HasCause};
 ghost use Rattle.apei_show.specs.Names.{name_of};
-ghost use Rattle.apei_show.specs.Sources.{most, IsReadRefusal};
+ghost use Rattle.apei_show.specs.Sources.{named, IsWhole, IsCause, IsRefusal};
+ghost use Rattle.apei_show.specs.declared.source.Unread.TheVariants.{Memory as WantOfMemory, System as ByTheSystem};
 
+use crate::files::Files;
 use crate::status::Status;
-use std::alloc::Global;
-use std::fs::File;
+use std::alloc::{AllocError, Global};
 use std::io;
-use std::io::Read;
 use std::path::Path;
 
 // The most bytes of a file that are shown.
@@ -26,12 +28,29 @@ enum Unread {
     Long,
 }
 
+impl From<io::Error> for Unread {
+    ghost from_gives = { λ error unread. unread ≡ ByTheSystem error };
+
+    fn from(error: io::Error) -> Unread {
+        Unread::System(error)
+    }
+}
+
+impl From<AllocError> for Unread {
+    ghost from_gives = { λ _ unread. unread ≡ WantOfMemory };
+
+    fn from(_: AllocError) -> Unread {
+        Unread::Memory
+    }
+}
+
 /// The bytes of the file at `path`, or of standard input where the path is `-`. Why it can't be read is said on standard error.
-pub fn read_file(rt: &HostRuntime, alloc: Global, path: &str) -> Result<Vec<u8>, Status>
-    ensures short { IfOk result (λ bytes. length bytes.items ≤ most) }
-    ensures refused { IfErr result IsReadRefusal }
+pub fn read_file<F: Files>(rt: &HostRuntime, files: &mut F, path: &str) -> Result<Vec<u8>, Status>
+    ensures whole { IfOk result (λ bytes. IsWhole (named (F.input files.old) (F.content files.old) path.now) bytes.items) }
+    ensures sound { OnOk result (F.faults files.new ≡ F.faults files.old) }
+    ensures cause { IfErr result (IsRefusal (named (F.input files.old) (F.content files.old) path.now) (F.faults files.old) (F.faults files.new)) }
 {
-    match read_path(rt, alloc, path) {
+    match read_path(files, rt.alloc(), path) {
         Ok(bytes) => Ok(bytes),
         Err(Unread::Memory) => Err(Status::Memory),
         Err(Unread::Long) => {
@@ -46,73 +65,56 @@ pub fn read_file(rt: &HostRuntime, alloc: Global, path: &str) -> Result<Vec<u8>,
     }
 }
 
-fn read_path(rt: &HostRuntime, alloc: Global, path: &str) -> Result<Vec<u8>, Unread>
-    ensures { IfOk result (λ bytes. length bytes.items ≤ most) }
+fn read_path<F: Files>(files: &mut F, alloc: Global, path: &str) -> Result<Vec<u8>, Unread>
+    ensures whole { IfOk result (λ bytes. IsWhole (named (F.input files.old) (F.content files.old) path.now) bytes.items) }
+    ensures sound { OnOk result (F.faults files.new ≡ F.faults files.old) }
+    ensures cause { IfErr result (IsCause (named (F.input files.old) (F.content files.old) path.now) (F.faults files.old) (F.faults files.new)) }
+{
+    open(files, path)?;
+    read_all(files, alloc)
+}
+
+// Opens the file at a path, or standard input where the path is `-`.
+fn open<F: Files>(files: &mut F, path: &str) -> io::Result<()>
+    ensures whole { OnOk result (Keeps (named (F.input files.old) (F.content files.old) path.now) (F.rest files.new)) }
+    ensures cause { HasCause (F.faults files.old) (F.faults files.new) result }
 {
     if path == "-" {
-        return read_all(alloc, rt.stdin());
-    }
-    match File::open(rt, path) {
-        Ok(file) => read_all(alloc, file),
-        Err(error) => Err(Unread::System(error)),
+        files.open_input()
+    } else {
+        files.open_file(path)
     }
 }
 
-// All bytes that a reader gives.
-fn read_all<R: Read + Drop>(alloc: Global, mut reader: R) -> Result<Vec<u8>, Unread>
-    ensures short { IfOk result (λ bytes. length bytes.items ≤ most) }
-    ensures all { IfOk result (λ bytes. IfSome (R.remaining reader) (λ given. bytes.items ≡ given)) }
-    ensures long { result ≡ Err Unread.Long → IfSome (R.remaining reader) (λ given. most < length given) }
+// All bytes that are left of what is open.
+fn read_all<F: Files>(files: &mut F, alloc: Global) -> Result<Vec<u8>, Unread>
+    ensures whole { IfOk result (λ bytes. IsWhole (F.rest files.old) bytes.items) }
+    ensures sound { OnOk result (F.faults files.new ≡ F.faults files.old) }
+    ensures cause { IfErr result (IsCause (F.rest files.old) (F.faults files.old) (F.faults files.new)) }
 {
     let mut bytes = Vec::new(alloc);
-    let mut piece = zeros(alloc, PIECE)?;
-    read_pieces(&mut reader, &mut piece, &mut bytes)?;
+    let mut piece = vec![in alloc; 0; PIECE]?;
+    read_pieces(files, &mut piece, &mut bytes)?;
     Ok(bytes)
 }
 
-fn zeros(alloc: Global, count: usize) -> Result<Vec<u8>, Unread>
-    ensures zeros { IfOk result (λ zeros. length zeros.items ≡ count) }
-    ensures memory { result ≡ Err Unread.Long → ⊥ }
-{
-    match vec![in alloc; 0; count] {
-        Ok(zeros) => Ok(zeros),
-        Err(_) => Err(Unread::Memory),
-    }
-}
-
 // Reads piece by piece, up to the end.
-fn read_pieces<R: Read>(reader: &mut R, piece: &mut [u8], bytes: &mut Vec<u8>) -> Result<(), Unread>
+fn read_pieces<F: Files>(files: &mut F, piece: &mut [u8], bytes: &mut Vec<u8>) -> Result<(), Unread>
     requires room { 0 < length piece.old }
     requires none { bytes.old.items ≡ [] }
-    ensures short { OnOk result (length bytes.new.items ≤ most) }
-    ensures all { OnOk result (IfSome (R.remaining reader.old) (λ given. bytes.new.items ≡ given)) }
-    ensures long { result ≡ Err Unread.Long → IfSome (R.remaining reader.old) (λ given. most < length given) }
+    ensures whole { OnOk result (IsWhole (F.rest files.old) bytes.new.items) }
+    ensures sound { OnOk result (F.faults files.new ≡ F.faults files.old) }
+    ensures cause { IfErr result (IsCause (F.rest files.old) (F.faults files.old) (F.faults files.new)) }
 {
     'pieces: loop {
-        let count = match reader.read(piece) {
-            Ok(count) => count,
-            Err(error) => return Err(Unread::System(error)),
-        };
+        let count = files.read(piece)?;
         if count == 0 {
             return Ok(());
         }
-        add_piece(bytes, &piece[..count])?;
-    }
-}
-
-// Adds a piece, where the bytes are then no more than are shown.
-fn add_piece(bytes: &mut Vec<u8>, piece: &[u8]) -> Result<(), Unread>
-    requires { length bytes.old.items ≤ most }
-    ensures added { OnOk result (bytes.new.items ≡ bytes.old.items ++ piece.now) }
-    ensures short { OnOk result (length bytes.new.items ≤ most) }
-    ensures long { result ≡ Err Unread.Long → most < length bytes.old.items + length piece.now }
-{
-    if piece.len() > MOST - bytes.len() {
-        return Err(Unread::Long);
-    }
-    match bytes.extend_from_slice(piece) {
-        Ok(()) => Ok(()),
-        Err(_) => Err(Unread::Memory),
+        if count > MOST - bytes.len() {
+            return Err(Unread::Long);
+        }
+        bytes.extend_from_slice(&piece[..count])?;
     }
 }
 
