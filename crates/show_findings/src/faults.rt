@@ -1,4 +1,7 @@
 // What is wrong with an item.
+ghost use Rattle.std.specs.Prelude.{IfOk, IfSome, is_some};
+ghost use Rattle.show_findings.specs.Faults.{IsJudged, IsPlace};
+
 use crate::{seen_u16, seen_u32};
 use apei_tables::TableError;
 use cper_frame::FrameError;
@@ -18,7 +21,10 @@ pub struct Fault {
 }
 
 /// The first fault of what the bytes begin with; none where it is sound.
-pub fn fault_of(alloc: Global, item: Item, bytes: &[u8]) -> Result<Option<Fault>, AllocError> {
+pub fn fault_of(alloc: Global, item: Item, bytes: &[u8]) -> Result<Option<Fault>, AllocError>
+    ensures judged { IfOk result (λ fault. IsJudged item bytes.now (is_some fault)) }
+    ensures place { IfOk result (λ fault. IfSome fault (λ fault. IsPlace item bytes.now fault.at)) }
+{
     let Err(error) = check(alloc, item, bytes) else {
         return Ok(None);
     };
