@@ -1,0 +1,4 @@
+pub mod FileLemmas
+pub mod PlaceLemmas
+pub mod SequenceLemmas
+pub mod SheetLemmas

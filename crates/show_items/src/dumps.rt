@@ -1,6 +1,7 @@
 // The text of acpidump: for each table a line with its signature and its address, and lines of up to 16 bytes in digits.
-ghost use Rattle.std.specs.Prelude.{◌≡◌, ◌<◌, IfSome};
+ghost use Rattle.std.specs.Prelude.{◌≡◌, ◌<◌, IfSome, OnOk};
 ghost use Rattle.show_items.specs.Digits.{value_of};
+ghost use Rattle.show_items.specs.Files.{ShowsDump};
 
 use crate::pages::{Pages, Stop};
 use crate::sheet::Sheet;
@@ -13,7 +14,17 @@ pub(crate) fn show_dump<P: Pages>(
     sheet: &mut Sheet<'_>,
     pages: &mut P,
     text: &[u8],
-) -> Result<(), Stop> {
+) -> Result<(), Stop>
+    ensures { OnOk result (ShowsDump sheet.new) }
+{
+    show_tables(sheet, pages, text)?;
+    if sheet.has_items() {
+        return Ok(());
+    }
+    Ok(show_unknown(sheet, 0, text)?)
+}
+
+fn show_tables<P: Pages>(sheet: &mut Sheet<'_>, pages: &mut P, text: &[u8]) -> Result<(), Stop> {
     let mut table = Vec::new(sheet.alloc());
     let mut begin: u64 = 0;
     let mut at: u64 = 0;
@@ -27,11 +38,7 @@ pub(crate) fn show_dump<P: Pages>(
         }
         at = at.saturating_add(line.len() as u64).saturating_add(1);
     }
-    show_whole(sheet, pages, begin, &table)?;
-    if !sheet.has_items() {
-        show_unknown(sheet, 0, text)?;
-    }
-    Ok(())
+    show_whole(sheet, pages, begin, &table)
 }
 
 fn show_whole<P: Pages>(

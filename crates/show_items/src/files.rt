@@ -1,5 +1,6 @@
 // A file, item by item.
 ghost use Rattle.std.specs.Prelude.{◌≡◌, [], OnOk};
+ghost use Rattle.show_items.specs.Files.{ShowsAs, ShowsFile};
 
 use crate::dumps::show_dump;
 use crate::images::{show_image, show_medium, show_qemu};
@@ -16,9 +17,23 @@ pub fn show_file<P: Pages>(
     name: &[u8],
     bytes: &[u8],
 ) -> Result<(), Stop>
-    ensures { OnOk result (sheet.new.out.items ≡ []) }
+    ensures shown { OnOk result (ShowsFile name.now bytes.now sheet.old sheet.new) }
+    ensures written { OnOk result (sheet.new.out.items ≡ []) }
 {
-    match kind_of(name, bytes) {
+    show_kind(sheet, pages, kind_of(name, bytes), bytes)?;
+    sheet.finish(pages)
+}
+
+// Shows what a file of a kind holds.
+fn show_kind<P: Pages>(
+    sheet: &mut Sheet<'_>,
+    pages: &mut P,
+    kind: FileKind,
+    bytes: &[u8],
+) -> Result<(), Stop>
+    ensures { OnOk result (ShowsAs kind bytes.now sheet.old sheet.new) }
+{
+    match kind {
         FileKind::Dump => show_dump(sheet, pages, bytes)?,
         FileKind::Qemu => show_qemu(sheet, pages, bytes)?,
         FileKind::Medium => show_medium(sheet, pages, bytes)?,
@@ -33,5 +48,5 @@ pub fn show_file<P: Pages>(
         | FileKind::Blank
         | FileKind::Unknown => show_sequence(sheet, pages, bytes)?,
     }
-    sheet.finish(pages)
+    Ok(())
 }

@@ -2,6 +2,7 @@
 ghost use Rattle.std.specs.Prelude.{◌+◌, ◌<◌, ◌^◌, length, IsTrue};
 ghost use Rattle.field_lines.specs.Layouts.{is_sound_structure};
 ghost use Rattle.field_lines.specs.Code.{structure_of};
+ghost use Rattle.show_items.specs.Sheets.{KeepsItems};
 
 use crate::sheet::{Form, Sheet};
 use crate::text::{add, add_hex, add_number, add_string};
@@ -32,6 +33,7 @@ impl Sheet<'_> {
     ) -> Result<(), AllocError>
         requires sound { IsTrue (is_sound_structure (structure_of layout.now)) }
         requires place { group.now.base + length body.now < 2 ^ 64 }
+        ensures { KeepsItems self.old self.new }
     {
         match self.form() {
             Form::Brief => Ok(()),
@@ -40,25 +42,27 @@ impl Sheet<'_> {
                     indent: INDENT,
                     places: self.has_places(),
                 };
-                add_title(self.out(), group)?;
-                add_layout(&style, group.base, layout, body, self.out())
+                add_title(&mut self.out, group)?;
+                add_layout(&style, group.base, layout, body, &mut self.out)
             }
             Form::Json => {
                 self.begin_group()?;
-                add_members(self.out(), group)?;
-                add_layout(&Json, group.base, layout, body, self.out())?;
-                add(self.out(), "}")
+                add_members(&mut self.out, group)?;
+                add_layout(&Json, group.base, layout, body, &mut self.out)?;
+                add(&mut self.out, "}")
             }
         }
     }
 
     /// Adds a group of bytes whose fields nobody known names.
-    pub(crate) fn add_bytes(&mut self, group: &Group, body: &[u8]) -> Result<(), AllocError> {
+    pub(crate) fn add_bytes(&mut self, group: &Group, body: &[u8]) -> Result<(), AllocError>
+        ensures { KeepsItems self.old self.new }
+    {
         match self.form() {
             Form::Brief => Ok(()),
             Form::Text => {
                 let places = self.has_places();
-                let out = self.out();
+                let out = &mut self.out;
                 add_title(out, group)?;
                 add_place(out, places, group.base)?;
                 add(out, "bytes: ")?;
@@ -67,7 +71,7 @@ impl Sheet<'_> {
             }
             Form::Json => {
                 self.begin_group()?;
-                let out = self.out();
+                let out = &mut self.out;
                 add_members(out, group)?;
                 add(out, ",\"bytes\":\"")?;
                 add_hex(out, body)?;

@@ -1,18 +1,26 @@
 // Files that hold records in slots: the flash of a record store, a medium of the library, the storage of QEMU's acpi-erst.
-ghost use Rattle.std.specs.Prelude.{◌≡◌, ◌*◌, length, IsTrue};
+ghost use Rattle.std.specs.Prelude.{◌≡◌, ◌+◌, ◌*◌, ◌<◌, ◌≤◌, Bool, true, false, List, [], ◌∷◌, length, is_some, IsTrue, OnOk};
 ghost use Rattle.field_lines.specs.Layouts.{is_sound_structure};
 ghost use Rattle.field_lines.specs.Code.{structure_of};
+ghost use Rattle.image_survey.specs.Kinds.{kind_at};
+ghost use Rattle.image_survey.specs.declared.kinds.SlotKind.TheVariants.{First};
 ghost use Rattle.image_survey.specs.Shown.{AreShown};
+ghost use Rattle.show_items.specs.Judged.{IsJudgedItem};
+ghost use Rattle.show_items.specs.Images.{HasSize, IsJudgedRecord, ShowsImage, ShowsMedium, ShowsRecords};
+ghost use Rattle.show_items.specs.Sheets.{AddsItems, KeepsItems, ShowsIf};
+ghost use Rattle.show_items.specs.Storage.{has_identifier, identifier, place_size, record_in, IsJudgedPlace, ShowsPlaces, ShowsStorage};
 
 use crate::groups::Group;
 use crate::headers::{medium_header, qemu_header};
 use crate::pages::{Pages, Stop};
 use crate::records::show_record;
 use crate::sheet::{Item, Sheet};
+use apei_bytes::get_u64;
 use field_lines::Layout;
 use flash_model::Geometry;
 use image_survey::{MediumError, SlotView, count_slots, geometry_of, record_at, survey_slots};
-use show_findings::{Fault, Item as Kind, item_len, seen_at, seen_u32, seen_u64};
+use item_parts::Item as Decoded;
+use show_findings::{Fault, Item as Kind, item_len, seen_at, seen_u32};
 use std::alloc::AllocError;
 
 /// Shows the records of the flash of a record store.
@@ -21,7 +29,10 @@ pub(crate) fn show_image<P: Pages>(
     pages: &mut P,
     geometry: &Geometry,
     image: &[u8],
-) -> Result<(), Stop> {
+) -> Result<(), Stop>
+    ensures shown { OnOk result (HasSize geometry.now image.now → ShowsImage geometry.now image.now sheet.old sheet.new) }
+    ensures none { OnOk result ((HasSize geometry.now image.now → ⊥) → KeepsItems sheet.old sheet.new) }
+{
     if image.len() as u64 != geometry.size() {
         return Ok(());
     }
@@ -38,6 +49,7 @@ fn show_totals(
     views: &[SlotView],
 ) -> Result<(), AllocError>
     requires { length views.now ≡ geometry.now.slots }
+    ensures { OnOk result (AddsItems (false ∷ []) sheet.old sheet.new) }
 {
     let mut sentence = String::new(sheet.alloc());
     add_division(&mut sentence, geometry)?;
@@ -72,13 +84,36 @@ fn show_records<P: Pages>(
     requires sized { length image.now ≡ geometry.now.slot_size * geometry.now.slots }
     requires all { length views.now ≡ geometry.now.slots }
     requires shown { AreShown geometry.now.slot_size geometry.now.slots image.now views.now }
+    ensures { OnOk result (ShowsRecords geometry.now.slot_size geometry.now.slots image.now sheet.old sheet.new) }
 {
     for slot in 0..geometry.slots as u32 {
-        if let Some(bytes) = record_at(sheet.alloc(), image, geometry, views, slot)? {
-            show_record(sheet, pages, None, &bytes)?;
-        }
+        show_slot(sheet, pages, image, geometry, views, slot)?;
     }
     Ok(())
+}
+
+// Shows the record whose first slot a slot is.
+fn show_slot<P: Pages>(
+    sheet: &mut Sheet<'_>,
+    pages: &mut P,
+    image: &[u8],
+    geometry: &Geometry,
+    views: &[SlotView],
+    slot: u32,
+) -> Result<(), Stop>
+    requires sized { length image.now ≡ geometry.now.slot_size * geometry.now.slots }
+    requires all { length views.now ≡ geometry.now.slots }
+    requires shown { AreShown geometry.now.slot_size geometry.now.slots image.now views.now }
+    requires slot { slot < geometry.now.slots }
+    ensures shown { OnOk result (kind_at geometry.now.slot_size geometry.now.slots image.now slot ≡ First
+        → ShowsIf true (IsJudgedRecord geometry.now.slot_size geometry.now.slots image.now slot) sheet.old sheet.new) }
+    ensures none { OnOk result ((kind_at geometry.now.slot_size geometry.now.slots image.now slot ≡ First → ⊥)
+        → KeepsItems sheet.old sheet.new) }
+{
+    match record_at(sheet.alloc(), image, geometry, views, slot)? {
+        Some(bytes) => show_record(sheet, pages, None, &bytes),
+        None => Ok(()),
+    }
 }
 
 // The bytes of the header of a medium, with its marks.
@@ -89,7 +124,9 @@ pub(crate) fn show_medium<P: Pages>(
     sheet: &mut Sheet<'_>,
     pages: &mut P,
     bytes: &[u8],
-) -> Result<(), Stop> {
+) -> Result<(), Stop>
+    ensures { OnOk result (ShowsMedium bytes.now sheet.old sheet.new) }
+{
     match geometry_of(bytes) {
         Ok(geometry) => {
             show_header(
@@ -101,11 +138,12 @@ pub(crate) fn show_medium<P: Pages>(
                 MEDIUM,
                 &None,
             )?;
-            let sector = geometry.sector() as usize;
-            if sector > bytes.len() {
-                return Ok(());
-            }
-            show_image(sheet, pages, &geometry, &bytes[sector..])
+            show_image(
+                sheet,
+                pages,
+                &geometry,
+                &bytes[geometry.sector() as usize..],
+            )
         }
         Err(error) => {
             let fault = medium_fault(sheet, error)?;
@@ -158,6 +196,7 @@ fn show_header(
     fault: &Option<Fault>,
 ) -> Result<(), AllocError>
     requires { IsTrue (is_sound_structure (structure_of layout.now)) }
+    ensures { OnOk result (AddsItems (is_some fault.now ∷ []) sheet.old sheet.new) }
 {
     let item = Item {
         kind,
@@ -183,9 +222,11 @@ pub(crate) fn show_qemu<P: Pages>(
     sheet: &mut Sheet<'_>,
     pages: &mut P,
     bytes: &[u8],
-) -> Result<(), Stop> {
+) -> Result<(), Stop>
+    ensures places { OnOk result (0 < place_size bytes.now → ShowsStorage bytes.now sheet.old sheet.new) }
+    ensures none { OnOk result (place_size bytes.now ≡ 0 → AddsItems (false ∷ []) sheet.old sheet.new) }
+{
     let records = seen_u32(bytes, 20);
-    let size = seen_u32(bytes, 8);
     let mut sentence = String::new(sheet.alloc());
     write!(
         sentence,
@@ -200,38 +241,80 @@ pub(crate) fn show_qemu<P: Pages>(
         QEMU,
         &None,
     )?;
+    let size = seen_u32(bytes, 8);
     if size == 0 {
         return Ok(());
     }
+    show_places(sheet, pages, bytes, size)
+}
+
+// Shows the records at the places of this size.
+fn show_places<P: Pages>(
+    sheet: &mut Sheet<'_>,
+    pages: &mut P,
+    bytes: &[u8],
+    size: u32,
+) -> Result<(), Stop>
+    requires size { size ≡ place_size bytes.now }
+    requires some { 0 < size }
+    ensures { OnOk result (ShowsPlaces bytes.now sheet.old sheet.new) }
+{
     let first = seen_u32(bytes, 12) / size;
-    let count = bytes.len() / size as usize;
-    for index in first as usize..count {
-        if has_identifier(bytes, index) {
-            let at = index * size as usize;
-            show_slot(sheet, pages, at, seen_at(bytes, at, size as usize))?;
-        }
+    let end = bytes.len() / size as usize;
+    for index in first as usize..end {
+        show_place(sheet, pages, bytes, size, index)?;
     }
     Ok(())
 }
 
+// Shows the record at a place, if the map has an identifier for it.
+fn show_place<P: Pages>(
+    sheet: &mut Sheet<'_>,
+    pages: &mut P,
+    bytes: &[u8],
+    size: u32,
+    index: usize,
+) -> Result<(), Stop>
+    requires size { size ≡ place_size bytes.now }
+    requires within { (index + 1) * size ≤ length bytes.now }
+    ensures shown { OnOk result (has_identifier bytes.now index ≡ true → ShowsIf true (IsJudgedPlace bytes.now index) sheet.old sheet.new) }
+    ensures none { OnOk result (has_identifier bytes.now index ≡ false → KeepsItems sheet.old sheet.new) }
+{
+    if !has_identifier(bytes, index) {
+        return Ok(());
+    }
+    let at = index * size as usize;
+    show_stored(sheet, pages, at, seen_at(bytes, at, size as usize))
+}
+
 // Whether the map has an identifier at an index; 0 and the greatest number are none.
-fn has_identifier(bytes: &[u8], index: usize) -> bool {
-    let Some(at) = index.checked_mul(8) else {
-        return false;
-    };
-    let Some(at) = at.checked_add(QEMU) else {
-        return false;
-    };
-    let id = seen_u64(seen_at(bytes, at, 8), 0);
+fn has_identifier(bytes: &[u8], index: usize) -> bool
+    ensures { result ≡ has_identifier bytes.now index }
+{
+    let id = identifier(bytes, index);
     id != 0 && id != u64::MAX
 }
 
-fn show_slot<P: Pages>(
+// What stands at an index of the map; 0 behind the end.
+#[tactic(auto, using(std::proofs::lemmas::Bool::Decides::nat_tests))]
+fn identifier(bytes: &[u8], index: usize) -> u64
+    ensures { result ≡ identifier bytes.now index }
+{
+    if bytes.len() < QEMU + 8 || index > (bytes.len() - QEMU - 8) / 8 {
+        return 0;
+    }
+    get_u64(bytes, QEMU + 8 * index)
+}
+
+// Shows the record at the start of a place.
+fn show_stored<P: Pages>(
     sheet: &mut Sheet<'_>,
     pages: &mut P,
     at: usize,
-    slot: &[u8],
-) -> Result<(), Stop> {
-    let len = item_len(Kind::Record, slot);
-    show_record(sheet, pages, Some(at as u64), &slot[..len])
+    place: &[u8],
+) -> Result<(), Stop>
+    ensures { OnOk result ((bad : Bool) × IsJudgedItem Decoded.Record (record_in place.now) bad × AddsItems (bad ∷ []) sheet.old sheet.new) }
+{
+    let len = item_len(Kind::Record, place);
+    show_record(sheet, pages, Some(at as u64), &place[..len])
 }

@@ -3,6 +3,7 @@
 
 mod blocks;
 mod dumps;
+mod faults;
 mod files;
 mod groups;
 mod headers;

@@ -1,12 +1,15 @@
 // Error records (UEFI 2.8, appendix N.2).
-ghost use Rattle.std.specs.Prelude.{◌<◌, ◌^◌, ◌+◌, length};
+ghost use Rattle.std.specs.Prelude.{◌<◌, ◌^◌, ◌+◌, Bool, [], ◌∷◌, length, OnOk};
+ghost use Rattle.show_items.specs.Judged.{IsJudgedItem};
+ghost use Rattle.show_items.specs.Sheets.{AddsItems, KeepsItems};
 
+use crate::faults::fault_in;
 use crate::groups::Group;
 use crate::pages::{Pages, Stop};
 use crate::sheet::{Form, Item, Sheet};
 use apei_bytes::{Guid, guid_at};
 use item_parts::Item as Decoded;
-use show_findings::{Section, add_record, fault_of, is_of_linux, section_at, seen_at, seen_u16};
+use show_findings::{Section, add_record, is_of_linux, section_at, seen_at, seen_u16};
 use standard_fields::{record_header, section_descriptor, section_layout};
 use std::alloc::AllocError;
 
@@ -22,7 +25,9 @@ pub(crate) fn show_record<P: Pages>(
     pages: &mut P,
     at: Option<u64>,
     bytes: &[u8],
-) -> Result<(), Stop> {
+) -> Result<(), Stop>
+    ensures { OnOk result ((bad : Bool) × IsJudgedItem Decoded.Record bytes.now bad × AddsItems (bad ∷ []) sheet.old sheet.new) }
+{
     let item = Item {
         kind: "record",
         at,
@@ -32,15 +37,23 @@ pub(crate) fn show_record<P: Pages>(
     add_record(&mut sentence, bytes)?;
     sheet.begin(&item, sentence.as_str())?;
     if sheet.form() != Form::Brief {
-        add_header(sheet, bytes)?;
-        add_sections(sheet, pages, bytes)?;
+        add_groups(sheet, pages, bytes)?;
     }
-    let fault = fault_of(sheet.alloc(), Decoded::Record, bytes)?;
+    let fault = fault_in(sheet, Decoded::Record, bytes)?;
     sheet.end(&fault)?;
     sheet.turn(pages)
 }
 
-fn add_header(sheet: &mut Sheet<'_>, bytes: &[u8]) -> Result<(), AllocError> {
+fn add_groups<P: Pages>(sheet: &mut Sheet<'_>, pages: &mut P, bytes: &[u8]) -> Result<(), Stop>
+    ensures { KeepsItems sheet.old sheet.new }
+{
+    add_header(sheet, bytes)?;
+    add_sections(sheet, pages, bytes)
+}
+
+fn add_header(sheet: &mut Sheet<'_>, bytes: &[u8]) -> Result<(), AllocError>
+    ensures { KeepsItems sheet.old sheet.new }
+{
     let group = Group {
         name: "header",
         index: None,
@@ -51,7 +64,9 @@ fn add_header(sheet: &mut Sheet<'_>, bytes: &[u8]) -> Result<(), AllocError> {
     sheet.add_group(&group, &layout, seen_at(bytes, 0, HEADER))
 }
 
-fn add_sections<P: Pages>(sheet: &mut Sheet<'_>, pages: &mut P, bytes: &[u8]) -> Result<(), Stop> {
+fn add_sections<P: Pages>(sheet: &mut Sheet<'_>, pages: &mut P, bytes: &[u8]) -> Result<(), Stop>
+    ensures { KeepsItems sheet.old sheet.new }
+{
     let mut left = bytes.len().saturating_mul(TIMES);
     for index in 0..seen_u16(bytes, 10) {
         let Some(section) = section_at(bytes, index) else {
@@ -74,6 +89,7 @@ fn add_described(
 ) -> Result<(), AllocError>
     requires head { section.now.at + length section.now.descriptor.now < 2 ^ 64 }
     requires body { section.now.body_at + length body.now < 2 ^ 64 }
+    ensures { KeepsItems sheet.old sheet.new }
 {
     let group = Group {
         name: "descriptor",
@@ -98,6 +114,7 @@ pub(crate) fn add_section(
     body: &[u8],
 ) -> Result<(), AllocError>
     requires { base + length body.now < 2 ^ 64 }
+    ensures { KeepsItems sheet.old sheet.new }
 {
     let group = Group {
         name: "section",

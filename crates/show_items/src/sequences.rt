@@ -1,7 +1,9 @@
 // Items one after another.
-ghost use Rattle.std.specs.Prelude.{◌≡◌, ◌≤◌, ◌<◌, length, IfOk};
+ghost use Rattle.std.specs.Prelude.{◌≡◌, ◌≤◌, ◌<◌, Bool, [], ◌∷◌, length, drop, nat_lt, IfOk, OnOk};
 ghost use Rattle.show_findings.specs.Kinds.{kind_behind};
-ghost use Rattle.show_items.specs.Sequences.{len_of};
+ghost use Rattle.show_items.specs.Judged.{IsJudgedAs};
+ghost use Rattle.show_items.specs.Sequences.{ShowsFirst, ShowsItems, kind_of_item, len_of};
+ghost use Rattle.show_items.specs.Sheets.{AddsItems};
 
 use crate::blocks::show_block;
 use crate::pages::{Pages, Stop};
@@ -16,15 +18,25 @@ pub(crate) fn show_sequence<P: Pages>(
     sheet: &mut Sheet<'_>,
     pages: &mut P,
     bytes: &[u8],
-) -> Result<(), Stop> {
+) -> Result<(), Stop>
+    ensures { OnOk result (ShowsItems bytes.now sheet.old sheet.new) }
+{
     let mut rest = bytes;
     let mut at: u64 = 0;
     while !rest.is_empty() {
         let len = show_next(sheet, pages, at, rest)?;
         at = at.saturating_add(len as u64);
-        rest = &rest[len..];
+        rest = behind(rest, len);
     }
     Ok(())
+}
+
+// The bytes behind the first ones.
+fn behind(bytes: &[u8], len: usize) -> &[u8]
+    requires { len ≤ length bytes.now }
+    ensures { result.now ≡ drop len bytes.now }
+{
+    &bytes[len..]
 }
 
 // Shows what stands first, and says how many bytes it has.
@@ -35,6 +47,7 @@ fn show_next<P: Pages>(
     rest: &[u8],
 ) -> Result<usize, Stop>
     requires { 0 < length rest.now }
+    ensures shown { OnOk result (ShowsFirst (nat_lt 0 at) rest.now sheet.old sheet.new) }
     ensures exact { IfOk result (λ len. len ≡ len_of (kind_behind rest.now) rest.now) }
     ensures some { IfOk result (λ len. 0 < len) }
     ensures within { IfOk result (λ len. len ≤ length rest.now) }
@@ -64,7 +77,9 @@ fn show_item<P: Pages>(
     item: Item,
     at: u64,
     bytes: &[u8],
-) -> Result<(), Stop> {
+) -> Result<(), Stop>
+    ensures { OnOk result ((bad : Bool) × IsJudgedAs (kind_of_item item) bytes.now bad × AddsItems (bad ∷ []) sheet.old sheet.new) }
+{
     match item {
         Item::Record => show_record(sheet, pages, Some(at), bytes),
         Item::Table => show_table(sheet, pages, Some(at), bytes),

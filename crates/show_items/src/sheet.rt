@@ -1,5 +1,6 @@
 // The sheet on which the items of a file are shown.
-ghost use Rattle.std.specs.Prelude.{◌≡◌, [], false, OnOk};
+ghost use Rattle.std.specs.Prelude.{◌≡◌, [], ◌∷◌, true, false, is_some, nat_lt, OnOk};
+ghost use Rattle.show_items.specs.Sheets.{AddsItems, KeepsItems};
 
 use crate::pages::{Pages, Stop};
 use crate::text::{add, add_number, add_string};
@@ -52,7 +53,7 @@ pub struct Sheet<'a> {
     alloc: Global,
     path: &'a str,
     manner: Manner,
-    out: Vec<u8>,
+    pub(crate) out: Vec<u8>,
     items: u64,
     groups: u64,
     has_bad: bool,
@@ -86,7 +87,9 @@ impl<'a> Sheet<'a> {
     }
 
     /// Whether an item was shown so far.
-    pub(crate) fn has_items(&self) -> bool {
+    pub(crate) fn has_items(&self) -> bool
+        ensures { result ≡ nat_lt 0 self.now.items }
+    {
         self.items > 0
     }
 
@@ -102,12 +105,10 @@ impl<'a> Sheet<'a> {
         self.manner.places
     }
 
-    pub(crate) fn out(&mut self) -> &mut Vec<u8> {
-        &mut self.out
-    }
-
     /// Begins an item with its sentence.
-    pub(crate) fn begin(&mut self, item: &Item<'_>, sentence: &str) -> Result<(), AllocError> {
+    pub(crate) fn begin(&mut self, item: &Item<'_>, sentence: &str) -> Result<(), AllocError>
+        ensures { KeepsItems self.old self.new }
+    {
         self.groups = 0;
         match self.manner.form {
             Form::Text => self.begin_text(sentence),
@@ -117,7 +118,9 @@ impl<'a> Sheet<'a> {
     }
 
     /// Begins a group of the item. A comma stands before each but the first.
-    pub(crate) fn begin_group(&mut self) -> Result<(), AllocError> {
+    pub(crate) fn begin_group(&mut self) -> Result<(), AllocError>
+        ensures { KeepsItems self.old self.new }
+    {
         if self.groups > 0 {
             add(&mut self.out, ",")?;
         }
@@ -125,7 +128,9 @@ impl<'a> Sheet<'a> {
         Ok(())
     }
 
-    fn begin_text(&mut self, sentence: &str) -> Result<(), AllocError> {
+    fn begin_text(&mut self, sentence: &str) -> Result<(), AllocError>
+        ensures { KeepsItems self.old self.new }
+    {
         if self.items > 0 {
             add(&mut self.out, "\n")?;
         }
@@ -133,7 +138,9 @@ impl<'a> Sheet<'a> {
         add(&mut self.out, "\n")
     }
 
-    fn begin_brief(&mut self, sentence: &str) -> Result<(), AllocError> {
+    fn begin_brief(&mut self, sentence: &str) -> Result<(), AllocError>
+        ensures { KeepsItems self.old self.new }
+    {
         if self.manner.named {
             add(&mut self.out, self.path)?;
             add(&mut self.out, ": ")?;
@@ -141,7 +148,9 @@ impl<'a> Sheet<'a> {
         self.add_colored(BOLD, sentence)
     }
 
-    fn begin_json(&mut self, item: &Item<'_>, sentence: &str) -> Result<(), AllocError> {
+    fn begin_json(&mut self, item: &Item<'_>, sentence: &str) -> Result<(), AllocError>
+        ensures { KeepsItems self.old self.new }
+    {
         let out = &mut self.out;
         add(out, "{\"file\":")?;
         add_string(out, self.path)?;
@@ -161,7 +170,9 @@ impl<'a> Sheet<'a> {
         add(out, ",\"groups\":[")
     }
 
-    fn add_colored(&mut self, color: &str, text: &str) -> Result<(), AllocError> {
+    fn add_colored(&mut self, color: &str, text: &str) -> Result<(), AllocError>
+        ensures { KeepsItems self.old self.new }
+    {
         if !self.manner.colored {
             return add(&mut self.out, text);
         }
@@ -170,8 +181,10 @@ impl<'a> Sheet<'a> {
         add(&mut self.out, PLAIN)
     }
 
-    /// Ends an item with its fault.
-    pub(crate) fn end(&mut self, fault: &Option<Fault>) -> Result<(), AllocError> {
+    /// Ends an item with its fault. One with a fault is bad.
+    pub(crate) fn end(&mut self, fault: &Option<Fault>) -> Result<(), AllocError>
+        ensures { AddsItems (is_some fault.now ∷ []) self.old self.new }
+    {
         if let Some(_) = fault {
             self.has_bad = true;
         }
@@ -184,12 +197,16 @@ impl<'a> Sheet<'a> {
     }
 
     /// Ends an item that is none of what is known.
-    pub(crate) fn end_as_bad(&mut self) -> Result<(), AllocError> {
+    pub(crate) fn end_as_bad(&mut self) -> Result<(), AllocError>
+        ensures { AddsItems (true ∷ []) self.old self.new }
+    {
         self.has_bad = true;
         self.end(&None)
     }
 
-    fn end_text(&mut self, fault: &Option<Fault>) -> Result<(), AllocError> {
+    fn end_text(&mut self, fault: &Option<Fault>) -> Result<(), AllocError>
+        ensures { KeepsItems self.old self.new }
+    {
         if let Some(fault) = fault {
             add(&mut self.out, "  ")?;
             self.add_bad(fault)?;
@@ -198,7 +215,9 @@ impl<'a> Sheet<'a> {
         Ok(())
     }
 
-    fn end_brief(&mut self, fault: &Option<Fault>) -> Result<(), AllocError> {
+    fn end_brief(&mut self, fault: &Option<Fault>) -> Result<(), AllocError>
+        ensures { KeepsItems self.old self.new }
+    {
         if let Some(fault) = fault {
             add(&mut self.out, " - ")?;
             self.add_bad(fault)?;
@@ -207,7 +226,9 @@ impl<'a> Sheet<'a> {
     }
 
     // The place of a fault and its words.
-    fn add_bad(&mut self, fault: &Fault) -> Result<(), AllocError> {
+    fn add_bad(&mut self, fault: &Fault) -> Result<(), AllocError>
+        ensures { KeepsItems self.old self.new }
+    {
         self.add_colored(RED, "bad")?;
         add(&mut self.out, " at ")?;
         add_number(&mut self.out, fault.at)?;
@@ -215,7 +236,9 @@ impl<'a> Sheet<'a> {
         add(&mut self.out, fault.says.as_str())
     }
 
-    fn end_json(&mut self, fault: &Option<Fault>) -> Result<(), AllocError> {
+    fn end_json(&mut self, fault: &Option<Fault>) -> Result<(), AllocError>
+        ensures { KeepsItems self.old self.new }
+    {
         let out = &mut self.out;
         match fault {
             Some(fault) => {
@@ -230,7 +253,9 @@ impl<'a> Sheet<'a> {
     }
 
     /// Writes what is on the sheet, once it is a page.
-    pub(crate) fn turn<P: Pages>(&mut self, pages: &mut P) -> Result<(), Stop> {
+    pub(crate) fn turn<P: Pages>(&mut self, pages: &mut P) -> Result<(), Stop>
+        ensures { KeepsItems self.old self.new }
+    {
         if self.out.len() < PAGE {
             return Ok(());
         }
@@ -239,7 +264,8 @@ impl<'a> Sheet<'a> {
 
     /// Writes what is on the sheet.
     pub fn finish<P: Pages>(&mut self, pages: &mut P) -> Result<(), Stop>
-        ensures { OnOk result (self.new.out.items ≡ []) }
+        ensures written { OnOk result (self.new.out.items ≡ []) }
+        ensures kept { KeepsItems self.old self.new }
     {
         pages.write(&self.out)?;
         self.out.clear();

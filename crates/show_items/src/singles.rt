@@ -1,4 +1,7 @@
 // Files that hold one item, or none.
+ghost use Rattle.std.specs.Prelude.{[], ◌∷◌, true, false, OnOk};
+ghost use Rattle.show_items.specs.Sheets.{AddsItems};
+
 use crate::groups::Group;
 use crate::records::add_section;
 use crate::sheet::{Item, Sheet};
@@ -19,7 +22,9 @@ const KERNEL_LOG: [u8; 16] = [
 const FIRST: usize = 16;
 
 /// Shows the body of a machine check that Linux stored.
-pub(crate) fn show_machine_check(sheet: &mut Sheet<'_>, bytes: &[u8]) -> Result<(), AllocError> {
+pub(crate) fn show_machine_check(sheet: &mut Sheet<'_>, bytes: &[u8]) -> Result<(), AllocError>
+    ensures { OnOk result (AddsItems (false ∷ []) sheet.old sheet.new) }
+{
     let mut sentence = String::new(sheet.alloc());
     add_machine_check(&mut sentence, bytes)?;
     show_body(
@@ -32,7 +37,9 @@ pub(crate) fn show_machine_check(sheet: &mut Sheet<'_>, bytes: &[u8]) -> Result<
 }
 
 /// Shows a kernel's log that Linux stored.
-pub(crate) fn show_dmesg(sheet: &mut Sheet<'_>, bytes: &[u8]) -> Result<(), AllocError> {
+pub(crate) fn show_dmesg(sheet: &mut Sheet<'_>, bytes: &[u8]) -> Result<(), AllocError>
+    ensures { OnOk result (AddsItems (false ∷ []) sheet.old sheet.new) }
+{
     let mut sentence = String::new(sheet.alloc());
     add_dmesg(&mut sentence, bytes)?;
     show_body(sheet, "dmesg", KERNEL_LOG, sentence.as_str(), bytes)
@@ -44,7 +51,9 @@ fn show_body(
     section: [u8; 16],
     sentence: &str,
     bytes: &[u8],
-) -> Result<(), AllocError> {
+) -> Result<(), AllocError>
+    ensures { OnOk result (AddsItems (false ∷ []) sheet.old sheet.new) }
+{
     let item = Item {
         kind,
         at: Some(0),
@@ -56,12 +65,16 @@ fn show_body(
 }
 
 /// Says that a file is empty.
-pub(crate) fn show_empty(sheet: &mut Sheet<'_>) -> Result<(), AllocError> {
+pub(crate) fn show_empty(sheet: &mut Sheet<'_>) -> Result<(), AllocError>
+    ensures { OnOk result (AddsItems (false ∷ []) sheet.old sheet.new) }
+{
     show_sentence(sheet, "empty", Some(0), &[], "the file is empty")
 }
 
 /// Shows bytes that hold nothing.
-pub(crate) fn show_blank(sheet: &mut Sheet<'_>, at: u64, bytes: &[u8]) -> Result<(), AllocError> {
+pub(crate) fn show_blank(sheet: &mut Sheet<'_>, at: u64, bytes: &[u8]) -> Result<(), AllocError>
+    ensures { OnOk result (AddsItems (false ∷ []) sheet.old sheet.new) }
+{
     let len = bytes.len();
     let mut sentence = String::new(sheet.alloc());
     match bytes {
@@ -75,7 +88,9 @@ pub(crate) fn show_blank(sheet: &mut Sheet<'_>, at: u64, bytes: &[u8]) -> Result
 }
 
 /// Says of the body of a record that Linux could not unpack how it is read.
-pub(crate) fn show_packed(sheet: &mut Sheet<'_>, bytes: &[u8]) -> Result<(), AllocError> {
+pub(crate) fn show_packed(sheet: &mut Sheet<'_>, bytes: &[u8]) -> Result<(), AllocError>
+    ensures { OnOk result (AddsItems (false ∷ []) sheet.old sheet.new) }
+{
     show_sentence(
         sheet,
         "packed",
@@ -91,14 +106,18 @@ fn show_sentence(
     at: Option<u64>,
     bytes: &[u8],
     sentence: &str,
-) -> Result<(), AllocError> {
+) -> Result<(), AllocError>
+    ensures { OnOk result (AddsItems (false ∷ []) sheet.old sheet.new) }
+{
     let item = Item { kind, at, bytes };
     sheet.begin(&item, sentence)?;
     sheet.end(&None)
 }
 
 /// Says that bytes are none of what is known, and what was looked for.
-pub(crate) fn show_unknown(sheet: &mut Sheet<'_>, at: u64, bytes: &[u8]) -> Result<(), AllocError> {
+pub(crate) fn show_unknown(sheet: &mut Sheet<'_>, at: u64, bytes: &[u8]) -> Result<(), AllocError>
+    ensures { OnOk result (AddsItems (true ∷ []) sheet.old sheet.new) }
+{
     let item = Item {
         kind: "none",
         at: Some(at),

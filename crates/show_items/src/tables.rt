@@ -1,16 +1,17 @@
 // Tables (ACPI 6.4, sections 5.2.6, 18.3 and 18.5.1).
-ghost use Rattle.std.specs.Prelude.{◌<◌, ◌^◌, ◌+◌, length, IsTrue};
+ghost use Rattle.std.specs.Prelude.{◌≡◌, ◌<◌, ◌^◌, ◌+◌, Bool, [], ◌∷◌, length, is_some, IfOk, IsTrue, OnOk};
 ghost use Rattle.field_lines.specs.Layouts.{is_sound_structure};
 ghost use Rattle.field_lines.specs.Code.{structure_of};
+ghost use Rattle.show_items.specs.Judged.{IsJudgedBy, table_of};
+ghost use Rattle.show_items.specs.Sheets.{AddsItems, KeepsItems};
 
+use crate::faults::fault_in;
 use crate::groups::Group;
 use crate::pages::{Pages, Stop};
 use crate::sheet::{Form, Item, Sheet};
 use field_lines::Layout;
 use item_parts::Item as Decoded;
-use show_findings::{
-    Fault, Source, add_table, fault_of, instruction_at, seen_at, seen_u32, source_at,
-};
+use show_findings::{Fault, Source, add_table, instruction_at, seen_at, seen_u32, source_at};
 use standard_fields::{
     bert_fields, erst_entry, erst_header, hest_header, source_layout, table_header,
 };
@@ -31,7 +32,9 @@ pub(crate) fn show_table<P: Pages>(
     pages: &mut P,
     at: Option<u64>,
     bytes: &[u8],
-) -> Result<(), Stop> {
+) -> Result<(), Stop>
+    ensures { OnOk result ((bad : Bool) × IsJudgedBy (table_of bytes.now) bytes.now bad × AddsItems (bad ∷ []) sheet.old sheet.new) }
+{
     let item = Item {
         kind: "table",
         at,
@@ -48,31 +51,50 @@ pub(crate) fn show_table<P: Pages>(
     sheet.turn(pages)
 }
 
-fn table_fault(sheet: &Sheet<'_>, bytes: &[u8]) -> Result<Option<Fault>, AllocError> {
-    let decoded = if bytes.starts_with(b"ERST") {
-        Decoded::Erst
-    } else if bytes.starts_with(b"HEST") {
-        Decoded::Hest
-    } else if bytes.starts_with(b"BERT") {
-        Decoded::Bert
-    } else {
-        return Ok(None);
-    };
-    fault_of(sheet.alloc(), decoded, bytes)
+fn table_fault(sheet: &Sheet<'_>, bytes: &[u8]) -> Result<Option<Fault>, AllocError>
+    ensures { IfOk result (λ fault. IsJudgedBy (table_of bytes.now) bytes.now (is_some fault)) }
+{
+    match table_of(bytes) {
+        Some(table) => fault_in(sheet, table, bytes),
+        None => Ok(None),
+    }
 }
 
-fn add_groups<P: Pages>(sheet: &mut Sheet<'_>, pages: &mut P, bytes: &[u8]) -> Result<(), Stop> {
-    add_fixed(sheet, "header", &table_header(), seen_at(bytes, 0, HEADER))?;
+// What a table is by its signature, where its fields are known.
+fn table_of(bytes: &[u8]) -> Option<Decoded>
+    ensures { result ≡ table_of bytes.now }
+{
     if bytes.starts_with(b"ERST") {
-        add_fixed(sheet, "table", &erst_header(), seen_at(bytes, 0, ERST))?;
-        add_instructions(sheet, pages, bytes)
+        Some(Decoded::Erst)
     } else if bytes.starts_with(b"HEST") {
-        add_fixed(sheet, "table", &hest_header(), seen_at(bytes, 0, HEST))?;
-        add_sources(sheet, pages, bytes)
+        Some(Decoded::Hest)
     } else if bytes.starts_with(b"BERT") {
-        Ok(add_fixed(sheet, "table", &bert_fields(), seen_at(bytes, 0, BERT))?)
+        Some(Decoded::Bert)
     } else {
-        Ok(())
+        None
+    }
+}
+
+fn add_groups<P: Pages>(sheet: &mut Sheet<'_>, pages: &mut P, bytes: &[u8]) -> Result<(), Stop>
+    ensures { KeepsItems sheet.old sheet.new }
+{
+    add_fixed(sheet, "header", &table_header(), seen_at(bytes, 0, HEADER))?;
+    match table_of(bytes) {
+        Some(Decoded::Erst) => {
+            add_fixed(sheet, "table", &erst_header(), seen_at(bytes, 0, ERST))?;
+            add_instructions(sheet, pages, bytes)
+        }
+        Some(Decoded::Hest) => {
+            add_fixed(sheet, "table", &hest_header(), seen_at(bytes, 0, HEST))?;
+            add_sources(sheet, pages, bytes)
+        }
+        Some(Decoded::Bert) => Ok(add_fixed(
+            sheet,
+            "table",
+            &bert_fields(),
+            seen_at(bytes, 0, BERT),
+        )?),
+        _ => Ok(()),
     }
 }
 
@@ -84,6 +106,7 @@ fn add_fixed(
     body: &[u8],
 ) -> Result<(), AllocError>
     requires { IsTrue (is_sound_structure (structure_of layout.now)) }
+    ensures { KeepsItems sheet.old sheet.new }
 {
     let group = Group {
         name,
@@ -99,7 +122,9 @@ fn add_instructions<P: Pages>(
     sheet: &mut Sheet<'_>,
     pages: &mut P,
     bytes: &[u8],
-) -> Result<(), Stop> {
+) -> Result<(), Stop>
+    ensures { KeepsItems sheet.old sheet.new }
+{
     let layout = erst_entry();
     for index in 0..seen_u32(bytes, 44) {
         let Some(entry) = instruction_at(bytes, index) else {
@@ -118,7 +143,9 @@ fn add_instructions<P: Pages>(
 }
 
 // The error sources, as many as the table counts.
-fn add_sources<P: Pages>(sheet: &mut Sheet<'_>, pages: &mut P, bytes: &[u8]) -> Result<(), Stop> {
+fn add_sources<P: Pages>(sheet: &mut Sheet<'_>, pages: &mut P, bytes: &[u8]) -> Result<(), Stop>
+    ensures { KeepsItems sheet.old sheet.new }
+{
     let mut at = HEST;
     for index in 0..seen_u32(bytes, 36) {
         let Some(source) = source_at(bytes, at) else {
@@ -138,6 +165,7 @@ fn add_source(
     source: &Source<'_>,
 ) -> Result<(), AllocError>
     requires { at + length source.now.bytes.now < 2 ^ 64 }
+    ensures { KeepsItems sheet.old sheet.new }
 {
     let group = Group {
         name: "source",
