@@ -1,12 +1,12 @@
 -- What was shown of a file stays so when the sheet is written.
-use Rattle.std.proofs.Common.{◌≡◌, ℕ, ◌<◌, List, Result, Ok, Err, OnOk, sym, subst}
+use Rattle.std.proofs.Common.{ℕ, ◌<◌, List, Result, Ok, Err, OnOk, sym, subst}
 use Rattle.flash_model.specs.declared.geometry.Geometry.{Geometry}
 use Rattle.image_survey.specs.declared.header.MediumError.{MediumError}
 use Rattle.show_findings.specs.declared.kinds.FileKind.{FileKind}
 use Rattle.show_findings.specs.declared.kinds.FileKind.TheVariants.{Dump, Qemu, Medium, Image, Packed, MachineCheck, Dmesg, Empty}
 use Rattle.show_items.specs.Files.{ShowsAs}
 use Rattle.show_items.specs.Images.{ShowsMediumAs}
-use Rattle.show_items.specs.Sheets.{AddsItems, KeepsItems}
+use Rattle.show_items.specs.Sheets.{KeepsItems}
 use Rattle.show_items.specs.declared.sheet.Sheet.{Sheet}
 use Rattle.show_items.proofs.SheetLemmas.{added_and_kept, kept as kept_and_kept}
 

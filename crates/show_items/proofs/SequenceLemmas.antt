@@ -1,5 +1,5 @@
 -- The first item, and those behind it.
-use Rattle.std.proofs.Common.{◌≡◌, ◌∙◌, ◌<◌, ◌-◌, ℕ, Bool, true, false, List, [], ◌∷◌, inl, inr, refl, sym, ap, subst, length, drop, length-drop, true≢false, arith}
+use Rattle.std.proofs.Common.{◌≡◌, ◌<◌, ℕ, Bool, true, false, List, [], ◌∷◌, inr, refl, subst, length, drop, length-drop, true≢false, arith}
 use Rattle.show_findings.specs.declared.kinds.FileKind.{FileKind}
 use Rattle.show_findings.specs.declared.kinds.FileKind.TheVariants.{Blank}
 use Rattle.show_findings.specs.Kinds.{kind_behind}

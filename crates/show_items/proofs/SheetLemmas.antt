@@ -1,5 +1,5 @@
 -- Items of a sheet, some after others.
-use Rattle.std.proofs.Common.{◌≡◌, ◌∙◌, ℕ, Bool, List, [], ◌∷◌, refl, ap}
+use Rattle.std.proofs.Common.{◌∙◌, ℕ, Bool, List, [], ◌∷◌, refl, ap}
 use Rattle.show_items.specs.declared.sheet.Sheet.{Sheet}
 use Rattle.show_items.specs.Sheets.{AddsItems, KeepsItems, bad_after, items_after}
 

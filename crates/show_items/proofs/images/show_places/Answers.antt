@@ -1,4 +1,4 @@
-use Rattle.std.proofs.Common.{arith, rules, ℕ, [], ◌≤◌, ◌<◌, ◌/◌, length, subst}
+use Rattle.std.proofs.Common.{arith, ℕ, [], ◌≤◌, ◌<◌, ◌/◌, length, subst}
 use Rattle.show_items.specs.Storage.{IsJudgedPlace, end_of_places, has_identifier}
 use Rattle.show_items.proofs.PlaceLemmas.{no_place_left, one_place_more, shown_if}
 use Rattle.show_items.proofs.SheetLemmas.{nothing_added}
