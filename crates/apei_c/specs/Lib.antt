@@ -1,4 +1,5 @@
 pub mod Owners
+pub mod Lending
 pub mod Statuses
 pub mod Numbers
 pub mod Buffers

@@ -1,5 +1,6 @@
 // The handle of C.
 ghost use Rattle.std.specs.Prelude.{◌≡◌, Option, Some, None, is_some, IfSome, IfNone};
+ghost use Rattle.std.specs.Borrow.{sem};
 
 use crate::boxes::BoxParts;
 use crate::owners::PortOwner;
@@ -22,6 +23,8 @@ fn nowhere() -> *mut u8 {
 }
 
 impl Handle {
+    ghost use Rattle.apei_c.specs.Lending.{HandleLends};
+
     /// The owner of none.
     fn closed(alloc: Global) -> Handle
         ensures { result.owner.port ≡ None }
@@ -41,6 +44,19 @@ impl Handle {
         Handle {
             owner,
             is_open: true,
+        }
+    }
+
+    /// Lends the port, where there is one.
+    pub fn port(&mut self) -> Option<&mut Port>
+        ensures* writes_back { sem 𝓛 (HandleLends self.entry result) }
+        ensures some { IfSome result (λ port. self.old.owner.port ≡ Some port.now) }
+        ensures none { IfNone result (self.old.owner.port ≡ None) }
+    {
+        if self.is_open {
+            Some(self.owner.port())
+        } else {
+            None
         }
     }
 

@@ -1,5 +1,6 @@
 // The owner of a port, in a type that C may hold.
 ghost use Rattle.std.specs.Prelude.{◌≡◌, Option, Some, None, IsSome};
+ghost use Rattle.std.specs.Borrow.{sem};
 ghost use Rattle.erst_port.specs.PortState.{PortState};
 ghost use Rattle.apei_c.specs.Owners.{owns_port, port_code};
 
@@ -22,6 +23,8 @@ impl Model for PortOwner {
 }
 
 impl PortOwner {
+    ghost use Rattle.apei_c.specs.Lending.{OwnerLends};
+
     /// The owner of none, whatever its pointer is.
     pub fn none(at: *mut u8, alloc: Global) -> PortOwner
         ensures { result.port ≡ None }
@@ -50,5 +53,14 @@ impl PortOwner {
             ptr: at as *mut Port,
             alloc,
         }
+    }
+
+    /// Lends the port that it owns.
+    pub fn port(&mut self) -> &mut Port
+        requires { IsSome self.old.port }
+        ensures* writes_back { sem 𝓛 (OwnerLends self.entry result) }
+        ensures value { self.old.port ≡ Some result.now }
+    {
+        unsafe { &mut *(self.at as *mut Port) }
     }
 }

@@ -82,22 +82,15 @@ fn loaded_raw(
 
 /// Saves a device as bytes.
 #[unsafe(no_mangle)]
-pub extern "C" fn apei_c_erst_save(
-    alloc: Global,
-    erst: &mut Handle,
-    bytes: &mut [u8],
-    size: &mut u64,
-) -> u32
+pub extern "C" fn apei_c_erst_save(erst: &mut Handle, bytes: &mut [u8], size: &mut u64) -> u32
     ensures { LooksAt erst.old.owner.port result erst.new.owner.port
         ((bytes.new ≡ bytes.old) × (size.new ≡ size.old))
         (λ port status. SavesBytes bytes.old size.old port status bytes.new size.new) }
 {
-    let Some(port) = erst.take(alloc) else {
+    let Some(port) = erst.port() else {
         return Status::Closed.number();
     };
-    let status = save(&port, bytes, size);
-    erst.put(port);
-    status.number()
+    save(port, bytes, size).number()
 }
 
 /// Opens the device of a medium, and goes on where the one that was saved stopped.

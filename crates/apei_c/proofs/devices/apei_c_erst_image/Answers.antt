@@ -2,4 +2,6 @@ use Rattle.apei_c.proofs.PortLemmas.{looks_at}
 use Rattle.apei_c.proofs.devices.apei_c_erst_image.Goals as goal
 
 pub returns : goal.returns
-returns c = looks_at _ _ _ _ _ c.in-Some.port.value c.image-status.result c.in-Some.ensures.some c.put.ensures c.number-2.ensures (rw (← c.deref.ensures) c.image-status.ensures)
+returns c =
+    let after = rw c.in-Some.is at c.port.follows.holds c.in-Some.port.now in
+    looks_at _ _ _ _ _ c.in-Some.port.now c.image.result c.in-Some.ensures.some after c.number-2.ensures c.image.ensures

@@ -2,4 +2,6 @@ use Rattle.apei_c.proofs.PortLemmas.{on_port}
 use Rattle.apei_c.proofs.devices.apei_c_erst_move.Goals as goal
 
 pub returns : goal.returns
-returns c = on_port _ _ _ _ c.in-Some.port.value c.move_to-status.new.port c.move_to-status.result c.in-Some.ensures.some c.put.ensures c.number-2.ensures (rw (← c.deref_mut.ensures.value) c.move_to-status.ensures)
+returns c =
+    let after = rw c.in-Some.is at c.port.follows.holds c.move_to.new.port in
+    on_port _ _ _ _ c.in-Some.port.now c.move_to.new.port c.move_to.result c.in-Some.ensures.some after c.number-2.ensures c.move_to.ensures

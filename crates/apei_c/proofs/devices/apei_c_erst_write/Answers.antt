@@ -2,4 +2,6 @@ use Rattle.apei_c.proofs.PortLemmas.{on_port}
 use Rattle.apei_c.proofs.devices.apei_c_erst_write.Goals as goal
 
 pub returns : goal.returns
-returns c = on_port _ _ _ _ c.in-Some.port.value c.write-status.new.port c.write-status.result c.in-Some.ensures.some c.put.ensures c.number-2.ensures (rw (← c.deref_mut.ensures.value) c.write-status.ensures)
+returns c =
+    let after = rw c.in-Some.is at c.port.follows.holds c.write.new.port in
+    on_port _ _ _ _ c.in-Some.port.now c.write.new.port c.write.result c.in-Some.ensures.some after c.number-2.ensures c.write.ensures
