@@ -21,11 +21,16 @@ pub fn window_of(number: u32) -> Option<Window>
 pub fn width_of(bytes: u32) -> Option<Width>
     ensures { result ≡ width_of bytes }
 {
+    // The widths of most accesses come first, by jumps: of more arms in one match the toolchain's own compiler makes shifts.
+    if bytes == 8 {
+        return Some(Width::B64);
+    }
+    if bytes == 4 {
+        return Some(Width::B32);
+    }
     match bytes {
         1 => Some(Width::B8),
         2 => Some(Width::B16),
-        4 => Some(Width::B32),
-        8 => Some(Width::B64),
         _ => None,
     }
 }
