@@ -3,13 +3,14 @@
  *
  *     ./libapei --out=lib && cc -O2 -Ilib bench/embed.c -Llib -lapei -o embed && ./embed
  *
- * It writes nanoseconds, the least of 21 runs of each: a read of VALUE, a write of it, a write of 8 bytes of the log range, an
- * action that makes no change, and a record of 400 bytes that is put into the log range and written: by numbers of 8 bytes, as
- * a guest does, and by one call, as a firmware can. First each change is taken and said to be done, and nothing makes it: that
- * is the device's own time, over its flash in memory. Then each is made on a medium in memory too. Both plain tables take the
- * same record by the same accesses. The one on flash erases the sectors of its identifier's slot, as NOR flash asks, and
- * programs a header and the record; the one in memory copies the record into a slot. Device and tables run in turn. A second
- * part has slots of small sectors.
+ * It writes nanoseconds, the least of 1,000 runs of each, which are so short that other work on the machine leaves most
+ * alone: a read of VALUE, a write of it, a write of 8 bytes of the log range, an action that makes no change, and a record
+ * of 400 bytes that is put into the log range and written: by numbers of 8 bytes, as a guest does, and by one call, as a
+ * firmware can. First each change is taken and said to be done, and nothing makes it: that is the device's own time, over
+ * its flash in memory. Then each is made on a medium in memory too. Both plain tables take the same record by the same
+ * accesses. The one on flash erases the sectors of its identifier's slot, as NOR flash asks, and programs a header and the
+ * record; the one in memory copies the record into a slot. Device and tables run in turn. A second part has slots of small
+ * sectors.
  */
 #define _POSIX_C_SOURCE 199309L
 
@@ -20,7 +21,7 @@
 #include <string.h>
 #include <time.h>
 
-enum { RUNS = 21, ACCESSES = 1000000, RECORDS = 20000, LENGTH = 400, SLOTS = 64, IDENTIFIERS = 32 };
+enum { RUNS = 1000, ACCESSES = 20000, RECORDS = 500, LENGTH = 400, SLOTS = 64, IDENTIFIERS = 32 };
 
 static const apei_geometry geometries[] = {
     {.sector = 4096, .sectors_per_slot = 2, .slots = SLOTS},
