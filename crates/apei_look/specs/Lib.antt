@@ -5,6 +5,8 @@ pub mod Places
 pub mod Commands
 pub mod Options
 pub mod Numbers
+pub mod Entries
+pub mod Answers
 pub mod Refusals
 pub mod Frames
 pub mod Mediums

@@ -1,13 +1,12 @@
 // The file of an image, opened for reading alone.
-ghost use Rattle.std.specs.Prelude.{◌≡◌, ◌≤◌, ◌^◌, length, min, IfOk, IfErr};
-ghost use Rattle.apei_look.specs.Refusals.{IsFileRefusal, IsOpenRefusal, IsReadRefusal, length_checked};
+ghost use Rattle.std.specs.Prelude.{◌≡◌, ◌≤◌, ◌^◌, true, min, IfErr, IfOk, IfSome, OnOk};
+ghost use Rattle.apei_look.specs.Entries.{IsBeginning, IsFileOf, IsFound, IsLocked};
+ghost use Rattle.apei_look.specs.Refusals.{length_checked, IsFileRefusal, IsFindRefusal, IsLockRefusal, IsOpenRefusal, IsReadRefusal};
+ghost use Rattle.apei_look.specs.declared.files.Found.TheVariants.{File};
 
+use crate::files::{Files, Found};
 use crate::status::Status;
 use std::alloc::Global;
-use std::fs;
-use std::fs::{File, TryLockError};
-use std::io::ErrorKind;
-use std::os::unix::fs::FileExt;
 use thiserror::Error;
 
 // What the bytes are before they are read.
@@ -32,65 +31,71 @@ pub enum FileFault {
 
 /// A regular file that is open for reading alone. No run can hold it for its changes meanwhile.
 #[derive(Drop)]
-pub struct ImageFile {
-    file: File,
+pub(crate) struct ImageFile<F: Files> {
+    file: F::File,
     size: u64,
 }
 
-impl ImageFile {
-    /// Opens the file at `path`. One that another run holds for its changes is refused.
-    pub fn open(rt: &HostRuntime, path: &str) -> Result<ImageFile, Status>
-        ensures { IfErr result IsOpenRefusal }
+impl<F: Files> ImageFile<F> {
+    /// Opens the file at `path`. One that another run holds for its changes is refused, and so is a folder or a pipe, since the opening of a
+    /// pipe waits.
+    pub(crate) fn open(files: &mut F, path: &str) -> Result<ImageFile<F>, Status>
+        ensures opened { IfOk result (λ image. F.content image.file ≡ F.entry files.old path.now) }
+        ensures sized { IfOk result (λ image. IfSome (F.entry files.old path.now) (IsFileOf image.size)) }
+        ensures sound { OnOk result (F.faults files.new ≡ F.faults files.old) }
+        ensures refused { IfErr result (IsOpenRefusal (F.entry files.old path.now) (F.faults files.old) (F.faults files.new)) }
     {
-        let file = open(rt, path).map_err(Status::File)?;
-        match file.metadata() {
-            Ok(metadata) => Ok(ImageFile {
-                size: metadata.len(),
-                file,
-            }),
-            Err(_) => Err(Status::File(FileFault::Unreadable)),
-        }
+        find(files, path)?;
+        let file = files.open(path)?;
+        lock(files, &file)?;
+        let size = files.size(&file)?;
+        Ok(ImageFile { file, size })
     }
 
     /// How many bytes it has.
-    pub fn size(&self) -> u64
+    pub(crate) fn size(&self) -> u64
         ensures { result ≡ self.now.size }
     {
         self.size
     }
 
     /// Its first bytes: so many, or all where it has fewer.
-    pub fn beginning(&self, alloc: Global, most: u64) -> Result<Vec<u8>, Status>
+    pub(crate) fn beginning(
+        &self,
+        files: &mut F,
+        alloc: Global,
+        most: u64,
+    ) -> Result<Vec<u8>, Status>
         requires { most ≤ 2 ^ 27 }
-        ensures whole { IfOk result (λ bytes. length bytes.items ≡ min self.now.size most) }
-        ensures refused { IfErr result IsReadRefusal }
+        ensures first { IfOk result (λ bytes. IsBeginning (F.content self.now.file) (min self.now.size most) bytes.items) }
+        ensures sound { OnOk result (F.faults files.new ≡ F.faults files.old) }
+        ensures refused { IfErr result (IsReadRefusal (F.faults files.old) (F.faults files.new)) }
     {
-        self.read(alloc, self.size.min(most))
+        self.read(files, alloc, self.size.min(most))
     }
 
     /// All its bytes, which are at most so many.
-    pub fn bytes(&self, alloc: Global, most: u64) -> Result<Vec<u8>, Status>
+    pub(crate) fn bytes(&self, files: &mut F, alloc: Global, most: u64) -> Result<Vec<u8>, Status>
         requires { most ≤ 2 ^ 27 }
-        ensures whole { IfOk result (λ bytes. (length bytes.items ≡ self.now.size) × (self.now.size ≤ most)) }
-        ensures refused { IfErr result (IsFileRefusal most) }
+        ensures all { IfOk result (λ bytes. IsBeginning (F.content self.now.file) self.now.size bytes.items) }
+        ensures within { OnOk result (self.now.size ≤ most) }
+        ensures sound { OnOk result (F.faults files.new ≡ F.faults files.old) }
+        ensures refused { IfErr result (IsFileRefusal self.now.size most (F.faults files.old) (F.faults files.new)) }
     {
         check_length(self.size, most)?;
-        self.read(alloc, self.size)
+        self.read(files, alloc, self.size)
     }
 
     // So many bytes from the first on.
-    fn read(&self, alloc: Global, len: u64) -> Result<Vec<u8>, Status>
+    fn read(&self, files: &mut F, alloc: Global, len: u64) -> Result<Vec<u8>, Status>
         requires { len ≤ 2 ^ 27 }
-        ensures whole { IfOk result (λ bytes. length bytes.items ≡ len) }
-        ensures refused { IfErr result IsReadRefusal }
+        ensures first { IfOk result (λ bytes. IsBeginning (F.content self.now.file) len bytes.items) }
+        ensures sound { OnOk result (F.faults files.new ≡ F.faults files.old) }
+        ensures refused { IfErr result (IsReadRefusal (F.faults files.old) (F.faults files.new)) }
     {
-        let Ok(mut bytes) = vec![in alloc; ERASED; len as usize] else {
-            return Err(Status::Memory);
-        };
-        match self.file.read_exact_at(&mut bytes, 0) {
-            Ok(()) => Ok(bytes),
-            Err(_) => Err(Status::File(FileFault::Unreadable)),
-        }
+        let mut bytes = vec![in alloc; ERASED; len as usize]?;
+        files.read(&self.file, &mut bytes)?;
+        Ok(bytes)
     }
 }
 
@@ -108,20 +113,29 @@ pub fn check_length(found: u64, most: u64) -> Result<(), Status>
     }
 }
 
-// Opens the file and locks it. A folder or a pipe is not opened, since the opening of a pipe waits.
-fn open(rt: &HostRuntime, path: &str) -> Result<File, FileFault> {
-    match fs::metadata(rt, path) {
-        Ok(found) if found.is_file() => (),
-        Ok(_) => return Err(FileFault::NoFile),
-        Err(error) if error.kind() == ErrorKind::NotFound => return Err(FileFault::Missing),
-        Err(_) => return Err(FileFault::Unreadable),
+// Looks whether a regular file stands at a path.
+fn find<F: Files>(files: &mut F, path: &str) -> Result<(), Status>
+    ensures found { OnOk result (IsFound (F.entry files.old path.now) File) }
+    ensures stays { F.entry files.new ≡ F.entry files.old }
+    ensures sound { OnOk result (F.faults files.new ≡ F.faults files.old) }
+    ensures refused { IfErr result (IsFindRefusal (F.entry files.old path.now) (F.faults files.old) (F.faults files.new)) }
+{
+    match files.find(path)? {
+        Found::File => Ok(()),
+        Found::Nothing => Err(Status::File(FileFault::Missing)),
+        Found::Other => Err(Status::File(FileFault::NoFile)),
     }
-    let Ok(file) = File::open(rt, path) else {
-        return Err(FileFault::Unreadable);
-    };
-    match file.try_lock_shared() {
-        Ok(()) => Ok(file),
-        Err(TryLockError::WouldBlock) => Err(FileFault::Held),
-        Err(_) => Err(FileFault::Unreadable),
+}
+
+// Locks a file.
+fn lock<F: Files>(files: &mut F, file: &F::File) -> Result<(), Status>
+    ensures locked { OnOk result (IsLocked (F.content file.now) true) }
+    ensures sound { OnOk result (F.faults files.new ≡ F.faults files.old) }
+    ensures refused { IfErr result (IsLockRefusal (F.content file.now) (F.faults files.old) (F.faults files.new)) }
+{
+    if files.lock(file)? {
+        Ok(())
+    } else {
+        Err(Status::File(FileFault::Held))
     }
 }

@@ -10,6 +10,7 @@ ghost use Rattle.apei_look.specs.Refusals.{ended_as, most_of, named_as};
 
 mod command;
 mod digits;
+mod files;
 mod guid;
 mod image;
 mod image_file;
@@ -29,6 +30,7 @@ mod time;
 mod unread;
 mod values;
 
+use crate::files::{Files, System};
 use crate::image::Image;
 use crate::image_file::{ImageFile, check_length};
 use crate::json::json_of;
@@ -68,43 +70,49 @@ fn look(rt: &HostRuntime, options: &Options) -> Status {
     let Ok(given) = Geometry::new(options.sector, options.per_slot, options.slots) else {
         return Status::BadGeometry;
     };
-    match look_at_file(rt, options, given) {
+    match look_at_file(rt, &mut System::new(rt), options, given) {
         Ok(status) => status,
         Err(status) => status,
     }
 }
 
 // Looks at the file: where its first sector says that it is a medium, by what stands there.
-fn look_at_file(rt: &HostRuntime, options: &Options, given: Geometry) -> Result<Status, Status> {
-    let file = ImageFile::open(rt, options.image.as_str())?;
-    let beginning = file.beginning(rt.alloc(), HEADER)?;
+fn look_at_file<F: Files>(
+    rt: &HostRuntime,
+    files: &mut F,
+    options: &Options,
+    given: Geometry,
+) -> Result<Status, Status> {
+    let file = ImageFile::open(files, options.image.as_str())?;
+    let beginning = file.beginning(files, rt.alloc(), HEADER)?;
     let unread = match first_sector(&beginning) {
-        FirstSector::Unsigned => return look_at_flash(rt, options, given, &file),
+        FirstSector::Unsigned => return look_at_flash(rt, files, options, given, &file),
         FirstSector::Medium(geometry) => {
-            let bytes = file.beginning(rt.alloc(), file_size(&geometry, true))?;
-            return Ok(look_by(rt, bytes, &file, &geometry, true, options.show));
+            let bytes = file.beginning(files, rt.alloc(), file_size(&geometry, true))?;
+            return Ok(look_by(rt, bytes, file.size(), &geometry, true, options.show));
         }
         FirstSector::Version { found } => Unread::Version(found),
         FirstSector::Damaged => Unread::Damaged,
     };
-    Ok(name_unread(rt, &file, unread, options.show))
+    Ok(name_unread(rt, file.size(), unread, options.show))
 }
 
 // Looks at a file that is a flash alone.
-fn look_at_flash(
+fn look_at_flash<F: Files>(
     rt: &HostRuntime,
+    files: &mut F,
     options: &Options,
     given: Geometry,
-    file: &ImageFile,
+    file: &ImageFile<F>,
 ) -> Result<Status, Status> {
-    let image = file.bytes(rt.alloc(), most_of(options.guess, &given))?;
+    let image = file.bytes(files, rt.alloc(), most_of(options.guess, &given))?;
     let geometry = if options.guess {
         seeming(&image, given)
     } else {
         given
     };
     check_length(file.size(), geometry.size())?;
-    Ok(look_by(rt, image, file, &geometry, false, options.show))
+    Ok(look_by(rt, image, file.size(), &geometry, false, options.show))
 }
 
 // The most bytes that are looked at: where the geometry is guessed those of any.
@@ -130,7 +138,7 @@ fn seeming(image: &[u8], given: Geometry) -> Geometry
 fn look_by(
     rt: &HostRuntime,
     mut bytes: Vec<u8>,
-    file: &ImageFile,
+    held: u64,
     geometry: &Geometry,
     is_medium: bool,
     show: Show,
@@ -140,8 +148,8 @@ fn look_by(
         return Status::Memory;
     }
     let flash = flash_of(&bytes, geometry, is_medium);
-    let shown = show_flash(rt, flash, geometry, is_medium, file.size(), show);
-    ended_as(shown, file.size(), size)
+    let shown = show_flash(rt, flash, geometry, is_medium, held, show);
+    ended_as(shown, held, size)
 }
 
 // How a run ends that showed a file of so many bytes: one of another length is said to be.
@@ -188,10 +196,10 @@ fn show_flash(
 }
 
 // Says of a medium that is not shown why that is so. No record of it is written.
-fn name_unread(rt: &HostRuntime, file: &ImageFile, unread: Unread, show: Show) -> Status {
+fn name_unread(rt: &HostRuntime, held: u64, unread: Unread, show: Show) -> Status {
     let said = match show {
         Show::Text => unread_text(rt.alloc(), unread),
-        Show::Json => unread_json(rt.alloc(), unread, file.size()),
+        Show::Json => unread_json(rt.alloc(), unread, held),
         Show::Record(_) => return Status::Unread(unread),
     };
     match said {

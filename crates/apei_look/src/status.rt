@@ -1,10 +1,14 @@
 // How a run ended.
 ghost use Rattle.std.specs.Prelude.{◌≡◌};
 ghost use Rattle.apei_look.specs.Numbers.{number_of};
+ghost use Rattle.apei_look.specs.declared.image_file.FileFault.TheVariants.{Unreadable};
+ghost use Rattle.apei_look.specs.declared.status.Status.TheVariants.{File as OfFile, Memory as WantOfMemory};
 
 use crate::image_file::FileFault;
 use crate::unread::Unread;
 use clap_words::WordsError;
+use std::alloc::AllocError;
+use std::io;
 use thiserror::Error;
 
 /// How a run ended, and what is said of it.
@@ -53,5 +57,21 @@ impl Status {
             Status::Words(WordsError::Memory) | Status::Memory => 8,
             Status::NoRecord { .. } => 10,
         }
+    }
+}
+
+impl From<AllocError> for Status {
+    ghost from_gives = { λ _ status. status ≡ WantOfMemory };
+
+    fn from(_: AllocError) -> Status {
+        Status::Memory
+    }
+}
+
+impl From<io::Error> for Status {
+    ghost from_gives = { λ _ status. status ≡ OfFile Unreadable };
+
+    fn from(_: io::Error) -> Status {
+        Status::File(FileFault::Unreadable)
     }
 }
