@@ -4,3 +4,4 @@ pub mod GuidTextLemmas
 pub mod RecordTextLemmas
 pub mod ObjectLemmas
 pub mod PaddingLemmas
+pub mod LookLemmas

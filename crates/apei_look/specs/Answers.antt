@@ -7,8 +7,8 @@ use Rattle.std.specs.declared.io.ErrorKind.TheVariants.{NotFound}
 use Rattle.std.specs.declared.fs.attrs.Metadata.{Metadata}
 use Rattle.std.specs.declared.fs.locks.TryLockError.{TryLockError}
 use Rattle.std.specs.declared.fs.locks.TryLockError.TheVariants as locks
-use Rattle.apei_look.specs.declared.files.Found.{Found}
-use Rattle.apei_look.specs.declared.files.Found.TheVariants.{Nothing, File, Other}
+use Rattle.apei_look.specs.declared.host.Found.{Found}
+use Rattle.apei_look.specs.declared.host.Found.TheVariants.{Nothing, File, Other}
 
 -- what it says of a path: that nothing stands there is no error
 abbrev pub IsFoundBy : Result Metadata Error → Result Found Error → Type 0

@@ -1,7 +1,7 @@
 -- What stands at a path, and what of it is known.
 use Rattle.std.specs.Prelude.{◌≡◌, ℕ, Bool, true, false, List, length, take, Option, IfSome}
-use Rattle.apei_look.specs.declared.files.Found.{Found}
-use Rattle.apei_look.specs.declared.files.Found.TheVariants.{File}
+use Rattle.apei_look.specs.declared.host.Found.{Found}
+use Rattle.apei_look.specs.declared.host.Found.TheVariants.{File}
 
 -- what it is, whether a run holds it for its changes, and its bytes
 pub record Entry : Type 0 where

@@ -16,3 +16,5 @@ pub mod FileObjects
 pub mod RecordObjects
 pub mod Records
 pub mod Images
+pub mod Endings
+pub mod Looks

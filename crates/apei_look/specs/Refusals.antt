@@ -3,7 +3,7 @@ use Rattle.std.specs.Prelude.{ℕ, ◌≡◌, ◌<◌, ◌≤◌, ◌*◌, ◌==
 use Rattle.base_model.specs.Faults.{Rose}
 use Rattle.flash_model.specs.declared.geometry.Geometry.{Geometry}
 use Rattle.apei_look.specs.Entries.{Entry, IsFound, IsLocked}
-use Rattle.apei_look.specs.declared.files.Found.TheVariants as found
+use Rattle.apei_look.specs.declared.host.Found.TheVariants as found
 use Rattle.apei_look.specs.declared.image_file.FileFault.TheVariants.{Unreadable, Missing, NoFile, Held}
 use Rattle.apei_look.specs.declared.status.Status.{Status}
 use Rattle.apei_look.specs.declared.unread.Unread.{Unread}

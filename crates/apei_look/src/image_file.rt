@@ -2,9 +2,9 @@
 ghost use Rattle.std.specs.Prelude.{◌≡◌, ◌≤◌, ◌^◌, true, min, IfErr, IfOk, IfSome, OnOk};
 ghost use Rattle.apei_look.specs.Entries.{IsBeginning, IsFileOf, IsFound, IsLocked};
 ghost use Rattle.apei_look.specs.Refusals.{length_checked, IsFileRefusal, IsFindRefusal, IsLockRefusal, IsOpenRefusal, IsReadRefusal};
-ghost use Rattle.apei_look.specs.declared.files.Found.TheVariants.{File};
+ghost use Rattle.apei_look.specs.declared.host.Found.TheVariants.{File};
 
-use crate::files::{Files, Found};
+use crate::host::{Found, Host};
 use crate::status::Status;
 use std::alloc::Global;
 use thiserror::Error;
@@ -31,24 +31,25 @@ pub enum FileFault {
 
 /// A regular file that is open for reading alone. No run can hold it for its changes meanwhile.
 #[derive(Drop)]
-pub(crate) struct ImageFile<F: Files> {
-    file: F::File,
+pub(crate) struct ImageFile<H: Host> {
+    file: H::File,
     size: u64,
 }
 
-impl<F: Files> ImageFile<F> {
+impl<H: Host> ImageFile<H> {
     /// Opens the file at `path`. One that another run holds for its changes is refused, and so is a folder or a pipe, since the opening of a
     /// pipe waits.
-    pub(crate) fn open(files: &mut F, path: &str) -> Result<ImageFile<F>, Status>
-        ensures opened { IfOk result (λ image. F.content image.file ≡ F.entry files.old path.now) }
-        ensures sized { IfOk result (λ image. IfSome (F.entry files.old path.now) (IsFileOf image.size)) }
-        ensures sound { OnOk result (F.faults files.new ≡ F.faults files.old) }
-        ensures refused { IfErr result (IsOpenRefusal (F.entry files.old path.now) (F.faults files.old) (F.faults files.new)) }
+    pub(crate) fn open(host: &mut H, path: &str) -> Result<ImageFile<H>, Status>
+        ensures opened { IfOk result (λ image. H.content image.file ≡ H.entry host.old path.now) }
+        ensures sized { IfOk result (λ image. IfSome (H.entry host.old path.now) (IsFileOf image.size)) }
+        ensures sound { OnOk result (H.faults host.new ≡ H.faults host.old) }
+        ensures silent { H.written host.new ≡ H.written host.old }
+        ensures refused { IfErr result (IsOpenRefusal (H.entry host.old path.now) (H.faults host.old) (H.faults host.new)) }
     {
-        find(files, path)?;
-        let file = files.open(path)?;
-        lock(files, &file)?;
-        let size = files.size(&file)?;
+        find(host, path)?;
+        let file = host.open(path)?;
+        lock(host, &file)?;
+        let size = host.size(&file)?;
         Ok(ImageFile { file, size })
     }
 
@@ -62,39 +63,42 @@ impl<F: Files> ImageFile<F> {
     /// Its first bytes: so many, or all where it has fewer.
     pub(crate) fn beginning(
         &self,
-        files: &mut F,
+        host: &mut H,
         alloc: Global,
         most: u64,
     ) -> Result<Vec<u8>, Status>
         requires { most ≤ 2 ^ 27 }
-        ensures first { IfOk result (λ bytes. IsBeginning (F.content self.now.file) (min self.now.size most) bytes.items) }
-        ensures sound { OnOk result (F.faults files.new ≡ F.faults files.old) }
-        ensures refused { IfErr result (IsReadRefusal (F.faults files.old) (F.faults files.new)) }
+        ensures first { IfOk result (λ bytes. IsBeginning (H.content self.now.file) (min self.now.size most) bytes.items) }
+        ensures sound { OnOk result (H.faults host.new ≡ H.faults host.old) }
+        ensures silent { H.written host.new ≡ H.written host.old }
+        ensures refused { IfErr result (IsReadRefusal (H.faults host.old) (H.faults host.new)) }
     {
-        self.read(files, alloc, self.size.min(most))
+        self.read(host, alloc, self.size.min(most))
     }
 
     /// All its bytes, which are at most so many.
-    pub(crate) fn bytes(&self, files: &mut F, alloc: Global, most: u64) -> Result<Vec<u8>, Status>
+    pub(crate) fn bytes(&self, host: &mut H, alloc: Global, most: u64) -> Result<Vec<u8>, Status>
         requires { most ≤ 2 ^ 27 }
-        ensures all { IfOk result (λ bytes. IsBeginning (F.content self.now.file) self.now.size bytes.items) }
+        ensures all { IfOk result (λ bytes. IsBeginning (H.content self.now.file) self.now.size bytes.items) }
         ensures within { OnOk result (self.now.size ≤ most) }
-        ensures sound { OnOk result (F.faults files.new ≡ F.faults files.old) }
-        ensures refused { IfErr result (IsFileRefusal self.now.size most (F.faults files.old) (F.faults files.new)) }
+        ensures sound { OnOk result (H.faults host.new ≡ H.faults host.old) }
+        ensures silent { H.written host.new ≡ H.written host.old }
+        ensures refused { IfErr result (IsFileRefusal self.now.size most (H.faults host.old) (H.faults host.new)) }
     {
         check_length(self.size, most)?;
-        self.read(files, alloc, self.size)
+        self.read(host, alloc, self.size)
     }
 
     // So many bytes from the first on.
-    fn read(&self, files: &mut F, alloc: Global, len: u64) -> Result<Vec<u8>, Status>
+    fn read(&self, host: &mut H, alloc: Global, len: u64) -> Result<Vec<u8>, Status>
         requires { len ≤ 2 ^ 27 }
-        ensures first { IfOk result (λ bytes. IsBeginning (F.content self.now.file) len bytes.items) }
-        ensures sound { OnOk result (F.faults files.new ≡ F.faults files.old) }
-        ensures refused { IfErr result (IsReadRefusal (F.faults files.old) (F.faults files.new)) }
+        ensures first { IfOk result (λ bytes. IsBeginning (H.content self.now.file) len bytes.items) }
+        ensures sound { OnOk result (H.faults host.new ≡ H.faults host.old) }
+        ensures silent { H.written host.new ≡ H.written host.old }
+        ensures refused { IfErr result (IsReadRefusal (H.faults host.old) (H.faults host.new)) }
     {
         let mut bytes = vec![in alloc; ERASED; len as usize]?;
-        files.read(&self.file, &mut bytes)?;
+        host.read(&self.file, &mut bytes)?;
         Ok(bytes)
     }
 }
@@ -114,13 +118,14 @@ pub fn check_length(found: u64, most: u64) -> Result<(), Status>
 }
 
 // Looks whether a regular file stands at a path.
-fn find<F: Files>(files: &mut F, path: &str) -> Result<(), Status>
-    ensures found { OnOk result (IsFound (F.entry files.old path.now) File) }
-    ensures stays { F.entry files.new ≡ F.entry files.old }
-    ensures sound { OnOk result (F.faults files.new ≡ F.faults files.old) }
-    ensures refused { IfErr result (IsFindRefusal (F.entry files.old path.now) (F.faults files.old) (F.faults files.new)) }
+fn find<H: Host>(host: &mut H, path: &str) -> Result<(), Status>
+    ensures found { OnOk result (IsFound (H.entry host.old path.now) File) }
+    ensures stays { H.entry host.new ≡ H.entry host.old }
+    ensures sound { OnOk result (H.faults host.new ≡ H.faults host.old) }
+    ensures silent { H.written host.new ≡ H.written host.old }
+    ensures refused { IfErr result (IsFindRefusal (H.entry host.old path.now) (H.faults host.old) (H.faults host.new)) }
 {
-    match files.find(path)? {
+    match host.find(path)? {
         Found::File => Ok(()),
         Found::Nothing => Err(Status::File(FileFault::Missing)),
         Found::Other => Err(Status::File(FileFault::NoFile)),
@@ -128,12 +133,13 @@ fn find<F: Files>(files: &mut F, path: &str) -> Result<(), Status>
 }
 
 // Locks a file.
-fn lock<F: Files>(files: &mut F, file: &F::File) -> Result<(), Status>
-    ensures locked { OnOk result (IsLocked (F.content file.now) true) }
-    ensures sound { OnOk result (F.faults files.new ≡ F.faults files.old) }
-    ensures refused { IfErr result (IsLockRefusal (F.content file.now) (F.faults files.old) (F.faults files.new)) }
+fn lock<H: Host>(host: &mut H, file: &H::File) -> Result<(), Status>
+    ensures locked { OnOk result (IsLocked (H.content file.now) true) }
+    ensures sound { OnOk result (H.faults host.new ≡ H.faults host.old) }
+    ensures silent { H.written host.new ≡ H.written host.old }
+    ensures refused { IfErr result (IsLockRefusal (H.content file.now) (H.faults host.old) (H.faults host.new)) }
 {
-    if files.lock(file)? {
+    if host.lock(file)? {
         Ok(())
     } else {
         Err(Status::File(FileFault::Held))

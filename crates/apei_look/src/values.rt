@@ -5,9 +5,9 @@ ghost use Rattle.clap_words.specs.Commands.{NoneFits};
 ghost use Rattle.clap_words.specs.declared.error.WordsError.TheVariants.{BadWords};
 ghost use Rattle.apei_look.specs.Options.{IsGivenOr, IsImage, IsShow, is_set, one_of};
 
-use crate::Show;
 use crate::command::{FILE, IMAGE, JSON, RECORD};
 use crate::number::number;
+use crate::options::Show;
 use clap::ArgMatches;
 use clap_words::{WordsError, text};
 use std::alloc::Global;

@@ -1,11 +1,12 @@
-// Files of the system.
+// The system as a run meets it: files, and standard output.
 ghost use Rattle.std.specs.Prelude.{◌≡◌, ℕ, List, Option, None, length, IfOk, OnOk};
+ghost use Rattle.std.specs.Io.KnownBytes.{Appends};
 ghost use Rattle.base_model.specs.Faults.{HasCause};
 ghost use Rattle.apei_look.specs.Answers.{locked_by, size_by, IsFoundBy};
 ghost use Rattle.apei_look.specs.Entries.{Entry, IsBeginning, IsFound, IsLocked, IsSize};
 
 use std::fs::{File, Metadata, TryLockError};
-use std::io::ErrorKind;
+use std::io::{ErrorKind, Write};
 use std::os::unix::fs::FileExt;
 use std::{fs, io};
 
@@ -19,8 +20,8 @@ pub enum Found {
     Other,
 }
 
-/// Files by their paths. They are opened for reading alone.
-pub(crate) trait Files {
+/// Files by their paths, which are opened for reading alone, and standard output.
+pub(crate) trait Host {
     type File: Drop;
 
     // What stands at a path, where it is known.
@@ -29,6 +30,9 @@ pub(crate) trait Files {
     // What an open file is, where it is known.
     ghost content: { Self.File → Option Entry };
 
+    // What was written, where it is known.
+    ghost written: { Self → Option (List ℕ) };
+
     // How many calls failed so far.
     ghost faults: { Self → ℕ };
 
@@ -36,30 +40,40 @@ pub(crate) trait Files {
     fn find(&mut self, path: &str) -> io::Result<Found>
         ensures found { IfOk result (IsFound (entry self.old path.now)) }
         ensures stays { entry self.new ≡ entry self.old }
+        ensures silent { written self.new ≡ written self.old }
         ensures cause { HasCause (faults self.old) (faults self.new) result };
 
     /// Opens the file at a path.
     fn open(&mut self, path: &str) -> io::Result<Self::File>
         ensures opened { IfOk result (λ file. content file ≡ entry self.old path.now) }
+        ensures silent { written self.new ≡ written self.old }
         ensures cause { HasCause (faults self.old) (faults self.new) result };
 
     /// Locks a file, so that no run changes it meanwhile; false where a run holds it for its changes.
     fn lock(&mut self, file: &Self::File) -> io::Result<bool>
         ensures locked { IfOk result (IsLocked (content file.now)) }
+        ensures silent { written self.new ≡ written self.old }
         ensures cause { HasCause (faults self.old) (faults self.new) result };
 
     /// How many bytes a file has.
     fn size(&mut self, file: &Self::File) -> io::Result<u64>
         ensures size { IfOk result (IsSize (content file.now)) }
+        ensures silent { written self.new ≡ written self.old }
         ensures cause { HasCause (faults self.old) (faults self.new) result };
 
     /// The first bytes of a file, as many as `bytes` has. It is an error where the file has fewer.
     fn read(&mut self, file: &Self::File, bytes: &mut [u8]) -> io::Result<()>
         ensures first { OnOk result (IsBeginning (content file.now) (length bytes.old) bytes.new) }
+        ensures silent { written self.new ≡ written self.old }
+        ensures cause { HasCause (faults self.old) (faults self.new) result };
+
+    /// Writes to standard output.
+    fn write(&mut self, bytes: &[u8]) -> io::Result<()>
+        ensures written { OnOk result (Appends (written self.old) (written self.new) bytes.now) }
         ensures cause { HasCause (faults self.old) (faults self.new) result };
 }
 
-/// The files of the system. Each of its errors is a fault.
+/// The system itself. Each of its errors is a fault.
 #[derive(Drop)]
 pub(crate) struct System<'a> {
     rt: &'a HostRuntime,
@@ -67,7 +81,7 @@ pub(crate) struct System<'a> {
 }
 
 impl<'a> System<'a> {
-    /// The files of the system that nothing was asked of yet.
+    /// The system, of which nothing was asked yet.
     pub(crate) fn new(rt: &'a HostRuntime) -> System<'a>
         ensures { result.faults ≡ 0 }
     {
@@ -86,12 +100,14 @@ impl<'a> System<'a> {
     }
 }
 
-impl Files for System<'_> {
+impl Host for System<'_> {
     type File = File;
 
     ghost entry = { λ _ _. None };
 
     ghost content = { λ _. None };
+
+    ghost written = { λ _. None };
 
     ghost faults = { λ system. system.faults };
 
@@ -118,6 +134,11 @@ impl Files for System<'_> {
     fn read(&mut self, file: &File, bytes: &mut [u8]) -> io::Result<()> {
         let read = file.read_exact_at(bytes, 0);
         self.counted(read)
+    }
+
+    fn write(&mut self, bytes: &[u8]) -> io::Result<()> {
+        let written = self.rt.stdout().write_all(bytes);
+        self.counted(written)
     }
 }
 
