@@ -1,18 +1,17 @@
 -- How a run ends that looks at a file.
-use Rattle.std.proofs.Common.{◌≡◌, ◌∙◌, ℕ, ◌-◌, ◌*◌, ◌<◌, ◌≤◌, ◌⊎◌, inl, inr, Bool, true, false, cond, List, [], ◌++◌, length, take, drop, min, replicate, nat_le, Option, Some, None, IfSome, Result, Ok, Err, refl, sym, ap, subst, arith}
+use Rattle.std.proofs.Common.{◌≡◌, ◌∙◌, ℕ, ◌-◌, ◌*◌, ◌≤◌, inr, Bool, true, false, cond, List, [], ◌++◌, length, take, drop, min, replicate, Option, Some, None, IfSome, Ok, Err, refl, sym, ap, subst, arith}
 use Rattle.std.proofs.Math.Seq.{take-length}
 use Rattle.std.proofs.Math.Nat.{min_comm}
 use Rattle.std.proofs.lemmas.Bool.{le-leb}
 use Rattle.std.proofs.lemmas.List.{append-nil, length-take, take_all, take_min}
 use Rattle.std.specs.Prelude.{MatchResult}
 use Rattle.std.specs.Io.KnownBytes.{Appends}
-use Rattle.flash_model.specs.Limits.{IsGeometry}
 use Rattle.flash_model.specs.declared.geometry.Geometry.{Geometry}
 use Rattle.image_survey.specs.Headers.{IsFirstSector}
 use Rattle.image_survey.specs.declared.header.FirstSector.{FirstSector}
 use Rattle.apei_look.specs.Endings.{EndsBy}
 use Rattle.apei_look.specs.Entries.{Entry, IsBeginning, IsFileOf}
-use Rattle.apei_look.specs.Looks.{flash_in, IsFileLook, IsFlashLook, IsGiven, IsLook, IsLookAt, IsLookBy, IsLookOf, IsOutside, IsRefused, IsShow, IsTaken, IsWithin}
+use Rattle.apei_look.specs.Looks.{flash_in, IsFileLook, IsFlashLook, IsGiven, IsLook, IsLookAt, IsLookBy, IsLookOf, IsShow, IsTaken, IsWithin}
 use Rattle.apei_look.specs.Places.{file_size, flash_at}
 use Rattle.apei_look.specs.Refusals.{ended_as, length_checked, most_of}
 use Rattle.apei_look.specs.declared.image_file.FileFault.TheVariants.{Unreadable, Missing, NoFile, Held}
@@ -196,12 +195,6 @@ pub of_size : (content : Option Entry) (P : ℕ → List ℕ → Status → Type
 of_size None P size b a status regular h = tt
 of_size (Some known) P size b a status regular h = subst (λ n. EndsBy (P n) b a status) regular.sized h
 
--- what stands at a path and is no file that is shown
-pub refused_at : (entry : Option Entry) (options : Options) (given : Geometry) (b a : Option (List ℕ)) (status : Status)
-    → a ≡ b → IfSome entry (λ known. IsRefused known [] status) → IfSome entry (λ known. EndsBy (IsLookAt options given known) b a status)
-refused_at None options given b a status e why = tt
-refused_at (Some known) options given b a status e why = ends_silent (IsLookAt options given known) b a status e (inl why)
-
 -- a file that is shown
 pub shown_at : (entry content : Option Entry) (options : Options) (given : Geometry) (size : ℕ) (b a : Option (List ℕ)) (status : Status)
     → content ≡ entry → IfSome entry (IsFileOf size) → IfSome content (λ known. EndsBy (IsFileLook options given known.bytes) b a status)
@@ -212,7 +205,7 @@ shown_at (Some known) content options given size b a status same regular h =
     (λ said look. inr (subst (λ n. IsFileOf n known) regular.sized regular, look))
     (subst (λ content. IfSome content (λ known. EndsBy (IsFileLook options given known.bytes) b a status)) same h)
 
--- a geometry within the limits, and one outside them
+-- a geometry within the limits
 pub look_given : (entry : Option Entry) (options : Options) (given : Geometry) (b a : Option (List ℕ)) (answered status : Status)
     → answered ≡ status → IsGiven options given → IfSome entry (λ known. EndsBy (IsLookAt options given known) b a answered)
     → IfSome entry (λ known. EndsBy (IsLook options known) b a status)
@@ -220,9 +213,3 @@ look_given None options given b a answered status same is_given h = tt
 look_given (Some known) options given b a answered status same is_given h =
     subst (λ status. EndsBy (IsLook options known) b a status) same
     (ends_weaker (IsLookAt options given known) (IsLook options known) b a answered (λ said look. inr (given, is_given, look)) h)
-
-pub look_outside : (entry : Option Entry) (options : Options) (b : Option (List ℕ))
-    → (IsGeometry options.sector options.per_slot options.slots → ⊥) → IfSome entry (λ known. EndsBy (IsLook options known) b b BadGeometry)
-look_outside None options b outside = tt
-look_outside (Some known) options b outside =
-    ends_silent (IsLook options known) b b BadGeometry refl (inl (record { limits = outside; none = refl; is = refl }))

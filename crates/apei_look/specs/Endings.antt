@@ -8,8 +8,8 @@ use Rattle.apei_look.specs.declared.image_file.FileFault.TheVariants.{Unreadable
 use Rattle.apei_look.specs.declared.status.Status.{Status}
 use Rattle.apei_look.specs.declared.status.Status.TheVariants.{Done, SinkFault, File, Memory}
 
--- bytes were added to those that are written and said with this ending; without memory, or where a file can't be read, none were added, and where
--- the output fails it is not known which
+-- bytes were added to those that are written, as are said with this ending; without memory, or where the file can't be
+-- read, none were added; where the output fails it is not known which
 abbrev pub EndsBy : (IsSaid : List ℕ → Status → Type 0) (before after : Option (List ℕ)) → Status → Type 0
 EndsBy IsSaid before after Memory = after ≡ before
 EndsBy IsSaid before after (File Unreadable) = after ≡ before

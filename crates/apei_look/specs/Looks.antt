@@ -38,8 +38,10 @@ IsStored geometry image id said other = ⊥
 
 -- the flash of a file of so many bytes, as it is asked for
 abbrev pub IsShow : Show → (is_medium : Bool) → Geometry → (held : ℕ) → (image said : List ℕ) → Status → Type 0
-IsShow shows.Text is_medium geometry held image said status = (status ≡ Done) × IsText is_medium geometry held image said
-IsShow shows.Json is_medium geometry held image said status = (status ≡ Done) × IsJson is_medium geometry held image said
+IsShow shows.Text is_medium geometry held image said status =
+    (status ≡ Done) × IsText is_medium geometry held image said
+IsShow shows.Json is_medium geometry held image said status =
+    (status ≡ Done) × IsJson is_medium geometry held image said
 IsShow (shows.Record id) is_medium geometry held image said status = IsStored geometry image id said status
 
 -- the flash in a file: what is behind the end of one that is cut off is erased
@@ -57,7 +59,8 @@ IsLookBy show is_medium geometry held file said status =
 -- a medium that is not shown
 abbrev pub IsUnread : Show → Unread → (held : ℕ) → (said : List ℕ) → Status → Type 0
 IsUnread shows.Text unread held said status = (status ≡ statuses.Unread unread) × (said ≡ unread_line unread)
-IsUnread shows.Json unread held said status = (status ≡ statuses.Unread unread) × (said ≡ unread_object unread held)
+IsUnread shows.Json unread held said status =
+    (status ≡ statuses.Unread unread) × (said ≡ unread_object unread held)
 IsUnread (shows.Record id) unread held said status = (status ≡ statuses.Unread unread) × (said ≡ [])
 
 -- the geometry that a file seems to have, if it is asked for and there is one, or the one that is given
@@ -87,15 +90,18 @@ IsFlashLook show is_guessed given file said status =
 -- a file, by what its first sector says
 abbrev pub IsLookOf : FirstSector → Show → (is_guessed : Bool) → Geometry → (file said : List ℕ) → Status → Type 0
 IsLookOf first.Unsigned show is_guessed given file said status = IsFlashLook show is_guessed given file said status
-IsLookOf (first.Medium geometry) show is_guessed given file said status = IsLookBy show true geometry (length file) file said status
-IsLookOf (first.Version version) show is_guessed given file said status = IsUnread show (Version version) (length file) said status
+IsLookOf (first.Medium geometry) show is_guessed given file said status =
+    IsLookBy show true geometry (length file) file said status
+IsLookOf (first.Version version) show is_guessed given file said status =
+    IsUnread show (Version version) (length file) said status
 IsLookOf first.Damaged show is_guessed given file said status = IsUnread show Damaged (length file) said status
 
 abbrev pub IsFileLook : Options → Geometry → (file said : List ℕ) → Status → Type 0
 IsFileLook options given file said status =
-    (first : FirstSector) × IsFirstSector (take 64 file) first × IsLookOf first options.show options.guess given file said status
+    (first : FirstSector) × IsFirstSector (take 64 file) first
+    × IsLookOf first options.show options.guess given file said status
 
--- why what stands at a path is not opened
+-- why what stands at a path is not opened; a fault of the system may come of anything
 abbrev pub IsUnopened : Entry → FileFault → Type 0
 IsUnopened known Unreadable = ⊤
 IsUnopened known Missing = known.found ≡ found.Nothing
@@ -117,7 +123,7 @@ pub record IsGiven (options : Options) (given : Geometry) : Type 0 where
   pub per_slot : given.per_slot ≡ options.per_slot
   pub slots : given.slots ≡ options.slots
 
--- a geometry outside the limits, for which no file is touched
+-- a geometry outside the limits
 pub record IsOutside (options : Options) (said : List ℕ) (status : Status) : Type 0 where
   pub limits : IsGeometry options.sector options.per_slot options.slots → ⊥
   pub none : said ≡ []

@@ -1,7 +1,8 @@
 // The file of an image, opened for reading alone.
 ghost use Rattle.std.specs.Prelude.{◌≡◌, ◌≤◌, ◌^◌, true, min, IfErr, IfOk, IfSome, OnOk};
 ghost use Rattle.apei_look.specs.Entries.{IsBeginning, IsFileOf, IsFound, IsLocked};
-ghost use Rattle.apei_look.specs.Refusals.{length_checked, IsFileRefusal, IsFindRefusal, IsLockRefusal, IsOpenRefusal, IsReadRefusal};
+ghost use Rattle.apei_look.specs.Refusals.{length_checked, IsFileRefusal, IsFindRefusal, IsLockRefusal, IsOpenRefusal};
+ghost use Rattle.apei_look.specs.Refusals.{IsReadRefusal};
 ghost use Rattle.apei_look.specs.declared.host.Found.TheVariants.{File};
 
 use crate::host::{Found, Host};
@@ -37,14 +38,15 @@ pub(crate) struct ImageFile<H: Host> {
 }
 
 impl<H: Host> ImageFile<H> {
-    /// Opens the file at `path`. One that another run holds for its changes is refused, and so is a folder or a pipe, since the opening of a
-    /// pipe waits.
+    /// Opens the file at `path`. One that another run holds for its changes is refused. So is a folder or a pipe, since the
+    /// opening of a pipe waits.
     pub(crate) fn open(host: &mut H, path: &str) -> Result<ImageFile<H>, Status>
         ensures opened { IfOk result (λ image. H.content image.file ≡ H.entry host.old path.now) }
         ensures sized { IfOk result (λ image. IfSome (H.entry host.old path.now) (IsFileOf image.size)) }
         ensures sound { OnOk result (H.faults host.new ≡ H.faults host.old) }
         ensures silent { H.written host.new ≡ H.written host.old }
-        ensures refused { IfErr result (IsOpenRefusal (H.entry host.old path.now) (H.faults host.old) (H.faults host.new)) }
+        ensures refused { IfErr result (IsOpenRefusal (H.entry host.old path.now)
+            (H.faults host.old) (H.faults host.new)) }
     {
         find(host, path)?;
         let file = host.open(path)?;
@@ -68,7 +70,8 @@ impl<H: Host> ImageFile<H> {
         most: u64,
     ) -> Result<Vec<u8>, Status>
         requires { most ≤ 2 ^ 27 }
-        ensures first { IfOk result (λ bytes. IsBeginning (H.content self.now.file) (min self.now.size most) bytes.items) }
+        ensures first { IfOk result (λ bytes. IsBeginning (H.content self.now.file) (min self.now.size most)
+            bytes.items) }
         ensures sound { OnOk result (H.faults host.new ≡ H.faults host.old) }
         ensures silent { H.written host.new ≡ H.written host.old }
         ensures refused { IfErr result (IsReadRefusal (H.faults host.old) (H.faults host.new)) }
@@ -83,7 +86,8 @@ impl<H: Host> ImageFile<H> {
         ensures within { OnOk result (self.now.size ≤ most) }
         ensures sound { OnOk result (H.faults host.new ≡ H.faults host.old) }
         ensures silent { H.written host.new ≡ H.written host.old }
-        ensures refused { IfErr result (IsFileRefusal self.now.size most (H.faults host.old) (H.faults host.new)) }
+        ensures refused { IfErr result (IsFileRefusal self.now.size most
+            (H.faults host.old) (H.faults host.new)) }
     {
         check_length(self.size, most)?;
         self.read(host, alloc, self.size)
@@ -123,7 +127,8 @@ fn find<H: Host>(host: &mut H, path: &str) -> Result<(), Status>
     ensures stays { H.entry host.new ≡ H.entry host.old }
     ensures sound { OnOk result (H.faults host.new ≡ H.faults host.old) }
     ensures silent { H.written host.new ≡ H.written host.old }
-    ensures refused { IfErr result (IsFindRefusal (H.entry host.old path.now) (H.faults host.old) (H.faults host.new)) }
+    ensures refused { IfErr result (IsFindRefusal (H.entry host.old path.now)
+        (H.faults host.old) (H.faults host.new)) }
 {
     match host.find(path)? {
         Found::File => Ok(()),

@@ -47,8 +47,8 @@ fn look_at_path<H: Host>(
     options: &Options,
     given: Geometry,
 ) -> Result<Status, Status>
-    ensures ends { IfSome (H.entry host.old (string_bytes options.now.image))
-        (λ known. EndsBy (IsLookAt options.now given known) (H.written host.old) (H.written host.new) (ending result)) }
+    ensures ends { IfSome (H.entry host.old (string_bytes options.now.image)) (λ known. EndsBy
+        (IsLookAt options.now given known) (H.written host.old) (H.written host.new) (ending result)) }
     ensures cause { IsCaused (H.faults host.old) (H.faults host.new) (ending result) }
 {
     let file = ImageFile::open(host, options.image.as_str())?;
@@ -64,8 +64,8 @@ fn look_at_file<H: Host>(
     file: &ImageFile<H>,
 ) -> Result<Status, Status>
     requires sized { IfSome (H.content file.now.file) (IsFileOf file.now.size) }
-    ensures ends { IfSome (H.content file.now.file)
-        (λ known. EndsBy (IsFileLook options.now given known.bytes) (H.written host.old) (H.written host.new) (ending result)) }
+    ensures ends { IfSome (H.content file.now.file) (λ known. EndsBy (IsFileLook options.now given known.bytes)
+        (H.written host.old) (H.written host.new) (ending result)) }
     ensures cause { IsCaused (H.faults host.old) (H.faults host.new) (ending result) }
 {
     let beginning = file.beginning(host, alloc, HEADER)?;
@@ -98,7 +98,8 @@ fn look_at_medium<H: Host>(
     file: &ImageFile<H>,
 ) -> Result<Status, Status>
     requires sized { IfSome (H.content file.now.file) (IsFileOf file.now.size) }
-    ensures ends { IfSome (H.content file.now.file) (λ known. EndsBy (IsLookBy show true geometry.now (length known.bytes) known.bytes)
+    ensures ends { IfSome (H.content file.now.file) (λ known. EndsBy
+        (IsLookBy show true geometry.now (length known.bytes) known.bytes)
         (H.written host.old) (H.written host.new) (ending result)) }
     ensures cause { IsCaused (H.faults host.old) (H.faults host.new) (ending result) }
 {
@@ -115,7 +116,8 @@ fn look_at_flash<H: Host>(
     file: &ImageFile<H>,
 ) -> Result<Status, Status>
     requires sized { IfSome (H.content file.now.file) (IsFileOf file.now.size) }
-    ensures ends { IfSome (H.content file.now.file) (λ known. EndsBy (IsFlashLook options.now.show options.now.guess given known.bytes)
+    ensures ends { IfSome (H.content file.now.file) (λ known. EndsBy
+        (IsFlashLook options.now.show options.now.guess given known.bytes)
         (H.written host.old) (H.written host.new) (ending result)) }
     ensures cause { IsCaused (H.faults host.old) (H.faults host.new) (ending result) }
 {
@@ -172,7 +174,8 @@ fn look_by<H: Host>(
     is_medium: bool,
     show: Show,
 ) -> Status
-    ensures ends { EndsBy (IsLookBy show is_medium geometry.now held bytes.items) (H.written host.old) (H.written host.new) result }
+    ensures ends { EndsBy (IsLookBy show is_medium geometry.now held bytes.items)
+        (H.written host.old) (H.written host.new) result }
     ensures cause { IsCaused (H.faults host.old) (H.faults host.new) result }
 {
     let size = file_size(geometry, is_medium);

@@ -26,7 +26,8 @@ pub(crate) fn show_flash<H: Host>(
     show: Show,
 ) -> Status
     requires { length bytes.now ≡ geometry.now.slot_size * geometry.now.slots }
-    ensures ends { EndsBy (IsShow show is_medium geometry.now held bytes.now) (H.written host.old) (H.written host.new) result }
+    ensures ends { EndsBy (IsShow show is_medium geometry.now held bytes.now)
+        (H.written host.old) (H.written host.new) result }
     ensures cause { IsCaused (H.faults host.old) (H.faults host.new) result }
 {
     let Ok(views) = survey_slots(alloc, bytes, geometry) else {
@@ -84,7 +85,8 @@ fn named_as(said: Status, unread: Unread) -> Status
 
 // Writes the bytes of a record.
 fn write_record<H: Host>(host: &mut H, alloc: Global, image: &Image<'_>, id: u64) -> Status
-    ensures ends { EndsBy (IsStored image.now.geometry.now image.now.bytes.now id) (H.written host.old) (H.written host.new) result }
+    ensures ends { EndsBy (IsStored image.now.geometry.now image.now.bytes.now id)
+        (H.written host.old) (H.written host.new) result }
     ensures cause { IsCaused (H.faults host.old) (H.faults host.new) result }
 {
     let Some(slot) = find(image.views, image.geometry, id) else {
