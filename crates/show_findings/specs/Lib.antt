@@ -4,3 +4,4 @@ pub mod Names
 pub mod Shapes
 pub mod Signatures
 pub mod Places
+pub mod Subjects

@@ -26,5 +26,5 @@ pub use kinds::{FileKind, kind_behind, kind_of};
 pub use records::{add_block, add_record, is_of_linux};
 pub use sections::{Section, section_at};
 pub use sources::{Source, source_at};
-pub use subjects::{add_guid, section_title};
+pub use subjects::section_title;
 pub use tables::add_table;

@@ -1,4 +1,7 @@
 // The sentences of error records and error status blocks.
+ghost use Rattle.std.specs.Prelude.{◌≡◌};
+ghost use Rattle.show_findings.specs.Subjects.{is_of_linux};
+
 use crate::bodies::add_place;
 use crate::subjects::{add_subject, subject_of};
 use crate::times::{add_digits, add_seconds};
@@ -24,13 +27,15 @@ const ENTRY_HAS_TIME: u8 = 1 << 2;
 // The creator of the records that Linux writes.
 const LINUX: &[u8; 36] = b"75a574e3-5052-4b29-8a8e-be2c6490b89d";
 
-/// Whether Linux made a record.
-pub fn is_of_linux(record: &[u8]) -> bool {
-    if record.len() < RECORD {
+/// Whether Linux made the record that these bytes are.
+pub fn is_of_linux(bytes: &[u8]) -> bool
+    ensures { result ≡ is_of_linux bytes.now }
+{
+    if bytes.len() < RECORD {
         return false;
     }
     let mut creator = [0; 36];
-    guid_at(record, 64).text(&mut creator);
+    guid_at(bytes, 64).text(&mut creator);
     creator == *LINUX
 }
 

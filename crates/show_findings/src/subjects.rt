@@ -1,4 +1,8 @@
 // What a section is about.
+ghost use Rattle.std.specs.Prelude.{◌≡◌, option_map};
+ghost use Rattle.apei_bytes.specs.Guid.{guid_text};
+ghost use Rattle.show_findings.specs.Subjects.{other_title, section_title};
+
 use apei_bytes::Guid;
 use cper_frame::section_name;
 use std::alloc::AllocError;
@@ -66,13 +70,31 @@ fn other_subject(kind: &Guid) -> Subject {
 }
 
 /// The name of a section of a type; none where nobody known named it.
-pub fn section_title(kind: &Guid) -> Option<&'static str> {
-    match other_subject(kind) {
-        Subject::MachineCheck => Some("Linux machine check"),
-        Subject::KernelLog => Some("Linux kernel log"),
-        Subject::PackedLog => Some("Linux kernel log, packed"),
-        Subject::Named(name) => Some(name),
-        _ => section_name(kind),
+pub fn section_title(kind: &Guid) -> Option<&'static str>
+    ensures { option_map (λ title. title.now) result ≡ section_title (guid_text kind.now) }
+{
+    let mut text = [0; 36];
+    kind.text(&mut text);
+    match other_title(&text) {
+        Some(title) => Some(title),
+        None => section_name(kind),
+    }
+}
+
+// The name of a section that UEFI has no name for among those of records.
+fn other_title(text: &[u8; 36]) -> Option<&'static str>
+    ensures { option_map (λ title. title.now) result ≡ other_title text.now }
+{
+    if *text == *MACHINE_CHECK {
+        Some("Linux machine check")
+    } else if *text == *KERNEL_LOG {
+        Some("Linux kernel log")
+    } else if *text == *PACKED_LOG {
+        Some("Linux kernel log, packed")
+    } else if *text == *CCIX {
+        Some("CCIX PER Log")
+    } else {
+        None
     }
 }
 
@@ -100,7 +122,7 @@ pub(crate) fn add_subject(
 }
 
 /// Adds the text of a GUID.
-pub fn add_guid(out: &mut String, guid: &Guid) -> Result<(), AllocError> {
+pub(crate) fn add_guid(out: &mut String, guid: &Guid) -> Result<(), AllocError> {
     let mut text = [0; 36];
     guid.text(&mut text);
     match from_utf8(&text) {

@@ -1,4 +1,14 @@
+pub mod BlockLemmas
+pub mod DumpLemmas
 pub mod FileLemmas
+pub mod HeaderLemmas
+pub mod ImageLemmas
+pub mod ItemLemmas
+pub mod MediumLemmas
 pub mod PlaceLemmas
+pub mod RecordLemmas
 pub mod SequenceLemmas
 pub mod SheetLemmas
+pub mod StorageLemmas
+pub mod TableLemmas
+pub mod TextLemmas

@@ -1,48 +1,46 @@
 -- One place, and those behind it.
-use Rattle.std.proofs.Common.{◌≡◌, ℕ, suc, ◌+◌, ◌-◌, ◌<◌, ◌≤◌, Bool, true, false, List, [], ◌∷◌, refl, sym, ap, subst, true≢false, arith}
-use Rattle.image_survey.specs.Counts.{is_record}
-use Rattle.image_survey.specs.declared.kinds.SlotKind.{SlotKind}
-use Rattle.image_survey.specs.declared.kinds.SlotKind.TheVariants.{First}
+use Rattle.std.proofs.Common.{◌≡◌, ℕ, suc, ◌+◌, ◌-◌, ◌<◌, ◌≤◌, Bool, true, false, List, [], ◌∷◌, Option, Some, refl, subst, arith}
+use Rattle.show_items.specs.Items.{Shown}
+use Rattle.show_items.specs.Judged.{ShowsAll, ShowsOne}
+use Rattle.show_items.specs.Places.{AreFrom, AtPlace, ShowsIf}
+use Rattle.show_items.specs.Sheets.{ShowsItems}
 use Rattle.show_items.specs.declared.sheet.Sheet.{Sheet}
-use Rattle.show_items.specs.Places.{AreAtLast, AtPlace}
-use Rattle.show_items.specs.Sheets.{AddsItems, KeepsItems, ShowsIf}
-use Rattle.show_items.proofs.SheetLemmas.{kept_and_added, one_and_more}
-
-shown_and_more : (is : Bool) (Judged : Bool → Type 0) (Rest : List Bool → Type 0) (old middle new : Sheet) (bads : List Bool)
-    → ShowsIf is Judged old middle → Rest bads → AddsItems bads middle new → (all : List Bool) × AtPlace is Judged Rest all × AddsItems all old new
-shown_and_more true Judged Rest old middle new bads shown more added = (shown.0 ∷ bads, (shown.1, more), one_and_more shown.0 bads old middle new shown.2 added)
-shown_and_more false Judged Rest old middle new bads shown more added = (bads, more, kept_and_added bads old middle new shown added)
-
-at_place : (has : ℕ → Bool) (Judged : ℕ → Bool → Type 0) (end at left left' : ℕ) → left ≡ suc left' → end - left ≡ at → (bads : List Bool)
-    → AtPlace (has at) (Judged at) (AreAtLast has Judged end left') bads → AreAtLast has Judged end left bads
-at_place has Judged end at left left' one there bads here =
-    let P : ℕ → Type 0 = λ n. AreAtLast has Judged end n bads in
-    let Q : ℕ → Type 0 = λ n. AtPlace (has n) (Judged n) (AreAtLast has Judged end left') bads in
-    let last : end - suc left' ≡ at = subst (λ (n : ℕ). end - n ≡ at) one there in
-    subst P (sym one) (subst Q (sym last) here)
+use Rattle.show_items.proofs.SheetLemmas.{items_on_pages, items_then, one_and_more}
 
 -- what is shown of a place, and of those behind it, is what is shown from there on
-pub one_place_more : (has : ℕ → Bool) (Judged : ℕ → Bool → Type 0) (end at : ℕ) → at < end → (old middle new : Sheet) (bads : List Bool)
-    → ShowsIf (has at) (Judged at) old middle → AreAtLast has Judged end (end - (at + 1)) bads → AddsItems bads middle new
-    → (all : List Bool) × AreAtLast has Judged end (end - at) all × AddsItems all old new
-one_place_more has Judged end at below old middle new bads shown more added =
-    let one : end - at ≡ suc (end - (at + 1)) = omega (arith, below) in
-    let there : end - (end - at) ≡ at = omega (arith, below) in
-    let all = shown_and_more (has at) (Judged at) (AreAtLast has Judged end (end - (at + 1))) old middle new bads shown more added in
-    (all.0, at_place has Judged end at (end - at) (end - (at + 1)) one there all.0 all.1, all.2)
+shown_and_more : (has : Bool) (Is : Shown → Type 0) (Rest : List Shown → Type 0) (before middle after : Option (List ℕ)) (old between new : Sheet) (items : List Shown)
+    → ShowsIf has Is before middle old between → Rest items → ShowsItems items middle after between new → ShowsAll (AtPlace has Is Rest) before after old new
+shown_and_more true Is Rest before middle after old between new items shown rest more =
+    (shown.0 ∷ items, (shown.1, rest), one_and_more shown.0 items before middle after old between new shown.2 more)
+shown_and_more false Is Rest before middle after old between new items shown rest more =
+    (items, rest, items_then [] items before middle after old between new shown more)
 
--- one way or the other
-pub shown_if : (is : Bool) (Judged : Bool → Type 0) (old new : Sheet) → (is ≡ true → ShowsIf true Judged old new) → (is ≡ false → KeepsItems old new) → ShowsIf is Judged old new
-shown_if true Judged old new shown none = shown refl
-shown_if false Judged old new shown none = none refl
+pub one_place_more : (has : ℕ → Bool) (Is : ℕ → Shown → Type 0) (place end : ℕ) (before middle after : Option (List ℕ)) (old between new : Sheet) (items : List Shown)
+    → place < end → ShowsIf (has place) (Is place) before middle old between → AreFrom has Is (place + 1) (end - (place + 1)) items → ShowsItems items middle after between new
+    → ShowsAll (AreFrom has Is place (end - place)) before after old new
+one_place_more has Is place end before middle after old between new items below shown rest more =
+    let one : suc (end - (place + 1)) ≡ end - place = omega (arith, below) in
+    subst (λ (left : ℕ). ShowsAll (AreFrom has Is place left) before after old new) one
+    (shown_and_more (has place) (Is place) (AreFrom has Is (place + 1) (end - (place + 1))) before middle after old between new items shown rest more)
 
-pub shown_if_first : (kind : SlotKind) (Judged : Bool → Type 0) (old new : Sheet) → (kind ≡ First → ShowsIf true Judged old new) → ((kind ≡ First → ⊥) → KeepsItems old new)
-    → ShowsIf (is_record kind) Judged old new
-shown_if_first First Judged old new shown none = shown refl
-shown_if_first kind Judged old new shown none = none (λ first. true≢false (sym (ap is_record first)))
+pub no_place_left : (has : ℕ → Bool) (Is : ℕ → Shown → Type 0) (place end : ℕ) → end ≤ place → AreFrom has Is place (end - place) []
+no_place_left has Is place end over =
+    let none : 0 ≡ end - place = omega (arith, over) in
+    subst (λ (left : ℕ). AreFrom has Is place left []) none refl
 
-pub no_place_left : (has : ℕ → Bool) (Judged : ℕ → Bool → Type 0) (end at : ℕ) → end ≤ at → AreAtLast has Judged end (end - at) []
-no_place_left has Judged end at over =
-    let P : ℕ → Type 0 = λ (n : ℕ). AreAtLast has Judged end n [] in
-    let none : 0 ≡ end - at = omega (arith, over) in
-    subst P none refl
+-- an item that stands on the sheet alone, and those behind it
+pub one_and_all : (Is : Shown → Type 0) (Are All : List Shown → Type 0) (written after : Option (List ℕ)) (old between new : Sheet)
+    → ((item : Shown) (items : List Shown) → Is item → Are items → All (item ∷ items))
+    → ShowsOne Is (Some []) (Some []) old between → ShowsAll Are written after between new → ShowsAll All written after old new
+one_and_all Is Are All written after old between new join one more =
+    let item = one.0 in
+    let items = more.0 in (
+      item ∷ items,
+      join item items one.1 more.1,
+      one_and_more item items written written after old between new (items_on_pages (item ∷ []) written old between one.2) more.2,
+    )
+
+-- it alone
+pub one_alone : (Is : Shown → Type 0) (All : List Shown → Type 0) (written : Option (List ℕ)) (old new : Sheet)
+    → ((item : Shown) → Is item → All (item ∷ [])) → ShowsOne Is (Some []) (Some []) old new → ShowsAll All written written old new
+one_alone Is All written old new join one = (one.0 ∷ [], join one.0 one.1, items_on_pages (one.0 ∷ []) written old new one.2)

@@ -1,47 +1,76 @@
--- The records of a flash and of a medium.
-use Rattle.std.specs.Prelude.{◌≡◌, ℕ, ◌*◌, Bool, true, false, List, [], ◌∷◌, length, drop, Result, Ok, Err}
+-- The flash of a record store, and a medium of the library: what is shown of one.
+use Rattle.std.specs.Prelude.{◌≡◌, ℕ, ◌*◌, Bool, List, [], ◌∷◌, length, drop, codes, Option, Some, None, Result, Ok, Err}
+use Rattle.base_model.specs.Bytes.{part}
 use Rattle.flash_model.specs.declared.geometry.Geometry.{Geometry}
 use Rattle.image_survey.specs.declared.header.MediumError.{MediumError}
+use Rattle.image_survey.specs.declared.header.MediumError.TheVariants.{Foreign, Version, Size}
 use Rattle.image_survey.specs.Counts.{is_record}
 use Rattle.image_survey.specs.Headers.{TellsGeometry}
 use Rattle.image_survey.specs.Kinds.{kind_at}
 use Rattle.image_survey.specs.Reading.{IsRecordOf}
-use Rattle.item_parts.specs.declared.items.Item.TheVariants.{Record}
-use Rattle.show_items.specs.Judged.{IsJudgedItem}
-use Rattle.show_items.specs.Places.{AreAtLast}
-use Rattle.show_items.specs.Sheets.{AddsItems}
-use Rattle.show_items.specs.declared.sheet.Sheet.{Sheet}
-
--- a slot is the first one of a record
-abbrev pub is_first : (slot_size slots : ℕ) → List ℕ → ℕ → Bool
-is_first slot_size slots image slot = is_record (kind_at slot_size slots image slot)
-
--- the record whose first slot it is
-abbrev pub IsJudgedRecord : (slot_size slots : ℕ) → List ℕ → ℕ → Bool → Type 0
-IsJudgedRecord slot_size slots image slot bad = (bytes : List ℕ) × IsRecordOf slot_size slots image slot bytes × IsJudgedItem Record bytes bad
-
--- the records of so many slots at the end of a flash, of each of which it is told whether it is bad
-abbrev pub AreRecords : (slot_size slots : ℕ) → List ℕ → (left : ℕ) → List Bool → Type 0
-AreRecords slot_size slots image left bads = AreAtLast (is_first slot_size slots image) (IsJudgedRecord slot_size slots image) slots left bads
-
--- each record that a boot finds is shown, in the order of the slots in which they begin
-abbrev pub ShowsRecords : (slot_size slots : ℕ) → List ℕ → Sheet → Sheet → Type 0
-ShowsRecords slot_size slots image old new = (bads : List Bool) × AreRecords slot_size slots image slots bads × AddsItems bads old new
+use Rattle.show_findings.specs.declared.faults.Fault.{Fault}
+use Rattle.show_findings.specs.declared.kinds.FileKind.{FileKind}
+use Rattle.show_findings.specs.declared.kinds.FileKind.TheVariants.{Image}
+use Rattle.show_items.specs.Headers.{IsHeader, medium_structure}
+use Rattle.show_items.specs.Items.{Shown}
+use Rattle.show_items.specs.Places.{AreFrom}
+use Rattle.show_items.specs.Records.{IsRecord}
+use Rattle.show_items.specs.Singles.{IsSentence}
 
 abbrev pub HasSize : Geometry → List ℕ → Type 0
 HasSize geometry image = length image ≡ geometry.slot_size * geometry.slots
 
--- the flash, and behind it its records
-abbrev pub ShowsImage : Geometry → List ℕ → Sheet → Sheet → Type 0
-ShowsImage geometry image old new =
-    (bads : List Bool) × AreRecords geometry.slot_size geometry.slots image geometry.slots bads × AddsItems (false ∷ bads) old new
+-- a file that is a flash has the size of its geometry
+abbrev pub IsSized : FileKind → List ℕ → Type 0
+IsSized (Image geometry) bytes = HasSize geometry bytes
+IsSized kind bytes = Unit {0}
 
--- the header of a medium, and behind it its flash and its records; the header alone, and bad, where it tells no geometry
-abbrev pub ShowsMediumAs : Result Geometry MediumError → List ℕ → Sheet → Sheet → Type 0
-ShowsMediumAs (Ok geometry) medium old new =
-    (bads : List Bool) × AreRecords geometry.slot_size geometry.slots (drop geometry.sector medium) geometry.slots bads
-    × AddsItems (false ∷ false ∷ bads) old new
-ShowsMediumAs (Err error) medium old new = AddsItems (true ∷ []) old new
+-- of the flash itself nothing is told but a sentence
+abbrev pub IsFlash : List ℕ → Shown → Type 0
+IsFlash image item = IsSentence (codes "image") 0 image item
 
-abbrev pub ShowsMedium : List ℕ → Sheet → Sheet → Type 0
-ShowsMedium medium old new = (told : Result Geometry MediumError) × TellsGeometry medium told × ShowsMediumAs told medium old new
+-- a slot is the first one of a record that a boot finds
+abbrev pub is_first : Geometry → List ℕ → ℕ → Bool
+is_first geometry image slot = is_record (kind_at geometry.slot_size geometry.slots image slot)
+
+-- that record. Its bytes may stand in several slots, so no place is told of it
+abbrev pub IsRecordIn : Geometry → List ℕ → ℕ → Shown → Type 0
+IsRecordIn geometry image slot item =
+    (bytes : List ℕ) × IsRecordOf geometry.slot_size geometry.slots image slot bytes × IsRecord None bytes item
+
+-- the records that begin in so many slots, from one on
+abbrev pub AreRecordsFrom : Geometry → List ℕ → (slot left : ℕ) → List Shown → Type 0
+AreRecordsFrom geometry image slot left items =
+    AreFrom (is_first geometry image) (IsRecordIn geometry image) slot left items
+
+-- the flash, and behind it its records in the order of the slots in which they begin
+abbrev pub AreImageItems : Geometry → List ℕ → List Shown → Type 0
+AreImageItems geometry image [] = ⊥
+AreImageItems geometry image (flash ∷ records) =
+    IsFlash image flash × AreRecordsFrom geometry image 0 geometry.slots records
+
+-- the header of a medium
+abbrev pub IsMediumHeader : List ℕ → Option Fault → Shown → Type 0
+IsMediumHeader medium fault item = IsHeader (codes "medium") medium_structure (part medium 0 50) medium fault item
+
+-- where the fault of an error stands: at the header's start, at its version, or at the size in it
+abbrev pub error_place : MediumError → ℕ
+error_place Foreign = 0
+error_place (Version found) = 8
+error_place (Size found wanted) = 32
+
+-- the header of a medium that can't be read has its fault there
+abbrev pub IsBadMedium : List ℕ → MediumError → Shown → Type 0
+IsBadMedium medium error item =
+    (fault : Fault) × (fault.at ≡ error_place error) × IsMediumHeader medium (Some fault) item
+
+-- the header, and behind it the items of the flash; the header alone where it tells no geometry
+abbrev pub AreMediumItemsBy : Result Geometry MediumError → List ℕ → List Shown → Type 0
+AreMediumItemsBy told medium [] = ⊥
+AreMediumItemsBy (Ok geometry) medium (header ∷ items) =
+    IsMediumHeader medium None header × AreImageItems geometry (drop geometry.sector medium) items
+AreMediumItemsBy (Err error) medium (header ∷ items) = IsBadMedium medium error header × (items ≡ [])
+
+abbrev pub AreMediumItems : List ℕ → List Shown → Type 0
+AreMediumItems medium items =
+    (told : Result Geometry MediumError) × TellsGeometry medium told × AreMediumItemsBy told medium items

@@ -1,33 +1,36 @@
--- Whether an item is bad, by its kind.
-use Rattle.std.specs.Prelude.{◌≡◌, ℕ, Bool, true, false, List, Option, Some, None, codes, if◌then◌else◌}
+-- Items as they are shown: what stands in their heading, and whether they are bad.
+use Rattle.std.specs.Prelude.{◌≡◌, ℕ, Bool, true, false, List, [], ◌∷◌, length, Option, None, is_some, IfSome}
 use Rattle.item_parts.specs.declared.items.Item.{Item}
-use Rattle.item_parts.specs.declared.items.Item.TheVariants.{Erst, Hest, Bert, Record, Block}
-use Rattle.show_findings.specs.declared.kinds.FileKind.{FileKind}
-use Rattle.show_findings.specs.declared.kinds.FileKind.TheVariants.{Records, Tables, Blocks, Blank}
-use Rattle.show_findings.specs.Faults.{IsJudged}
-use Rattle.show_findings.specs.Signatures.{begins}
+use Rattle.show_findings.specs.declared.faults.Fault.{Fault}
+use Rattle.show_findings.specs.Faults.{IsJudged, IsPlace}
+use Rattle.show_items.specs.Items.{Shown}
+use Rattle.show_items.specs.Sheets.{ShowsItems}
+use Rattle.show_items.specs.declared.sheet.Sheet.{Sheet}
 
--- whether an item that a standard has is bad: where it is not as the standard says
-unfoldable pub IsJudgedItem : Item → List ℕ → Bool → Type 0
-IsJudgedItem item bytes bad = IsJudged item bytes bad
+-- the first fault of an item that a standard has; none where the bytes begin with one that is as the standard says
+unfoldable pub IsFinding : Item → List ℕ → Option Fault → Type 0
+IsFinding item bytes fault = IsJudged item bytes (is_some fault) × IfSome fault (λ fault. IsPlace item bytes fault.at)
 
--- what a table is by its signature, where its fields are known
-abbrev pub table_of : List ℕ → Option Item
-table_of bytes =
-    if begins (codes "ERST") bytes then Some Erst
-    else if begins (codes "HEST") bytes then Some Hest
-    else if begins (codes "BERT") bytes then Some Bert
-    else None
+-- an item of this word, which begins there in its file; its sentence is free
+pub record IsShownAs (kind : List ℕ) (at : Option ℕ) (bytes : List ℕ) (item : Shown) : Type 0 where
+  pub word : item.heading.kind ≡ kind
+  pub place : item.heading.at ≡ at
+  pub size : item.heading.size ≡ length bytes
 
--- of a table whose fields are not known no fault is known
-abbrev pub IsJudgedBy : Option Item → List ℕ → Bool → Type 0
-IsJudgedBy None bytes bad = bad ≡ false
-IsJudgedBy (Some item) bytes bad = IsJudgedItem item bytes bad
+-- one with a fault is bad
+pub record IsJudgedBy (decoded : Item) (bytes : List ℕ) (item : Shown) : Type 0 where
+  pub finding : IsFinding decoded bytes item.fault
+  pub bad : item.bad ≡ is_some item.fault
 
--- bytes that hold nothing are sound, and bytes that are none of what is known are bad
-abbrev pub IsJudgedAs : FileKind → List ℕ → Bool → Type 0
-IsJudgedAs Records bytes bad = IsJudgedItem Record bytes bad
-IsJudgedAs Tables bytes bad = IsJudgedBy (table_of bytes) bytes bad
-IsJudgedAs Blocks bytes bad = IsJudgedItem Block bytes bad
-IsJudgedAs Blank bytes bad = bad ≡ false
-IsJudgedAs other bytes bad = bad ≡ true
+-- one of which no fault is told
+pub record HasNoFault (bad : Bool) (item : Shown) : Type 0 where
+  pub none : item.fault ≡ None
+  pub is_bad : item.bad ≡ bad
+
+-- one item of this kind is shown
+abbrev pub ShowsOne : (Is : Shown → Type 0) → (before after : Option (List ℕ)) → Sheet → Sheet → Type 0
+ShowsOne Is before after old new = (item : Shown) × Is item × ShowsItems (item ∷ []) before after old new
+
+-- the items that a file of some kind has are shown
+abbrev pub ShowsAll : (Are : List Shown → Type 0) → (before after : Option (List ℕ)) → Sheet → Sheet → Type 0
+ShowsAll Are before after old new = (items : List Shown) × Are items × ShowsItems items before after old new

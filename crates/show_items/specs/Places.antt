@@ -1,13 +1,22 @@
 -- Items at places of equal distance, one after another.
-use Rattle.std.specs.Prelude.{◌≡◌, ℕ, zero, suc, ◌-◌, Bool, true, false, List, [], ◌∷◌}
+use Rattle.std.specs.Prelude.{◌≡◌, ℕ, zero, suc, ◌+◌, Bool, true, false, List, [], ◌∷◌, Option}
+use Rattle.show_items.specs.Items.{Shown}
+use Rattle.show_items.specs.Judged.{ShowsOne}
+use Rattle.show_items.specs.Sheets.{ShowsItems}
+use Rattle.show_items.specs.declared.sheet.Sheet.{Sheet}
 
--- of an item at a place it is told whether it is bad; a place may have none
-abbrev pub AtPlace : Bool → (Bool → Type 0) → (List Bool → Type 0) → List Bool → Type 0
-AtPlace false Judged Rest bads = Rest bads
-AtPlace true Judged Rest [] = ⊥
-AtPlace true Judged Rest (bad ∷ more) = Judged bad × Rest more
+-- a place may have an item, and the others stand behind it
+abbrev pub AtPlace : (has : Bool) → (Is : Shown → Type 0) → (Rest : List Shown → Type 0) → List Shown → Type 0
+AtPlace false Is Rest items = Rest items
+AtPlace true Is Rest [] = ⊥
+AtPlace true Is Rest (item ∷ items) = Is item × Rest items
 
--- so many places are left up to the end, and these are the items there, in their order
-abbrev pub AreAtLast : (ℕ → Bool) → (ℕ → Bool → Type 0) → (end left : ℕ) → List Bool → Type 0
-AreAtLast has Judged end zero bads = bads ≡ []
-AreAtLast has Judged end (suc left) bads = AtPlace (has (end - suc left)) (Judged (end - suc left)) (AreAtLast has Judged end left) bads
+-- the items of so many places, from one on
+abbrev pub AreFrom : (has : ℕ → Bool) → (Is : ℕ → Shown → Type 0) → (place left : ℕ) → List Shown → Type 0
+AreFrom has Is place zero items = items ≡ []
+AreFrom has Is place (suc left) items = AtPlace (has place) (Is place) (AreFrom has Is (place + 1) left) items
+
+-- the item of a place is shown, where it has one
+abbrev pub ShowsIf : (has : Bool) → (Is : Shown → Type 0) → (before after : Option (List ℕ)) → Sheet → Sheet → Type 0
+ShowsIf false Is before after old new = ShowsItems [] before after old new
+ShowsIf true Is before after old new = ShowsOne Is before after old new

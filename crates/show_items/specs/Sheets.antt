@@ -1,32 +1,52 @@
--- What a sheet knows of the items that it was given: how many they are, and whether one of them is bad.
-use Rattle.std.specs.Prelude.{◌≡◌, ℕ, ◌+◌, ◌-◌, ◌^◌, min, Bool, true, false, ◌||◌, List, [], ◌∷◌}
+-- A sheet, and the pages that it goes to: what is added to both. What was written and what stands on the sheet is one text.
+use Rattle.std.specs.Prelude.{◌≡◌, ℕ, Bool, false, ◌||◌, List, [], ◌∷◌, ◌++◌, Option}
+use Rattle.std.specs.Io.KnownBytes.{Appends, append_known}
+use Rattle.show_findings.specs.declared.faults.Fault.{Fault}
+use Rattle.show_items.specs.Groups.{Group, groups_text, has_more}
+use Rattle.show_items.specs.Items.{Heading, Shown, bad_after, count_after, counted, end_text, heading_text, items_text}
 use Rattle.show_items.specs.declared.sheet.Sheet.{Sheet}
 
--- the item that is shown is the same: only its text grew, or what there is of it was written
-pub record KeepsItems (old new : Sheet) : Type 0 where
+-- what was written to the pages, where that is known, and behind it what stands on the sheet
+abbrev pub told : (written : Option (List ℕ)) → Sheet → Option (List ℕ)
+told written sheet = append_known written sheet.out.items
+
+-- the item that is shown is the same: only its text grew
+pub record KeepsItem (old new : Sheet) : Type 0 where
   pub items : new.items ≡ old.items
   pub bad : new.has_bad ≡ old.has_bad
   pub path : new.path ≡ old.path
   pub manner : new.manner ≡ old.manner
 
--- the count after more items, which stops at its last value
-abbrev pub items_after : ℕ → List Bool → ℕ
-items_after items [] = items
-items_after items (bad ∷ more) = items_after (min (items + 1) (2 ^ 64 - 1)) more
+-- a text was added to it
+pub record AddsText (more : List ℕ) (old new : Sheet) : Type 0 where
+  pub text : new.out.items ≡ old.out.items ++ more
+  pub groups : new.has_groups ≡ old.has_groups
+  pub same : KeepsItem old new
 
--- whether one is bad after more items
-abbrev pub bad_after : Bool → List Bool → Bool
-bad_after has_bad [] = has_bad
-bad_after has_bad (bad ∷ more) = bad_after (bad || has_bad) more
+-- an item was begun
+pub record BeginsItem (heading : Heading) (old new : Sheet) : Type 0 where
+  pub text : new.out.items ≡ old.out.items ++ heading_text old.manner old.path.now old.items heading
+  pub groups : new.has_groups ≡ false
+  pub same : KeepsItem old new
 
--- so many items more, of each of which it is told whether it is bad
-pub record AddsItems (bads : List Bool) (old new : Sheet) : Type 0 where
-  pub items : new.items ≡ items_after old.items bads
-  pub bad : new.has_bad ≡ bad_after old.has_bad bads
+-- groups were added to it, while pages may have been written
+pub record AddsGroups (groups : List Group) (before after : Option (List ℕ)) (old new : Sheet) : Type 0 where
+  pub text : Appends (told before old) (told after new) (groups_text old.manner old.has_groups groups)
+  pub more : new.has_groups ≡ has_more old.manner.form old.has_groups groups
+  pub same : KeepsItem old new
+
+-- it was ended
+pub record EndsItem (fault : Option Fault) (bad : Bool) (old new : Sheet) : Type 0 where
+  pub text : new.out.items ≡ old.out.items ++ end_text old.manner fault
+  pub items : new.items ≡ counted old.items 1
+  pub has_bad : new.has_bad ≡ (bad || old.has_bad)
   pub path : new.path ≡ old.path
   pub manner : new.manner ≡ old.manner
 
--- one item more, of which it is told whether it is bad, or none
-abbrev pub ShowsIf : Bool → (Bool → Type 0) → Sheet → Sheet → Type 0
-ShowsIf false Judged old new = KeepsItems old new
-ShowsIf true Judged old new = (bad : Bool) × Judged bad × AddsItems (bad ∷ []) old new
+-- items were shown, one after another, while pages may have been written
+pub record ShowsItems (items : List Shown) (before after : Option (List ℕ)) (old new : Sheet) : Type 0 where
+  pub text : Appends (told before old) (told after new) (items_text old.manner old.path.now old.items items)
+  pub count : new.items ≡ count_after old.items items
+  pub has_bad : new.has_bad ≡ bad_after old.has_bad items
+  pub path : new.path ≡ old.path
+  pub manner : new.manner ≡ old.manner

@@ -1,13 +1,12 @@
 -- The storage of QEMU's device acpi-erst: its header, the map of its identifiers, and the places of its records.
-use Rattle.std.specs.Prelude.{ℕ, ◌+◌, ◌-◌, ◌*◌, ◌/◌, ◌^◌, ◌==◌, ◌&&◌, not, Bool, false, List, ◌∷◌, length, take}
+use Rattle.std.specs.Prelude.{◌≡◌, ℕ, ◌+◌, ◌-◌, ◌*◌, ◌/◌, ◌^◌, ◌==◌, ◌&&◌, not, Bool, true, false, nat_lt, List, [], ◌∷◌, length, take, codes, Some, None}
 use Rattle.base_model.specs.Bytes.{part}
-use Rattle.item_parts.specs.declared.items.Item.TheVariants.{Record}
-use Rattle.show_findings.specs.declared.items.Item.TheVariants.{Record as RecordItem}
+use Rattle.show_findings.specs.declared.items.Item.TheVariants.{Record}
 use Rattle.show_findings.specs.Places.{item_len, seen_number}
-use Rattle.show_items.specs.Judged.{IsJudgedItem}
-use Rattle.show_items.specs.Places.{AreAtLast}
-use Rattle.show_items.specs.Sheets.{AddsItems}
-use Rattle.show_items.specs.declared.sheet.Sheet.{Sheet}
+use Rattle.show_items.specs.Headers.{IsHeader, qemu_structure}
+use Rattle.show_items.specs.Items.{Shown}
+use Rattle.show_items.specs.Places.{AreFrom}
+use Rattle.show_items.specs.Records.{IsRecord}
 
 -- the size of a place, the first place of a record, and the end of the places
 abbrev pub place_size : List ℕ → ℕ
@@ -26,25 +25,33 @@ identifier bytes place = seen_number bytes (24 + 8 * place) 8
 abbrev pub has_identifier : List ℕ → ℕ → Bool
 has_identifier bytes place = not (identifier bytes place == 0) && not (identifier bytes place == 2 ^ 64 - 1)
 
--- the record at a place
+-- the bytes of a place, and the record that they begin with
 abbrev pub at_place : List ℕ → ℕ → List ℕ
 at_place bytes place = part bytes (place * place_size bytes) (place_size bytes)
 
 abbrev pub record_in : List ℕ → List ℕ
-record_in bytes = take (item_len RecordItem bytes) bytes
+record_in bytes = take (item_len Record bytes) bytes
 
-abbrev pub IsJudgedPlace : List ℕ → ℕ → Bool → Type 0
-IsJudgedPlace bytes place bad = IsJudgedItem Record (record_in (at_place bytes place)) bad
+abbrev pub IsStored : List ℕ → ℕ → Shown → Type 0
+IsStored bytes place item = IsRecord (Some (place * place_size bytes)) (record_in (at_place bytes place)) item
 
--- the records of so many places at the end, of each of which it is told whether it is bad
-abbrev pub AreStored : List ℕ → (left : ℕ) → List Bool → Type 0
-AreStored bytes left bads = AreAtLast (has_identifier bytes) (IsJudgedPlace bytes) (end_of_places bytes) left bads
+-- the records of so many places, from one on: of each whose place has an identifier
+abbrev pub AreStoredFrom : List ℕ → (place left : ℕ) → List Shown → Type 0
+AreStoredFrom bytes place left items = AreFrom (has_identifier bytes) (IsStored bytes) place left items
 
--- each record whose place has an identifier
-abbrev pub ShowsPlaces : List ℕ → Sheet → Sheet → Type 0
-ShowsPlaces bytes old new = (bads : List Bool) × AreStored bytes (end_of_places bytes - first_place bytes) bads × AddsItems bads old new
+abbrev pub AreStored : List ℕ → List Shown → Type 0
+AreStored bytes items = AreStoredFrom bytes (first_place bytes) (end_of_places bytes - first_place bytes) items
+
+-- where the header tells no size of a place, there are none
+abbrev pub AreStoredIf : (has_size : Bool) → List ℕ → List Shown → Type 0
+AreStoredIf false bytes items = items ≡ []
+AreStoredIf true bytes items = AreStored bytes items
+
+abbrev pub IsStorageHeader : List ℕ → Shown → Type 0
+IsStorageHeader bytes item = IsHeader (codes "qemu") qemu_structure (part bytes 0 24) bytes None item
 
 -- the header, and behind it the records
-abbrev pub ShowsStorage : List ℕ → Sheet → Sheet → Type 0
-ShowsStorage bytes old new =
-    (bads : List Bool) × AreStored bytes (end_of_places bytes - first_place bytes) bads × AddsItems (false ∷ bads) old new
+abbrev pub AreStorageItems : List ℕ → List Shown → Type 0
+AreStorageItems bytes [] = ⊥
+AreStorageItems bytes (header ∷ records) =
+    IsStorageHeader bytes header × AreStoredIf (nat_lt 0 (place_size bytes)) bytes records

@@ -1,7 +1,13 @@
 // Error status blocks (ACPI 6.4, section 18.3.2.7.1).
-ghost use Rattle.std.specs.Prelude.{◌<◌, ◌^◌, ◌+◌, Bool, [], ◌∷◌, length, OnOk};
-ghost use Rattle.show_items.specs.Judged.{IsJudgedItem};
-ghost use Rattle.show_items.specs.Sheets.{AddsItems, KeepsItems};
+ghost use Rattle.std.specs.Prelude.{◌<◌, ◌≤◌, ◌^◌, ◌+◌, [], ◌∷◌, length, Some, codes, OnOk};
+ghost use Rattle.base_model.specs.Bytes.{part};
+ghost use Rattle.show_findings.specs.Places.{seen_number};
+ghost use Rattle.show_items.specs.Blocks.{IsBlock, block_groups, entry_groups, entry_structure, head_group, raw_groups, raw_of};
+ghost use Rattle.show_items.specs.Groups.{fields_group, typed};
+ghost use Rattle.show_items.specs.Judged.{ShowsOne};
+ghost use Rattle.show_items.specs.Records.{section_group};
+ghost use Rattle.show_items.specs.Sheets.{AddsGroups};
+ghost use Rattle.show_items.specs.Stops.{HasStop};
 
 use crate::faults::fault_in;
 use crate::groups::Group;
@@ -24,7 +30,9 @@ pub(crate) fn show_block<P: Pages>(
     at: Option<u64>,
     bytes: &[u8],
 ) -> Result<(), Stop>
-    ensures { OnOk result ((bad : Bool) × IsJudgedItem Decoded.Block bytes.now bad × AddsItems (bad ∷ []) sheet.old sheet.new) }
+    ensures shown { OnOk result (ShowsOne (IsBlock at bytes.now) (P.written pages.old) (P.written pages.new)
+        sheet.old sheet.new) }
+    ensures cause { HasStop (P.failures pages.old) (P.failures pages.new) result }
 {
     let item = Item {
         kind: "block",
@@ -34,24 +42,27 @@ pub(crate) fn show_block<P: Pages>(
     let mut sentence = String::new(sheet.alloc());
     add_block(&mut sentence, bytes)?;
     sheet.begin(&item, sentence.as_str())?;
-    if sheet.form() != Form::Brief {
-        add_groups(sheet, pages, bytes)?;
-    }
+    add_groups(sheet, pages, bytes)?;
     let fault = fault_in(sheet, Decoded::Block, bytes)?;
     sheet.end(&fault)?;
     sheet.turn(pages)
 }
 
 fn add_groups<P: Pages>(sheet: &mut Sheet<'_>, pages: &mut P, bytes: &[u8]) -> Result<(), Stop>
-    ensures { KeepsItems sheet.old sheet.new }
+    ensures groups { OnOk result (AddsGroups (block_groups bytes.now) (P.written pages.old) (P.written pages.new)
+        sheet.old sheet.new) }
+    ensures cause { HasStop (P.failures pages.old) (P.failures pages.new) result }
 {
+    if sheet.form() == Form::Brief {
+        return Ok(());
+    }
     add_head(sheet, bytes)?;
     add_entries(sheet, pages, bytes)?;
     Ok(add_raw(sheet, bytes)?)
 }
 
 fn add_head(sheet: &mut Sheet<'_>, bytes: &[u8]) -> Result<(), AllocError>
-    ensures { KeepsItems sheet.old sheet.new }
+    ensures { OnOk result (AddsGroups (head_group bytes.now ∷ []) (Some []) (Some []) sheet.old sheet.new) }
 {
     let group = Group {
         name: "header",
@@ -64,7 +75,9 @@ fn add_head(sheet: &mut Sheet<'_>, bytes: &[u8]) -> Result<(), AllocError>
 }
 
 fn add_entries<P: Pages>(sheet: &mut Sheet<'_>, pages: &mut P, bytes: &[u8]) -> Result<(), Stop>
-    ensures { KeepsItems sheet.old sheet.new }
+    ensures groups { OnOk result (AddsGroups (entry_groups bytes.now (length bytes.now) 0 20)
+        (P.written pages.old) (P.written pages.new) sheet.old sheet.new) }
+    ensures cause { HasStop (P.failures pages.old) (P.failures pages.new) result }
 {
     let mut at = HEADER;
     let mut index: u64 = 0;
@@ -72,7 +85,7 @@ fn add_entries<P: Pages>(sheet: &mut Sheet<'_>, pages: &mut P, bytes: &[u8]) -> 
         add_entry(sheet, index, at, &entry)?;
         sheet.turn(pages)?;
         at = entry.next;
-        index = index.saturating_add(1);
+        index += 1;
     }
     Ok(())
 }
@@ -83,13 +96,15 @@ fn add_entry(
     at: usize,
     entry: &DataEntry<'_>,
 ) -> Result<(), AllocError>
-    requires { at + length entry.now.head.now < 2 ^ 64 }
-    ensures { KeepsItems sheet.old sheet.new }
+    requires whole { 22 ≤ length entry.now.head.now }
+    requires head { at + length entry.now.head.now < 2 ^ 64 }
+    requires body { entry.now.body_at + length entry.now.body.now < 2 ^ 64 }
+    ensures { OnOk result (AddsGroups
+        (fields_group (typed (codes "entry") index (part entry.now.head.now 0 16) at)
+        (entry_structure (seen_number entry.now.head.now 20 2)) entry.now.head.now
+        ∷ section_group index (part entry.now.head.now 0 16) entry.now.body_at entry.now.body.now ∷ [])
+        (Some []) (Some []) sheet.old sheet.new) }
 {
-    let body_at = entry.body_at as u64;
-    if entry.head.len() < 64 || body_at > u64::MAX - entry.body.len() as u64 {
-        return Ok(());
-    }
     let kind = guid_at(entry.head, 0);
     let group = Group {
         name: "entry",
@@ -99,11 +114,12 @@ fn add_entry(
     };
     let layout = data_entry(seen_u16(entry.head, 20));
     sheet.add_group(&group, &layout, entry.head)?;
-    add_section(sheet, index, &kind, body_at, entry.body)
+    add_section(sheet, index, &kind, entry.body_at as u64, entry.body)
 }
 
 fn add_raw(sheet: &mut Sheet<'_>, bytes: &[u8]) -> Result<(), AllocError>
-    ensures { KeepsItems sheet.old sheet.new }
+    ensures { OnOk result (AddsGroups (raw_groups (seen_number bytes.now 4 4) (raw_of bytes.now)) (Some []) (Some [])
+        sheet.old sheet.new) }
 {
     let at = seen_u32(bytes, 4);
     let raw = seen_at(bytes, at as usize, seen_u32(bytes, 8) as usize);

@@ -1,6 +1,6 @@
 // What is wrong with an item that a standard has.
-ghost use Rattle.std.specs.Prelude.{is_some, IfOk};
-ghost use Rattle.show_items.specs.Judged.{IsJudgedItem};
+ghost use Rattle.std.specs.Prelude.{IfOk};
+ghost use Rattle.show_items.specs.Judged.{IsFinding};
 
 use crate::sheet::Sheet;
 use item_parts::Item;
@@ -8,13 +8,13 @@ use show_findings::{Fault, fault_of};
 use std::alloc::AllocError;
 
 /// The first fault of an item; none where it is as its standard says.
-#[tactic(auto, unfolding(crate::specs::Judged::IsJudgedItem))]
+#[tactic(auto, unfolding(crate::specs::Judged::IsFinding))]
 pub(crate) fn fault_in(
     sheet: &Sheet<'_>,
     item: Item,
     bytes: &[u8],
 ) -> Result<Option<Fault>, AllocError>
-    ensures { IfOk result (λ fault. IsJudgedItem item bytes.now (is_some fault)) }
+    ensures { IfOk result (IsFinding item bytes.now) }
 {
     fault_of(sheet.alloc(), item, bytes)
 }

@@ -1,13 +1,18 @@
 // A file, item by item.
 ghost use Rattle.std.specs.Prelude.{◌≡◌, [], OnOk};
-ghost use Rattle.show_items.specs.Files.{ShowsAs, ShowsFile};
+ghost use Rattle.show_items.specs.Files.{AreItemsOf, ShowsFile};
+ghost use Rattle.show_items.specs.Images.{IsSized};
+ghost use Rattle.show_items.specs.Judged.{ShowsAll};
+ghost use Rattle.show_items.specs.Stops.{HasStop};
 
 use crate::dumps::show_dump;
-use crate::images::{show_image, show_medium, show_qemu};
+use crate::images::show_image;
+use crate::media::show_medium;
 use crate::pages::{Pages, Stop};
 use crate::sequences::show_sequence;
 use crate::sheet::Sheet;
 use crate::singles::{show_dmesg, show_empty, show_machine_check, show_packed};
+use crate::storage::show_qemu;
 use show_findings::{FileKind, kind_of};
 
 /// Shows what a file of this name holds: each item on the sheet, which goes to the pages as it grows.
@@ -17,8 +22,10 @@ pub fn show_file<P: Pages>(
     name: &[u8],
     bytes: &[u8],
 ) -> Result<(), Stop>
-    ensures shown { OnOk result (ShowsFile name.now bytes.now sheet.old sheet.new) }
+    ensures shown { OnOk result (ShowsFile name.now bytes.now
+        (P.written pages.old) (P.written pages.new) sheet.old sheet.new) }
     ensures written { OnOk result (sheet.new.out.items ≡ []) }
+    ensures cause { HasStop (P.failures pages.old) (P.failures pages.new) result }
 {
     show_kind(sheet, pages, kind_of(name, bytes), bytes)?;
     sheet.finish(pages)
@@ -31,7 +38,10 @@ fn show_kind<P: Pages>(
     kind: FileKind,
     bytes: &[u8],
 ) -> Result<(), Stop>
-    ensures { OnOk result (ShowsAs kind bytes.now sheet.old sheet.new) }
+    requires { IsSized kind bytes.now }
+    ensures shown { OnOk result (ShowsAll (AreItemsOf kind bytes.now)
+        (P.written pages.old) (P.written pages.new) sheet.old sheet.new) }
+    ensures cause { HasStop (P.failures pages.old) (P.failures pages.new) result }
 {
     match kind {
         FileKind::Dump => show_dump(sheet, pages, bytes)?,

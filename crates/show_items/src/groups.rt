@@ -1,13 +1,17 @@
 // A group of an item's fields.
-ghost use Rattle.std.specs.Prelude.{◌+◌, ◌<◌, ◌^◌, length, IsTrue};
+ghost use Rattle.std.specs.Prelude.{◌≡◌, ◌+◌, ◌<◌, ◌^◌, ◌++◌, [], ◌∷◌, length, codes, IsTrue, Some, None, OnOk};
 ghost use Rattle.field_lines.specs.Layouts.{is_sound_structure};
 ghost use Rattle.field_lines.specs.Code.{structure_of};
-ghost use Rattle.show_items.specs.Sheets.{KeepsItems};
+ghost use Rattle.field_lines.specs.Styles.{place_text};
+ghost use Rattle.apei_bytes.specs.Guid.{guid_text};
+ghost use Rattle.show_findings.specs.Subjects.{section_title};
+ghost use Rattle.show_items.specs.Groups.{bytes_group, bytes_json, bytes_lines, fields_group, fields_json, fields_lines, guid_json, guid_line, head_of, index_text, members, name_json, named_text, title, type_text};
+ghost use Rattle.show_items.specs.Sheets.{AddsGroups};
 
 use crate::sheet::{Form, Sheet};
-use crate::text::{add, add_hex, add_number, add_string};
+use crate::text::{add, add_guid, add_number, add_quoted};
 use apei_bytes::Guid;
-use field_lines::{Json, Layout, Plain, add_layout};
+use field_lines::{Json, Layout, Plain, add_decimal, add_digits, add_layout};
 use show_findings::section_title;
 use std::alloc::AllocError;
 
@@ -33,112 +37,190 @@ impl Sheet<'_> {
     ) -> Result<(), AllocError>
         requires sound { IsTrue (is_sound_structure (structure_of layout.now)) }
         requires place { group.now.base + length body.now < 2 ^ 64 }
-        ensures { KeepsItems self.old self.new }
+        ensures { OnOk result (AddsGroups (fields_group (head_of group.now) (structure_of layout.now) body.now ∷ [])
+            (Some []) (Some []) self.old self.new) }
     {
         match self.form() {
             Form::Brief => Ok(()),
             Form::Text => {
-                let style = Plain {
-                    indent: INDENT,
-                    places: self.has_places(),
-                };
-                add_title(&mut self.out, group)?;
-                add_layout(&style, group.base, layout, body, &mut self.out)
+                let places = self.has_places();
+                add_fields(&mut self.out, places, group, layout, body)
             }
             Form::Json => {
                 self.begin_group()?;
-                add_members(&mut self.out, group)?;
-                add_layout(&Json, group.base, layout, body, &mut self.out)?;
-                add(&mut self.out, "}")
+                add_object(&mut self.out, group, layout, body)
             }
         }
     }
 
     /// Adds a group of bytes whose fields nobody known names.
     pub(crate) fn add_bytes(&mut self, group: &Group, body: &[u8]) -> Result<(), AllocError>
-        ensures { KeepsItems self.old self.new }
+        ensures { OnOk result (AddsGroups (bytes_group (head_of group.now) body.now ∷ [])
+            (Some []) (Some []) self.old self.new) }
     {
         match self.form() {
             Form::Brief => Ok(()),
             Form::Text => {
                 let places = self.has_places();
-                let out = &mut self.out;
-                add_title(out, group)?;
-                add_place(out, places, group.base)?;
-                add(out, "bytes: ")?;
-                add_hex(out, body)?;
-                add(out, "\n")
+                add_digit_line(&mut self.out, places, group, body)
             }
             Form::Json => {
                 self.begin_group()?;
-                let out = &mut self.out;
-                add_members(out, group)?;
-                add(out, ",\"bytes\":\"")?;
-                add_hex(out, body)?;
-                add(out, "\"}")
+                add_digit_object(&mut self.out, group, body)
             }
         }
     }
 }
 
-// What stands before a field.
-fn add_place(out: &mut Vec<u8>, places: bool, base: u64) -> Result<(), AllocError> {
-    add(out, "    ")?;
-    if places {
-        add(out, "[")?;
-        add_number(out, base)?;
-        add(out, "] ")?;
-    }
-    Ok(())
+fn add_fields(
+    out: &mut Vec<u8>,
+    places: bool,
+    group: &Group,
+    layout: &Layout,
+    body: &[u8],
+) -> Result<(), AllocError>
+    requires sound { IsTrue (is_sound_structure (structure_of layout.now)) }
+    requires place { group.now.base + length body.now < 2 ^ 64 }
+    ensures { OnOk result (out.new.items ≡ out.old.items ++ fields_lines places (head_of group.now)
+        (structure_of layout.now) body.now) }
+{
+    let style = Plain {
+        indent: INDENT,
+        places,
+    };
+    add_title(out, group)?;
+    add_layout(&style, group.base, layout, body, out)
 }
 
-// The line of a group: its name, its number, and the type of a section.
-fn add_title(out: &mut Vec<u8>, group: &Group) -> Result<(), AllocError> {
-    add(out, "  ")?;
-    add(out, group.name)?;
-    if let Some(index) = group.index {
-        add(out, " ")?;
-        add_number(out, index)?;
-    }
-    if let Some(kind) = &group.kind {
-        add_type(out, kind)?;
-    }
+fn add_object(
+    out: &mut Vec<u8>,
+    group: &Group,
+    layout: &Layout,
+    body: &[u8],
+) -> Result<(), AllocError>
+    requires sound { IsTrue (is_sound_structure (structure_of layout.now)) }
+    requires place { group.now.base + length body.now < 2 ^ 64 }
+    ensures { OnOk result (out.new.items ≡ out.old.items ++ fields_json (head_of group.now)
+        (structure_of layout.now) body.now) }
+{
+    add_members(out, group)?;
+    add_layout(&Json, group.base, layout, body, out)?;
+    add(out, "}")
+}
+
+fn add_digit_line(
+    out: &mut Vec<u8>,
+    places: bool,
+    group: &Group,
+    body: &[u8],
+) -> Result<(), AllocError>
+    ensures { OnOk result (out.new.items ≡ out.old.items ++ bytes_lines places (head_of group.now) body.now) }
+{
+    add_title(out, group)?;
+    add_place(out, places, group.base)?;
+    add(out, "bytes: ")?;
+    add_digits(body, out)?;
     add(out, "\n")
 }
 
-fn add_type(out: &mut Vec<u8>, kind: &Guid) -> Result<(), AllocError> {
-    add(out, " ")?;
-    if let Some(title) = section_title(kind) {
-        add(out, title)?;
-        add(out, " ")?;
+fn add_digit_object(out: &mut Vec<u8>, group: &Group, body: &[u8]) -> Result<(), AllocError>
+    ensures { OnOk result (out.new.items ≡ out.old.items ++ bytes_json (head_of group.now) body.now) }
+{
+    add_members(out, group)?;
+    add(out, ",\"bytes\":\"")?;
+    add_digits(body, out)?;
+    add(out, "\"}")
+}
+
+// What stands before a field.
+fn add_place(out: &mut Vec<u8>, places: bool, base: u64) -> Result<(), AllocError>
+    ensures { OnOk result (out.new.items ≡ out.old.items ++ codes "    " ++ place_text places base) }
+{
+    add(out, "    ")?;
+    if !places {
+        return Ok(());
     }
+    add(out, "[")?;
+    add_decimal(base, out)?;
+    add(out, "] ")
+}
+
+// The line of a group: its name, its number, and the type of a section.
+fn add_title(out: &mut Vec<u8>, group: &Group) -> Result<(), AllocError>
+    ensures { OnOk result (out.new.items ≡ out.old.items ++ title (head_of group.now)) }
+{
+    add(out, "  ")?;
+    add(out, group.name)?;
+    add_index(out, group.index)?;
+    add_kind(out, &group.kind)?;
+    add(out, "\n")
+}
+
+fn add_index(out: &mut Vec<u8>, index: Option<u64>) -> Result<(), AllocError>
+    ensures { OnOk result (out.new.items ≡ out.old.items ++ index_text index) }
+{
+    let Some(index) = index else {
+        return Ok(());
+    };
+    add(out, " ")?;
+    add_decimal(index, out)
+}
+
+fn add_kind(out: &mut Vec<u8>, kind: &Option<Guid>) -> Result<(), AllocError>
+    ensures { OnOk result (out.new.items ≡ out.old.items ++ guid_line kind.now) }
+{
+    match kind {
+        Some(kind) => add_type(out, kind),
+        None => Ok(()),
+    }
+}
+
+fn add_type(out: &mut Vec<u8>, kind: &Guid) -> Result<(), AllocError>
+    ensures { OnOk result (out.new.items ≡ out.old.items ++ type_text kind.now) }
+{
+    add(out, " ")?;
+    add_type_name(out, kind)?;
     add_guid(out, kind)
 }
 
-fn add_guid(out: &mut Vec<u8>, guid: &Guid) -> Result<(), AllocError> {
-    let mut text = [0; 36];
-    guid.text(&mut text);
-    out.extend_from_slice(&text)
+// The name of a section of a type, where it has one.
+fn add_type_name(out: &mut Vec<u8>, kind: &Guid) -> Result<(), AllocError>
+    ensures { OnOk result (out.new.items ≡ out.old.items ++ named_text (section_title (guid_text kind.now))) }
+{
+    let Some(name) = section_title(kind) else {
+        return Ok(());
+    };
+    add(out, name)?;
+    add(out, " ")
 }
 
 // The first members of a group's object.
-fn add_members(out: &mut Vec<u8>, group: &Group) -> Result<(), AllocError> {
-    add(out, "{\"offset\":")?;
-    add_number(out, group.base)?;
-    add(out, ",\"group\":")?;
-    add_string(out, group.name)?;
+fn add_members(out: &mut Vec<u8>, group: &Group) -> Result<(), AllocError>
+    ensures { OnOk result (out.new.items ≡ out.old.items ++ members (head_of group.now)) }
+{
+    add_name(out, group)?;
     add(out, ",\"index\":")?;
-    match group.index {
-        Some(index) => add_number(out, index)?,
-        None => add(out, "null")?,
-    }
+    add_number(out, group.index)?;
     add(out, ",\"guid\":")?;
-    match &group.kind {
-        Some(kind) => {
-            add(out, "\"")?;
-            add_guid(out, kind)?;
-            add(out, "\"")
-        }
-        None => add(out, "null"),
-    }
+    add_guid_value(out, &group.kind)
+}
+
+fn add_name(out: &mut Vec<u8>, group: &Group) -> Result<(), AllocError>
+    ensures { OnOk result (out.new.items ≡ out.old.items ++ name_json group.now.base group.now.name.now) }
+{
+    add(out, "{\"offset\":")?;
+    add_decimal(group.base, out)?;
+    add(out, ",\"group\":")?;
+    add_quoted(out, group.name)
+}
+
+fn add_guid_value(out: &mut Vec<u8>, kind: &Option<Guid>) -> Result<(), AllocError>
+    ensures { OnOk result (out.new.items ≡ out.old.items ++ guid_json kind.now) }
+{
+    let Some(kind) = kind else {
+        return add(out, "null");
+    };
+    add(out, "\"")?;
+    add_guid(out, kind)?;
+    add(out, "\"")
 }

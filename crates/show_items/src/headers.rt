@@ -1,9 +1,16 @@
-// Headers of files, field by field.
-ghost use Rattle.std.specs.Prelude.{IsTrue};
+// Headers that files begin with, field by field.
+ghost use Rattle.std.specs.Prelude.{◌≡◌, [], IsTrue, OnOk, Some};
+ghost use Rattle.base_model.specs.Bytes.{part};
 ghost use Rattle.field_lines.specs.Layouts.{is_sound_structure};
 ghost use Rattle.field_lines.specs.Code.{structure_of};
+ghost use Rattle.show_items.specs.Headers.{IsHeader, medium_structure, qemu_structure};
+ghost use Rattle.show_items.specs.Judged.{ShowsOne};
 
+use crate::groups::Group;
+use crate::sheet::{Item, Sheet};
 use field_lines::{Field, Layout, Shape};
+use show_findings::{Fault, seen_at};
+use std::alloc::AllocError;
 
 macro_rules! field {
     ($at:expr, $width:expr, $name:expr, $shape:expr) => {
@@ -45,7 +52,8 @@ static MEDIUM: [Field; 12] = [
 
 /// The header of QEMU's storage of acpi-erst, 24 bytes.
 pub(crate) fn qemu_header() -> Layout
-    ensures { IsTrue (is_sound_structure (structure_of result)) }
+    ensures layout { structure_of result ≡ qemu_structure }
+    ensures sound { IsTrue (is_sound_structure (structure_of result)) }
 {
     Layout {
         valid_at: 0,
@@ -57,7 +65,8 @@ pub(crate) fn qemu_header() -> Layout
 
 /// The header of a medium of the library, 50 bytes.
 pub(crate) fn medium_header() -> Layout
-    ensures { IsTrue (is_sound_structure (structure_of result)) }
+    ensures layout { structure_of result ≡ medium_structure }
+    ensures sound { IsTrue (is_sound_structure (structure_of result)) }
 {
     Layout {
         valid_at: 0,
@@ -65,4 +74,35 @@ pub(crate) fn medium_header() -> Layout
         parts_at: 0,
         parts: &[],
     }
+}
+
+/// Shows the header that a file begins with, which has so many bytes, and its fault.
+pub(crate) fn show_header(
+    sheet: &mut Sheet<'_>,
+    kind: &'static str,
+    sentence: &str,
+    layout: &Layout,
+    bytes: &[u8],
+    len: usize,
+    fault: &Option<Fault>,
+) -> Result<(), AllocError>
+    requires { IsTrue (is_sound_structure (structure_of layout.now)) }
+    ensures { OnOk result (ShowsOne
+        (IsHeader kind.now (structure_of layout.now) (part bytes.now 0 len) bytes.now fault.now)
+        (Some []) (Some []) sheet.old sheet.new) }
+{
+    let item = Item {
+        kind,
+        at: Some(0),
+        bytes,
+    };
+    sheet.begin(&item, sentence)?;
+    let group = Group {
+        name: "header",
+        index: None,
+        kind: None,
+        base: 0,
+    };
+    sheet.add_group(&group, layout, seen_at(bytes, 0, len))?;
+    sheet.end(fault)
 }

@@ -8,11 +8,13 @@ mod files;
 mod groups;
 mod headers;
 mod images;
+mod media;
 mod pages;
 mod records;
 mod sequences;
 mod sheet;
 mod singles;
+mod storage;
 mod tables;
 mod text;
 

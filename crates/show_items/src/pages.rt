@@ -1,5 +1,7 @@
 // Where what is shown goes to.
-ghost use Rattle.std.specs.Prelude.{◌≡◌};
+ghost use Rattle.std.specs.Prelude.{◌≡◌, ◌≢◌, ℕ, List, Option, IfErr, OnOk};
+ghost use Rattle.std.specs.Io.KnownBytes.{Appends};
+ghost use Rattle.show_items.specs.Stops.{Failures, HasStop};
 ghost use Rattle.show_items.specs.declared.pages.Stop.TheVariants.{Memory as WantOfMemory};
 
 use std::alloc::{AllocError, AllocFailed};
@@ -33,6 +35,15 @@ impl<T: Drop> From<AllocFailed<T>> for Stop {
 
 /// What takes pages of the output.
 pub trait Pages {
+    // The bytes of all pages that were written, where they are known.
+    ghost written: { Self → Option (List ℕ) };
+
+    // The pages that could not be written so far.
+    ghost failures: { Self → Failures };
+
     /// Writes a page.
-    fn write(&mut self, page: &[u8]) -> Result<(), Stop>;
+    fn write(&mut self, page: &[u8]) -> Result<(), Stop>
+        ensures bytes { OnOk result (Appends (written self.old) (written self.new) page.now) }
+        ensures cause { HasStop (failures self.old) (failures self.new) result }
+        ensures reason { IfErr result (λ stop. stop ≢ WantOfMemory) };
 }

@@ -1,7 +1,13 @@
 // Error records (UEFI 2.8, appendix N.2).
-ghost use Rattle.std.specs.Prelude.{◌<◌, ◌^◌, ◌+◌, Bool, [], ◌∷◌, length, OnOk};
-ghost use Rattle.show_items.specs.Judged.{IsJudgedItem};
-ghost use Rattle.show_items.specs.Sheets.{AddsItems, KeepsItems};
+ghost use Rattle.std.specs.Prelude.{◌<◌, ◌≤◌, ◌^◌, ◌+◌, [], ◌∷◌, length, Some, codes, OnOk};
+ghost use Rattle.base_model.specs.Bytes.{part};
+ghost use Rattle.show_findings.specs.Places.{seen_number};
+ghost use Rattle.show_items.specs.Groups.{fields_group, numbered};
+ghost use Rattle.show_items.specs.Judged.{ShowsOne};
+ghost use Rattle.show_items.specs.Records.{IsRecord, header_group, record_groups, room_of, section_group, section_groups};
+ghost use Rattle.show_items.specs.Sheets.{AddsGroups};
+ghost use Rattle.show_items.specs.Stops.{HasStop};
+ghost use Rattle.standard_fields.specs.Records.{section_descriptor};
 
 use crate::faults::fault_in;
 use crate::groups::Group;
@@ -26,7 +32,9 @@ pub(crate) fn show_record<P: Pages>(
     at: Option<u64>,
     bytes: &[u8],
 ) -> Result<(), Stop>
-    ensures { OnOk result ((bad : Bool) × IsJudgedItem Decoded.Record bytes.now bad × AddsItems (bad ∷ []) sheet.old sheet.new) }
+    ensures shown { OnOk result (ShowsOne (IsRecord at bytes.now) (P.written pages.old) (P.written pages.new)
+        sheet.old sheet.new) }
+    ensures cause { HasStop (P.failures pages.old) (P.failures pages.new) result }
 {
     let item = Item {
         kind: "record",
@@ -36,23 +44,26 @@ pub(crate) fn show_record<P: Pages>(
     let mut sentence = String::new(sheet.alloc());
     add_record(&mut sentence, bytes)?;
     sheet.begin(&item, sentence.as_str())?;
-    if sheet.form() != Form::Brief {
-        add_groups(sheet, pages, bytes)?;
-    }
+    add_groups(sheet, pages, bytes)?;
     let fault = fault_in(sheet, Decoded::Record, bytes)?;
     sheet.end(&fault)?;
     sheet.turn(pages)
 }
 
 fn add_groups<P: Pages>(sheet: &mut Sheet<'_>, pages: &mut P, bytes: &[u8]) -> Result<(), Stop>
-    ensures { KeepsItems sheet.old sheet.new }
+    ensures groups { OnOk result (AddsGroups (record_groups bytes.now) (P.written pages.old) (P.written pages.new)
+        sheet.old sheet.new) }
+    ensures cause { HasStop (P.failures pages.old) (P.failures pages.new) result }
 {
+    if sheet.form() == Form::Brief {
+        return Ok(());
+    }
     add_header(sheet, bytes)?;
     add_sections(sheet, pages, bytes)
 }
 
 fn add_header(sheet: &mut Sheet<'_>, bytes: &[u8]) -> Result<(), AllocError>
-    ensures { KeepsItems sheet.old sheet.new }
+    ensures { OnOk result (AddsGroups (header_group bytes.now ∷ []) (Some []) (Some []) sheet.old sheet.new) }
 {
     let group = Group {
         name: "header",
@@ -65,15 +76,18 @@ fn add_header(sheet: &mut Sheet<'_>, bytes: &[u8]) -> Result<(), AllocError>
 }
 
 fn add_sections<P: Pages>(sheet: &mut Sheet<'_>, pages: &mut P, bytes: &[u8]) -> Result<(), Stop>
-    ensures { KeepsItems sheet.old sheet.new }
+    ensures groups { OnOk result (AddsGroups
+        (section_groups bytes.now (seen_number bytes.now 10 2) 0 (room_of bytes.now))
+        (P.written pages.old) (P.written pages.new) sheet.old sheet.new) }
+    ensures cause { HasStop (P.failures pages.old) (P.failures pages.new) result }
 {
-    let mut left = bytes.len().saturating_mul(TIMES);
+    let mut room = bytes.len().saturating_mul(TIMES);
     for index in 0..seen_u16(bytes, 10) {
         let Some(section) = section_at(bytes, index) else {
             return Ok(());
         };
-        let body = seen_at(section.body, 0, left);
-        left = left.saturating_sub(body.len());
+        let body = seen_at(section.body, 0, room);
+        room -= body.len();
         add_described(sheet, index, &section, body)?;
         sheet.turn(pages)?;
     }
@@ -87,9 +101,13 @@ fn add_described(
     section: &Section<'_>,
     body: &[u8],
 ) -> Result<(), AllocError>
+    requires whole { 32 ≤ length section.now.descriptor.now }
     requires head { section.now.at + length section.now.descriptor.now < 2 ^ 64 }
     requires body { section.now.body_at + length body.now < 2 ^ 64 }
-    ensures { KeepsItems sheet.old sheet.new }
+    ensures { OnOk result (AddsGroups
+        (fields_group (numbered (codes "descriptor") index section.now.at) section_descriptor section.now.descriptor.now
+        ∷ section_group index (part section.now.descriptor.now 16 16) section.now.body_at body.now ∷ [])
+        (Some []) (Some []) sheet.old sheet.new) }
 {
     let group = Group {
         name: "descriptor",
@@ -98,9 +116,6 @@ fn add_described(
         base: section.at as u64,
     };
     sheet.add_group(&group, &section_descriptor(), section.descriptor)?;
-    if section.descriptor.len() < 72 {
-        return Ok(());
-    }
     let kind = guid_at(section.descriptor, 16);
     add_section(sheet, u64::from(index), &kind, section.body_at as u64, body)
 }
@@ -114,7 +129,8 @@ pub(crate) fn add_section(
     body: &[u8],
 ) -> Result<(), AllocError>
     requires { base + length body.now < 2 ^ 64 }
-    ensures { KeepsItems sheet.old sheet.new }
+    ensures { OnOk result (AddsGroups (section_group index kind.now base body.now ∷ []) (Some []) (Some [])
+        sheet.old sheet.new) }
 {
     let group = Group {
         name: "section",

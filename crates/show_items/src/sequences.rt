@@ -1,9 +1,8 @@
 // Items one after another.
-ghost use Rattle.std.specs.Prelude.{◌≡◌, ◌≤◌, ◌<◌, Bool, [], ◌∷◌, length, drop, nat_lt, IfOk, OnOk};
-ghost use Rattle.show_findings.specs.Kinds.{kind_behind};
-ghost use Rattle.show_items.specs.Judged.{IsJudgedAs};
-ghost use Rattle.show_items.specs.Sequences.{ShowsFirst, ShowsItems, kind_of_item, len_of};
-ghost use Rattle.show_items.specs.Sheets.{AddsItems};
+ghost use Rattle.std.specs.Prelude.{◌≡◌, ◌≤◌, ◌<◌, length, drop, IfOk, OnOk};
+ghost use Rattle.show_items.specs.Judged.{ShowsAll, ShowsOne};
+ghost use Rattle.show_items.specs.Sequences.{AreFirst, AreItems, IsItemAs, first_len, kind_of_item};
+ghost use Rattle.show_items.specs.Stops.{HasStop};
 
 use crate::blocks::show_block;
 use crate::pages::{Pages, Stop};
@@ -19,7 +18,9 @@ pub(crate) fn show_sequence<P: Pages>(
     pages: &mut P,
     bytes: &[u8],
 ) -> Result<(), Stop>
-    ensures { OnOk result (ShowsItems bytes.now sheet.old sheet.new) }
+    ensures shown { OnOk result (ShowsAll (AreItems 0 bytes.now)
+        (P.written pages.old) (P.written pages.new) sheet.old sheet.new) }
+    ensures cause { HasStop (P.failures pages.old) (P.failures pages.new) result }
 {
     let mut rest = bytes;
     let mut at: u64 = 0;
@@ -47,8 +48,10 @@ fn show_next<P: Pages>(
     rest: &[u8],
 ) -> Result<usize, Stop>
     requires { 0 < length rest.now }
-    ensures shown { OnOk result (ShowsFirst (nat_lt 0 at) rest.now sheet.old sheet.new) }
-    ensures exact { IfOk result (λ len. len ≡ len_of (kind_behind rest.now) rest.now) }
+    ensures shown { OnOk result (ShowsAll (AreFirst at rest.now)
+        (P.written pages.old) (P.written pages.new) sheet.old sheet.new) }
+    ensures cause { HasStop (P.failures pages.old) (P.failures pages.new) result }
+    ensures exact { IfOk result (λ len. len ≡ first_len rest.now) }
     ensures some { IfOk result (λ len. 0 < len) }
     ensures within { IfOk result (λ len. len ≤ length rest.now) }
 {
@@ -78,7 +81,9 @@ fn show_item<P: Pages>(
     at: u64,
     bytes: &[u8],
 ) -> Result<(), Stop>
-    ensures { OnOk result ((bad : Bool) × IsJudgedAs (kind_of_item item) bytes.now bad × AddsItems (bad ∷ []) sheet.old sheet.new) }
+    ensures shown { OnOk result (ShowsOne (IsItemAs (kind_of_item item) at bytes.now)
+        (P.written pages.old) (P.written pages.new) sheet.old sheet.new) }
+    ensures cause { HasStop (P.failures pages.old) (P.failures pages.new) result }
 {
     match item {
         Item::Record => show_record(sheet, pages, Some(at), bytes),

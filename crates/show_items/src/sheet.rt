@@ -1,9 +1,14 @@
 // The sheet on which the items of a file are shown.
-ghost use Rattle.std.specs.Prelude.{◌≡◌, [], ◌∷◌, true, false, is_some, nat_lt, OnOk};
-ghost use Rattle.show_items.specs.Sheets.{AddsItems, KeepsItems};
+ghost use Rattle.std.specs.Prelude.{◌≡◌, ◌++◌, [], true, false, nat_lt, is_some, length, codes, None, OnOk};
+ghost use Rattle.show_items.specs.Groups.{comma};
+ghost use Rattle.show_items.specs.Items.{bad_json, end_as, fault_json, fault_text, extent_json, file_json, gap, heading_json, heading_of, kind_json, path_before};
+ghost use Rattle.show_items.specs.Sheets.{AddsGroups, AddsText, BeginsItem, EndsItem, KeepsItem};
+ghost use Rattle.show_items.specs.Stops.{HasStop};
+ghost use Rattle.show_items.specs.Texts.{bold, colored};
 
 use crate::pages::{Pages, Stop};
-use crate::text::{add, add_number, add_string};
+use crate::text::{add, add_number, add_quoted};
+use field_lines::add_decimal;
 use show_findings::Fault;
 use std::alloc::{AllocError, Global};
 
@@ -55,7 +60,7 @@ pub struct Sheet<'a> {
     manner: Manner,
     pub(crate) out: Vec<u8>,
     items: u64,
-    groups: u64,
+    has_groups: bool,
     has_bad: bool,
 }
 
@@ -66,6 +71,7 @@ impl<'a> Sheet<'a> {
         ensures manner { result.manner ≡ manner }
         ensures blank { result.out.items ≡ [] }
         ensures none { result.items ≡ 0 }
+        ensures ungrouped { result.has_groups ≡ false }
         ensures sound { result.has_bad ≡ false }
     {
         Sheet {
@@ -74,7 +80,7 @@ impl<'a> Sheet<'a> {
             manner,
             out: Vec::new(alloc),
             items: 0,
-            groups: 0,
+            has_groups: false,
             has_bad: false,
         }
     }
@@ -97,19 +103,23 @@ impl<'a> Sheet<'a> {
         self.alloc
     }
 
-    pub(crate) fn form(&self) -> Form {
+    pub(crate) fn form(&self) -> Form
+        ensures { result ≡ self.now.manner.form }
+    {
         self.manner.form
     }
 
-    pub(crate) fn has_places(&self) -> bool {
+    pub(crate) fn has_places(&self) -> bool
+        ensures { result ≡ self.now.manner.places }
+    {
         self.manner.places
     }
 
     /// Begins an item with its sentence.
     pub(crate) fn begin(&mut self, item: &Item<'_>, sentence: &str) -> Result<(), AllocError>
-        ensures { KeepsItems self.old self.new }
+        ensures { OnOk result (BeginsItem (heading_of item.now sentence.now) self.old self.new) }
     {
-        self.groups = 0;
+        self.has_groups = false;
         match self.manner.form {
             Form::Text => self.begin_text(sentence),
             Form::Brief => self.begin_brief(sentence),
@@ -117,61 +127,69 @@ impl<'a> Sheet<'a> {
         }
     }
 
-    /// Begins a group of the item. A comma stands before each but the first.
+    /// Begins the object of a group. A comma stands before each but the first.
     pub(crate) fn begin_group(&mut self) -> Result<(), AllocError>
-        ensures { KeepsItems self.old self.new }
+        ensures text { OnOk result (self.new.out.items ≡ self.old.out.items ++ comma self.old.has_groups) }
+        ensures begun { OnOk result (self.new.has_groups ≡ true) }
+        ensures same { OnOk result (KeepsItem self.old self.new) }
     {
-        if self.groups > 0 {
+        if self.has_groups {
             add(&mut self.out, ",")?;
         }
-        self.groups = self.groups.saturating_add(1);
+        self.has_groups = true;
         Ok(())
     }
 
     fn begin_text(&mut self, sentence: &str) -> Result<(), AllocError>
-        ensures { KeepsItems self.old self.new }
+        ensures { OnOk result (AddsText (gap self.old.items ++ colored self.old.manner.colored bold sentence.now
+            ++ codes "\n") self.old self.new) }
     {
-        if self.items > 0 {
-            add(&mut self.out, "\n")?;
-        }
+        self.add_gap()?;
         self.add_colored(BOLD, sentence)?;
         add(&mut self.out, "\n")
     }
 
     fn begin_brief(&mut self, sentence: &str) -> Result<(), AllocError>
-        ensures { KeepsItems self.old self.new }
+        ensures { OnOk result (AddsText (path_before self.old.manner.named self.old.path.now
+            ++ colored self.old.manner.colored bold sentence.now) self.old self.new) }
     {
-        if self.manner.named {
-            add(&mut self.out, self.path)?;
-            add(&mut self.out, ": ")?;
-        }
+        self.add_path()?;
         self.add_colored(BOLD, sentence)
     }
 
+    // An empty line before each item but the first.
+    fn add_gap(&mut self) -> Result<(), AllocError>
+        ensures { OnOk result (AddsText (gap self.old.items) self.old self.new) }
+    {
+        if self.items == 0 {
+            return Ok(());
+        }
+        add(&mut self.out, "\n")
+    }
+
+    // The path before an item, where there are several files.
+    fn add_path(&mut self) -> Result<(), AllocError>
+        ensures { OnOk result (AddsText (path_before self.old.manner.named self.old.path.now) self.old self.new) }
+    {
+        if !self.manner.named {
+            return Ok(());
+        }
+        add(&mut self.out, self.path)?;
+        add(&mut self.out, ": ")
+    }
+
     fn begin_json(&mut self, item: &Item<'_>, sentence: &str) -> Result<(), AllocError>
-        ensures { KeepsItems self.old self.new }
+        ensures { OnOk result (AddsText (heading_json self.old.path.now self.old.items
+            (heading_of item.now sentence.now)) self.old self.new) }
     {
         let out = &mut self.out;
-        add(out, "{\"file\":")?;
-        add_string(out, self.path)?;
-        add(out, ",\"item\":")?;
-        add_number(out, self.items)?;
-        add(out, ",\"at\":")?;
-        match item.at {
-            Some(at) => add_number(out, at)?,
-            None => add(out, "null")?,
-        }
-        add(out, ",\"bytes\":")?;
-        add_number(out, item.bytes.len() as u64)?;
-        add(out, ",\"kind\":")?;
-        add_string(out, item.kind)?;
-        add(out, ",\"summary\":")?;
-        add_string(out, sentence)?;
-        add(out, ",\"groups\":[")
+        add_file(out, self.path, self.items)?;
+        add_extent(out, item)?;
+        add_kind(out, item.kind, sentence)
     }
 
     fn add_colored(&mut self, color: &str, text: &str) -> Result<(), AllocError>
-        ensures { KeepsItems self.old self.new }
+        ensures { OnOk result (AddsText (colored self.old.manner.colored color.now text.now) self.old self.new) }
     {
         if !self.manner.colored {
             return add(&mut self.out, text);
@@ -183,11 +201,22 @@ impl<'a> Sheet<'a> {
 
     /// Ends an item with its fault. One with a fault is bad.
     pub(crate) fn end(&mut self, fault: &Option<Fault>) -> Result<(), AllocError>
-        ensures { AddsItems (is_some fault.now ∷ []) self.old self.new }
+        ensures { OnOk result (EndsItem fault.now (is_some fault.now) self.old self.new) }
     {
-        if let Some(_) = fault {
-            self.has_bad = true;
-        }
+        self.end_with(fault, fault.is_some())
+    }
+
+    /// Ends an item that is none of what is known, and so is bad.
+    pub(crate) fn end_as_bad(&mut self) -> Result<(), AllocError>
+        ensures { OnOk result (EndsItem None true self.old self.new) }
+    {
+        self.end_with(&None, true)
+    }
+
+    fn end_with(&mut self, fault: &Option<Fault>, is_bad: bool) -> Result<(), AllocError>
+        ensures { OnOk result (EndsItem fault.now is_bad self.old self.new) }
+    {
+        self.has_bad = is_bad || self.has_bad;
         self.items = self.items.saturating_add(1);
         match self.manner.form {
             Form::Text => self.end_text(fault),
@@ -196,65 +225,51 @@ impl<'a> Sheet<'a> {
         }
     }
 
-    /// Ends an item that is none of what is known.
-    pub(crate) fn end_as_bad(&mut self) -> Result<(), AllocError>
-        ensures { AddsItems (true ∷ []) self.old self.new }
-    {
-        self.has_bad = true;
-        self.end(&None)
-    }
-
     fn end_text(&mut self, fault: &Option<Fault>) -> Result<(), AllocError>
-        ensures { KeepsItems self.old self.new }
+        ensures { OnOk result (AddsText (end_as Form.Text self.old.manner fault.now) self.old self.new) }
     {
-        if let Some(fault) = fault {
-            add(&mut self.out, "  ")?;
-            self.add_bad(fault)?;
-            add(&mut self.out, "\n")?;
-        }
-        Ok(())
+        let Some(fault) = fault else {
+            return Ok(());
+        };
+        add(&mut self.out, "  ")?;
+        self.add_fault(fault)?;
+        add(&mut self.out, "\n")
     }
 
     fn end_brief(&mut self, fault: &Option<Fault>) -> Result<(), AllocError>
-        ensures { KeepsItems self.old self.new }
+        ensures { OnOk result (AddsText (end_as Form.Brief self.old.manner fault.now) self.old self.new) }
     {
         if let Some(fault) = fault {
             add(&mut self.out, " - ")?;
-            self.add_bad(fault)?;
+            self.add_fault(fault)?;
         }
         add(&mut self.out, "\n")
     }
 
     // The place of a fault and its words.
-    fn add_bad(&mut self, fault: &Fault) -> Result<(), AllocError>
-        ensures { KeepsItems self.old self.new }
+    fn add_fault(&mut self, fault: &Fault) -> Result<(), AllocError>
+        ensures { OnOk result (AddsText (fault_text self.old.manner fault.now) self.old self.new) }
     {
         self.add_colored(RED, "bad")?;
         add(&mut self.out, " at ")?;
-        add_number(&mut self.out, fault.at)?;
+        add_decimal(fault.at, &mut self.out)?;
         add(&mut self.out, ": ")?;
         add(&mut self.out, fault.says.as_str())
     }
 
     fn end_json(&mut self, fault: &Option<Fault>) -> Result<(), AllocError>
-        ensures { KeepsItems self.old self.new }
+        ensures { OnOk result (AddsText (end_as Form.Json self.old.manner fault.now) self.old self.new) }
     {
-        let out = &mut self.out;
         match fault {
-            Some(fault) => {
-                add(out, "],\"bad\":{\"offset\":")?;
-                add_number(out, fault.at)?;
-                add(out, ",\"says\":")?;
-                add_string(out, fault.says.as_str())?;
-                add(out, "}}\n")
-            }
-            None => add(out, "],\"bad\":null}\n"),
+            Some(fault) => add_bad_end(&mut self.out, fault),
+            None => add(&mut self.out, "],\"bad\":null}\n"),
         }
     }
 
     /// Writes what is on the sheet, once it is a page.
     pub(crate) fn turn<P: Pages>(&mut self, pages: &mut P) -> Result<(), Stop>
-        ensures { KeepsItems self.old self.new }
+        ensures turned { OnOk result (AddsGroups [] (P.written pages.old) (P.written pages.new) self.old self.new) }
+        ensures cause { HasStop (P.failures pages.old) (P.failures pages.new) result }
     {
         if self.out.len() < PAGE {
             return Ok(());
@@ -264,11 +279,62 @@ impl<'a> Sheet<'a> {
 
     /// Writes what is on the sheet.
     pub fn finish<P: Pages>(&mut self, pages: &mut P) -> Result<(), Stop>
-        ensures written { OnOk result (self.new.out.items ≡ []) }
-        ensures kept { KeepsItems self.old self.new }
+        ensures written { OnOk result (AddsGroups [] (P.written pages.old) (P.written pages.new) self.old self.new) }
+        ensures left { OnOk result (self.new.out.items ≡ []) }
+        ensures cause { HasStop (P.failures pages.old) (P.failures pages.new) result }
     {
         pages.write(&self.out)?;
         self.out.clear();
         Ok(())
     }
+}
+
+// The file, and how many items of it stand before.
+fn add_file(out: &mut Vec<u8>, path: &str, count: u64) -> Result<(), AllocError>
+    ensures { OnOk result (out.new.items ≡ out.old.items ++ file_json path.now count) }
+{
+    add(out, "{\"file\":")?;
+    add_quoted(out, path)?;
+    add(out, ",\"item\":")?;
+    add_decimal(count, out)
+}
+
+// Where an item stands, and how many bytes it has.
+fn add_extent(out: &mut Vec<u8>, item: &Item<'_>) -> Result<(), AllocError>
+    ensures { OnOk result (out.new.items ≡ out.old.items ++ extent_json item.now.at (length item.now.bytes.now)) }
+{
+    add(out, ",\"at\":")?;
+    add_number(out, item.at)?;
+    add(out, ",\"bytes\":")?;
+    add_decimal(item.bytes.len() as u64, out)
+}
+
+// The word of an item and its sentence.
+fn add_kind(out: &mut Vec<u8>, kind: &str, sentence: &str) -> Result<(), AllocError>
+    ensures { OnOk result (out.new.items ≡ out.old.items ++ kind_json kind.now sentence.now) }
+{
+    add(out, ",\"kind\":")?;
+    add_quoted(out, kind)?;
+    add(out, ",\"summary\":")?;
+    add_quoted(out, sentence)?;
+    add(out, ",\"groups\":[")
+}
+
+// How the object of a bad item ends.
+fn add_bad_end(out: &mut Vec<u8>, fault: &Fault) -> Result<(), AllocError>
+    ensures { OnOk result (out.new.items ≡ out.old.items ++ bad_json fault.now) }
+{
+    add(out, "],\"bad\":")?;
+    add_fault_object(out, fault)?;
+    add(out, "}\n")
+}
+
+fn add_fault_object(out: &mut Vec<u8>, fault: &Fault) -> Result<(), AllocError>
+    ensures { OnOk result (out.new.items ≡ out.old.items ++ fault_json fault.now) }
+{
+    add(out, "{\"offset\":")?;
+    add_decimal(fault.at, out)?;
+    add(out, ",\"says\":")?;
+    add_quoted(out, fault.says.as_str())?;
+    add(out, "}")
 }

@@ -1,6 +1,7 @@
 // Files that hold one item, or none.
-ghost use Rattle.std.specs.Prelude.{[], ◌∷◌, true, false, OnOk};
-ghost use Rattle.show_items.specs.Sheets.{AddsItems};
+ghost use Rattle.std.specs.Prelude.{[], Some, OnOk};
+ghost use Rattle.show_items.specs.Judged.{ShowsOne};
+ghost use Rattle.show_items.specs.Singles.{IsBlank, IsBody, IsDmesg, IsEmpty, IsMachineCheck, IsPacked, IsSentence, IsUnknown};
 
 use crate::groups::Group;
 use crate::records::add_section;
@@ -23,7 +24,7 @@ const FIRST: usize = 16;
 
 /// Shows the body of a machine check that Linux stored.
 pub(crate) fn show_machine_check(sheet: &mut Sheet<'_>, bytes: &[u8]) -> Result<(), AllocError>
-    ensures { OnOk result (AddsItems (false ∷ []) sheet.old sheet.new) }
+    ensures { OnOk result (ShowsOne (IsMachineCheck bytes.now) (Some []) (Some []) sheet.old sheet.new) }
 {
     let mut sentence = String::new(sheet.alloc());
     add_machine_check(&mut sentence, bytes)?;
@@ -38,7 +39,7 @@ pub(crate) fn show_machine_check(sheet: &mut Sheet<'_>, bytes: &[u8]) -> Result<
 
 /// Shows a kernel's log that Linux stored.
 pub(crate) fn show_dmesg(sheet: &mut Sheet<'_>, bytes: &[u8]) -> Result<(), AllocError>
-    ensures { OnOk result (AddsItems (false ∷ []) sheet.old sheet.new) }
+    ensures { OnOk result (ShowsOne (IsDmesg bytes.now) (Some []) (Some []) sheet.old sheet.new) }
 {
     let mut sentence = String::new(sheet.alloc());
     add_dmesg(&mut sentence, bytes)?;
@@ -52,7 +53,7 @@ fn show_body(
     sentence: &str,
     bytes: &[u8],
 ) -> Result<(), AllocError>
-    ensures { OnOk result (AddsItems (false ∷ []) sheet.old sheet.new) }
+    ensures { OnOk result (ShowsOne (IsBody kind.now section bytes.now) (Some []) (Some []) sheet.old sheet.new) }
 {
     let item = Item {
         kind,
@@ -66,14 +67,14 @@ fn show_body(
 
 /// Says that a file is empty.
 pub(crate) fn show_empty(sheet: &mut Sheet<'_>) -> Result<(), AllocError>
-    ensures { OnOk result (AddsItems (false ∷ []) sheet.old sheet.new) }
+    ensures { OnOk result (ShowsOne (IsEmpty) (Some []) (Some []) sheet.old sheet.new) }
 {
-    show_sentence(sheet, "empty", Some(0), &[], "the file is empty")
+    show_sentence(sheet, "empty", 0, &[], "the file is empty")
 }
 
 /// Shows bytes that hold nothing.
 pub(crate) fn show_blank(sheet: &mut Sheet<'_>, at: u64, bytes: &[u8]) -> Result<(), AllocError>
-    ensures { OnOk result (AddsItems (false ∷ []) sheet.old sheet.new) }
+    ensures { OnOk result (ShowsOne (IsBlank at bytes.now) (Some []) (Some []) sheet.old sheet.new) }
 {
     let len = bytes.len();
     let mut sentence = String::new(sheet.alloc());
@@ -84,17 +85,17 @@ pub(crate) fn show_blank(sheet: &mut Sheet<'_>, at: u64, bytes: &[u8]) -> Result
             "{len} bytes of an erased flash: no error is stored here"
         )?,
     }
-    show_sentence(sheet, "blank", Some(at), bytes, sentence.as_str())
+    show_sentence(sheet, "blank", at, bytes, sentence.as_str())
 }
 
 /// Says of the body of a record that Linux could not unpack how it is read.
 pub(crate) fn show_packed(sheet: &mut Sheet<'_>, bytes: &[u8]) -> Result<(), AllocError>
-    ensures { OnOk result (AddsItems (false ∷ []) sheet.old sheet.new) }
+    ensures { OnOk result (ShowsOne (IsPacked bytes.now) (Some []) (Some []) sheet.old sheet.new) }
 {
     show_sentence(
         sheet,
         "packed",
-        Some(0),
+        0,
         bytes,
         "the body of a record that Linux packed and could not unpack; this unpacks it: python3 -c 'import sys, zlib; sys.stdout.buffer.write(zlib.decompressobj(-15).decompress(sys.stdin.buffer.read()))' < FILE",
     )
@@ -103,20 +104,24 @@ pub(crate) fn show_packed(sheet: &mut Sheet<'_>, bytes: &[u8]) -> Result<(), All
 fn show_sentence(
     sheet: &mut Sheet<'_>,
     kind: &'static str,
-    at: Option<u64>,
+    at: u64,
     bytes: &[u8],
     sentence: &str,
 ) -> Result<(), AllocError>
-    ensures { OnOk result (AddsItems (false ∷ []) sheet.old sheet.new) }
+    ensures { OnOk result (ShowsOne (IsSentence kind.now at bytes.now) (Some []) (Some []) sheet.old sheet.new) }
 {
-    let item = Item { kind, at, bytes };
+    let item = Item {
+        kind,
+        at: Some(at),
+        bytes,
+    };
     sheet.begin(&item, sentence)?;
     sheet.end(&None)
 }
 
 /// Says that bytes are none of what is known, and what was looked for.
 pub(crate) fn show_unknown(sheet: &mut Sheet<'_>, at: u64, bytes: &[u8]) -> Result<(), AllocError>
-    ensures { OnOk result (AddsItems (true ∷ []) sheet.old sheet.new) }
+    ensures { OnOk result (ShowsOne (IsUnknown at bytes.now) (Some []) (Some []) sheet.old sheet.new) }
 {
     let item = Item {
         kind: "none",

@@ -1,9 +1,12 @@
 // Tables (ACPI 6.4, sections 5.2.6, 18.3 and 18.5.1).
-ghost use Rattle.std.specs.Prelude.{◌≡◌, ◌<◌, ◌^◌, ◌+◌, Bool, [], ◌∷◌, length, is_some, IfOk, IsTrue, OnOk};
+ghost use Rattle.std.specs.Prelude.{◌≡◌, ◌<◌, ◌^◌, ◌+◌, [], ◌∷◌, length, IfOk, IsTrue, OnOk, Some};
 ghost use Rattle.field_lines.specs.Layouts.{is_sound_structure};
 ghost use Rattle.field_lines.specs.Code.{structure_of};
-ghost use Rattle.show_items.specs.Judged.{IsJudgedBy, table_of};
-ghost use Rattle.show_items.specs.Sheets.{AddsItems, KeepsItems};
+ghost use Rattle.show_findings.specs.Places.{seen_number};
+ghost use Rattle.show_items.specs.Judged.{ShowsOne};
+ghost use Rattle.show_items.specs.Sheets.{AddsGroups};
+ghost use Rattle.show_items.specs.Stops.{HasStop};
+ghost use Rattle.show_items.specs.Tables.{IsTable, IsTableFault, fixed_group, groups_behind, instruction_group, instruction_groups, source_group, source_groups, table_groups, table_of};
 
 use crate::faults::fault_in;
 use crate::groups::Group;
@@ -33,7 +36,9 @@ pub(crate) fn show_table<P: Pages>(
     at: Option<u64>,
     bytes: &[u8],
 ) -> Result<(), Stop>
-    ensures { OnOk result ((bad : Bool) × IsJudgedBy (table_of bytes.now) bytes.now bad × AddsItems (bad ∷ []) sheet.old sheet.new) }
+    ensures shown { OnOk result (ShowsOne (IsTable at bytes.now)
+        (P.written pages.old) (P.written pages.new) sheet.old sheet.new) }
+    ensures cause { HasStop (P.failures pages.old) (P.failures pages.new) result }
 {
     let item = Item {
         kind: "table",
@@ -43,16 +48,14 @@ pub(crate) fn show_table<P: Pages>(
     let mut sentence = String::new(sheet.alloc());
     add_table(&mut sentence, bytes)?;
     sheet.begin(&item, sentence.as_str())?;
-    if sheet.form() != Form::Brief {
-        add_groups(sheet, pages, bytes)?;
-    }
+    add_groups(sheet, pages, bytes)?;
     let fault = table_fault(sheet, bytes)?;
     sheet.end(&fault)?;
     sheet.turn(pages)
 }
 
 fn table_fault(sheet: &Sheet<'_>, bytes: &[u8]) -> Result<Option<Fault>, AllocError>
-    ensures { IfOk result (λ fault. IsJudgedBy (table_of bytes.now) bytes.now (is_some fault)) }
+    ensures { IfOk result (IsTableFault (table_of bytes.now) bytes.now) }
 {
     match table_of(bytes) {
         Some(table) => fault_in(sheet, table, bytes),
@@ -76,37 +79,48 @@ fn table_of(bytes: &[u8]) -> Option<Decoded>
 }
 
 fn add_groups<P: Pages>(sheet: &mut Sheet<'_>, pages: &mut P, bytes: &[u8]) -> Result<(), Stop>
-    ensures { KeepsItems sheet.old sheet.new }
+    ensures shown { OnOk result (AddsGroups (table_groups bytes.now)
+        (P.written pages.old) (P.written pages.new) sheet.old sheet.new) }
+    ensures cause { HasStop (P.failures pages.old) (P.failures pages.new) result }
 {
-    add_fixed(sheet, "header", &table_header(), seen_at(bytes, 0, HEADER))?;
+    if sheet.form() == Form::Brief {
+        return Ok(());
+    }
+    add_fixed(sheet, "header", &table_header(), HEADER, bytes)?;
+    add_behind(sheet, pages, bytes)
+}
+
+// What stands behind the header, where the fields of the table are known.
+fn add_behind<P: Pages>(sheet: &mut Sheet<'_>, pages: &mut P, bytes: &[u8]) -> Result<(), Stop>
+    ensures shown { OnOk result (AddsGroups (groups_behind (table_of bytes.now) bytes.now)
+        (P.written pages.old) (P.written pages.new) sheet.old sheet.new) }
+    ensures cause { HasStop (P.failures pages.old) (P.failures pages.new) result }
+{
     match table_of(bytes) {
         Some(Decoded::Erst) => {
-            add_fixed(sheet, "table", &erst_header(), seen_at(bytes, 0, ERST))?;
+            add_fixed(sheet, "table", &erst_header(), ERST, bytes)?;
             add_instructions(sheet, pages, bytes)
         }
         Some(Decoded::Hest) => {
-            add_fixed(sheet, "table", &hest_header(), seen_at(bytes, 0, HEST))?;
+            add_fixed(sheet, "table", &hest_header(), HEST, bytes)?;
             add_sources(sheet, pages, bytes)
         }
-        Some(Decoded::Bert) => Ok(add_fixed(
-            sheet,
-            "table",
-            &bert_fields(),
-            seen_at(bytes, 0, BERT),
-        )?),
+        Some(Decoded::Bert) => Ok(add_fixed(sheet, "table", &bert_fields(), BERT, bytes)?),
         _ => Ok(()),
     }
 }
 
-// The fields of what every such table begins with.
+// The fields in so many of the first bytes.
 fn add_fixed(
     sheet: &mut Sheet<'_>,
     name: &'static str,
     layout: &Layout,
-    body: &[u8],
+    size: usize,
+    bytes: &[u8],
 ) -> Result<(), AllocError>
     requires { IsTrue (is_sound_structure (structure_of layout.now)) }
-    ensures { KeepsItems sheet.old sheet.new }
+    ensures { OnOk result (AddsGroups (fixed_group name.now (structure_of layout.now) size bytes.now ∷ [])
+        (Some []) (Some []) sheet.old sheet.new) }
 {
     let group = Group {
         name,
@@ -114,7 +128,7 @@ fn add_fixed(
         kind: None,
         base: 0,
     };
-    sheet.add_group(&group, layout, body)
+    sheet.add_group(&group, layout, seen_at(bytes, 0, size))
 }
 
 // The instruction entries, as many as the table counts.
@@ -123,28 +137,37 @@ fn add_instructions<P: Pages>(
     pages: &mut P,
     bytes: &[u8],
 ) -> Result<(), Stop>
-    ensures { KeepsItems sheet.old sheet.new }
+    ensures shown { OnOk result (AddsGroups (instruction_groups bytes.now (seen_number bytes.now 44 4) 0)
+        (P.written pages.old) (P.written pages.new) sheet.old sheet.new) }
+    ensures cause { HasStop (P.failures pages.old) (P.failures pages.new) result }
 {
-    let layout = erst_entry();
     for index in 0..seen_u32(bytes, 44) {
         let Some(entry) = instruction_at(bytes, index) else {
             return Ok(());
         };
-        let group = Group {
-            name: "entry",
-            index: Some(u64::from(index)),
-            kind: None,
-            base: 48 + 32 * u64::from(index),
-        };
-        sheet.add_group(&group, &layout, entry)?;
+        add_instruction(sheet, index, entry)?;
         sheet.turn(pages)?;
     }
     Ok(())
 }
 
+fn add_instruction(sheet: &mut Sheet<'_>, index: u32, entry: &[u8]) -> Result<(), AllocError>
+    ensures { OnOk result (AddsGroups (instruction_group index entry.now ∷ []) (Some []) (Some []) sheet.old sheet.new) }
+{
+    let group = Group {
+        name: "entry",
+        index: Some(u64::from(index)),
+        kind: None,
+        base: 48 + 32 * u64::from(index),
+    };
+    sheet.add_group(&group, &erst_entry(), entry)
+}
+
 // The error sources, as many as the table counts.
 fn add_sources<P: Pages>(sheet: &mut Sheet<'_>, pages: &mut P, bytes: &[u8]) -> Result<(), Stop>
-    ensures { KeepsItems sheet.old sheet.new }
+    ensures shown { OnOk result (AddsGroups (source_groups bytes.now (seen_number bytes.now 36 4) 0 40)
+        (P.written pages.old) (P.written pages.new) sheet.old sheet.new) }
+    ensures cause { HasStop (P.failures pages.old) (P.failures pages.new) result }
 {
     let mut at = HEST;
     for index in 0..seen_u32(bytes, 36) {
@@ -165,7 +188,8 @@ fn add_source(
     source: &Source<'_>,
 ) -> Result<(), AllocError>
     requires { at + length source.now.bytes.now < 2 ^ 64 }
-    ensures { KeepsItems sheet.old sheet.new }
+    ensures { OnOk result (AddsGroups (source_group index at source.now.kind source.now.bytes.now ∷ [])
+        (Some []) (Some []) sheet.old sheet.new) }
 {
     let group = Group {
         name: "source",

@@ -1,55 +1,85 @@
 // Texts, and texts in JSON.
+ghost use Rattle.std.specs.Prelude.{◌≡◌, ◌<◌, ◌/◌, ◌%◌, [], ◌∷◌, ◌++◌, codes, OnOk};
+ghost use Rattle.apei_bytes.specs.Guid.{digit, guid_text};
+ghost use Rattle.show_items.specs.Texts.{all_escaped, escaped, number_json, quoted};
+
+use apei_bytes::Guid;
+use field_lines::add_decimal;
 use std::alloc::AllocError;
 
 /// Adds a text.
-pub(crate) fn add(out: &mut Vec<u8>, text: &str) -> Result<(), AllocError> {
+pub(crate) fn add(out: &mut Vec<u8>, text: &str) -> Result<(), AllocError>
+    ensures { OnOk result (out.new.items ≡ out.old.items ++ text.now) }
+{
     out.extend_from_slice(text.as_bytes())
 }
 
-/// Adds a number in decimal digits.
-pub(crate) fn add_number(out: &mut Vec<u8>, number: u64) -> Result<(), AllocError> {
-    out.extend_from_slice(itoa::Buffer::new().format(number).as_bytes())
+/// Adds the text of a GUID.
+pub(crate) fn add_guid(out: &mut Vec<u8>, guid: &Guid) -> Result<(), AllocError>
+    ensures { OnOk result (out.new.items ≡ out.old.items ++ guid_text guid.now) }
+{
+    let mut text = [0; 36];
+    guid.text(&mut text);
+    out.extend_from_slice(&text)
+}
+
+/// Adds a number, or `null` where there is none.
+pub(crate) fn add_number(out: &mut Vec<u8>, number: Option<u64>) -> Result<(), AllocError>
+    ensures { OnOk result (out.new.items ≡ out.old.items ++ number_json number) }
+{
+    match number {
+        Some(number) => add_decimal(number, out),
+        None => add(out, "null"),
+    }
 }
 
 /// Adds a text as a JSON string.
-pub(crate) fn add_string(out: &mut Vec<u8>, text: &str) -> Result<(), AllocError> {
+pub(crate) fn add_quoted(out: &mut Vec<u8>, text: &str) -> Result<(), AllocError>
+    ensures { OnOk result (out.new.items ≡ out.old.items ++ quoted text.now) }
+{
     add(out, "\"")?;
-    for byte in text.as_bytes() {
-        add_escaped(out, *byte)?;
-    }
+    add_escaped(out, text.as_bytes())?;
     add(out, "\"")
 }
 
+fn add_escaped(out: &mut Vec<u8>, mut text: &[u8]) -> Result<(), AllocError>
+    ensures { OnOk result (out.new.items ≡ out.old.items ++ all_escaped text.entry.now) }
+{
+    while let [byte, rest @ ..] = text {
+        add_byte(out, *byte)?;
+        text = rest;
+    }
+    Ok(())
+}
+
 // Adds a byte as it stands in a JSON string.
-fn add_escaped(out: &mut Vec<u8>, byte: u8) -> Result<(), AllocError> {
+fn add_byte(out: &mut Vec<u8>, byte: u8) -> Result<(), AllocError>
+    ensures { OnOk result (out.new.items ≡ out.old.items ++ escaped byte) }
+{
     match byte {
-        b'"' => add(out, "\\\""),
-        b'\\' => add(out, "\\\\"),
-        0..=31 => out.extend_from_slice(&[
-            b'\\',
-            b'u',
-            b'0',
-            b'0',
-            b'0' + byte / 16,
-            digit(byte % 16),
-        ]),
+        b'"' => out.extend_from_slice(b"\\\""),
+        b'\\' => out.extend_from_slice(b"\\\\"),
+        0..=31 => add_number_of(out, byte),
         other => out.extend_from_slice(&[other]),
     }
 }
 
-/// A digit of sixteen.
-pub(crate) fn digit(value: u8) -> u8 {
-    match value {
-        0..=9 => b'0' + value,
-        10..=15 => b'a' + (value - 10),
-        _ => b'?',
-    }
+// Adds a byte by its number.
+fn add_number_of(out: &mut Vec<u8>, byte: u8) -> Result<(), AllocError>
+    ensures { OnOk result (out.new.items ≡ out.old.items ++ codes "\\u00" ++ digit (byte / 16) ∷ digit (byte % 16) ∷ []) }
+{
+    out.extend_from_slice(b"\\u00")?;
+    out.extend_from_slice(&[digit(byte / 16), digit(byte % 16)])
 }
 
-/// Adds two digits of sixteen for each byte.
-pub(crate) fn add_hex(out: &mut Vec<u8>, bytes: &[u8]) -> Result<(), AllocError> {
-    for byte in bytes {
-        out.extend_from_slice(&[digit(*byte / 16), digit(*byte % 16)])?;
+// A digit of sixteen.
+fn digit(value: u8) -> u8
+    requires { value < 16 }
+    ensures { result ≡ digit value }
+{
+    if value < 10 {
+        b'0' + value
+    } else {
+        b'a' + (value - 10)
     }
-    Ok(())
 }

@@ -1,12 +1,20 @@
-use Rattle.std.proofs.Common.{length, nat_lt, Bool, List}
-use Rattle.show_items.specs.Sequences.{AreItems, ShowsItems}
-use Rattle.show_items.specs.Sheets.{AddsItems}
+use Rattle.std.proofs.Common.{◌≡◌, ℕ, List, Option, length}
+use Rattle.show_items.specs.Items.{Shown}
+use Rattle.show_items.specs.Judged.{ShowsAll}
+use Rattle.show_items.specs.Sequences.{AreItems}
+use Rattle.show_items.specs.Sheets.{ShowsItems}
 use Rattle.show_items.specs.declared.sheet.Sheet.{Sheet}
 use Rattle.show_items.proofs.sequences.show_sequence.Given as goal
 
--- whatever follows is part of the whole
+-- whatever follows is part of the whole, and each page could be written
 abbrev pub invariant-loop-rest : goal.invariant-loop-rest
-invariant-loop-rest g l = (last : Sheet) (bads : List Bool) → AreItems (nat_lt 0 l.at) l.rest bads → AddsItems bads l.sheet last → ShowsItems l.bytes l.initial.sheet last
+invariant-loop-rest g l =
+    record {
+      whole : (last : Sheet) (after : Option (List ℕ)) (items : List Shown) → AreItems l.at l.rest items
+          → ShowsItems items (g.P.Pages.written l.pages) after l.sheet last
+          → ShowsAll (AreItems 0 l.bytes) (g.P.Pages.written l.initial.pages) after l.initial.sheet last;
+      written : g.P.Pages.failures l.pages ≡ g.P.Pages.failures l.initial.pages;
+    }
 
 abbrev pub decreases-loop-rest : goal.decreases-loop-rest
 decreases-loop-rest g l = length l.rest

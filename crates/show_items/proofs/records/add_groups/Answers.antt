@@ -1,0 +1,23 @@
+use Rattle.std.proofs.Common.{◌≡◌, ℕ, List, [], ◌∷◌, Option, rules}
+use Rattle.std.proofs.lemmas.Result.{on_ok_weaker}
+use Rattle.show_findings.specs.Places.{seen_number}
+use Rattle.show_items.specs.Records.{header_group, record_groups, room_of, section_groups}
+use Rattle.show_items.specs.declared.sheet.Form.TheVariants.{Brief}
+use Rattle.show_items.proofs.SheetLemmas.{brief_adds_nothing, groups_then, on_pages}
+use Rattle.show_items.proofs.records.add_groups.Goals as goal
+
+pub returns-then-eq-clause-groups : goal.returns-then-eq-clause-groups
+returns-then-eq-clause-groups g c =
+    let brief : c.args.sheet.now.manner.form ≡ Brief = search rules in
+    brief_adds_nothing (record_groups c.args.bytes.now) (g.P.Pages.written c.args.pages.now) c.args.sheet.now brief
+
+pub returns-clause-groups : goal.returns-clause-groups
+returns-clause-groups g c =
+    let bytes = c.args.bytes.now in
+    let before : Option (List ℕ) = g.P.Pages.written c.args.pages.now in
+    let after : Option (List ℕ) = g.P.Pages.written c.add_sections.new.pages in
+    let headed = c.add_header.new.sheet in
+    on_ok_weaker c.add_sections.result
+    (groups_then (header_group bytes ∷ []) (section_groups bytes (seen_number bytes 10 2) 0 (room_of bytes)) before before after
+    c.args.sheet.now headed c.add_sections.new.sheet (on_pages (header_group bytes ∷ []) before c.args.sheet.now headed c.in_ok-add_header.ensures))
+    c.add_sections.ensures.groups

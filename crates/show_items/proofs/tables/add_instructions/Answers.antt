@@ -1,0 +1,51 @@
+use Rattle.std.proofs.Common.{◌≡◌, ◌∙◌, ℕ, suc, ◌+◌, ◌-◌, ◌<◌, List, Option, subst, arith}
+use Rattle.show_findings.specs.Places.{seen_number}
+use Rattle.show_items.specs.Groups.{Group}
+use Rattle.show_items.specs.Sheets.{AddsGroups}
+use Rattle.show_items.specs.Tables.{instruction_group, instruction_groups}
+use Rattle.show_items.proofs.SheetLemmas.{no_groups}
+use Rattle.show_items.proofs.TableLemmas.{group_turned_and_more, instruction_and_more, no_instruction}
+use Rattle.show_items.proofs.tables.add_instructions.Goals as goal
+
+pub returns-in_default-clause-shown : goal.returns-in_default-clause-shown
+returns-in_default-clause-shown g c =
+    let written : Option (List ℕ) = g.P.Pages.written c.loop-index.pages in
+    let sheet = c.loop-index.sheet in
+    let bytes = c.args.bytes.now in
+    let count : ℕ = seen_number bytes 44 4 in
+    let counted : c.loop-index.index < count = omega arith in
+    c.loop-index.invariant.whole sheet written
+    (subst (λ (groups : List Group). AddsGroups groups written written sheet sheet)
+    (no_instruction bytes (count - c.loop-index.index) c.loop-index.index counted c.in_default.ensures) (no_groups written sheet))
+
+pub loop-index-preserved : goal.loop-index-preserved
+loop-index-preserved g c =
+    let bytes = c.args.bytes.now in
+    let index : ℕ = c.loop-index.index in
+    let left : ℕ = seen_number bytes 44 4 - index in
+    let more : ℕ = seen_number bytes 44 4 - (index + 1) in
+    let entry = c.in-Some.entry.now in
+    let has = c.in-Some.ensures.0 in
+    let counted : index < seen_number bytes 44 4 = has.counted in
+    let one : left ≡ suc more = omega (arith, counted) in
+    let next : index + 1 ≡ suc index = omega arith in
+    let whole = instruction_and_more bytes left more index (index + 1) entry one next has c.in-Some.ensures.1 in
+    record {
+      whole = λ last after rest.
+          c.loop-index.invariant.whole last after
+          (subst (λ (groups : List Group). AddsGroups groups (g.P.Pages.written c.loop-index.pages) after c.loop-index.sheet last) whole
+          (group_turned_and_more (instruction_group index entry) (instruction_groups bytes more (index + 1))
+          (g.P.Pages.written c.loop-index.pages) (g.P.Pages.written c.turn.new.pages) after c.loop-index.sheet c.add_instruction.new.sheet c.turn.new.self last
+          c.in_ok-add_instruction.ensures c.in_ok-turn.ensures.turned rest));
+      written = c.in_ok-turn.ensures.cause ∙ c.loop-index.invariant.written;
+    }
+
+pub returns-clause-shown : goal.returns-clause-shown
+returns-clause-shown g c =
+    let written : Option (List ℕ) = g.P.Pages.written c.loop-index.pages in
+    let sheet = c.loop-index.sheet in
+    let bytes = c.args.bytes.now in
+    let index : ℕ = c.loop-index.index in
+    let none : 0 ≡ seen_number bytes 44 4 - index = omega (arith, c.loop-index-test.false) in
+    c.loop-index.invariant.whole sheet written
+    (subst (λ (left : ℕ). AddsGroups (instruction_groups bytes left index) written written sheet sheet) none (no_groups written sheet))

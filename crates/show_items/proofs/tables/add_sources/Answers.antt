@@ -1,0 +1,49 @@
+use Rattle.std.proofs.Common.{◌≡◌, ◌∙◌, ℕ, suc, ◌+◌, ◌-◌, ◌<◌, List, Option, subst, arith}
+use Rattle.show_findings.specs.Places.{seen_number}
+use Rattle.show_items.specs.Groups.{Group}
+use Rattle.show_items.specs.Sheets.{AddsGroups}
+use Rattle.show_items.specs.Tables.{source_group, source_groups}
+use Rattle.show_items.proofs.SheetLemmas.{no_groups}
+use Rattle.show_items.proofs.TableLemmas.{group_turned_and_more, no_source, source_then}
+use Rattle.show_items.proofs.tables.add_sources.Goals as goal
+
+pub returns-in_default-clause-shown : goal.returns-in_default-clause-shown
+returns-in_default-clause-shown g c =
+    let written : Option (List ℕ) = g.P.Pages.written c.loop-index.pages in
+    let sheet = c.loop-index.sheet in
+    let bytes = c.args.bytes.now in
+    let left : ℕ = seen_number bytes 36 4 - c.loop-index.index in
+    c.loop-index.invariant.whole sheet written
+    (subst (λ (groups : List Group). AddsGroups groups written written sheet sheet)
+    (no_source bytes left c.loop-index.index c.loop-index.at c.in_default.ensures.source) (no_groups written sheet))
+
+pub loop-index-preserved : goal.loop-index-preserved
+loop-index-preserved g c =
+    let bytes = c.args.bytes.now in
+    let index : ℕ = c.loop-index.index in
+    let left : ℕ = seen_number bytes 36 4 - index in
+    let more : ℕ = seen_number bytes 36 4 - (index + 1) in
+    let source = c.in-Some.source in
+    let counted : index < seen_number bytes 36 4 = omega arith in
+    let one : left ≡ suc more = omega (arith, counted) in
+    let next : index + 1 ≡ suc index = omega arith in
+    let whole = source_then bytes left more index (index + 1) c.loop-index.at source.kind source.bytes.now source.next one next c.in-Some.ensures.source in
+    record {
+      whole = λ last after rest.
+          c.loop-index.invariant.whole last after
+          (subst (λ (groups : List Group). AddsGroups groups (g.P.Pages.written c.loop-index.pages) after c.loop-index.sheet last) whole
+          (group_turned_and_more (source_group index c.loop-index.at source.kind source.bytes.now) (source_groups bytes more (index + 1) source.next)
+          (g.P.Pages.written c.loop-index.pages) (g.P.Pages.written c.turn.new.pages) after c.loop-index.sheet c.add_source.new.sheet c.turn.new.self last
+          c.in_ok-add_source.ensures c.in_ok-turn.ensures.turned rest));
+      written = c.in_ok-turn.ensures.cause ∙ c.loop-index.invariant.written;
+    }
+
+pub returns-clause-shown : goal.returns-clause-shown
+returns-clause-shown g c =
+    let written : Option (List ℕ) = g.P.Pages.written c.loop-index.pages in
+    let sheet = c.loop-index.sheet in
+    let bytes = c.args.bytes.now in
+    let index : ℕ = c.loop-index.index in
+    let none : 0 ≡ seen_number bytes 36 4 - index = omega (arith, c.loop-index-test.false) in
+    c.loop-index.invariant.whole sheet written
+    (subst (λ (left : ℕ). AddsGroups (source_groups bytes left index c.loop-index.at) written written sheet sheet) none (no_groups written sheet))
