@@ -4,3 +4,4 @@ pub mod Forms
 pub mod Names
 pub mod Numbers
 pub mod Sources
+pub mod Outputs

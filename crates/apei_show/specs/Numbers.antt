@@ -1,5 +1,5 @@
 -- The exit numbers of a run.
-use Rattle.std.specs.Prelude.{ℕ}
+use Rattle.std.specs.Prelude.{ℕ, Bool, true, false, Result, Ok, Err}
 use Rattle.clap_words.specs.declared.error.WordsError.TheVariants as words
 use Rattle.show_items.specs.declared.pages.Stop.{Stop}
 use Rattle.show_items.specs.declared.pages.Stop.TheVariants as stops
@@ -21,6 +21,12 @@ abbrev pub status_of : Stop → Status
 status_of stops.Memory = Memory
 status_of stops.Output = Output
 status_of stops.Closed = Closed
+
+-- how a file ended of which it was told whether an item is bad
+abbrev pub status_of_file : Result Bool Stop → Status
+status_of_file (Ok true) = Bad
+status_of_file (Ok false) = Done
+status_of_file (Err stop) = status_of stop
 
 -- a file that could not be read is said before an item that was bad
 abbrev pub worse_of : Status → Status → Status

@@ -8,6 +8,7 @@ mod command;
 mod files;
 mod options;
 mod output;
+mod shown;
 mod source;
 mod status;
 mod values;
@@ -15,10 +16,11 @@ mod values;
 use crate::files::System;
 use crate::options::{Color, Form, Options, options_of};
 use crate::output::Output;
-use crate::source::{name_of, read_file};
+use crate::shown::show_bytes;
+use crate::source::read_file;
 use crate::status::Status;
 use clap_words::{WordsError, end, words};
-use show_items::{Form as Shown, Manner, Pages, Sheet, Stop, show_file};
+use show_items::{Form as Shown, Manner};
 use std::io::IsTerminal;
 use std::process::ExitCode;
 
@@ -62,12 +64,20 @@ fn shown_as(form: Form) -> Shown
 // Shows the files, one after another. One that can't be read is named, and the others are shown all the same.
 fn show_files(rt: &HostRuntime, options: &Options, manner: Manner) -> Status {
     let mut files = System::new(rt);
+    let mut output = Output::new(rt.stdout());
     let mut status = Status::Done;
     let mut is_first = true;
     for path in options.files.iter() {
         let path = path.as_str();
         let found = match read_file(rt, &mut files, path) {
-            Ok(bytes) => show_bytes(rt, path, &bytes, manner, is_first),
+            Ok(bytes) => Status::of_file(show_bytes(
+                &mut output,
+                rt.alloc(),
+                path,
+                &bytes,
+                manner,
+                is_first,
+            )),
             Err(status) => status,
         };
         is_first = false;
@@ -79,36 +89,4 @@ fn show_files(rt: &HostRuntime, options: &Options, manner: Manner) -> Status {
         }
     }
     status
-}
-
-// Shows the bytes of a file.
-fn show_bytes(
-    rt: &HostRuntime,
-    path: &str,
-    bytes: &[u8],
-    manner: Manner,
-    is_first: bool,
-) -> Status {
-    let mut output = Output::new(rt.stdout());
-    if manner.named && manner.form == Shown::Text {
-        let head = write_path(&mut output, path, is_first);
-        if let Err(stop) = head {
-            return Status::from(stop);
-        }
-    }
-    let mut sheet = Sheet::new(rt.alloc(), path, manner);
-    match show_file(&mut sheet, &mut output, name_of(path), bytes) {
-        Ok(()) if sheet.has_bad() => Status::Bad,
-        Ok(()) => Status::Done,
-        Err(stop) => Status::from(stop),
-    }
-}
-
-// The line of a file, with an empty line before all but the first.
-fn write_path<P: Pages>(pages: &mut P, path: &str, is_first: bool) -> Result<(), Stop> {
-    if !is_first {
-        pages.write(b"\n")?;
-    }
-    pages.write(path.as_bytes())?;
-    pages.write(b":\n")
 }

@@ -1,6 +1,6 @@
 // How a run ended.
 ghost use Rattle.std.specs.Prelude.{◌≡◌};
-ghost use Rattle.apei_show.specs.Numbers.{number_of, status_of, worse_of};
+ghost use Rattle.apei_show.specs.Numbers.{number_of, status_of, status_of_file, worse_of};
 
 use clap_words::WordsError;
 use show_items::Stop;
@@ -44,6 +44,17 @@ impl Status {
             Status::Output => 4,
             Status::Unread => 5,
             Status::Words(WordsError::Memory) | Status::Memory => 8,
+        }
+    }
+
+    /// How a file ended of which it was told whether an item is bad, or why no more was shown.
+    pub fn of_file(shown: Result<bool, Stop>) -> Status
+        ensures { result ≡ status_of_file shown }
+    {
+        match shown {
+            Ok(true) => Status::Bad,
+            Ok(false) => Status::Done,
+            Err(stop) => Status::from(stop),
         }
     }
 
