@@ -27,9 +27,7 @@ fn has(valid: u64, bit: u32) -> bool
 
 fn add_memory(out: &mut String, body: &[u8]) -> Result<(), AllocError> {
     let valid = seen_u64(body, 0);
-    if body.len() >= 38 {
-        add_module(out, valid, body)?;
-    }
+    add_module(out, valid, body)?;
     if body.len() >= 24 && has(valid, 1) {
         let address = seen_u64(body, 16);
         write!(out, ", physical {address:#x}")?;
@@ -37,13 +35,17 @@ fn add_memory(out: &mut String, body: &[u8]) -> Result<(), AllocError> {
     Ok(())
 }
 
+// The node, the card and the module, each where it is valid and the body reaches so far.
 fn add_module(out: &mut String, valid: u64, body: &[u8]) -> Result<(), AllocError> {
-    if has(valid, 3) || has(valid, 4) || has(valid, 5) {
+    let has_node = has(valid, 3) && body.len() >= 34;
+    let has_card = has(valid, 4) && body.len() >= 36;
+    let has_module = has(valid, 5) && body.len() >= 38;
+    if has_node || has_card || has_module {
         out.push(',')?;
     }
-    add_part(out, has(valid, 3), "node", seen_u16(body, 32))?;
-    add_part(out, has(valid, 4), "card", seen_u16(body, 34))?;
-    add_part(out, has(valid, 5), "module", seen_u16(body, 36))
+    add_part(out, has_node, "node", seen_u16(body, 32))?;
+    add_part(out, has_card, "card", seen_u16(body, 34))?;
+    add_part(out, has_module, "module", seen_u16(body, 36))
 }
 
 fn add_part(out: &mut String, is_valid: bool, name: &str, number: u16) -> Result<(), AllocError> {

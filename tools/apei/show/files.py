@@ -49,10 +49,12 @@ def of_sections(chance: Chance, count: int) -> Iterator[Wanted]:
 
 
 def cut_sections(chance: Chance) -> Iterator[Wanted]:
-    """Processor sections that end at each of their bytes: also within a structure that stands inside another one."""
+    """Sections that end at each of their bytes: of processors, also within a structure that stands inside another one, and of memory."""
     ia32 = [bodies.ia32_of(chance, [it], []) for it in range(4)] + [bodies.ia32_of(chance, [], [it]) for it in layouts.IA32_CONTEXTS]
     arm = [bodies.arm_of(chance, [it], []) for it in layouts.ARM_ERRORS] + [bodies.arm_of(chance, [], [it]) for it in layouts.ARM_CONTEXTS]
-    for kind, some in ((names.IA32, ia32), (names.ARM, arm)):
+    memory = [b"\xff" * 8 + bodies.memory(chance)[8:] for _ in range(2)]
+    memory_2 = [b"\xff" * 8 + bodies.memory_2(chance)[8:] for _ in range(2)]
+    for kind, some in ((names.IA32, ia32), (names.ARM, arm), (names.MEMORY, memory), (names.MEMORY_2, memory_2)):
         for body in some:
             yield of_kind("record", b"".join(bodies.record(chance, (kind, body[:end])) for end in range(len(body) + 1)))
 
