@@ -5,3 +5,4 @@ pub mod Names
 pub mod Numbers
 pub mod Sources
 pub mod Outputs
+pub mod Faults

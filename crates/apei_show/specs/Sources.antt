@@ -2,6 +2,7 @@
 use Rattle.std.specs.Prelude.{◌≡◌, ℕ, ◌^◌, ◌<◌, ◌≤◌, ◌⊎◌, List, length, Option, IfSome, codes, if◌then◌else◌}
 use Rattle.std.specs.Str.{bytes_eq}
 use Rattle.base_model.specs.Faults.{Rose}
+use Rattle.apei_show.specs.Faults.{Failed, Faults}
 use Rattle.apei_show.specs.declared.source.Unread.{Unread as Reason}
 use Rattle.apei_show.specs.declared.source.Unread.TheVariants as reasons
 use Rattle.apei_show.specs.declared.status.Status.{Status}
@@ -24,14 +25,14 @@ pub record IsWhole (given : Option (List ℕ)) (bytes : List ℕ) : Type 0 where
 abbrev pub IsLong : Option (List ℕ) → Type 0
 IsLong given = IfSome given (λ known. most < length known)
 
--- why what was given is not read: the system says so only where a fault was counted
-abbrev pub IsCause : (given : Option (List ℕ)) (before after : ℕ) → Reason → Type 0
-IsCause given before after (reasons.System error) = Rose before after
+-- why what was given is not read: an error is that of a call which failed
+abbrev pub IsCause : (given : Option (List ℕ)) (before after : Faults) → Reason → Type 0
+IsCause given before after (reasons.System error) = Failed before after error
 IsCause given before after reasons.Memory = after ≡ before
 IsCause given before after reasons.Long = (after ≡ before) × IsLong given
 
 -- what the run says of it
-abbrev pub IsRefusal : (given : Option (List ℕ)) (before after : ℕ) → Status → Type 0
-IsRefusal given before after Unread = Rose before after ⊎ ((after ≡ before) × IsLong given)
+abbrev pub IsRefusal : (given : Option (List ℕ)) (before after : Faults) → Status → Type 0
+IsRefusal given before after Unread = Rose before.count after.count ⊎ ((after ≡ before) × IsLong given)
 IsRefusal given before after Memory = after ≡ before
 IsRefusal given before after other = ⊥

@@ -1,6 +1,7 @@
 // Standard output.
 ghost use Rattle.std.specs.Prelude.{◌≡◌, ◌≢◌, Some, None};
 ghost use Rattle.std.specs.IoError.{error_kind};
+ghost use Rattle.apei_show.specs.Faults.{one_more};
 ghost use Rattle.apei_show.specs.Outputs.{stop_of};
 ghost use Rattle.show_items.specs.Stops.{Failed};
 ghost use Rattle.show_items.specs.declared.pages.Stop.TheVariants.{Memory as WantOfMemory};
@@ -34,6 +35,7 @@ impl<W: Write> Output<W> {
     fn failed(&mut self, error: &Error) -> Stop
         ensures counted { Failed (record { count = self.old.failures; last = self.old.last })
             (record { count = self.new.failures; last = self.new.last }) result }
+        ensures one { self.new.failures ≡ one_more self.old.failures }
         ensures reason { result ≡ stop_of (error_kind error.now) }
         ensures no_memory { result ≢ WantOfMemory }
     {

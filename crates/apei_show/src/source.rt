@@ -1,7 +1,7 @@
 // The bytes of a file, or of standard input.
 ghost use Rattle.std.specs.Prelude.{◌≡◌, ◌+◌, ◌^◌, ◌<◌, ◌≤◌, [], length, IfErr, IfOk, OnOk};
 ghost use Rattle.std.specs.Io.KnownBytes.{Keeps};
-ghost use Rattle.base_model.specs.Faults.{HasCause};
+ghost use Rattle.apei_show.specs.Faults.{HasReason};
 ghost use Rattle.apei_show.specs.Names.{name_of};
 ghost use Rattle.apei_show.specs.Sources.{named, IsWhole, IsCause, IsRefusal};
 ghost use Rattle.apei_show.specs.declared.source.Unread.TheVariants.{Memory as WantOfMemory, System as ByTheSystem};
@@ -77,7 +77,7 @@ fn read_path<F: Files>(files: &mut F, alloc: Global, path: &str) -> Result<Vec<u
 // Opens the file at a path, or standard input where the path is `-`.
 fn open<F: Files>(files: &mut F, path: &str) -> io::Result<()>
     ensures whole { OnOk result (Keeps (named (F.input files.old) (F.content files.old) path.now) (F.rest files.new)) }
-    ensures cause { HasCause (F.faults files.old) (F.faults files.new) result }
+    ensures cause { HasReason (F.faults files.old) (F.faults files.new) result }
 {
     if path == "-" {
         files.open_input()
