@@ -149,7 +149,7 @@ static inline enum apei_status apei_erst_change(apei_erst *erst, apei_change *ch
 static inline enum apei_status apei_erst_done(apei_erst *erst);
 
 /* The guest was reset: all registers are as at first, and an execution that runs is abandoned. A change may be due behind
- * it. APEI_CLOSED, APEI_DUE, APEI_FLASH. */
+ * it. APEI_CLOSED, APEI_DUE; APEI_FLASH, with the registers as at first then too. */
 static inline enum apei_status apei_erst_reset(apei_erst *erst);
 
 /* Other addresses, as when a PCI device's windows are moved: the table is another then. APEI_CLOSED, APEI_ADDRESSES. */
